@@ -25,6 +25,8 @@ use Rattle.sdf_run.specs.Sessions.{IsModeFault, MayRun, StandsAfter}
 use Rattle.sdf_run.specs.declared.mode.Mode.{Mode}
 use Rattle.sdf_run.specs.declared.mode.Mode.TheVariants.{Rings, Rows}
 use Rattle.sdf_sched.specs.Period.{Schedule}
+use Rattle.sdf_split.specs.Cuts.{join}
+use Rattle.sdf_split.proofs.Lists.{joined_is, joined_long}
 use Rattle.sdf_wav.specs.Canonical.{sample_bytes}
 use Rattle.sdf_wav.specs.PiecesOut.{Owed}
 use Rattle.sdf_wav.specs.Sound.{Sound}
@@ -37,7 +39,7 @@ use Rattle.sdf_process.specs.Stages.{PutsFrames, SamplesJoin}
 use Rattle.sdf_process.specs.declared.streaming.Stream.{Stream}
 use Rattle.sdf_process.specs.Streams.{IsReady, PutsBlocks, StandsAt, StandsWhole}
 use Rattle.sdf_process.proofs.Pieced.{blank, blank_at, blank_long, outputs_of}
-use Rattle.sdf_process.proofs.Played.{frames_on_join, from_at, join, joined_is, joined_long, lists_joined, lists_long}
+use Rattle.sdf_process.proofs.Played.{frames_on_join, from_at, lists_joined, lists_long}
 use Rattle.sdf_process.proofs.Played.{made_long}
 use Rattle.sdf_process.proofs.Rendering.{are_inputs}
 use Rattle.sdf_process.proofs.Sizes.{positive}

@@ -14,6 +14,8 @@ pub mod Rendering
 pub mod Outputs
 pub mod Played
 pub mod Pieced
+pub mod InTurn
+pub mod InParts
 pub mod Parts
 pub mod Readings
 pub mod Taken

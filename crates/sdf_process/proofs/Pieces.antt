@@ -52,37 +52,50 @@ frames_on xs at end less =
     ap (λ (k : ℕ). interleaved at xs ++ interleaved_from k (end - at) xs) here
     ∙ (frames_joined xs 0 at (end - at) ∙ ap (λ (k : ℕ). interleaved k xs) all)
 
-module _ (joins : SamplesJoin) (a b c : Option (List ℕ)) (w w1 w2 : ℕ) (xs : List (List ℤ)) (frames at end : ℕ)
-    (less : at ≤ end) (within : end ≤ frames)
-    (before : Appends a b (sample_bytes (interleaved at xs))) (counted : w1 ≡ w) where
-  -- the writer failed among the next ones
-  pub put_failed : {X : Type 0} (e : WavFault) (r : Result X Fault) →
-      Puts {X = Unit {0}} b c (sample_bytes (interleaved_from at (end - at) xs)) (Err e) →
-      w2 ≡ failures_after {X = Unit {0}} (Err e) w1 →
-      IsErrAnd r (λ f. f ≡ of_wav e) → PutsFrames a c w w2 (sample_bytes (interleaved frames xs)) r
-  put_failed wav.Write (Err f) puts failed is =
-      let more = sample_bytes (interleaved_from end (frames - end) xs) in
-      let here = sample_bytes (interleaved_from at (end - at) xs) in
-      let f = front_join a b c (sample_bytes (interleaved at xs)) here before puts in
-      let split : sample_bytes (interleaved at xs) ++ here ≡ sample_bytes (interleaved end xs) =
-      sym (bytes_append joins (interleaved at xs) (interleaved_from at (end - at) xs))
-      ∙ ap sample_bytes (frames_on xs at end less) in
-      let all : sample_bytes (interleaved end xs) ++ more ≡ sample_bytes (interleaved frames xs) =
-      sym (bytes_append joins (interleaved end xs) (interleaved_from end (frames - end) xs))
-      ∙ ap sample_bytes (frames_on xs end frames within) in
-      inl (
+module _ (joins : SamplesJoin) (a b c : Option (List ℕ)) (w w1 w2 : ℕ) (xs here rest all : List ℤ)
+    (split : xs ++ (here ++ rest) ≡ all) (before : Appends a b (sample_bytes xs)) (counted : w1 ≡ w) where
+  -- the writer failed among the samples here
+  pub put_stopped : {X : Type 0} (e : WavFault) (r : Result X Fault) →
+      Puts {X = Unit {0}} b c (sample_bytes here) (Err e) → w2 ≡ failures_after {X = Unit {0}} (Err e) w1 →
+      IsErrAnd r (λ f. f ≡ of_wav e) → PutsHeader a c w w2 (sample_bytes all) r
+  put_stopped wav.Write (Err f) puts failed is =
+      let f = front_join a b c (sample_bytes xs) (sample_bytes here) before puts in
+      let more = sample_bytes rest in
+      let bytes : sample_bytes xs ++ sample_bytes here ++ more ≡ sample_bytes all =
+      append_assoc (sample_bytes xs) (sample_bytes here) more
+      ∙ (ap (λ (l : List ℕ). sample_bytes xs ++ l) (sym (bytes_append joins here rest))
+      ∙ (sym (bytes_append joins xs (here ++ rest)) ∙ ap sample_bytes split)) in (
         is,
         record {
           front = f.front;
           rest = f.rest ++ more;
-          whole = sym all ∙ (ap (λ (l : List ℕ). l ++ more) (sym split ∙ f.whole) ∙ append_assoc f.front f.rest more);
+          whole = sym bytes ∙ (ap (λ (l : List ℕ). l ++ more) f.whole ∙ append_assoc f.front f.rest more);
           written = f.written;
         },
         failed ∙ ap one_more counted,
       )
-  put_failed (wav.Format g) (Err f) puts failed is = absurd puts
-  put_failed wav.OutOfMemory (Err f) puts failed is = absurd puts
-  put_failed wav.Read (Err f) puts failed is = absurd puts
+  put_stopped (wav.Format g) (Err f) puts failed is = absurd puts
+  put_stopped wav.OutOfMemory (Err f) puts failed is = absurd puts
+  put_stopped wav.Read (Err f) puts failed is = absurd puts
+  put_stopped e (Ok x) puts failed is = absurd is
+
+module _ (joins : SamplesJoin) (a b c : Option (List ℕ)) (w w1 w2 : ℕ) (xs : List (List ℤ)) (frames at end : ℕ)
+    (less : at ≤ end) (within : end ≤ frames)
+    (before : Appends a b (sample_bytes (interleaved at xs))) (counted : w1 ≡ w) where
+  -- or among the next frames
+  pub put_failed : {X : Type 0} (e : WavFault) (r : Result X Fault) →
+      Puts {X = Unit {0}} b c (sample_bytes (interleaved_from at (end - at) xs)) (Err e) →
+      w2 ≡ failures_after {X = Unit {0}} (Err e) w1 →
+      IsErrAnd r (λ f. f ≡ of_wav e) → PutsFrames a c w w2 (sample_bytes (interleaved frames xs)) r
+  put_failed {X} e (Err f) puts failed is =
+      let first = interleaved at xs in
+      let here = interleaved_from at (end - at) xs in
+      let rest = interleaved_from end (frames - end) xs in
+      let split : first ++ (here ++ rest) ≡ interleaved frames xs =
+      sym (append_assoc first here rest)
+      ∙ (ap (λ (l : List ℤ). l ++ rest) (frames_on xs at end less) ∙ frames_on xs end frames within) in
+      inl (put_stopped joins a b c w w1 w2 first here rest (interleaved frames xs) split before counted
+      {X = X} e (Err f) puts failed is)
   put_failed e (Ok x) puts failed is = absurd is
 
 -- whole frames of n channels

@@ -1,6 +1,6 @@
 -- A run that is played some periods at a time: its pieces, joined, are one run.
 use Rattle.std.proofs.Common.{◌≡◌, inl, inr, Result, Ok, Err, ℕ, zero, suc, ◌+◌, ◌*◌, ◌≤◌, ◌<◌, ℤ, pos, List, [], ◌∷◌}
-use Rattle.std.proofs.Common.{◌++◌, length, map, get_or, refl, sym, ap, ◌∙◌, subst, arith, ◌⊎◌, append-nil}
+use Rattle.std.proofs.Common.{◌++◌, length, map, get_or, refl, sym, ap, ◌∙◌, subst, arith, ◌⊎◌}
 use Rattle.std.specs.Int.{w16, saturate_signed}
 use Rattle.std.specs.Prelude.{IsErrAnd, MatchResult}
 use Rattle.std.specs.List.{range_with_len}
@@ -25,6 +25,7 @@ use Rattle.sdf_answer.specs.Laws.{NetsCanRun}
 use Rattle.sdf_answer.specs.Periods.{HasPeriod}
 use Rattle.sdf_kit.specs.declared.kit.Kit.{Kit}
 use Rattle.sdf_sched.specs.Period.{Schedule}
+use Rattle.sdf_split.specs.Cuts.{join}
 use Rattle.sdf_wav.specs.Sound.{Sound}
 use Rattle.sdf_process.specs.declared.exchange.Exchange.{Exchange}
 use Rattle.sdf_process.specs.Output.{exchange_of, sample, channel_samples, channel_samples_from, frame, interleaved}
@@ -126,25 +127,6 @@ piece_refused n q s x is at many inputs given e (Err f) P why from =
 piece_refused n q s x is at many inputs given e (Ok v) P why from = absurd from
 
 -- ---- what it makes
-
--- each list with the one of its number behind it
-abbrev pub join : {T : Type 0} → List (List T) → List (List T) → List (List T)
-join [] ys = []
-join (x ∷ xs) [] = x ∷ join xs []
-join (x ∷ xs) (y ∷ ys) = (x ++ y) ∷ join xs ys
-
-pub joined_is : {T : Type 0} (xs ys : List (List T)) → length ys ≤ length xs → AreJoined xs ys (join xs ys)
-joined_is [] [] h e = refl
-joined_is [] (y ∷ ys) h e = absurd (omega arith)
-joined_is (x ∷ xs) [] h zero = sym (append-nil x)
-joined_is (x ∷ xs) [] h (suc e) = joined_is xs [] (omega arith) e
-joined_is (x ∷ xs) (y ∷ ys) h zero = refl
-joined_is (x ∷ xs) (y ∷ ys) h (suc e) = joined_is xs ys (omega arith) e
-
-pub joined_long : {T : Type 0} (xs ys : List (List T)) → length (join xs ys) ≡ length xs
-joined_long [] ys = refl
-joined_long (x ∷ xs) [] = ap suc (joined_long xs [])
-joined_long (x ∷ xs) (y ∷ ys) = ap suc (joined_long xs ys)
 
 -- lists of so many samples each
 abbrev pub AllLong : ℕ → List (List ℤ) → Type 0

@@ -100,6 +100,10 @@ interleaved_from at n lists = flat_map (frame lists) (range_with_len at n)
 abbrev pub interleaved : ℕ → List (List ℤ) → List ℤ
 interleaved n lists = interleaved_from 0 n lists
 
+-- lists, one behind the other
+abbrev pub in_turn : List (List ℤ) → List ℤ
+in_turn lists = flat_map (λ l. l) lists
+
 -- the sound of the output lists
 abbrev pub output_of : Exchange → Sound → List (List ℤ) → Sound
 output_of x s lists = record {

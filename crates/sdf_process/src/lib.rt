@@ -9,6 +9,7 @@
 #![tactic(auto)]
 
 mod begun;
+mod ends;
 mod exchange;
 mod hearing;
 pub mod laws;

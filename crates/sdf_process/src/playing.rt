@@ -1,34 +1,31 @@
 //! A net that plays a sound some periods at a time, on one thread or in parts at once. It holds what these periods read
-//! and make, and on one thread the memory of the periods before, which they use again.
+//! and make, and the memory of the periods before, which they use again.
 
-ghost use Rattle.std.specs.Prelude.{◌≡◌, ◌+◌, ◌-◌, ◌*◌, ◌^◌, ◌≤◌, ◌<◌, ℕ, ℤ, List, false, IfOk, IfSome, IfNone};
+ghost use Rattle.std.specs.Prelude.{◌≡◌, ◌+◌, ◌-◌, ◌*◌, ◌^◌, ◌≤◌, ◌<◌, ℕ, List, false, IfOk, IfSome, IfNone};
 ghost use Rattle.std.specs.Prelude.{MatchResult};
-ghost use Rattle.sdf_graph.specs.Rates.{rates};
-ghost use Rattle.sdf_sched.specs.Period.{IsPeriodOf};
-ghost use Rattle.sdf_actor.specs.Graphs.{graph_of};
-ghost use Rattle.sdf_actor.specs.Rests.{IsRest};
 ghost use Rattle.sdf_actor.specs.declared.sides.Lists.TheVariants.{Outputs};
 ghost use Rattle.sdf_actor.specs.Sides.{list_count};
 ghost use Rattle.sdf_actor.specs.Wires.{lists as items_of};
-ghost use Rattle.sdf_answer.specs.Answer.{HasInputs, IsRunFault, periods_of as firings};
-ghost use Rattle.sdf_answer.specs.Feeds.{AreFull, GoesOnBy};
+ghost use Rattle.sdf_answer.specs.Feeds.{GoesOnBy};
 ghost use Rattle.sdf_fission.specs.WarmUps.{IsLasting};
 ghost use Rattle.sdf_kit.specs.Kit.{kit_steps};
 ghost use Rattle.sdf_plan.specs.declared.fault.Fault.TheVariants.{OutOfMemory};
+ghost use Rattle.sdf_split.specs.Parts.{IsSplit};
 ghost use Rattle.sdf_process.specs.declared.playing.Cut.{Cut};
 ghost use Rattle.sdf_process.specs.Output.{exchange_of, lists_from, periods_of, IsExchange};
 ghost use Rattle.sdf_process.specs.Stages.{PlaysTo, PutsOutput, PutsPiece};
 ghost use Rattle.sdf_process.specs.Tasks.{CanPlay, IsCut};
 
+use crate::ends::PieceEnds;
 use crate::exchange::Exchange;
-use crate::putting::put_frames;
+use crate::putting::{put_frames, put_in_turn};
 use sdf_actor::laws::nets_are_wired;
 use sdf_actor::{Net, Rest};
 use sdf_fission::warm_up::warm_up;
 use sdf_kit::{Kept, Kit};
 use sdf_plan::Fault;
 use sdf_run::laws::{histories_make_runs, net_facts, nets_can_run, nets_have_periods};
-use sdf_run::{Passage, Ran, RunFault, Spares, resume_one_in};
+use sdf_run::{Passage, Spares, resume_one_in};
 use sdf_sched::Period;
 use sdf_split::{Split, Workers, part_size, resume_split};
 use sdf_wav::laws::puts_join;
@@ -72,12 +69,12 @@ struct Piece {
 #[derive(Drop)]
 struct Memory<'a, T> {
     rt: &'a T,
-    /// The input lists of the last piece.
+    /// The input lists of the last piece on one thread.
     inputs: Vec<Vec<i32>>,
     /// The memory of runs on one thread.
     spares: Spares<i32>,
     /// The workers that run parts.
-    workers: Workers<i32, Kept>,
+    workers: Workers<Vec<i16>, i32, Kept>,
 }
 
 impl<'a, T: AllocGlobal> Memory<'a, T> {
@@ -88,14 +85,6 @@ impl<'a, T: AllocGlobal> Memory<'a, T> {
             inputs: Vec::new(rt.alloc()),
             spares: Spares::none(rt.alloc()),
             workers: Workers::none(rt.alloc()),
-        }
-    }
-
-    /// Keeps the memory of the output lists of a piece, for the next one.
-    fn give_back(&mut self, piece: Piece, outputs: Vec<Vec<i32>>) {
-        match piece.cut {
-            Some(_) => self.workers.give_back(outputs),
-            None => self.spares.give_back(outputs),
         }
     }
 }
@@ -132,46 +121,8 @@ fn piece_periods(exchange: Exchange, cut: Option<Cut>) -> u32
     }
 }
 
-/// Goes on from a rest as `resume_one` does, in parts at once if the periods are cut.
-fn resume<T: Threads + AllocGlobal + Sync>(
-    rt: &T,
-    cut: Option<Cut>,
-    passage: Passage<'_, Kit>,
-    rest: &Rest<i32, Kept>,
-    spares: &mut Spares<i32>,
-    workers: &mut Workers<i32, Kept>,
-) -> Result<(Ran<i32>, Rest<i32, Kept>), RunFault>
-    requires period { IsPeriodOf (rates (graph_of kit_steps passage.net.now)) passage.period.now }
-    requires given { HasInputs passage.net.now passage.period.now.repetitions passage.periods
-        (items_of passage.inputs.now) }
-    requires full { AreFull passage.net.now passage.period.now.repetitions passage.periods
-        (items_of passage.inputs.now) }
-    requires short { passage.periods < 2 ^ 32 }
-    requires cut { IsCut passage.net.now passage.period.now.repetitions cut }
-    requires rest { (first : List (List ℤ)) × (few : ℕ)
-        × IsRest kit_steps passage.net.now first (firings passage.period.now.repetitions few) rest.now }
-    ensures { let q = passage.entry.period.now.repetitions in MatchResult result
-        (λ fed. GoesOnBy kit_steps passage.entry.net.now q rest.now passage.entry.periods
-        (items_of passage.entry.inputs.now) (items_of fed.0.outputs.items) fed.1
-        × (fed.0.rounds ≡ 0))
-        (IsRunFault passage.entry.net.now q passage.entry.periods (items_of passage.entry.inputs.now)) }
-{
-    let Some(Cut { parts, warm }) = cut else {
-        return resume_one_in(rt.alloc(), passage, rest, spares);
-    };
-    let split = Split {
-        net: passage.net,
-        period: passage.period,
-        periods: passage.periods,
-        inputs: passage.inputs,
-        warm,
-        size: part_size(passage.periods, parts.max(1), warm),
-    };
-    resume_split(rt, rt.alloc(), split, rest, workers)
-}
-
-/// Runs some more periods of a sound, with zeros past its end.
-fn play<T: Threads + AllocGlobal + Sync>(
+/// Runs some more periods of a sound on one thread, with zeros past its end.
+fn play<T: AllocGlobal>(
     memory: &mut Memory<'_, T>,
     player: Player<'_>,
     rest: &Rest<i32, Kept>,
@@ -180,7 +131,6 @@ fn play<T: Threads + AllocGlobal + Sync>(
     requires player { CanPlay player }
     requires played { (frames : List ℕ) ×
         PlaysTo player.net.now player.period.now.repetitions player.input.now piece.at frames rest.now }
-    requires cut { IsCut player.net.now player.period.now.repetitions piece.cut }
     requires short { piece.many < 2 ^ 32 }
     ensures { let n = player.entry.net.now in let q = player.entry.period.now.repetitions in MatchResult result
         (λ r. GoesOnBy kit_steps n q rest.now piece.many
@@ -192,7 +142,7 @@ fn play<T: Threads + AllocGlobal + Sync>(
         rt,
         inputs,
         spares,
-        workers,
+        ..
     } = memory;
     let lists = exchange.inputs_from(rt.alloc(), player.input, piece.at, piece.many, inputs)?;
     let passage = Passage {
@@ -201,9 +151,97 @@ fn play<T: Threads + AllocGlobal + Sync>(
         periods: piece.many,
         inputs: &lists,
     };
-    let (ran, last) = resume(*rt, piece.cut, passage, rest, spares, workers)?;
+    let (ran, last) = resume_one_in(rt.alloc(), passage, rest, spares)?;
     *inputs = lists;
     Ok((ran.outputs, last))
+}
+
+/// Runs some more periods of a sound on one thread, and writes their frames.
+fn put_whole<T: AllocGlobal, W: Writer>(
+    memory: &mut Memory<'_, T>,
+    writer: &mut W,
+    player: Player<'_>,
+    output: &mut ContentOut,
+    rest: &Rest<i32, Kept>,
+    piece: Piece,
+) -> Result<Rest<i32, Kept>, Fault>
+    requires player { CanPlay player }
+    requires played { (frames : List ℕ) ×
+        PlaysTo player.net.now player.period.now.repetitions player.input.now piece.at frames rest.now }
+    requires short { piece.many < 2 ^ 32 }
+    requires unspent { output.old.spent ≡ false }
+    requires channels { output.old.channels ≡ list_count Outputs player.net.now.nodes }
+    requires missing { piece.many * (exchange_of player.net.now player.period.now.repetitions).made ≤
+        output.old.missing }
+    requires few { let x = exchange_of player.net.now player.period.now.repetitions in
+        2 * (piece.many * x.made * x.outputs) ≤ 4294967259 }
+    ensures puts { (frames : List ℕ) →
+        PlaysTo player.entry.net.now player.entry.period.now.repetitions player.entry.input.now piece.at
+        frames rest.now →
+        PutsPiece player.entry.net.now player.entry.period.now.repetitions player.entry.input.now piece.at
+        piece.many frames
+        (W.contents writer.old) (W.contents writer.new) (W.failures writer.old) (W.failures writer.new) result }
+    ensures owed { IfOk result (λ x. output.new ≡ record output.old {
+      missing = output.old.missing
+          - piece.many * (exchange_of player.entry.net.now player.entry.period.now.repetitions).made;
+    }) }
+{
+    puts_join();
+    nets_have_periods(player.net);
+    nets_can_run::<Kit>();
+    nets_are_wired::<Kit>();
+    let exchange = Exchange::of_net(player.net);
+    let (lists, last) = play(memory, player, rest, piece)?;
+    put_frames(
+        memory.rt.alloc(),
+        writer,
+        output,
+        &lists,
+        piece.many as usize * exchange.made,
+    )?;
+    memory.spares.give_back(lists);
+    Ok(last)
+}
+
+/// Runs the periods of a piece in parts at once, and writes the frames that these make.
+fn put_parts<T: Threads + AllocGlobal + Sync, W: Writer>(
+    memory: &mut Memory<'_, T>,
+    writer: &mut W,
+    output: &mut ContentOut,
+    ends: PieceEnds<'_>,
+    split: Split<'_, Kit>,
+    rest: &Rest<i32, Kept>,
+) -> Result<Rest<i32, Kept>, Fault>
+    requires split { IsSplit kit_steps (lists_from ends.at split.periods
+        (exchange_of split.net.now split.period.now.repetitions) ends.input.now) split }
+    requires periods { ends.periods ≡ split.periods }
+    requires exchange { ends.exchange ≡ exchange_of split.net.now split.period.now.repetitions }
+    requires played { (frames : List ℕ) ×
+        PlaysTo split.net.now split.period.now.repetitions ends.input.now ends.at frames rest.now }
+    requires unspent { output.old.spent ≡ false }
+    requires channels { output.old.channels ≡ list_count Outputs split.net.now.nodes }
+    requires missing { split.periods * (exchange_of split.net.now split.period.now.repetitions).made ≤
+        output.old.missing }
+    ensures puts { (frames : List ℕ) →
+        PlaysTo split.entry.net.now split.entry.period.now.repetitions ends.entry.input.now ends.entry.at
+        frames rest.now →
+        PutsPiece split.entry.net.now split.entry.period.now.repetitions ends.entry.input.now ends.entry.at
+        split.entry.periods frames
+        (W.contents writer.old) (W.contents writer.new) (W.failures writer.old) (W.failures writer.new) result }
+    ensures owed { IfOk result (λ x. output.new ≡ record output.old {
+      missing = output.old.missing
+          - split.entry.periods * (exchange_of split.entry.net.now split.entry.period.now.repetitions).made;
+    }) }
+{
+    puts_join();
+    nets_have_periods(split.net);
+    nets_can_run::<Kit>();
+    nets_are_wired::<Kit>();
+    let Memory { rt, workers, .. } = memory;
+    let (parts, last) = resume_split(*rt, rt.alloc(), &ends, split, rest, workers)?;
+    put_in_turn(writer, output, &parts)?;
+    workers.give_back(parts);
+    Ok(last)
 }
 
 /// Runs some more periods of a sound, and writes their frames.
@@ -237,21 +275,24 @@ fn put_piece<T: Threads + AllocGlobal + Sync, W: Writer>(
           - piece.many * (exchange_of player.entry.net.now player.entry.period.now.repetitions).made;
     }) }
 {
-    puts_join();
-    nets_have_periods(player.net);
-    nets_can_run::<Kit>();
-    nets_are_wired::<Kit>();
-    let exchange = Exchange::of_net(player.net);
-    let (lists, last) = play(memory, player, rest, piece)?;
-    put_frames(
-        memory.rt.alloc(),
-        writer,
-        output,
-        &lists,
-        piece.many as usize * exchange.made,
-    )?;
-    memory.give_back(piece, lists);
-    Ok(last)
+    let Some(Cut { parts, warm }) = piece.cut else {
+        return put_whole(memory, writer, player, output, rest, piece);
+    };
+    net_facts(player.net);
+    let ends = PieceEnds {
+        exchange: Exchange::of_net(player.net),
+        input: player.input,
+        at: piece.at,
+        periods: piece.many,
+    };
+    let split = Split {
+        net: player.net,
+        period: player.period,
+        periods: piece.many,
+        warm,
+        size: part_size(piece.many, parts.max(1), warm),
+    };
+    put_parts(memory, writer, output, ends, split, rest)
 }
 
 /// Runs a net on a sound, a piece at a time, and writes the frames of each before the next one is run.

@@ -1,10 +1,10 @@
-//! The samples of lists to a file whose header is written.
+//! Samples to a file whose header is written.
 
-ghost use Rattle.std.specs.Prelude.{◌≡◌, ◌-◌, ◌*◌, ◌≤◌, ◌<◌, ◌^◌, false, length, IfOk};
+ghost use Rattle.std.specs.Prelude.{◌≡◌, ◌-◌, ◌*◌, ◌≤◌, ◌<◌, ◌^◌, ℕ, [], false, length, slice_index_or, IfOk};
 ghost use Rattle.sdf_actor.specs.Wires.{lists as items_of};
 ghost use Rattle.sdf_wav.specs.Canonical.{sample_bytes};
-ghost use Rattle.sdf_process.specs.Output.{interleaved};
-ghost use Rattle.sdf_process.specs.Stages.{PutsFrames};
+ghost use Rattle.sdf_process.specs.Output.{in_turn, interleaved};
+ghost use Rattle.sdf_process.specs.Stages.{PutsFrames, PutsHeader};
 
 use crate::samples::fill_frames;
 use sdf_plan::Fault;
@@ -41,6 +41,29 @@ pub(crate) fn put_frames<W: Writer>(
         fill_frames(lists, at, end, part);
         output.put(writer, part)?;
         at = end;
+    }
+    Ok(())
+}
+
+/// Writes frames that are made, one list of them behind the other.
+pub(crate) fn put_in_turn<W: Writer>(
+    writer: &mut W,
+    output: &mut ContentOut,
+    parts: &[Vec<i16>],
+) -> Result<(), Fault>
+    requires unspent { output.old.spent ≡ false }
+    requires some { 1 ≤ output.old.channels }
+    requires whole { (i : ℕ) → i < length parts.now → (frames : ℕ)
+        × (length (slice_index_or (items_of parts.now) i []) ≡ frames * output.old.channels) }
+    requires missing { length (in_turn (items_of parts.now)) ≤ output.old.missing * output.old.channels }
+    ensures puts { PutsHeader (W.contents writer.old) (W.contents writer.new) (W.failures writer.old)
+        (W.failures writer.new) (sample_bytes (in_turn (items_of parts.now))) result }
+    ensures owed { (frames : ℕ) → length (in_turn (items_of parts.now)) ≡ frames * output.old.channels →
+        IfOk result (λ x. output.new ≡ record output.old { missing = output.old.missing - frames }) }
+{
+    puts_join();
+    for list in parts {
+        output.put(writer, list)?;
     }
     Ok(())
 }

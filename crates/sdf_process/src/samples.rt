@@ -5,7 +5,7 @@ ghost use Rattle.std.specs.Prelude.{slice_index_or, pos};
 ghost use Rattle.std.specs.Int.{saturate_signed, w16};
 ghost use Rattle.std.specs.List.{range_with_len};
 ghost use Rattle.sdf_actor.specs.Wires.{lists as items_of};
-ghost use Rattle.sdf_process.specs.Output.{channel_samples_from, interleaved_from};
+ghost use Rattle.sdf_process.specs.Output.{channel_samples_from, interleaved, interleaved_from};
 
 use sdf_answer::outputs::take_spare;
 use sdf_wav::Wav;
@@ -161,4 +161,19 @@ pub(crate) fn fill_frames(lists: &[Vec<i32>], from: usize, to: usize, samples: &
         let part = samples_between(list, from, to);
         put_channel(part, channel, lists.len(), samples);
     }
+}
+
+/// Makes the first `frames` frames of the lists, each sample clamped to 16 bits, in the memory of `spare`.
+pub(crate) fn make_frames(
+    lists: &[Vec<i32>],
+    frames: usize,
+    spare: Vec<i16>,
+) -> Result<Vec<i16>, AllocError>
+    ensures { IfOk result (λ v. v.items ≡ interleaved frames (items_of lists.now)) }
+{
+    let mut samples = spare;
+    let count = frames.checked_mul(lists.len()).ok_or(AllocError)?;
+    samples.resize(count, 0)?;
+    fill_frames(lists, 0, frames, &mut samples);
+    Ok(samples)
 }

@@ -1,119 +1,162 @@
--- What the first parts make grows by a part.
-use Rattle.std.proofs.Common.{◌≡◌, ℕ, ◌+◌, ◌-◌, ◌*◌, ◌≤◌, ◌<◌, List, [], ◌++◌, length, get_or, Result, Ok}
-use Rattle.std.proofs.Common.{Err, sym, ap}
-use Rattle.std.proofs.Common.{◌∙◌, arith, subst, ⊎_elim, refl, zero-mul, mul-pos, mul-le-mul_right}
-use Rattle.std.specs.Prelude.{MatchResult}
+-- What the outputs of the first parts became grows by a part.
+use Rattle.std.proofs.Common.{◌≡◌, ℕ, ◌+◌, ◌-◌, ◌*◌, ◌≤◌, ◌<◌, List, [], ◌∷◌, ◌++◌, length, get_or, Option}
+use Rattle.std.proofs.Common.{Some, None, sym, ap, ◌∙◌, arith, subst, ⊎_elim, refl, zero-mul, mul-le-mul_right}
+use Rattle.std.specs.Prelude.{min}
 use Rattle.std.proofs.lemmas.Bool.{cases_lt}
-use Rattle.std.proofs.lemmas.List.{get_or_default}
+use Rattle.std.proofs.lemmas.List.{length-replicate}
 use Rattle.sdf_actor.specs.declared.rest.Rest.{Rest}
 use Rattle.sdf_actor.specs.declared.sides.Lists.TheVariants.{Outputs}
-use Rattle.sdf_actor.specs.Rests.{AreJoined}
 use Rattle.sdf_actor.specs.Sides.{list_count}
 use Rattle.sdf_actor.specs.Steps.{Steps}
-use Rattle.sdf_actor.specs.Wires.{lists}
 use Rattle.sdf_answer.specs.Feeds.{GoesOnBy}
 use Rattle.sdf_answer.specs.Periods.{HasPeriod}
 use Rattle.sdf_fission.specs.Laws.{PartsGoOn}
-use Rattle.sdf_split.specs.declared.part.Made.{Made}
+use Rattle.sdf_split.specs.Cuts.{join}
 use Rattle.sdf_split.specs.declared.part.Split.{Split}
-use Rattle.sdf_split.specs.declared.workers.Worker.{Worker}
-use Rattle.sdf_split.specs.Parts.{read_by, end_of, part_count, IsSplit, IsPart, IsMade, AreMade, GoesOnTo}
-use Rattle.sdf_split.proofs.Appending.{same_lists}
-use Rattle.sdf_split.proofs.Joining.{first_part, one_more, all_read, ends_inner, ends_within, ends_last, some_parts}
+use Rattle.sdf_split.specs.Parts.{read_by, end_of, part_count, IsSplit, IsPart, HasParts, GoesOnInParts}
+use Rattle.sdf_split.specs.Parts.{none as no_part, more as one_part}
+use Rattle.sdf_split.proofs.Joining.{one_more, all_read, begins, ends, ends_last}
+use Rattle.sdf_split.proofs.Lists.{joined_is, joined_long, same_lists}
+use Rattle.sdf_split.proofs.Warmed.{blank, blank_at}
 
--- of a result that is none but what it should be
-from_ok : {X E : Type 0} (P : X → Type 0) (G : Type 0) (r : Result X E) → MatchResult r P (λ _. ⊥) →
-    ((x : X) → P x → G) → G
-from_ok P G (Ok x) h f = f x h
-from_ok P G (Err e) h f = absurd h
+-- the periods of the first parts
+abbrev pub upto : {A S T : Type 0} → Split A T S → ℕ → ℕ
+upto w j = min (j * w.size) w.periods
 
-module _ {A S T : Type 0} (s : Steps A S T) (go_on : PartsGoOn s) (w : Split A T S) (is : IsSplit s w)
-    (has : HasPeriod s w.net.now w.period.now) (rest : Rest T S) (rs : List (Worker T S)) (made : AreMade s w rest rs)
-    (all : length rs ≡ part_count w) where
-  abbrev inputs : List (List T)
-  inputs = lists w.inputs.now
+-- what is known once the first parts are taken out
+pub record Grown {A S T M : Type 0} (s : Steps A S T) (inputs : List (List T)) (makes : ℕ → List (List T) → M → Type 0)
+    (w : Split A T S) (rest : Rest T S) (j : ℕ) (made : List M) (last : Option (Rest T S)) : Type 0 where
+  pub outputs : List (List T)
+  pub count : length outputs ≡ list_count Outputs w.net.now.nodes
+  pub none : j ≡ 0 → (e : ℕ) → get_or outputs e [] ≡ []
+  pub parts : HasParts s w.net.now w.period.now.repetitions inputs makes rest (upto w j) outputs made
+  pub end : 0 < j → (r : Rest T S) × (last ≡ Some r)
+      × GoesOnBy s w.net.now w.period.now.repetitions rest (upto w j)
+      (read_by w.net.now w.period.now.repetitions inputs 0 (upto w j)) outputs r
 
+module _ {A S T M : Type 0} (s : Steps A S T) (go_on : PartsGoOn s) (inputs : List (List T))
+    (makes : ℕ → List (List T) → M → Type 0) (w : Split A T S) (is : IsSplit s inputs w)
+    (has : HasPeriod s w.net.now w.period.now) (rest : Rest T S) where
   abbrev q : List ℕ
   q = w.period.now.repetitions
 
-  module _ (j : ℕ) (l : j < length rs) (v : Worker T S) (x : Made T S) (at : (get_or rs j v).made ≡ Ok x)
-      (on joined : List (List T)) (are : AreJoined on (lists x.outputs.items) joined) (many : length joined ≡ length on)
-      (count : length on ≡ list_count Outputs w.net.now.nodes)
-      (none : j ≡ 0 → (e : ℕ) → get_or on e [] ≡ []) (before : GoesOnTo s w rest rs j on) where
-    abbrev to : ℕ
-    to = end_of w.size w.periods (j * w.size)
+  abbrev lists : ℕ
+  lists = list_count Outputs w.net.now.nodes
 
-    part : IsPart s w.net.now q inputs rest w.warm (j * w.size) to (lists x.outputs.items) x.rest
-    part = subst (IsMade s w rest j) at (made j v l)
+  -- before the first
+  pub begun : (last : Option (Rest T S)) → Grown s inputs makes w rest 0 [] last
+  begun last =
+      let long : length (blank {T = T} lists) ≡ lists = length-replicate lists [] in
+      let zero : 0 ≡ upto w 0 = omega arith in
+      record {
+        outputs = blank lists;
+        count = long;
+        none = λ z e. blank_at lists e;
+        parts = subst (λ k. HasParts s w.net.now q inputs makes rest k (blank lists) []) zero
+            (no_part (blank lists) long (λ e. blank_at lists e));
+        end = λ some. absurd (omega arith);
+      }
 
-    abbrev Goal : Type 0
-    Goal = GoesOnBy s w.net.now q rest to (read_by w.net.now q inputs 0 to) joined x.rest
+  module _ (j : ℕ) (l : j < part_count w) (made : List M) (last : Option (Rest T S))
+      (before : Grown s inputs makes w rest j made last) (m : M) (r : Rest T S)
+      (part : IsPart s w.net.now q inputs makes rest w.warm (j * w.size) (end_of w.size w.periods (j * w.size)) m r)
+    where
+      abbrev at : ℕ
+      at = j * w.size
 
-    first : j ≡ 0 → Goal
-    first z =
-        let goes = first_part s go_on w.net.now w.period.now inputs w.periods w.warm rest has is.warm_up
-        is.given is.full
-        (j * w.size) to (ap (λ k. k * w.size) z ∙ zero-mul w.size) (lists x.outputs.items) x.rest part in
-        let same : joined ≡ lists x.outputs.items =
-        same_lists joined (lists x.outputs.items) (many ∙ (count ∙ sym goes.count))
-        (λ e. are e ∙ ap (λ ys. ys ++ get_or (lists x.outputs.items) e []) (none z e)) in
-        subst (λ ys. GoesOnBy s w.net.now q rest to (read_by w.net.now q inputs 0 to) ys x.rest) (sym same) goes
+      abbrev to : ℕ
+      to = end_of w.size w.periods at
 
-    later : 0 < j → Goal
-    later some =
-        let own : j < part_count w = omega (arith, all) in
-        let here : j - 1 + 1 ≡ j = omega arith in
-        let start : end_of w.size w.periods ((j - 1) * w.size) ≡ j * w.size =
-        ends_inner w.periods w.size is.some (j - 1) (omega arith) ∙ ap (λ k. k * w.size) here in
-        let enough : 1 * w.size ≤ j * w.size = mul-le-mul_right w.size some in
-        from_ok (λ m. GoesOnBy s w.net.now q rest (end_of w.size w.periods ((j - 1) * w.size))
-        (read_by w.net.now q inputs 0 (end_of w.size w.periods ((j - 1) * w.size))) on m.rest) Goal
-        (get_or rs (j - 1) v).made (before v some)
-        (λ m goes. one_more s go_on w.net.now w.period.now inputs w.periods w.warm rest has is.warm_up is.given is.full
-        (j * w.size) to (omega (arith, is.long)) (omega arith) (ends_within w.periods w.size is.some j own) on
-        (lists x.outputs.items) joined m.rest x.rest
-        (subst (λ k. GoesOnBy s w.net.now q rest k (read_by w.net.now q inputs 0 k) on m.rest) start goes)
-        part (mul-pos some is.some) are many)
+      abbrev own : List (List T)
+      own = part.finished.outputs
 
-    pub grown : GoesOnTo s w rest rs (j + 1) joined
-    grown d some =
-        let here : j ≡ j + 1 - 1 = omega arith in
-        let now : (get_or rs j d).made ≡ Ok x = ap (λ u. u.made) (get_or_default rs j d v l) ∙ at in
-        let goes : Goal = ⊎_elim (λ z. first (omega arith)) later (cases_lt j 1) in
-        subst (λ k. MatchResult (get_or rs k d).made
-        (λ m. GoesOnBy s w.net.now q rest (end_of w.size w.periods (k * w.size))
-        (read_by w.net.now q inputs 0 (end_of w.size w.periods (k * w.size))) joined m.rest) (λ _. ⊥)) here
-        (subst (λ r. MatchResult r (λ m. GoesOnBy s w.net.now q rest to (read_by w.net.now q inputs 0 to) joined m.rest)
-        (λ _. ⊥)) (sym now) goes)
+      within : at ≤ w.periods
+      within = begins w.periods w.size is.some j l
+
+      here : at ≡ upto w j
+      here = let h : at ≤ w.periods = within in omega arith
+
+      there : to ≡ upto w (j + 1)
+      there = ends w.periods w.size is.some j l
+
+      same_count : length before.outputs ≡ length own
+      same_count = before.count ∙ sym part.finished.goes.count
+
+      abbrev Goal : Type 0
+      Goal = GoesOnBy s w.net.now q rest to (read_by w.net.now q inputs 0 to) (join before.outputs own) r
+
+      first : j ≡ 0 → Goal
+      first z =
+          let start : at ≡ 0 = ap (λ k. k * w.size) z ∙ zero-mul w.size in
+          let goes = subst (λ b. GoesOnBy s w.net.now q b (to - at) (read_by w.net.now q inputs at to) own r)
+          (part.first start) part.finished.goes in
+          let from_none = subst (λ f. GoesOnBy s w.net.now q rest (to - f) (read_by w.net.now q inputs f to) own r)
+          start goes in
+          let all = subst (λ k. GoesOnBy s w.net.now q rest k (read_by w.net.now q inputs 0 to) own r)
+          (let e : to - 0 ≡ to = omega arith in e) from_none in
+          let same : join before.outputs own ≡ own = same_lists (join before.outputs own) own
+          (joined_long before.outputs own ∙ same_count)
+          (λ e. joined_is before.outputs own (omega (arith, same_count)) e
+          ∙ ap (λ ys. ys ++ get_or own e []) (before.none z e)) in
+          subst (λ ys. GoesOnBy s w.net.now q rest to (read_by w.net.now q inputs 0 to) ys r) (sym same) all
+
+      later : 0 < j → Goal
+      later some = go (before.end some)
+        where
+          enough : w.warm ≤ at
+          enough = let e : 1 * w.size ≤ j * w.size = mul-le-mul_right w.size some in omega (arith, is.long)
+
+          go : (b : Rest T S) × (last ≡ Some b) × GoesOnBy s w.net.now q rest (upto w j)
+              (read_by w.net.now q inputs 0 (upto w j)) before.outputs b → Goal
+          go (b, known, goes) =
+              one_more s go_on w.net.now w.period.now inputs w.periods w.warm rest has is.warm_up is.given is.full
+              at to enough (omega arith) (omega (arith, within)) before.outputs own (join before.outputs own) b part.begin r
+              (subst (λ k. GoesOnBy s w.net.now q rest k (read_by w.net.now q inputs 0 k) before.outputs b) (sym here) goes)
+              (part.late (omega (arith, is.some, some, e))) part.finished.goes
+              (joined_is before.outputs own (omega (arith, same_count))) (joined_long before.outputs own)
+            where
+              e : 1 * w.size ≤ j * w.size
+              e = mul-le-mul_right w.size some
+
+      goes_on : Goal
+      goes_on = ⊎_elim (λ z. first (omega arith)) later (cases_lt j 1)
+
+      pub grown : Grown s inputs makes w rest (j + 1) (made ++ m ∷ []) (Some r)
+      grown = record {
+        outputs = join before.outputs own;
+        count = joined_long before.outputs own ∙ before.count;
+        none = λ z. absurd (omega arith);
+        parts = subst (λ k. HasParts s w.net.now q inputs makes rest k (join before.outputs own) (made ++ m ∷ [])) there
+            (one_part at to before.outputs own made m r
+            (subst (λ k. HasParts s w.net.now q inputs makes rest k before.outputs made) (sym here) before.parts)
+            (omega arith) part.finished.goes.count part.finished.becomes goes_on);
+        end = λ some. (
+          r,
+          refl,
+          subst (λ k. GoesOnBy s w.net.now q rest k (read_by w.net.now q inputs 0 k) (join before.outputs own) r) there
+              goes_on,
+        );
+      }
 
   -- after all of them
-  pub finished : (on : List (List T)) → 0 < w.periods → GoesOnTo s w rest rs (length rs) on →
-      (v : Worker T S) (x : Made T S) → (get_or rs (length rs - 1) v).made ≡ Ok x →
-      GoesOnBy s w.net.now q rest w.periods inputs on x.rest
-  finished on some goes v x at =
-      let there : 0 < part_count w = some_parts w.periods w.size is.some some in
-      let end : end_of w.size w.periods ((length rs - 1) * w.size) ≡ w.periods =
-      ends_last w.periods w.size is.some (length rs - 1) (omega (arith, all)) in
-      let last = subst (λ r. MatchResult r
-      (λ m. GoesOnBy s w.net.now q rest (end_of w.size w.periods ((length rs - 1) * w.size))
-      (read_by w.net.now q inputs 0 (end_of w.size w.periods ((length rs - 1) * w.size))) on m.rest) (λ _. ⊥)) at
-      (goes v (omega (arith, all))) in
-      subst (λ xs. GoesOnBy s w.net.now q rest w.periods xs on x.rest)
-      (all_read s go_on w.net.now w.period.now inputs w.periods w.warm rest has is.warm_up is.given is.full)
-      (subst (λ k. GoesOnBy s w.net.now q rest k (read_by w.net.now q inputs 0 k) on x.rest) end last)
+  pub all_parts : (j : ℕ) → j ≡ part_count w → (made : List M) (last : Option (Rest T S)) (r : Rest T S) →
+      last ≡ Some r → Grown s inputs makes w rest j made last →
+      GoesOnInParts s w.net.now q inputs makes rest w.periods made r
+  all_parts j all made last r is_last g = go (g.end (omega (arith, all)))
+    where
+      end : upto w j ≡ w.periods
+      end = ap (λ k. upto w k) all ∙ ends_last w.periods w.size is.some
 
--- if there is one part
-pub only_one : {A S T : Type 0} (s : Steps A S T) (go_on : PartsGoOn s) (w : Split A T S) (is : IsSplit s w) →
-    HasPeriod s w.net.now w.period.now → (rest : Rest T S) (on : List (List T)) (last : Rest T S) →
-    w.periods ≤ w.size →
-    IsPart s w.net.now w.period.now.repetitions (lists w.inputs.now) rest w.warm 0 (end_of w.size w.periods 0) on last →
-    GoesOnBy s w.net.now w.period.now.repetitions rest w.periods (lists w.inputs.now) on last
-only_one s go_on w is has rest on last few part =
-    let q : List ℕ = w.period.now.repetitions in
-    let end : end_of w.size w.periods 0 ≡ w.periods = omega arith in
-    subst (λ xs. GoesOnBy s w.net.now q rest w.periods xs on last)
-    (all_read s go_on w.net.now w.period.now (lists w.inputs.now) w.periods w.warm rest has is.warm_up is.given is.full)
-    (subst (λ k. GoesOnBy s w.net.now q rest k (read_by w.net.now q (lists w.inputs.now) 0 k) on last) end
-    (first_part s go_on w.net.now w.period.now (lists w.inputs.now) w.periods w.warm rest has is.warm_up
-    is.given is.full
-    0 (end_of w.size w.periods 0) refl on last part))
+      go : (b : Rest T S) × (last ≡ Some b) × GoesOnBy s w.net.now q rest (upto w j)
+          (read_by w.net.now q inputs 0 (upto w j)) g.outputs b →
+          GoesOnInParts s w.net.now q inputs makes rest w.periods made r
+      go (b, known, goes) =
+          let same : b ≡ r = (let z : Some b ≡ Some r = sym known ∙ is_last in cc) in
+          record {
+            outputs = g.outputs;
+            goes = subst (λ x. GoesOnBy s w.net.now q rest w.periods inputs g.outputs x) same
+                (subst (λ xs. GoesOnBy s w.net.now q rest w.periods xs g.outputs b)
+                (all_read s go_on w.net.now w.period.now inputs w.periods w.warm rest has is.warm_up is.given is.full)
+                (subst (λ k. GoesOnBy s w.net.now q rest k (read_by w.net.now q inputs 0 k) g.outputs b) end goes));
+            parts = subst (λ k. HasParts s w.net.now q inputs makes rest k g.outputs made) end g.parts;
+          }

@@ -1,6 +1,7 @@
 -- Parts are joined, one after another.
 use Rattle.std.proofs.Common.{◌≡◌, ℕ, ◌+◌, ◌-◌, ◌*◌, ◌≤◌, ◌<◌, List, [], length, get_or, sym, ap}
 use Rattle.std.proofs.Common.{◌∙◌, arith, subst, take_all, ⊎_elim}
+use Rattle.std.specs.Prelude.{max, min}
 use Rattle.std.specs.Int.{div_ceil}
 use Rattle.std.specs.List.{between}
 use Rattle.std.proofs.Math.Nat.{mul-le-mul_right}
@@ -20,9 +21,9 @@ use Rattle.sdf_answer.specs.Feeds.{AreFull, GoesOnBy}
 use Rattle.sdf_answer.specs.Periods.{HasPeriod}
 use Rattle.sdf_fission.specs.Laws.{ArePartsOf, PartsGoOn}
 use Rattle.sdf_fission.specs.WarmUps.{WarmsIn}
-use Rattle.sdf_split.specs.Parts.{read_by, end_of, IsPart}
-use Rattle.sdf_split.proofs.Appending.{same_lists}
+use Rattle.sdf_split.specs.Parts.{read_by, end_of, IsWarmedUp}
 use Rattle.sdf_split.proofs.Cutting.{reads_join, reads_many, are_given, are_full, cut_at}
+use Rattle.sdf_split.proofs.Lists.{same_lists}
 
 -- a part that is all
 whole : {T : Type 0} (xs : List T) (i j : ℕ) → i ≡ 0 → length xs ≤ j → between i j xs ≡ xs
@@ -31,36 +32,23 @@ whole xs i j none long = (λ κ. between (none κ) j xs) ∙ (between_from_start
 -- where parts begin and end
 module _ (periods size : ℕ) (some : 0 < size) where
   abbrev count : ℕ
-  count = div_ceil periods size
+  count = max (div_ceil periods size) 1
 
-  pub some_parts : 0 < periods → 0 < count
-  some_parts more = ⊎_elim (λ l. l) none (cases_lt 0 count)
-    where
-      none : count ≤ 0 → 0 < count
-      none h =
-          let zero : count ≡ 0 = omega arith in
-          let few : periods ≤ 0 * size = subst (λ k. periods ≤ k * size) zero (div_ceil_times periods size some).0 in
-          absurd (omega arith)
+  pub begins : (i : ℕ) → i < count → i * size ≤ periods
+  begins i l = ⊎_elim
+      (λ none. let e : i * size ≤ 0 * size = mul-le-mul_right size (omega arith) in omega arith)
+      (λ more.
+      let most : (i + 1) * size ≤ div_ceil periods size * size = mul-le-mul_right size (omega arith) in
+      omega (arith, (div_ceil_times periods size some).1))
+      (cases_lt i 1)
 
-  pub begins : (i : ℕ) → i < count → i * size < periods
-  begins i l =
-      let most : (i + 1) * size ≤ count * size = mul-le-mul_right size (omega arith) in
-      omega (arith, (div_ceil_times periods size some).1)
+  pub ends : (i : ℕ) → i < count → end_of size periods (i * size) ≡ min ((i + 1) * size) periods
+  ends i l = let below : i * size ≤ periods = begins i l in omega arith
 
-  pub ends_inner : (i : ℕ) → i + 1 < count → end_of size periods (i * size) ≡ (i + 1) * size
-  ends_inner i l =
-      let on : (i + 1) * size < periods = begins (i + 1) l in
-      omega arith
-
-  pub ends_last : (i : ℕ) → i + 1 ≡ count → end_of size periods (i * size) ≡ periods
-  ends_last i e =
-      let all : periods ≤ (i + 1) * size = subst (λ k. periods ≤ k * size) (sym e)
-      (div_ceil_times periods size some).0 in
-      let below : i * size < periods = begins i (omega arith) in
-      omega arith
-
-  pub ends_within : (i : ℕ) → i < count → end_of size periods (i * size) ≤ periods
-  ends_within i l = let below : i * size < periods = begins i l in omega arith
+  pub ends_last : min (count * size) periods ≡ periods
+  ends_last =
+      let most : div_ceil periods size * size ≤ count * size = mul-le-mul_right size (omega arith) in
+      omega (arith, (div_ceil_times periods size some).0)
 
 module _ {A S T : Type 0} (s : Steps A S T) (go_on : PartsGoOn s) (n : Netlist A T) (p : Schedule)
     (inputs : List (List T)) (periods warm : ℕ) (rest : Rest T S) (has : HasPeriod s n p)
@@ -81,20 +69,12 @@ module _ {A S T : Type 0} (s : Steps A S T) (go_on : PartsGoOn s) (n : Netlist A
   front_full to l = subst (λ k. AreFull n q k (front to)) (let e : to - 0 ≡ to = omega arith in e)
       (are_full n q inputs periods given full 0 to (omega arith) l)
 
-  -- the first part
-  pub first_part : (from to : ℕ) → from ≡ 0 → (on : List (List T)) (last : Rest T S) →
-      IsPart s n q inputs rest warm from to on last → GoesOnBy s n q rest to (front to) on last
-  first_part from to none on last part =
-      subst (λ k. GoesOnBy s n q rest k (front to) on last) (let e : to - 0 ≡ to = omega arith in e)
-      (subst (λ f. GoesOnBy s n q rest (to - f) (read_by n q inputs f to) on last) none
-      (subst (λ r. GoesOnBy s n q r (to - from) (read_by n q inputs from to) on last) (part.first none) part.goes))
-
   -- a part more
   pub one_more : (at to : ℕ) → warm ≤ at → at ≤ to → to ≤ periods → (on next joined : List (List T))
-      (last end : Rest T S) → GoesOnBy s n q rest at (front at) on last →
-      IsPart s n q inputs rest warm at to next end → 0 < at → AreJoined on next joined → length joined ≡ length on →
-      GoesOnBy s n q rest to (front to) joined end
-  one_more at to enough order within on next joined last end goes part late are many =
+      (last begin end : Rest T S) → GoesOnBy s n q rest at (front at) on last → IsWarmedUp s n q inputs warm at begin →
+      GoesOnBy s n q begin (to - at) (read_by n q inputs at to) next end → AreJoined on next joined →
+      length joined ≡ length on → GoesOnBy s n q rest to (front to) joined end
+  one_more at to enough order within on next joined last begin end goes (made, short) late are many =
       let all : at - warm + warm ≡ at = omega arith in
       let parts : ArePartsOf s n p (at - warm) warm (to - at) (front (at - warm)) (read_by n q inputs (at - warm) at)
       (front at) (read_by n q inputs at to) on next rest last end = record {
@@ -105,10 +85,10 @@ module _ {A S T : Type 0} (s : Steps A S T) (go_on : PartsGoOn s) (n : Netlist A
         joined = reads_join n q inputs 0 (at - warm) at (omega arith) (omega arith);
         fed = subst (λ k. AreFull n q k (front at)) (sym all) (front_full at (omega arith));
         goes = subst (λ k. GoesOnBy s n q rest k (front at) on last) (sym all) goes;
-        made = (part.late late).0;
-        back = part.begin;
-        short = (part.late late).1;
-        late = part.goes;
+        made = made;
+        back = begin;
+        short = short;
+        late = late;
       } in
       subst (λ k. GoesOnBy s n q rest k (front to) joined end)
       (let e : at - warm + warm + (to - at) ≡ to = omega arith in e)

@@ -14,10 +14,10 @@ use Rattle.sdf_answer.specs.Feeds.{HasRun, AreFull, GoesOnBy, NothingRuns}
 use Rattle.sdf_split.specs.Parts.{read_by, IsWarmedUp}
 use Rattle.sdf_split.proofs.Cutting.{reads_join, are_given, are_full}
 
-abbrev blank : {T : Type 0} → ℕ → List (List T)
+abbrev pub blank : {T : Type 0} → ℕ → List (List T)
 blank count = replicate count []
 
-blank_at : {T : Type 0} (count e : ℕ) → ◌≡◌ {A = List T} (get_or (blank count) e []) []
+pub blank_at : {T : Type 0} (count e : ℕ) → ◌≡◌ {A = List T} (get_or (blank count) e []) []
 blank_at {T = T} count e = ⊎_elim
     (λ l. get_or-replicate count e [] [] l)
     (λ past. get_or_past (blank {T = T} count) e []

@@ -2,17 +2,17 @@
 //!
 //! It depends on `sdf_fission`, `sdf_one`, `sdf_answer`, `sdf_actor`, `sdf_graph`, `sdf_sched` and `sdf_limits`. Begin
 //! with `split`: a run in parts goes on from a rest as a run on one thread does (`sdf_one::resume_one`). Then read
-//! `workers` (who run the parts, in memory that lasts), `part` (one of the parts), `size` (how long it is), `cut` (what
-//! it reads) and `append`, which joins what parts make.
+//! `ends` (what parts read, and what their outputs become), `workers` (who run the parts, in memory that lasts), `part`
+//! (one of the parts) and `size` (how long it is).
 #![tactic(auto)]
 
-mod append;
-mod cut;
+pub mod ends;
 mod part;
 mod size;
 pub mod split;
 mod workers;
 
+pub use ends::Ends;
 pub use part::Split;
 pub use size::part_size;
 pub use split::resume_split;

@@ -6,9 +6,9 @@ ghost use Rattle.sdf_actor.specs.Rests.{IsRest};
 ghost use Rattle.sdf_answer.specs.Answer.{periods_of};
 ghost use Rattle.sdf_answer.specs.Feeds.{GoesOnBy};
 ghost use Rattle.sdf_answer.specs.declared.fault.RunFault.TheVariants.{OutOfMemory};
-ghost use Rattle.sdf_split.specs.Parts.{IsSplit, IsWarmedUp, IsPart, end_of, read_by};
+ghost use Rattle.sdf_split.specs.Parts.{IsSplit, IsWarmedUp, IsFinished, IsPart, end_of, read_by};
 
-use crate::cut::cut;
+use crate::ends::Ends;
 use sdf_actor::{Actor, Net, Rest};
 use sdf_answer::RunFault;
 use sdf_answer::laws::{histories_make_runs, net_facts, nets_can_run};
@@ -18,149 +18,184 @@ use std::alloc::Global;
 use std::mem;
 
 /// A run of `periods` periods of a net in parts of `size` periods, each after `warm` periods of warm-up except the
-/// first. The inputs hold these periods and no more.
+/// first.
 #[derive_where(Clone, Copy)]
 pub struct Split<'a, A: Actor> {
     pub net: &'a Net<A>,
     pub period: &'a Period,
     pub periods: u32,
-    pub inputs: &'a [Vec<A::Token>],
     pub warm: u32,
     pub size: u32,
 }
 
-/// The output lists of a part, and the state in which it leaves the net.
+/// The periods from one number to another.
+#[derive(Clone, Copy)]
+struct Stretch {
+    from: u32,
+    to: u32,
+}
+
+/// What the outputs of a part became, and the state in which the part leaves the net.
 #[derive(Drop)]
-pub(crate) struct Made<T, S> {
-    pub(crate) outputs: Vec<Vec<T>>,
+pub(crate) struct Made<M, T, S> {
+    pub(crate) made: M,
     pub(crate) rest: Rest<T, S>,
 }
 
-/// The memory of a part, which the parts after it use again. Lists of the warm-up and of the part itself have different
-/// lengths, so each run has its own.
+/// The memory of runs of one length.
 #[derive(Drop)]
-pub(crate) struct Memory<T> {
+struct RunMemory<T> {
     inputs: Vec<Vec<T>>,
-    warming: Spares<T>,
-    pub(crate) own: Spares<T>,
+    spares: Spares<T>,
 }
 
-impl<T: Copy> Memory<T> {
+impl<T: Copy> RunMemory<T> {
     /// Begins with no memory, and takes none.
-    pub(crate) fn none(alloc: Global) -> Memory<T> {
-        Memory {
+    fn none(alloc: Global) -> RunMemory<T> {
+        RunMemory {
             inputs: Vec::new(alloc),
-            warming: Spares::none(alloc),
-            own: Spares::none(alloc),
+            spares: Spares::none(alloc),
         }
     }
 }
 
-/// Runs the periods from `from` to `to` of a split run, which go on from `begin`.
-fn go_on<A: Actor>(
+/// The memory of a part, which the parts after it use again. The warm-up is shorter than the part, so each of the two
+/// runs has its own.
+#[derive(Drop)]
+pub(crate) struct Memory<M, T> {
+    warming: RunMemory<T>,
+    own: RunMemory<T>,
+    /// What the outputs of an earlier part became, once it is given back.
+    pub(crate) spare: Option<M>,
+}
+
+impl<M, T: Copy> Memory<M, T> {
+    /// Begins with no memory, and takes none.
+    pub(crate) fn none(alloc: Global) -> Memory<M, T> {
+        Memory {
+            warming: RunMemory::none(alloc),
+            own: RunMemory::none(alloc),
+            spare: None,
+        }
+    }
+}
+
+/// Runs the periods of `stretch`, which go on from `begin`, and returns their output lists and what they leave.
+fn go_on<A: Actor, E: Ends<A::Token>>(
     alloc: Global,
+    ends: &E,
     split: Split<'_, A>,
     begin: &Rest<A::Token, A::State>,
-    from: u32,
-    to: u32,
-    inputs: &mut Vec<Vec<A::Token>>,
-    spares: &mut Spares<A::Token>,
-) -> Result<Made<A::Token, A::State>, RunFault>
-    requires split { IsSplit A.steps split }
+    stretch: Stretch,
+    memory: &mut RunMemory<A::Token>,
+) -> Result<(Vec<Vec<A::Token>>, Rest<A::Token, A::State>), RunFault>
+    requires split { IsSplit A.steps (E.inputs ends.now) split }
     requires begin { (first : List (List A.Token)) × (few : ℕ)
         × IsRest A.steps split.net.now first (periods_of split.period.now.repetitions few) begin.now }
-    requires order { from ≤ to }
-    requires within { to ≤ split.periods }
+    requires order { stretch.from ≤ stretch.to }
+    requires within { stretch.to ≤ split.periods }
     ensures { let n = split.entry.net.now in let q = split.entry.period.now.repetitions in MatchResult result
-        (λ made. GoesOnBy A.steps n q begin.now (to - from) (read_by n q (lists split.entry.inputs.now) from to)
-        (lists made.outputs.items) made.rest)
+        (λ r. GoesOnBy A.steps n q begin.now (stretch.to - stretch.from)
+        (read_by n q (E.inputs ends.now) stretch.from stretch.to) (lists r.0.items) r.1)
         (λ fault. fault ≡ OutOfMemory) }
 {
     net_facts(split.net);
     let samples = split.net.samples_in();
-    let spare = mem::replace(inputs, Vec::new(alloc));
-    let own = cut(
+    let spares = mem::replace(&mut memory.inputs, Vec::new(alloc));
+    let inputs = ends.read(
         alloc,
-        split.inputs,
-        from as usize * samples,
-        to as usize * samples,
-        spare,
+        stretch.from as usize * samples,
+        stretch.to as usize * samples,
+        spares,
     )?;
     let passage = Passage {
         net: split.net,
         period: split.period,
-        periods: to - from,
-        inputs: &own,
+        periods: stretch.to - stretch.from,
+        inputs: &inputs,
     };
-    let (ran, rest) = resume_one_in(alloc, passage, begin, spares)?;
-    *inputs = own;
-    Ok(Made {
-        outputs: ran.outputs,
-        rest,
-    })
+    let (ran, rest) = resume_one_in(alloc, passage, begin, &mut memory.spares)?;
+    memory.inputs = inputs;
+    Ok((ran.outputs, rest))
 }
 
 /// Runs the warm-up before the period `from`, and returns the state in which it leaves the net.
-fn warmed_up<A: Actor>(
+fn warmed_up<A: Actor, E: Ends<A::Token>>(
     alloc: Global,
+    ends: &E,
     split: Split<'_, A>,
     from: u32,
-    memory: &mut Memory<A::Token>,
+    memory: &mut RunMemory<A::Token>,
 ) -> Result<Rest<A::Token, A::State>, RunFault>
-    requires split { IsSplit A.steps split }
+    requires split { IsSplit A.steps (E.inputs ends.now) split }
     requires warm { split.warm ≤ from }
     requires within { from ≤ split.periods }
     ensures { MatchResult result
-        (IsWarmedUp A.steps split.entry.net.now split.entry.period.now.repetitions
-        (lists split.entry.inputs.now) split.entry.warm from)
+        (IsWarmedUp A.steps split.entry.net.now split.entry.period.now.repetitions (E.inputs ends.now)
+        split.entry.warm from)
         (λ fault. fault ≡ OutOfMemory) }
 {
     net_facts(split.net);
     histories_make_runs::<A>();
     let _samples = split.net.samples_in();
     let first = split.net.first_rest(alloc)?;
-    let Memory {
-        inputs,
-        warming,
-        ..
-    } = memory;
-    let made = go_on(
-        alloc,
-        split,
-        &first,
-        from - split.warm,
-        from,
-        inputs,
-        warming,
-    )?;
-    warming.give_back(made.outputs);
-    Ok(made.rest)
+    let stretch = Stretch {
+        from: from - split.warm,
+        to: from,
+    };
+    let (outputs, rest) = go_on(alloc, ends, split, &first, stretch, memory)?;
+    memory.spares.give_back(outputs);
+    Ok(rest)
 }
 
-/// Runs the part that begins at the period `from`.
-pub(crate) fn part<A: Actor>(
+/// Runs the part at the period `from`, which goes on from `begin`, and makes what its outputs become.
+fn finished<A: Actor, E: Ends<A::Token>>(
     alloc: Global,
+    ends: &E,
+    split: Split<'_, A>,
+    begin: &Rest<A::Token, A::State>,
+    from: u32,
+    memory: &mut Memory<E::Made, A::Token>,
+) -> Result<Made<E::Made, A::Token, A::State>, RunFault>
+    requires split { IsSplit A.steps (E.inputs ends.now) split }
+    requires begin { (first : List (List A.Token)) × (few : ℕ)
+        × IsRest A.steps split.net.now first (periods_of split.period.now.repetitions few) begin.now }
+    requires within { from ≤ split.periods }
+    ensures { let n = split.entry.net.now in let q = split.entry.period.now.repetitions in MatchResult result
+        (λ m. IsFinished A.steps n q (E.inputs ends.now) (E.makes ends.now) begin.now from
+        (end_of split.entry.size split.entry.periods from) m.made m.rest)
+        (λ fault. fault ≡ OutOfMemory) }
+{
+    let to = from + split.size.min(split.periods - from);
+    let stretch = Stretch { from, to };
+    let (outputs, rest) = go_on(alloc, ends, split, begin, stretch, &mut memory.own)?;
+    let made = ends.finish(alloc, to - from, &outputs, memory.spare.take())?;
+    memory.own.spares.give_back(outputs);
+    Ok(Made { made, rest })
+}
+
+/// Runs the part that begins at the period `from`, after its warm-up unless it is the first one.
+pub(crate) fn part<A: Actor, E: Ends<A::Token>>(
+    alloc: Global,
+    ends: &E,
     split: Split<'_, A>,
     rest: &Rest<A::Token, A::State>,
     from: u32,
-    memory: &mut Memory<A::Token>,
-) -> Result<Made<A::Token, A::State>, RunFault>
-    requires split { IsSplit A.steps split }
+    memory: &mut Memory<E::Made, A::Token>,
+) -> Result<Made<E::Made, A::Token, A::State>, RunFault>
+    requires split { IsSplit A.steps (E.inputs ends.now) split }
     requires rest { (first : List (List A.Token)) × (few : ℕ)
         × IsRest A.steps split.net.now first (periods_of split.period.now.repetitions few) rest.now }
     requires within { from ≤ split.periods }
     requires warm { 0 < from → split.warm ≤ from }
     ensures { let n = split.entry.net.now in let q = split.entry.period.now.repetitions in MatchResult result
-        (λ made. IsPart A.steps n q (lists split.entry.inputs.now) rest.now split.entry.warm from
-        (end_of split.entry.size split.entry.periods from) (lists made.outputs.items) made.rest)
+        (λ m. IsPart A.steps n q (E.inputs ends.now) (E.makes ends.now) rest.now split.entry.warm from
+        (end_of split.entry.size split.entry.periods from) m.made m.rest)
         (λ fault. fault ≡ OutOfMemory) }
 {
-    let to = from + split.size.min(split.periods - from);
     if from == 0 {
-        let Memory { inputs, own, .. } = memory;
-        return go_on(alloc, split, rest, from, to, inputs, own);
+        return finished(alloc, ends, split, rest, from, memory);
     }
-    let begin = warmed_up(alloc, split, from, memory)?;
-    let Memory { inputs, own, .. } = memory;
-    go_on(alloc, split, &begin, from, to, inputs, own)
+    let begin = warmed_up(alloc, ends, split, from, &mut memory.warming)?;
+    finished(alloc, ends, split, &begin, from, memory)
 }

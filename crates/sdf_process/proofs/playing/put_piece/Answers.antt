@@ -1,33 +1,18 @@
-use Rattle.std.proofs.Common.{◌*◌, ap}
-use Rattle.sdf_actor.specs.Wires.{lists as items_of}
-use Rattle.sdf_process.proofs.Pieced.{piece_failed, piece_put}
+use Rattle.std.proofs.Common.{rules}
+use Rattle.sdf_process.proofs.Played.{piece_full, piece_given}
 use Rattle.sdf_process.proofs.playing.put_piece.Goals as goal
 
-pub returns-in_err-put_frames-clause-puts : goal.returns-in_err-put_frames-clause-puts
-returns-in_err-put_frames-clause-puts g c = λ frames plays.
-    piece_failed c.puts_join.ensures c.args.player.net.now c.args.player.period.now
-    (c.nets_have_periods.ensures c.args.player.period.now c.requires.player.period) c.nets_can_run.ensures
-    c.nets_are_wired.ensures.ports c.args.player.input.now c.args.piece.at c.args.piece.many c.args.rest.now
-    c.in_ok-lists.last
-    (items_of c.in_ok-lists.lists.items) c.in_ok-lists.ensures frames plays
-    (c.args.piece.many * c.of_net-exchange.result.made) (items_of c.deref.result.now)
-    (ap (λ y. c.args.piece.many * y.made) (c.of_net-exchange.ensures.value c.args.player.period.now.repetitions
-    c.requires.player.period.least)) (ap items_of c.deref.ensures.value) (g.W.Writer.contents c.args.writer.now)
-    (g.W.Writer.contents c.put_frames.new.writer) (g.W.Writer.failures c.args.writer.now)
-    (g.W.Writer.failures c.put_frames.new.writer)
-    c.in_err-put_frames.field-0.0 c.from_residual-in_err-put_frames.result c.in_err-put_frames.ensures.puts
-    c.from_residual-in_err-put_frames.ensures.1
-
-pub returns-clause-puts : goal.returns-clause-puts
-returns-clause-puts g c = λ frames plays.
-    piece_put c.puts_join.ensures c.args.player.net.now c.args.player.period.now
-    (c.nets_have_periods.ensures c.args.player.period.now c.requires.player.period) c.nets_can_run.ensures
-    c.nets_are_wired.ensures.ports c.args.player.input.now c.args.piece.at c.args.piece.many c.args.rest.now
-    c.in_ok-lists.last
-    (items_of c.in_ok-lists.lists.items) c.in_ok-lists.ensures frames plays
-    (c.args.piece.many * c.of_net-exchange.result.made) (items_of c.deref.result.now)
-    (ap (λ y. c.args.piece.many * y.made) (c.of_net-exchange.ensures.value c.args.player.period.now.repetitions
-    c.requires.player.period.least)) (ap items_of c.deref.ensures.value) (g.W.Writer.contents c.args.writer.now)
-    (g.W.Writer.contents c.put_frames.new.writer) (g.W.Writer.failures c.args.writer.now)
-    (g.W.Writer.failures c.put_frames.new.writer)
-    c.in_ok-put_frames.ensures.puts
+pub put_parts-requires-clause-split : goal.put_parts-requires-clause-split
+put_parts-requires-clause-split g c κs within =
+    let n = c.args.player.net.now in
+    let q = c.args.player.period.now.repetitions in
+    let s = c.args.player.input.now in
+    record {
+      period = c.requires.player.period;
+      given = piece_given n q s c.args.piece.at c.args.piece.many;
+      full = piece_full n q s c.args.piece.at c.args.piece.many;
+      warm_up = search rules;
+      short = c.requires.short;
+      some = c.part_size.ensures.is.some;
+      long = search rules;
+    }

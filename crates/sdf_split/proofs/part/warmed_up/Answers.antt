@@ -18,8 +18,8 @@ returns g c =
     let n = w.net.now in
     let q = w.period.now.repetitions in
     let size = c.samples_in-samples.ensures.value q c.requires.split.period.least in
-    warmed s c.histories_make_runs.ensures.nothing n q (lists w.inputs.now) w.periods w.warm c.args.from
+    warmed s c.histories_make_runs.ensures.nothing n q (g.E.Ends.inputs c.args.ends.now) w.periods w.warm c.args.from
     c.requires.split.given c.requires.split.full c.requires.warm c.requires.within c.net_facts.ensures.net
     c.net_facts.ensures.accepted.1.lists.input (subst (λ k. 0 < k) size c.samples_in-samples.ensures.some)
-    c.in_ok-first.first c.in_ok-first.ensures (lists c.in_ok-made.made.outputs.items) c.in_ok-made.made.rest
-    c.in_ok-made.ensures
+    c.in_ok-first.first c.in_ok-first.ensures (lists c.in_ok-outputs.outputs.items) c.in_ok-outputs.rest
+    c.in_ok-outputs.ensures

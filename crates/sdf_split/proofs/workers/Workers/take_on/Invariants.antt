@@ -3,3 +3,6 @@ use Rattle.sdf_split.proofs.workers.Workers.take_on.Given as goal
 
 abbrev pub invariant-loop : goal.invariant-loop
 invariant-loop g l = l.counter ≤ length l.self.all.items
+
+abbrev pub invariant-loop-i : goal.invariant-loop-i
+invariant-loop-i g l = l.count ≤ length l.self.all.items

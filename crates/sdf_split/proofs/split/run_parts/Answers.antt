@@ -1,0 +1,24 @@
+use Rattle.std.proofs.Common.{◌<◌, subst, rules, arith}
+use Rattle.std.proofs.iter.Serving.{serving}
+use Rattle.sdf_split.specs.Parts.{part_count, IsMade}
+use Rattle.sdf_split.proofs.split.run_parts.Goals as goal
+
+pub for_each_mut-requires-clause-accepts : goal.for_each_mut-requires-clause-accepts
+for_each_mut-requires-clause-accepts g c κs within = λ i p l is. (
+  (c.requires.split, c.requires.rest, subst (λ k. i < k) c.requires.all l),
+  (
+    search rules,
+    grind serving steps 60000000,
+    grind serving steps 60000000,
+    search rules,
+    search rules,
+    search rules,
+    search rules,
+  ),
+)
+
+pub taken-requires-clause-made : goal.taken-requires-clause-made
+taken-requires-clause-made g c κs within = λ i d l.
+    let at = c.for_each_mut.ensures i d (omega (arith, l, c.for_each_mut.auto.s)) in
+    subst (λ u. IsMade g.A.Actor.steps (g.E.Ends.inputs c.args.ends.now) (g.E.Ends.makes c.args.ends.now) c.args.split
+    c.args.rest.now i u.made) at.1.left at.1.call
