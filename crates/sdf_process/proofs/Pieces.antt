@@ -19,7 +19,7 @@ use Rattle.sdf_plan.specs.declared.fault.Fault.{Fault}
 use Rattle.sdf_plan.specs.Faults.{of_wav}
 use Rattle.sdf_plan.specs.declared.fault.Fault.TheVariants.{OutOfMemory}
 use Rattle.sdf_process.specs.Output.{frame, interleaved, interleaved_from}
-use Rattle.sdf_process.specs.Stages.{PutsFrames, PutsOutput, SamplesJoin}
+use Rattle.sdf_process.specs.Stages.{PutsFrames, PutsHeader, PutsOutput, SamplesJoin}
 use Rattle.sdf_process.proofs.Outcomes.{front_join, keeps_same}
 use Rattle.sdf_process.proofs.Texts.{bytes_append}
 
