@@ -25,11 +25,10 @@ use Rattle.sdf_wav.specs.PiecesOut.{Owed}
 use Rattle.sdf_wav.specs.Sound.{Sound}
 use Rattle.sdf_process.specs.declared.exchange.Exchange.{Exchange}
 use Rattle.sdf_plan.specs.declared.fault.Fault.{Fault}
-use Rattle.sdf_plan.specs.declared.fault.Fault.TheVariants.{OutOfMemory}
 use Rattle.sdf_process.specs.Output.{exchange_of, interleaved, lists_from, lists_to, periods_of}
 use Rattle.sdf_process.specs.Run.{AreFrames}
 use Rattle.sdf_process.specs.Stages.{PlaysTo, PutsFrames, PutsOutput, PutsPiece, SamplesJoin}
-use Rattle.sdf_process.proofs.Outcomes.{appends_join, front_join, keeps_same}
+use Rattle.sdf_process.proofs.Outcomes.{appends_join, front_join}
 use Rattle.sdf_process.proofs.Pieces.{appends_none}
 use Rattle.sdf_process.proofs.Played.{frames_on_join, lists_full, lists_joined, made_long}
 use Rattle.sdf_process.proofs.Rendering.{are_inputs, list_length}
@@ -119,13 +118,6 @@ module _ (joins : SamplesJoin) (n : Netlist Kit ℤ) (p : Schedule) (has : HasPe
         inl (same ∙ is, (more, last, plays_on frames plays, subst (AppendsFront before after) bytes front, counted))
     piece_failed e (Err f) (inr (is, kept, fine)) same = inr (same ∙ is, kept, fine)
     piece_failed e (Ok y) puts same = absurd same
-
--- a piece was not run
-pub piece_unrun : (n : Netlist Kit ℤ) (q : List ℕ) (s : Sound) (at many : ℕ) (frames : List ℕ) (held : Option (List ℕ))
-    (w : ℕ) (e : Fault) → e ≡ OutOfMemory → (r : Result (Rest ℤ (List ℤ)) Fault) → IsErrAnd r (λ f. f ≡ e) →
-    PutsPiece n q s at many frames held held w w r
-piece_unrun n q s at many frames held w e memory (Err f) is = inr (is ∙ memory, keeps_same held, refl)
-piece_unrun n q s at many frames held w e memory (Ok y) is = absurd is
 
 -- the frames of the pieces so far
 pub are_frames : (n : Netlist Kit ℤ) (q : List ℕ) (s : Sound) (periods : ℕ) (frames : List ℕ) (rest : Rest ℤ (List ℤ)) →

@@ -1,6 +1,6 @@
 -- What the outputs of the first parts became grows by a part.
 use Rattle.std.proofs.Common.{◌≡◌, ℕ, ◌+◌, ◌-◌, ◌*◌, ◌≤◌, ◌<◌, List, [], ◌∷◌, ◌++◌, length, get_or, Option}
-use Rattle.std.proofs.Common.{Some, None, sym, ap, ◌∙◌, arith, subst, ⊎_elim, refl, zero-mul, mul-le-mul_right}
+use Rattle.std.proofs.Common.{Some, sym, ap, ◌∙◌, arith, subst, ⊎_elim, refl, zero-mul, mul-le-mul_right}
 use Rattle.std.specs.Prelude.{min}
 use Rattle.std.proofs.lemmas.Bool.{cases_lt}
 use Rattle.std.proofs.lemmas.List.{length-replicate}

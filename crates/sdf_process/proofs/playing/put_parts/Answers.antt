@@ -1,15 +1,13 @@
-use Rattle.std.proofs.Common.{◌≡◌, ◌≤◌, ◌<◌, ◌*◌, ℕ, [], List, length, get_or, inl, ap, sym, subst, refl, ◌∙◌, arith}
+use Rattle.std.proofs.Common.{◌*◌, inl, sym, subst, refl}
 use Rattle.std.specs.Io.KnownBytes.{Appends}
 use Rattle.std.specs.Prelude.{Err}
-use Rattle.sdf_actor.specs.Wires.{lists as items_of}
 use Rattle.sdf_kit.specs.Kit.{kit_steps}
 use Rattle.sdf_split.specs.Parts.{IsSplit}
 use Rattle.sdf_wav.specs.Canonical.{sample_bytes}
-use Rattle.sdf_process.specs.Output.{exchange_of, in_turn, lists_from}
+use Rattle.sdf_process.specs.Output.{exchange_of, lists_from}
 use Rattle.sdf_process.specs.Stages.{PutsFrames}
-use Rattle.sdf_process.proofs.InParts.{IsInParts, in_parts}
-use Rattle.sdf_process.proofs.Lists.{length-lists}
-use Rattle.sdf_process.proofs.Pieced.{piece_failed, piece_put, piece_unrun}
+use Rattle.sdf_process.proofs.InParts.{in_parts}
+use Rattle.sdf_process.proofs.Pieced.{piece_failed, piece_put}
 use Rattle.sdf_process.proofs.playing.put_parts.Goals as goal
 
 pub resume_split-requires-clause-split : goal.resume_split-requires-clause-split

@@ -1,4 +1,4 @@
-use Rattle.std.proofs.Common.{◌≡◌, ◌≤◌, ◌<◌, ◌+◌, ◌-◌, ◌*◌, ◌++◌, ℕ, ℤ, [], List, length, get_or, take, drop, ap, sym, subst}
+use Rattle.std.proofs.Common.{◌≡◌, ◌<◌, ◌+◌, ◌-◌, ◌*◌, ◌++◌, ℕ, [], length, get_or, take, drop, ap, sym, subst}
 use Rattle.std.proofs.Common.{◌∙◌, arith, refl, take_all, length-append}
 use Rattle.std.specs.Io.KnownBytes.{Appends}
 use Rattle.sdf_actor.specs.Wires.{lists as items_of}

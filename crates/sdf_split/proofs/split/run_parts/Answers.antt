@@ -1,6 +1,6 @@
 use Rattle.std.proofs.Common.{◌<◌, subst, rules, arith}
 use Rattle.std.proofs.iter.Serving.{serving}
-use Rattle.sdf_split.specs.Parts.{part_count, IsMade}
+use Rattle.sdf_split.specs.Parts.{IsMade}
 use Rattle.sdf_split.proofs.split.run_parts.Goals as goal
 
 pub for_each_mut-requires-clause-accepts : goal.for_each_mut-requires-clause-accepts

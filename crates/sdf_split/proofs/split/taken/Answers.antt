@@ -1,8 +1,7 @@
-use Rattle.std.proofs.Common.{◌≡◌, ◌≤◌, ◌<◌, ◌+◌, ◌∙◌, ℕ, [], List, length, get_or, Ok, Err, Some, None, refl, ap, sym}
-use Rattle.std.proofs.Common.{subst, arith, get_or-set_other, rules}
+use Rattle.std.proofs.Common.{◌≡◌, ◌<◌, ◌+◌, ◌∙◌, ℕ, length, get_or, Ok, Err, Some, None, refl, ap, sym}
+use Rattle.std.proofs.Common.{subst, arith, get_or-set_other}
 use Rattle.std.specs.Option.{IsSome}
 use Rattle.std.proofs.lemmas.List.{length-set}
-use Rattle.sdf_split.specs.declared.workers.Worker.{Worker}
 use Rattle.sdf_split.specs.Parts.{IsMade, part_count}
 use Rattle.sdf_split.proofs.Cutting.{refused}
 use Rattle.sdf_split.proofs.Growing.{Grown, begun, grown, all_parts}

@@ -1,4 +1,4 @@
-use Rattle.std.proofs.Common.{◌≡◌, ◌≤◌, ◌*◌, ◌+◌, subst, sym, arith, rules}
+use Rattle.std.proofs.Common.{◌≡◌, subst, sym, arith, rules}
 use Rattle.std.specs.Prelude.{IfOk}
 use Rattle.sdf_actor.specs.Wires.{lists as items_of}
 use Rattle.sdf_process.proofs.InParts.{cut_is, within_piece}
