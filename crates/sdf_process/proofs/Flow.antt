@@ -233,4 +233,5 @@ untaken n q first old new held r r' w e f same takes = (
 pub unopened : (n : Netlist Kit ℤ) (q : List ℕ) (first : Source) (old held : Option (List ℕ)) (r w : ℕ)
     (e f : Fault) → e ≡ OutOfMemory → f ≡ e → Streams n q first old old held held r r w w (Err f)
 unopened n q first old held r w e f memory same =
-    untaken n q first old old held r r w e f same (takes_refused first [] old old r r e memory (takes_none first old) refl)
+    untaken n q first old old held r r w e f same
+    (takes_refused first [] old old r r e memory (takes_none first old) refl)

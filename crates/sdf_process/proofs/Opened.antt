@@ -256,14 +256,9 @@ module _ (laws : WavLaws) (n : Netlist Kit ℤ) (q : List ℕ) (x : Exchange) (s
             (content_cut n q read left before after r r' w w' text is_text begins laws reads.0 (reads.4 sized) put
             (content_has reads.0 left reads.2) allowed_by (reads.3 ∙ counted) fine)
 
-      -- the content failed behind the header
+      -- the content was read behind the header
       module _ (left before after : Option (List ℕ)) (r r1 r' w w' : ℕ) (counted : r1 ≡ r)
           (written : Appends before after (file_header e.rate x.outputs (e.periods * x.made))) (fine : w' ≡ w) where
-        pub content_failed_ahead : (f : Fault) → ReadsContent c mid left r1 r' (Err f) →
-            Fails left before after r r' w w' f
-        content_failed_ahead f reads = reading_failed text is_text begins left before after r r1 r' w w' counted
-            (subst (Appends before after) header_same written) fine f reads
-
         -- all was heard
         pub heard_ahead : (s : Sound) (o : Owed) → ReadsContent c mid left r1 r' (Ok s) →
             o ≡ record { channels = x.outputs; missing = e.periods * x.made; spent = false } →
