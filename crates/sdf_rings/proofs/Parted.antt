@@ -1,5 +1,5 @@
 -- The elements of two parts are those of the whole.
-use Rattle.std.proofs.Common.{◌≡◌, ℕ, ◌+◌, ◌-◌, ◌<◌, ◌≤◌, List, ◌++◌, length, get_or, sym, ap, ◌∙◌, subst, inl, inr, ◌⊎◌, arith}
+use Rattle.std.proofs.Common.{◌≡◌, ℕ, ◌+◌, ◌-◌, ◌<◌, ◌≤◌, List, ◌++◌, length, get_or, sym, subst, inl, inr, ◌⊎◌, arith}
 use Rattle.std.proofs.Common.{length-append}
 use Rattle.std.proofs.lemmas.Bool.{cases_lt}
 use Rattle.std.proofs.lemmas.List.{get_or_append_left, get_or-append-add, get_or-append_right}
@@ -20,7 +20,8 @@ module _ {X : Type 0} (base m : ℕ) (front back : List X) (long : length front 
       each = λ k d l.
           let at : P (base + (length front + k)) (get_or (front ++ back) (length front + k) d) =
           whole.each (length front + k) d (omega (arith, l, length-append front back)) in
-          subst (λ i. P i (get_or back k d)) (let e : base + (length front + k) ≡ base + m + k = omega (arith, long) in e)
+          let same : base + (length front + k) ≡ base + m + k = omega (arith, long) in
+          subst (λ i. P i (get_or back k d)) same
           (subst (P (base + (length front + k))) (get_or-append-add front back k d) at);
     }
 

@@ -9,8 +9,8 @@
 //! `own_rings` is about the channels from a node to itself. `round` has all workers at once (`workers`), with a thread
 //! for each that has firings left (`busy`), `meet` tells all ends, and `rings` has rounds by hand and until nothing is
 //! left. `prepare` makes the seats of a run, `finish` gives out the lists of the sinks and `leave` what else the seats
-//! hold, and `runner` does all of it (`specs/Asks.antt`, `specs/Outcome.antt`); `feed` has runs that another one goes on
-//! from.
+//! hold, and `runner` does all of it (`specs/Asks.antt`, `specs/Outcome.antt`). `feed` has runs that another one goes
+//! on from.
 #![tactic(auto)]
 
 pub mod busy;

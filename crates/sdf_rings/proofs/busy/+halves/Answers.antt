@@ -1,7 +1,7 @@
-use Rattle.std.proofs.Common.{◌+◌, ◌/◌, ◌++◌, List, length, sym, ap, subst, refl, arith}
+use Rattle.std.proofs.Common.{◌/◌, ◌++◌, length, sym, subst}
 use Rattle.std.specs.Fork.{AcceptsAt, ChangesAt}
 use Rattle.sdf_rings.specs.Busy.{HoldsFrom, BecameFrom}
-use Rattle.sdf_rings.proofs.Parted.{first_holds, second_holds, both_became}
+use Rattle.sdf_rings.proofs.Parted.{second_holds, both_became}
 use Rattle.sdf_rings.proofs.busy.+halves.Goals as goal
 
 pub for_each_busy-both_halves-requires-clause-back : goal.for_each_busy-both_halves-requires-clause-back
@@ -23,9 +23,11 @@ pub for_each_busy-returns-then-some_busy-2 : goal.for_each_busy-returns-then-som
 for_each_busy-returns-then-some_busy-2 g t c =
     let cut = c.split_at_mut-front in
     let R = ChangesAt g.F.Fn c.args.f.now in
-    subst (λ xs. BecameFrom R c.args.base xs (c.both_halves.new.front ++ c.both_halves.new.back)) (sym cut.ensures.value)
+    let first = c.both_halves.new.front in
+    let second = c.both_halves.new.back in
+    subst (λ xs. BecameFrom R c.args.base xs (first ++ second)) (sym cut.ensures.value)
     (both_became c.args.base (length c.args.s.now / 2) cut.result.0.now cut.result.1.now cut.ensures.front_len R
-    c.both_halves.new.front c.both_halves.new.back c.both_halves.ensures.front c.both_halves.ensures.back)
+    first second c.both_halves.ensures.front c.both_halves.ensures.back)
 
 pub for_each_busy-returns-else-some_busy : goal.for_each_busy-returns-else-some_busy
 for_each_busy-returns-else-some_busy g t c =

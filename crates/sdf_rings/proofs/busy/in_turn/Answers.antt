@@ -1,4 +1,4 @@
-use Rattle.std.proofs.Common.{◌≡◌, ℕ, ◌+◌, ◌<◌, length, get_or, set, sym, subst, ◌∙◌, inl, inr, ◌⊎◌, arith}
+use Rattle.std.proofs.Common.{ℕ, ◌+◌, ◌<◌, length, get_or, set, sym, subst, ◌∙◌, inl, inr, arith}
 use Rattle.std.proofs.lemmas.Bool.{cases_eq}
 use Rattle.std.proofs.lemmas.List.{get_or-set_same, get_or-set_other, get_or_default}
 use Rattle.std.specs.Fork.{ChangesAt}
@@ -16,7 +16,8 @@ loop-k-preserved g c =
       λ j d h. elim (cases_eq j k) as (λ _. R j (get_or xs j d) (get_or (set ys k y) j d)) [
         | inl e ↦ subst (λ i. R i (get_or xs i d) (get_or (set ys k y) i d)) (sym e)
             (subst (R k (get_or xs k d)) (sym (get_or-set_same ys k y d l))
-            (subst (λ x. R k x y) (get_or_default ys k _ d l ∙ c.loop-k.invariant.0 k d (omega arith)) c.at_one.ensures))
+            (subst (λ x. R k x y) (get_or_default ys k _ d l ∙ c.loop-k.invariant.0 k d (omega arith))
+            c.at_one.ensures))
         | inr ne ↦ subst (R j (get_or xs j d)) (sym (get_or-set_other ys k j y d ne))
             (c.loop-k.invariant.1 j d (omega arith))
       ],
