@@ -2,7 +2,8 @@
 //!
 //! It depends on `sdf_answer`, `sdf_one`, `sdf_rows`, `sdf_rings`, `sdf_graph`, `sdf_sched`, `sdf_prec`, `sdf_actor`
 //! and `sdf_node`. Begin with `session`, a run that is fed in pieces, by rows (`sdf_rows`) or over rings (`sdf_rings`),
-//! as its `mode` says. The runner on one thread is in `sdf_one`. What all runners are given and give is in `sdf_answer`.
+//! as its `mode` says. The runner on one thread is in `sdf_one`. What all runners are given and give is in
+//! `sdf_answer`.
 #![tactic(auto)]
 
 pub mod mode;
