@@ -6,11 +6,12 @@
 //! tells more of a fault (also of one of `sdf_prec`), on `sdf_file`, which reads a design, and on `sdf_document`, which
 //! lists the kinds; here are the files and what is printed. What the project is for is the contract of
 //! `sdf_process::process`; what reads and writes a WAV file's bytes is a device of `sdf_wav`. Begin at
-//! `program::serve`, then `printing`, `making`, `running` and `profiling`, which have the commands, `telling` and
-//! `sounds`, which say more of a fault, `files`, `overwriting` and `storage`. A run reads through `input`, where
-//! `opening` shows a size as not filled in, and writes through `output`, with `levels`.
+//! `program::serve`, then `printing`, `making`, `running`, `batch` and `profiling`, which have the commands, `telling`
+//! and `sounds`, which say more of a fault, `files`, `overwriting` and `storage`. A run reads through `input`, where
+//! `opening` shows a size as not filled in, and writes through `output`, with `levels` and `progress`.
 #![tactic(auto)]
 
+mod batch;
 pub mod files;
 mod input;
 mod levels;
@@ -21,6 +22,7 @@ mod overwriting;
 mod printing;
 mod profiling;
 pub mod program;
+mod progress;
 mod running;
 mod sounds;
 pub mod storage;
