@@ -10,6 +10,8 @@
 #[cfg(test)]
 mod answers;
 #[cfg(test)]
+mod batch;
+#[cfg(test)]
 mod commands;
 #[cfg(test)]
 mod costs;
@@ -23,6 +25,8 @@ mod filters;
 mod overwriting;
 #[cfg(test)]
 mod parallel;
+#[cfg(test)]
+mod progress;
 #[cfg(test)]
 mod refused;
 #[cfg(test)]

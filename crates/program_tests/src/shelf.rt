@@ -226,6 +226,9 @@ fn bytes_of(path: &str) -> Option<&'static [u8]> {
     if path == "in.wav" || path == "./-" {
         return Some(SOUND);
     }
+    if path == "cut.wav" {
+        return Some(HEADER);
+    }
     for (name, text) in TEXTS {
         if path == name {
             return Some(text.as_bytes());
@@ -235,7 +238,8 @@ fn bytes_of(path: &str) -> Option<&'static [u8]> {
 }
 
 /// Files in memory, and what was written. Only out.wav can be made, and what lies in the folder `made`, one file behind
-/// the other. The file `-` is no sound, and `./-` is one.
+/// the other. What is removed takes all with it, and only a part can be renamed. The file `-` is no sound, and `./-` is
+/// one.
 #[derive(Clone, Copy)]
 pub(crate) struct Shelf<'a> {
     pub(crate) written: &'a RefCell<Vec<u8>>,
@@ -287,6 +291,20 @@ impl<'a> Storage for Shelf<'a> {
             Ok(())
         } else {
             Err(Error::from(ErrorKind::PermissionDenied))
+        }
+    }
+
+    fn rename(&self, from: &str, to: &str) -> io::Result<()> {
+        match from.strip_prefix(to) {
+            Some(".part") => Ok(()),
+            _ => Err(Error::from(ErrorKind::NotFound)),
+        }
+    }
+
+    fn remove(&self, _path: &str) -> io::Result<()> {
+        match self.written.try_borrow_mut() {
+            Ok(mut written) => Ok(written.clear()),
+            Err(_) => Err(Error::from(ErrorKind::ResourceBusy)),
         }
     }
 

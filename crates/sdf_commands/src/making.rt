@@ -10,7 +10,7 @@ use sdf_filters::{ConverterTexts, FilterFault, Wanted, converter_texts, filter_t
 use sdf_plan::Fault;
 use sdf_words::{Conversion, mistake};
 use std::alloc::Global;
-use std::io::Write;
+use std::io::{ErrorKind, Write};
 
 /// The name of a converter's graph file.
 const GRAPH: &str = "graph.toml";
@@ -63,13 +63,14 @@ fn keep_all<S: Storage>(
     keep_file(alloc, storage, folder, GRAPH)
 }
 
-/// Makes a folder that is not there.
-fn make_folder<S: Storage>(alloc: Global, storage: &S, folder: &str) -> Result<(), Fault> {
+/// Makes a folder that is not there. Another program may make it at the same time.
+pub fn make_folder<S: Storage>(alloc: Global, storage: &S, folder: &str) -> Result<(), Fault> {
     if only_path(alloc, storage, folder)?.is_some() {
         return Ok(());
     }
     match storage.create_folder(folder) {
         Ok(()) => Ok(()),
+        Err(error) if error.kind() == ErrorKind::AlreadyExists => Ok(()),
         Err(error) => Err(device_fault(&error, Fault::Write)),
     }
 }

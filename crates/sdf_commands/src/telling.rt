@@ -95,7 +95,7 @@ fn sound_text(
 }
 
 /// What more is told of a fault, by what was read; nothing where no more is known.
-fn why(
+pub fn why(
     alloc: Global,
     fault: &Fault,
     options: &Options,
@@ -168,8 +168,14 @@ impl Background {
     /// A fault is told as is asked for. `terminal` is whether standard error is a terminal.
     pub fn asked(&mut self, words: &Words<'_>, terminal: bool) {
         self.is_read = true;
-        if let Words::Design { task, why, .. } = words {
-            self.telling = telling_of(task, why.is_said(terminal));
+        match words {
+            Words::Design { task, why, .. } => {
+                self.telling = telling_of(task, why.is_said(terminal));
+            }
+            Words::Batch { batch, why, .. } if why.is_said(terminal) => {
+                self.telling = Telling::Why(batch.options);
+            }
+            _ => {}
         }
     }
 

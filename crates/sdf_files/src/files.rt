@@ -144,6 +144,12 @@ impl Sources {
             refused: Vec::new(alloc),
         }
     }
+
+    /// Forgets what is known of a sound and of files that the system refused, before the next sound.
+    pub fn forget_sound(&mut self, alloc: Global) {
+        self.trace = InputTrace::new(alloc);
+        self.refused = Vec::new(alloc);
+    }
 }
 
 /// Reads the coefficient files that can be opened, each with its name. They lie in the folder of the graph file.

@@ -1,6 +1,6 @@
 //! How loud a sound is that is written.
 
-ghost use Rattle.std.specs.Prelude.{◌≤◌};
+ghost use Rattle.std.specs.Prelude.{◌≤◌, ◌<◌};
 
 use std::alloc::{AllocError, Global};
 use std::num::saturating_f64_to_u64;
@@ -36,6 +36,14 @@ impl Level {
             self.full = self.full.saturating_add(1);
         }
     }
+}
+
+/// How far a sound is written: its frames so far, those that there are in all, and those of a second.
+#[derive(Clone, Copy)]
+pub(crate) struct Passed {
+    pub(crate) frames: u64,
+    pub(crate) all: u64,
+    pub(crate) rate: u64,
 }
 
 /// The header of a sound that is written, as far as it was, and its outputs.
@@ -112,6 +120,32 @@ impl Levels {
         for byte in bytes {
             self.note_byte(*byte);
         }
+    }
+
+    /// Returns the number of 32 bits at `at` in the header.
+    fn number(&self, at: usize) -> u64
+        requires { at < 41 }
+    {
+        let [a, b, c, d] = [
+            self.header[at],
+            self.header[at + 1],
+            self.header[at + 2],
+            self.header[at + 3],
+        ];
+        u64::from(u32::from_le_bytes([a, b, c, d]))
+    }
+
+    /// Returns how far the sound is written, once its header is.
+    pub(crate) fn passed(&self) -> Option<Passed> {
+        if !self.is_open() {
+            return None;
+        }
+        let frame = (self.channels() as u64).max(1) * 2;
+        Some(Passed {
+            frames: self.outputs[0].frames,
+            all: self.number(40) / frame,
+            rate: self.number(24),
+        })
     }
 
     /// What is said of the outputs, a line for each.

@@ -4,7 +4,7 @@
 //! It depends on `sdf_file`, which reads a design, on `sdf_plan` for the faults, on `sdf_options` for texts that are
 //! safe to print, and on `sdf_words` for a mistake on the command line. Begin at `storage`, then `files` and
 //! `overwriting`. A run reads through `input`, where `opening` shows a size as not filled in, and writes through
-//! `output`, with `levels`. `world` is what commands are done with.
+//! `output`, with `levels` and `progress`. `world` is what commands are done with.
 #![tactic(auto)]
 
 pub mod files;
@@ -13,6 +13,7 @@ mod levels;
 mod opening;
 pub mod output;
 pub mod overwriting;
+pub mod progress;
 pub mod storage;
 pub mod world;
 

@@ -1,29 +1,65 @@
 //! What is written of a sound as it goes by.
 
 use crate::levels::Levels;
+use crate::progress::{GONE, Progress};
+use std::alloc::Global;
 use std::io::{self, ErrorKind, Write};
+use std::time::Clock;
 
-/// A writer that hands on what it is given to another one, and counts it if there are levels.
+/// What is shown of a sound while it is written: on standard error, by a clock.
 #[derive(Drop)]
-pub struct Output<'a, W> {
+pub struct Shown<'a, E, C> {
+    pub alloc: Global,
+    pub err: &'a mut E,
+    pub clock: &'a C,
+    /// How far the run has come, if that is shown.
+    pub progress: Option<Progress>,
+}
+
+impl<E: Write, C: Clock> Shown<'_, E, C> {
+    /// Shows how far the run has come, if it is time.
+    fn show(&mut self, levels: &Levels) {
+        let (Some(progress), Some(passed)) = (&mut self.progress, levels.passed()) else {
+            return;
+        };
+        if let Ok(line) = progress.line(self.alloc, self.clock, passed) {
+            let _ = self.err.write_all(line.as_bytes());
+        }
+    }
+
+    /// Takes the line away, if there is one.
+    pub fn hide(&mut self) {
+        if let Some(progress) = &self.progress {
+            if progress.is_shown() {
+                let _ = self.err.write_all(GONE);
+            }
+        }
+    }
+}
+
+/// A writer that hands on what it is given to another one. If there are levels it counts it, and shows how far it is.
+#[derive(Drop)]
+pub struct Output<'a, W, E, C> {
     to: &'a mut W,
+    pub shown: Shown<'a, E, C>,
     pub levels: Option<Levels>,
     /// How the system refused what was to be written last.
     pub refused: Option<ErrorKind>,
 }
 
-impl<'a, W: Write> Output<'a, W> {
+impl<'a, W: Write, E: Write, C: Clock> Output<'a, W, E, C> {
     /// Returns a writer at the start of a sound. `counts` is whether it is counted.
-    pub fn new(to: &'a mut W, counts: bool) -> Output<'a, W> {
+    pub fn new(to: &'a mut W, shown: Shown<'a, E, C>, counts: bool) -> Output<'a, W, E, C> {
         Output {
             to,
+            shown,
             levels: if counts { Some(Levels::new()) } else { None },
             refused: None,
         }
     }
 }
 
-impl<W: Write> Write for Output<'_, W> {
+impl<W: Write, E: Write, C: Clock> Write for Output<'_, W, E, C> {
     ghost contents = { λ output. W.contents output.to.now };
 
     fn write(&mut self, bytes: &[u8]) -> io::Result<usize> {
@@ -31,6 +67,7 @@ impl<W: Write> Write for Output<'_, W> {
             Ok(count) => {
                 if let Some(levels) = &mut self.levels {
                     levels.note(&bytes[..count]);
+                    self.shown.show(levels);
                 }
                 Ok(count)
             }

@@ -22,6 +22,11 @@ pub trait Storage {
     /// Makes a folder in one that is there.
     fn create_folder(&self, path: &str) -> io::Result<()>;
 
+    /// Gives a file another path, in place of what is there.
+    fn rename(&self, from: &str, to: &str) -> io::Result<()>;
+
+    fn remove(&self, path: &str) -> io::Result<()>;
+
     /// The one path of a file that is there, without dots and links.
     fn only_path(&self, alloc: Global, path: &str) -> io::Result<PathBuf>;
 }
@@ -47,6 +52,14 @@ impl<R: Files> Storage for Disk<'_, R> {
 
     fn create_folder(&self, path: &str) -> io::Result<()> {
         fs::create_dir(self.rt, path)
+    }
+
+    fn rename(&self, from: &str, to: &str) -> io::Result<()> {
+        self.rt.rename(from, to)
+    }
+
+    fn remove(&self, path: &str) -> io::Result<()> {
+        self.rt.remove_file(path)
     }
 
     fn only_path(&self, alloc: Global, path: &str) -> io::Result<PathBuf> {

@@ -1,10 +1,11 @@
 //! The whole program, over what it works on.
 
-ghost use Rattle.std.specs.Prelude.{◌≡◌, ◌⊎◌};
+ghost use Rattle.std.specs.Prelude.{◌≡◌, ◌⊎◌, IfSome};
 ghost use Rattle.sdf_plan.specs.Statuses.{status_of};
 ghost use Rattle.sdf_plan.specs.declared.fault.Fault.TheVariants.{OutOfMemory};
-ghost use Rattle.sdf_words.specs.Limits.{IsTaskWithinLimits, IsWithinLimits};
+ghost use Rattle.sdf_words.specs.Limits.{IsCrew, IsTaskWithinLimits, IsWithinLimits};
 
+use crate::batch::{Batching, run_batch};
 use crate::profiling::{Profiling, print_profile};
 use crate::running::{Running, run};
 use sdf_commands::making::{fir, resample};
@@ -18,7 +19,7 @@ use sdf_files::world::World;
 use sdf_json::fault_json;
 use sdf_options::WordFault;
 use sdf_plan::{Fault, fault_text, status};
-use sdf_words::{Task, Why, Words, words};
+use sdf_words::{Batch, Task, Why, Words, words};
 use std::alloc::{AllocError, Global};
 use std::io::{Read, Write};
 use std::thread::Threads;
@@ -85,6 +86,7 @@ fn work<
                 loaded,
                 asked,
                 is_said,
+                is_shown: is_said && world.terminal,
             };
             run(world, stdin, out, err, running, sources)
         }
@@ -129,7 +131,43 @@ fn work_on<
     work(world, stdin, out, err, job, sources)
 }
 
-/// Does what is asked for. What was read stands in `sources`.
+/// Runs of a design, and when more is said than faults.
+#[derive(Clone, Copy)]
+struct Runs<'a> {
+    graph: &'a str,
+    batch: &'a Batch<'a>,
+    why: Why,
+}
+
+/// Reads a design, and runs it on several files. What was read stands in `sources`. Gives the exit status.
+fn run_on<S: Storage, T: Threads + AllocGlobal + Clock + Sync, O: Write, E: Write>(
+    world: &World<S, T>,
+    out: &mut O,
+    err: &mut E,
+    asked: Runs<'_>,
+    sources: &mut Sources,
+) -> Result<u8, Fault>
+    requires { IfSome asked.batch.now.parallel IsCrew }
+{
+    let Runs { graph, batch, why } = asked;
+    let alloc = world.threads.alloc();
+    let loaded = load_into(alloc, world.storage, graph, world.most, sources)?;
+    let batching = Batching {
+        graph,
+        loaded: &loaded,
+        asked: batch,
+        is_said: why.is_said(world.terminal),
+    };
+    run_batch(world, out, err, batching, sources)
+}
+
+/// The exit status of what ended well.
+fn ended_well(done: Result<(), Fault>) -> Result<u8, Fault> {
+    done?;
+    Ok(0)
+}
+
+/// Does what is asked for, and gives the exit status. What was read stands in `sources`.
 fn obey<
     S: Storage,
     T: Threads + AllocGlobal + Clock + Clone + Drop + Sync,
@@ -143,18 +181,26 @@ fn obey<
     err: &mut E,
     asked: Words<'_>,
     sources: &mut Sources,
-) -> Result<(), Fault>
+) -> Result<u8, Fault>
     requires { IsWithinLimits asked }
 {
     match asked {
         Words::Design { graph, task, why } => {
             let asked = Asked { graph, task, why };
-            work_on(world, stdin, out, err, asked, sources)
+            ended_well(work_on(world, stdin, out, err, asked, sources))
         }
-        Words::Fir { wanted } => fir(world, out, err, wanted),
-        Words::Resample { conversion } => resample(world, err, conversion),
-        Words::Kinds => print_kinds(world, out),
-        Words::Explain { number } => print_meaning(world, out, number),
+        Words::Batch { graph, batch, why } => {
+            let asked = Runs {
+                graph,
+                batch: &batch,
+                why,
+            };
+            run_on(world, out, err, asked, sources)
+        }
+        Words::Fir { wanted } => ended_well(fir(world, out, err, wanted)),
+        Words::Resample { conversion } => ended_well(resample(world, err, conversion)),
+        Words::Kinds => ended_well(print_kinds(world, out)),
+        Words::Explain { number } => ended_well(print_meaning(world, out, number)),
     }
 }
 
@@ -227,8 +273,8 @@ fn line_of(alloc: Global, given: &[String]) -> Result<Vec<&str>, AllocError> {
     Ok(line)
 }
 
-/// Does what the words ask for, of which the first is the program's name, if they could be had. What a fault can be
-/// told by is left in `background`.
+/// Does what the words ask for, of which the first is the program's name, if they could be had, and gives the exit
+/// status. What a fault can be told by is left in `background`.
 fn answer<
     S: Storage,
     T: Threads + AllocGlobal + Clock + Clone + Drop + Sync,
@@ -242,7 +288,7 @@ fn answer<
     err: &mut E,
     given: Result<Vec<String>, WordFault>,
     background: &mut Background,
-) -> Result<(), Fault> {
+) -> Result<u8, Fault> {
     let alloc = world.threads.alloc();
     let given = given?;
     let line = line_of(alloc, &given)?;
@@ -253,7 +299,7 @@ fn answer<
         }
         Err(fault) => {
             background.misread(&line);
-            help_or_fault(alloc, out, fault)
+            ended_well(help_or_fault(alloc, out, fault))
         }
     }
 }
@@ -262,11 +308,11 @@ fn answer<
 fn ended<E: Write>(
     alloc: Global,
     err: &mut E,
-    done: Result<(), Fault>,
+    done: Result<u8, Fault>,
     background: &Background,
 ) -> u8 {
     match done {
-        Ok(()) => 0,
+        Ok(status) => status,
         Err(fault) => tell(alloc, err, &fault, background),
     }
 }

@@ -9,8 +9,9 @@ use sdf_file::Design;
 use sdf_files::Levels;
 use sdf_files::files::{Loaded, Refused, Sources, refuse, refuse_kind};
 use sdf_files::input::Input;
-use sdf_files::output::Output;
+use sdf_files::output::{Output, Shown};
 use sdf_files::overwriting::{Paths, keep_what_is_read};
+use sdf_files::progress::Progress;
 use sdf_files::storage::Storage;
 use sdf_files::world::{STANDARD, World};
 use sdf_limits::MOST_WORKERS;
@@ -22,8 +23,9 @@ use sdf_wav::{FromRead, ToWrite};
 use sdf_why::loop_text;
 use sdf_words::{Crew, Run};
 use std::alloc::{AllocError, Global};
-use std::io::{Read, Write};
+use std::io::{ErrorKind, Read, Write};
 use std::thread::{Threads, available_parallelism};
+use std::time::Clock;
 
 /// Workers of a parallel run where the system does not tell its processors.
 const WORKERS: usize = 4;
@@ -36,6 +38,8 @@ pub(crate) struct Running<'a> {
     pub(crate) asked: Run<'a>,
     /// Whether more is said than faults.
     pub(crate) is_said: bool,
+    /// Whether it is shown how far the run has come.
+    pub(crate) is_shown: bool,
 }
 
 impl<'a> Running<'a> {
@@ -51,9 +55,9 @@ impl<'a> Running<'a> {
 
 /// A run and its plan.
 #[derive(Clone, Copy)]
-struct Planned<'a> {
-    running: Running<'a>,
-    plan: &'a Plan,
+pub(crate) struct Planned<'a> {
+    pub(crate) running: Running<'a>,
+    pub(crate) plan: &'a Plan,
 }
 
 /// Runs a plan from the first byte of one stream to the last of another.
@@ -82,9 +86,48 @@ fn tell_levels<E: Write>(alloc: Global, err: &mut E, levels: &Levels) -> Result<
     Ok(())
 }
 
+/// How a run ended, what it has written, and how the system refused the rest.
+#[derive(Drop)]
+struct Ran {
+    ended: Result<(), Fault>,
+    levels: Option<Levels>,
+    refused: Option<ErrorKind>,
+}
+
+/// Runs a plan on a stream into another one, and shows how far it has come.
+fn run_shown<T: Threads + AllocGlobal + Clock + Sync, R: Read, W: Write, E: Write>(
+    threads: &T,
+    from: &mut R,
+    to: &mut W,
+    err: &mut E,
+    planned: Planned<'_>,
+) -> Ran
+    requires { Suits planned.running.loaded.now.design.net planned.plan.now }
+{
+    let Planned { running, plan } = planned;
+    let shown = Shown {
+        alloc: threads.alloc(),
+        err,
+        clock: threads,
+        progress: if running.is_shown {
+            Some(Progress::new(threads))
+        } else {
+            None
+        },
+    };
+    let mut output = Output::new(to, shown, running.is_said);
+    let ended = run_between(threads, from, &mut output, &running.loaded.design, plan);
+    output.shown.hide();
+    Ran {
+        ended,
+        levels: output.levels,
+        refused: output.refused,
+    }
+}
+
 /// Runs a plan on a stream into another one. A run that ends well says how loud its outputs are if more is said than
 /// faults.
-fn run_into<T: Threads + AllocGlobal + Sync, R: Read, W: Write, E: Write>(
+fn run_into<T: Threads + AllocGlobal + Clock + Sync, R: Read, W: Write, E: Write>(
     threads: &T,
     from: &mut R,
     to: &mut W,
@@ -94,20 +137,19 @@ fn run_into<T: Threads + AllocGlobal + Sync, R: Read, W: Write, E: Write>(
 ) -> Result<(), Fault>
     requires { Suits planned.running.loaded.now.design.net planned.plan.now }
 {
-    let Planned { running, plan } = planned;
-    let mut output = Output::new(to, running.is_said);
-    let ended = run_between(threads, from, &mut output, &running.loaded.design, plan);
-    if let Some(kind) = output.refused {
-        refuse_kind(threads.alloc(), refused, running.asked.output, kind);
+    let ran = run_shown(threads, from, to, err, planned);
+    if let Some(kind) = ran.refused {
+        let name = planned.running.asked.output;
+        refuse_kind(threads.alloc(), refused, name, kind);
     }
-    if let (Ok(()), Some(levels)) = (&ended, &output.levels) {
+    if let (Ok(()), Some(levels)) = (&ran.ended, &ran.levels) {
         tell_levels(threads.alloc(), err, levels)?;
     }
-    ended
+    ran.ended
 }
 
 /// Runs a plan on a stream that is open. OUT is made or emptied where none of the files that are read is OUT.
-fn run_from<S: Storage, T: Threads + AllocGlobal + Sync, R: Read, O: Write, E: Write>(
+fn run_from<S: Storage, T: Threads + AllocGlobal + Clock + Sync, R: Read, O: Write, E: Write>(
     world: &World<S, T>,
     from: &mut R,
     out: &mut O,
@@ -131,7 +173,7 @@ fn run_from<S: Storage, T: Threads + AllocGlobal + Sync, R: Read, O: Write, E: W
 }
 
 /// Runs a plan on a stream that is open, of which is noted what is read.
-fn run_traced<S: Storage, T: Threads + AllocGlobal + Sync, R: Read, O: Write, E: Write>(
+fn run_traced<S: Storage, T: Threads + AllocGlobal + Clock + Sync, R: Read, O: Write, E: Write>(
     world: &World<S, T>,
     from: &mut R,
     out: &mut O,
@@ -159,7 +201,13 @@ fn run_traced<S: Storage, T: Threads + AllocGlobal + Sync, R: Read, O: Write, E:
 
 /// Runs a design by its plan on a WAV file. OUT is made or emptied once IN is open, and none of the files that are read
 /// is OUT.
-fn run_planned<S: Storage, T: Threads + AllocGlobal + Sync, I: Read, O: Write, E: Write>(
+pub(crate) fn run_planned<
+    S: Storage,
+    T: Threads + AllocGlobal + Clock + Sync,
+    I: Read,
+    O: Write,
+    E: Write,
+>(
     world: &World<S, T>,
     stdin: &mut I,
     out: &mut O,
@@ -256,7 +304,7 @@ fn crew_plan<T: Threads + AllocGlobal, E: Write>(
 }
 
 /// The plan of a run.
-fn plan_of<T: Threads + AllocGlobal, E: Write>(
+pub(crate) fn plan_of<T: Threads + AllocGlobal, E: Write>(
     threads: &T,
     err: &mut E,
     running: Running<'_>,
@@ -273,7 +321,7 @@ fn plan_of<T: Threads + AllocGlobal, E: Write>(
 
 /// Runs a design on a WAV file, once its plan stands: in parts of the sound if that is asked for and the design
 /// forgets.
-pub(crate) fn run<S: Storage, T: Threads + AllocGlobal + Sync, I: Read, O: Write, E: Write>(
+pub(crate) fn run<S: Storage, T: Threads + AllocGlobal + Clock + Sync, I: Read, O: Write, E: Write>(
     world: &World<S, T>,
     stdin: &mut I,
     out: &mut O,

@@ -6,7 +6,7 @@ use Rattle.sdf_words.specs.declared.asked.TheConstants.{MOST_FAULT}
 use Rattle.sdf_words.specs.declared.asked.Crew.{Crew}
 use Rattle.sdf_words.specs.declared.asked.Crew.TheVariants.{Processors, Workers}
 use Rattle.sdf_words.specs.declared.asked.Words.{Words}
-use Rattle.sdf_words.specs.declared.asked.Words.TheVariants.{Design, Fir, Resample, Kinds, Explain}
+use Rattle.sdf_words.specs.declared.asked.Words.TheVariants.{Design, Batch, Fir, Resample, Kinds, Explain}
 use Rattle.sdf_words.specs.declared.asked.Task.{Task}
 use Rattle.sdf_words.specs.declared.asked.Task.TheVariants.{Check, Schedule, Analyze, Draw, Run, Profile}
 
@@ -27,6 +27,7 @@ IsTaskWithinLimits (Profile input write) = Unit {0}
 -- those of a command are
 abbrev pub IsWithinLimits : Words → Type 0
 IsWithinLimits (Design graph task why) = IsTaskWithinLimits task
+IsWithinLimits (Batch graph batch why) = AreWithinLimits batch.options × IfSome batch.parallel IsCrew
 IsWithinLimits (Fir wanted) = Unit {0}
 IsWithinLimits (Resample conversion) = Unit {0}
 IsWithinLimits Kinds = Unit {0}

@@ -1,5 +1,6 @@
 -- Names that are like a word.
-use Rattle.std.specs.Prelude.{ℕ, ◌≤◌, ◌<◌, ◌+◌, ◌/◌, List, length, All, Contains, nat_eq}
+use Rattle.std.specs.Prelude.{ℕ, ◌+◌, ◌/◌, List, [], ◌∷◌, length, min, find, nat_eq, nat_lt, nat_le, Option, None}
+use Rattle.std.specs.Prelude.{if◌then◌else◌}
 use Rattle.std.specs.Str.{chars}
 use Rattle.strsim.specs.Edits.{levenshtein_row}
 
@@ -11,12 +12,19 @@ edits from to = levenshtein_row nat_eq (chars from) (chars to) (length (chars to
 abbrev pub edit_bound : List ℕ → ℕ
 edit_bound word = length word / 3 + 2
 
--- one of the names is like the word, and none is more so
-pub record IsNearest {X : Type 0} (text : X → List ℕ) (names : List X) (word : List ℕ) (near : X) : Type 0 where
-  pub named : Contains names near
-  pub like : edits word (text near) < edit_bound word
-  pub nearest : All (λ name. edits word (text near) ≤ edits word (text name)) names
+-- the least of a number and of the edits that lead from a word to names
+abbrev pub fewest_edits : List ℕ → ℕ → List (List ℕ) → ℕ
+fewest_edits word n [] = n
+fewest_edits word n (name ∷ names) = fewest_edits word (min n (edits word name)) names
 
--- no name is like the word
-abbrev pub AreFar : {X : Type 0} → (X → List ℕ) → List X → List ℕ → Type 0
-AreFar text names word = All (λ name. edit_bound word ≤ edits word (text name)) names
+-- the first of the names that at most n edits lead to
+abbrev pub first_within : List ℕ → ℕ → List (List ℕ) → Option (List ℕ)
+first_within word n names = find (λ name. nat_le (edits word name) n) names
+
+abbrev pub fewest : List ℕ → List (List ℕ) → ℕ
+fewest word names = fewest_edits word (edit_bound word) names
+
+-- of the names that are like the word the first that the fewest edits lead to
+unfoldable pub nearest : List ℕ → List (List ℕ) → Option (List ℕ)
+nearest word names =
+    if nat_lt (fewest word names) (edit_bound word) then first_within word (fewest word names) names else None

@@ -63,6 +63,16 @@ pub struct Run<'a> {
     pub open_ended: bool,
 }
 
+/// Runs of files, each from one of `inputs` to a file of its name in `folder`, as `Run` has one.
+#[derive(Debug, Drop)]
+pub struct Batch<'a> {
+    pub inputs: Vec<&'a str>,
+    pub folder: &'a str,
+    pub options: Options,
+    pub parallel: Option<Crew>,
+    pub open_ended: bool,
+}
+
 /// What is asked of a design, with files by their paths. With `json` the answer and a fault are JSON.
 #[derive(Clone, Copy, Debug, PartialEq, Eq)]
 pub enum Task<'a> {
@@ -95,12 +105,18 @@ pub enum Task<'a> {
 }
 
 /// A command.
-#[derive(Clone, Copy, Debug, PartialEq, Eq)]
+#[derive(Debug, Drop)]
 pub enum Words<'a> {
     /// A task for the design of the graph file at `graph`.
     Design {
         graph: &'a str,
         task: Task<'a>,
+        why: Why,
+    },
+    /// Runs of the design of the graph file at `graph`.
+    Batch {
+        graph: &'a str,
+        batch: Batch<'a>,
         why: Why,
     },
     /// The coefficient file of a filter.

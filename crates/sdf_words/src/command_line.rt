@@ -6,8 +6,8 @@ ghost use Rattle.sdf_options.specs.Limits.{AreWithinLimits, IsUsage};
 ghost use Rattle.sdf_words.specs.Limits.{IsCrew, IsTaskWithinLimits, IsWithinLimits};
 ghost use Rattle.sdf_words.specs.declared.asked.TheConstants.{MOST_FAULT};
 
-use crate::asked::{Conversion, Crew, MOST_FAULT, Run, Task, Why, Words};
-use crate::commands::sdfw_command;
+use crate::asked::{Batch, Conversion, Crew, MOST_FAULT, Run, Task, Why, Words};
+use crate::commands::{batch_command, sdfw_command};
 use crate::explain::{NAMES, number_named};
 use crate::similar::nearest;
 use clap::error::ErrorKind;
@@ -237,6 +237,16 @@ fn asked<'a>(name: &str, matches: &ArgMatches<'a>) -> Option<Words<'a>>
     }
 }
 
+/// The mistake of an argument that is missing.
+fn missing(command: &mut Command<'_>) -> WordFault
+    ensures { IsUsage result }
+{
+    match command.error(ErrorKind::MissingRequiredArgument, "an argument is missing") {
+        Ok(error) => WordFault::from(error),
+        Err(_) => WordFault::OutOfMemory,
+    }
+}
+
 fn words_of<'a>(matches: &ArgMatches<'a>) -> Option<Words<'a>>
     ensures { IfSome result IsWithinLimits }
 {
@@ -252,10 +262,72 @@ fn read<'a>(command: &mut Command<'a>, words: &'a [&'a str]) -> Result<Words<'a>
     let matches = command.try_get_matches_from_mut(words)?;
     match words_of(&matches) {
         Some(read) => Ok(read),
-        None => Err(WordFault::from(command.error(
-            ErrorKind::MissingRequiredArgument,
-            "an argument is missing",
-        )?)),
+        None => Err(missing(command)),
+    }
+}
+
+/// Returns whether the words behind `run` name a folder to write into.
+fn is_batch(words: &[&str]) -> bool {
+    for word in words {
+        if *word == "--" {
+            return false;
+        }
+        if *word == "--into" || word.starts_with("--into=") {
+            return true;
+        }
+    }
+    false
+}
+
+/// Returns the files that a batch reads.
+fn inputs_of<'a>(alloc: Global, matches: &ArgMatches<'a>) -> Result<Vec<&'a str>, AllocError> {
+    match matches.get_strs("IN") {
+        Some(paths) => Vec::from_slice(alloc, paths),
+        None => Ok(Vec::new(alloc)),
+    }
+}
+
+/// Returns a batch of these files.
+fn batch_of<'a>(matches: &ArgMatches<'a>, inputs: Vec<&'a str>) -> Option<Words<'a>>
+    ensures { IfSome result IsWithinLimits }
+{
+    let graph = matches.get_str("GRAPH")?;
+    let folder = matches.get_str("into")?;
+    let options = options_of(matches)?;
+    Some(Words::Batch {
+        graph,
+        batch: Batch {
+            inputs,
+            folder,
+            options,
+            parallel: crew_of(matches),
+            open_ended: matches.get_flag("open-ended"),
+        },
+        why: why_of(matches),
+    })
+}
+
+/// Returns what the words of a batch mean, if none is missing.
+fn batch_in<'a>(alloc: Global, matches: &ArgMatches<'a>) -> Result<Option<Words<'a>>, AllocError>
+    ensures { IfOk result (λ read. IfSome read IsWithinLimits) }
+{
+    let Some(inner) = matches.subcommand_matches("run") else {
+        return Ok(None);
+    };
+    let inputs = inputs_of(alloc, inner)?;
+    Ok(batch_of(inner, inputs))
+}
+
+/// Reads the words of a batch.
+fn read_batch<'a>(alloc: Global, words: &'a [&'a str]) -> Result<Words<'a>, WordFault>
+    ensures within { IfOk result IsWithinLimits }
+    ensures usage { IfErr result IsUsage }
+{
+    let mut command = batch_command(alloc)?;
+    let matches = command.try_get_matches_from_mut(words)?;
+    match batch_in(alloc, &matches)? {
+        Some(read) => Ok(read),
+        None => Err(missing(&mut command)),
     }
 }
 
@@ -319,6 +391,7 @@ pub fn words<'a>(alloc: Global, words: &'a [&'a str]) -> Result<Words<'a>, WordF
 {
     match words {
         [_, "explain", name] if is_name(name) => explain(alloc, name),
+        [_, "run", rest @ ..] if is_batch(rest) => read_batch(alloc, words),
         _ => read(&mut sdfw_command(alloc)?, words),
     }
 }

@@ -40,6 +40,8 @@ struct Switch {
 enum Given {
     /// By its place, always.
     Place(Values),
+    /// The same, once or several times.
+    Places(Values),
     /// By its name: what its value is called and has to be, and what it is where it is not given; without that it has
     /// to be given, but for a path.
     Choice(&'static str, Values, Option<&'static str>),
@@ -112,6 +114,11 @@ fn arg_of<'a>(alloc: Global, argument: Argument) -> Result<Arg<'a>, AllocError> 
         .long_help(argument.more);
     match argument.given {
         Given::Place(values) => Ok(arg.required(true).value_parser(parser_of(values))),
+        Given::Places(values) => Ok(
+            arg.required(true)
+                .num_args(1..)
+                .value_parser(parser_of(values)),
+        ),
         Given::Choice(value_name, values, default) => {
             let named = arg.long(argument.name);
             Ok(chosen(named, value_name, values, default))
@@ -175,14 +182,23 @@ fn with_commands<'a>(
     Ok(command)
 }
 
-/// The program's command, with each of its own.
-pub(crate) fn sdfw_command<'a>(alloc: Global) -> Result<Command<'a>, AllocError> {
-    let command = Command::new(alloc, "sdfw")
+/// The program's command, without its own.
+fn program<'a>(alloc: Global) -> Command<'a> {
+    Command::new(alloc, "sdfw")
         .about("A workbench for synchronous dataflow graphs over WAV files")
         .version("0.1.0")
         .after_help(EXAMPLES)
-        .subcommand_required(true);
-    let command = with_commands(alloc, command, designs::ROWS)?;
+        .subcommand_required(true)
+}
+
+/// The program's command, with `run` as it reads several files.
+pub(crate) fn batch_command<'a>(alloc: Global) -> Result<Command<'a>, AllocError> {
+    with_commands(alloc, program(alloc), designs::BATCH)
+}
+
+/// The program's command, with each of its own.
+pub(crate) fn sdfw_command<'a>(alloc: Global) -> Result<Command<'a>, AllocError> {
+    let command = with_commands(alloc, program(alloc), designs::ROWS)?;
     let command = with_commands(alloc, command, views::ROWS)?;
     let command = with_commands(alloc, command, filters::ROWS)?;
     with_commands(alloc, command, told::ROWS)

@@ -13,7 +13,7 @@ mod commands;
 mod explain;
 mod similar;
 
-pub use asked::{Conversion, Crew, MOST_FAULT, Run, Task, Why, Words};
+pub use asked::{Batch, Conversion, Crew, MOST_FAULT, Run, Task, Why, Words};
 pub use command_line::{mistake, words};
 pub use explain::explained;
 pub use similar::nearest;

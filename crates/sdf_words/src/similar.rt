@@ -1,7 +1,7 @@
 //! Names that are like a word that is none of them.
 
-ghost use Rattle.std.specs.Prelude.{◌≡◌, IfOk, IfSome, IfNone};
-ghost use Rattle.sdf_words.specs.Similar.{edit_bound, IsNearest, AreFar};
+ghost use Rattle.std.specs.Prelude.{◌≡◌, IfOk, map, option_map};
+ghost use Rattle.sdf_words.specs.Similar.{edit_bound, fewest_edits, first_within, nearest};
 
 use std::alloc::{AllocError, Global};
 use strsim::levenshtein;
@@ -13,23 +13,55 @@ fn bound_of(word: &str) -> usize
     word.len() / 3 + 2
 }
 
-/// Returns one of `names` that is most like `word`, if one is like it.
+/// Returns the fewest edits that lead from `word` to one of `names`, or `bound` if that is fewer.
+fn fewest_edits(
+    alloc: Global,
+    names: &[&str],
+    word: &str,
+    bound: usize,
+) -> Result<usize, AllocError>
+    ensures { IfOk result (λ n. n ≡ fewest_edits word.now bound (map (λ name. name.now) names.now)) }
+{
+    let mut fewest = bound;
+    for name in names {
+        fewest = fewest.min(levenshtein(alloc, word, name)?);
+    }
+    Ok(fewest)
+}
+
+/// Returns the first of `names` that at most this many edits lead to from `word`.
+fn first_within<'a>(
+    alloc: Global,
+    names: &[&'a str],
+    word: &str,
+    edits: usize,
+) -> Result<Option<&'a str>, AllocError>
+    ensures { IfOk result (λ near. option_map (λ name. name.now) near ≡
+        first_within word.now edits (map (λ name. name.now) names.now)) }
+{
+    for name in names {
+        if levenshtein(alloc, word, name)? <= edits {
+            return Ok(Some(*name));
+        }
+    }
+    Ok(None)
+}
+
+/// Returns the first of `names` that is most like `word`, if one is like it.
+#[tactic(auto, unfolding(crate::specs::Similar::nearest))]
 pub fn nearest<'a>(
     alloc: Global,
     names: &[&'a str],
     word: &str,
 ) -> Result<Option<&'a str>, AllocError>
-    ensures found { IfOk result (λ near. IfSome near (IsNearest (λ name. name.now) names.now word.now)) }
-    ensures none { IfOk result (λ near. IfNone near (AreFar (λ name. name.now) names.now word.now)) }
+    ensures { IfOk result (λ near. option_map (λ name. name.now) near ≡
+        nearest word.now (map (λ name. name.now) names.now)) }
 {
-    let mut near = None;
-    let mut bound = bound_of(word);
-    for name in names {
-        let edits = levenshtein(alloc, word, name)?;
-        if edits < bound {
-            near = Some(*name);
-            bound = edits;
-        }
+    let bound = bound_of(word);
+    let edits = fewest_edits(alloc, names, word, bound)?;
+    if edits < bound {
+        first_within(alloc, names, word, edits)
+    } else {
+        Ok(None)
     }
-    Ok(near)
 }

@@ -28,6 +28,21 @@ const OUT: Argument = Argument {
     given: Given::Place(Values::Text),
 };
 
+const INPUTS: Argument = Argument {
+    name: "IN",
+    help: "The WAV files to read",
+    more: "The WAV files to read, each with a name of its own: 16-bit PCM, 1 to 8 channels",
+    given: Given::Places(Values::Text),
+};
+
+const INTO: Argument = Argument {
+    name: "into",
+    help: "The folder to write into, each file by its name",
+    more: "The folder to write into, each file by its name. It is made if it is missing. A file in it is replaced once
+its run has ended well, and stays as it was if the run fails",
+    given: Given::Choice("FOLDER", Values::Text, None),
+};
+
 const BLOCKING: Argument = Argument {
     name: "blocking",
     help: "Periods in a block, 1 to 64",
@@ -189,7 +204,8 @@ each link holds.",
         name: "run",
         help: "Processes a WAV file",
         more: "Processes a WAV file: runs as many periods of the design as it takes to read IN, and writes what its
-outputs take to OUT. The bytes are the same whatever the options are.",
+outputs take to OUT. The bytes are the same whatever the options are. Several files are written into a
+folder by `sdfw run GRAPH --into FOLDER IN..`, of which `sdfw run --into FOLDER --help` says more.",
         schedules: true,
         arguments: &[
             GRAPH, IN, OUT, RUNNER, PATIENCE, PARALLEL, OPEN_ENDED, LEVELS, NO_WHY,
@@ -197,6 +213,23 @@ outputs take to OUT. The bytes are the same whatever the options are.",
         examples: "Examples:
   sdfw run graph.toml in.wav out.wav
   sdfw run graph.toml in.wav out.wav --parallel
+  sdfw run graph.toml --into out in/*.wav
   sdfw run graph.toml - - --runner rings --workers 2 --blocking 64 < in.wav > out.wav",
     },
 ];
+
+/// The runs of several files.
+pub(super) const BATCH: &[Row] = &[Row {
+    name: "run",
+    help: "Processes WAV files, each into a file of its name in a folder",
+    more: "Processes WAV files, one after the other, each into a file of its name in FOLDER. A line for each on
+standard output says what became of it. The exit status is the greatest that a run of one of them alone
+would have.",
+    schedules: true,
+    arguments: &[
+        GRAPH, INPUTS, INTO, RUNNER, PATIENCE, PARALLEL, OPEN_ENDED, LEVELS, NO_WHY,
+    ],
+    examples: "Examples:
+  sdfw run graph.toml --into out in/*.wav
+  sdfw run graph.toml --into out in/*.wav --parallel",
+}];

@@ -1,0 +1,92 @@
+//! How far a run has come, on one line of a terminal.
+
+use crate::levels::Passed;
+use std::alloc::{AllocError, Global};
+use std::time::Clock;
+
+/// A run of less than these milliseconds is not shown.
+const SHORT: u64 = 2_000;
+
+/// The line is written anew after these milliseconds.
+const PAUSE: u64 = 200;
+
+/// Takes the line away.
+pub(crate) const GONE: &[u8] = b"\r\x1b[K";
+
+/// Returns the milliseconds of a clock, 0 if it can't be read.
+fn now<C: Clock>(clock: &C) -> u64 {
+    match clock.monotonic() {
+        Ok(time) => u64::try_from(time.as_millis()).unwrap_or(u64::MAX),
+        Err(_) => 0,
+    }
+}
+
+/// When a run began, and when it was shown last, in milliseconds.
+#[derive(Clone, Copy)]
+pub struct Progress {
+    begun: u64,
+    shown: Option<u64>,
+}
+
+impl Progress {
+    /// Returns the progress of a run that begins.
+    pub fn new<C: Clock>(clock: &C) -> Progress {
+        Progress {
+            begun: now(clock),
+            shown: None,
+        }
+    }
+
+    /// Returns whether the run is on the line.
+    pub(crate) fn is_shown(&self) -> bool {
+        self.shown.is_some()
+    }
+
+    /// Returns whether the line is to be written at a time.
+    fn is_due(&self, time: u64) -> bool {
+        match self.shown {
+            None => time.saturating_sub(self.begun) >= SHORT,
+            Some(shown) => time.saturating_sub(shown) >= PAUSE,
+        }
+    }
+
+    /// Returns the line to write now, of a sound that has come so far.
+    pub(crate) fn line<C: Clock>(
+        &mut self,
+        alloc: Global,
+        clock: &C,
+        passed: Passed,
+    ) -> Result<String, AllocError> {
+        let time = now(clock);
+        if !self.is_due(time) {
+            return Ok(String::new(alloc));
+        }
+        self.shown = Some(time);
+        line_of(alloc, passed, time.saturating_sub(self.begun))
+    }
+}
+
+/// Returns tenths of `number` over `by`, 0 if that is 0.
+fn tenths(number: u64, by: u64) -> u64 {
+    number.saturating_mul(10).checked_div(by).unwrap_or(0)
+}
+
+/// Adds tenths.
+fn push_tenths(text: &mut String, tenths: u64) -> Result<(), AllocError> {
+    let (whole, tenth) = (tenths / 10, tenths % 10);
+    write!(text, "{whole}.{tenth}")
+}
+
+/// Returns the line of a sound that has come so far in `milliseconds`.
+fn line_of(alloc: Global, passed: Passed, milliseconds: u64) -> Result<String, AllocError> {
+    let Passed { frames, all, rate } = passed;
+    let mut text = String::from_str(alloc, "\r")?;
+    push_tenths(&mut text, tenths(frames, rate))?;
+    text.push_str(" s of ")?;
+    push_tenths(&mut text, tenths(all, rate))?;
+    text.push_str(" s, ")?;
+    let played = frames.saturating_mul(1_000);
+    push_tenths(&mut text, tenths(played, rate.saturating_mul(milliseconds)))?;
+    text.push_str(" times real time\x1b[K")?;
+    Ok(text)
+}
