@@ -8,8 +8,6 @@
 #[cfg(test)]
 mod as_one;
 #[cfg(test)]
-mod busy;
-#[cfg(test)]
 mod by_hand;
 #[cfg(test)]
 mod faults;
