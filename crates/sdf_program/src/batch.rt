@@ -153,18 +153,24 @@ fn keep_inputs<S: Storage>(
     Ok(())
 }
 
-/// Puts a sound that is whole in its place, and removes one that is not.
-fn settle<S: Storage>(storage: &S, item: &Item<'_>, ended: Result<(), Fault>) -> Result<(), Fault> {
-    match ended {
-        Ok(()) => match storage.rename(item.part.as_str(), item.output.as_str()) {
-            Ok(()) => Ok(()),
-            Err(error) => Err(device_fault(&error, Fault::Write)),
-        },
-        Err(fault) => {
-            let _ = storage.remove(item.part.as_str());
-            Err(fault)
-        }
+/// Puts a sound that is whole in its place.
+fn place<S: Storage>(storage: &S, item: &Item<'_>) -> Result<(), Fault> {
+    match storage.rename(item.part.as_str(), item.output.as_str()) {
+        Ok(()) => Ok(()),
+        Err(error) => Err(device_fault(&error, Fault::Write)),
     }
+}
+
+/// Puts a sound that is whole in its place, and removes one that is not, or that has no place.
+fn settle<S: Storage>(storage: &S, item: &Item<'_>, ended: Result<(), Fault>) -> Result<(), Fault> {
+    let settled = match ended {
+        Ok(()) => place(storage, item),
+        Err(fault) => Err(fault),
+    };
+    if settled.is_err() {
+        let _ = storage.remove(item.part.as_str());
+    }
+    settled
 }
 
 /// Runs a plan on a file. What is said of a run that ends well comes into `said`.
