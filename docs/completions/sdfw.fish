@@ -27,6 +27,7 @@ complete -c sdfw -n '__fish_seen_subcommand_from schedule' -l no-why -d 'Prints 
 complete -c sdfw -n '__fish_seen_subcommand_from schedule' -l json -d 'Answers in JSON, also of a fault'
 complete -c sdfw -n '__fish_seen_subcommand_from schedule' -l help -d 'Print help (see more with \'--help\')'
 complete -c sdfw -n '__fish_seen_subcommand_from schedule' -F
+complete -c sdfw -n '__fish_seen_subcommand_from run' -l into -x -d 'The folder to write into, each file by its name'
 complete -c sdfw -n '__fish_seen_subcommand_from run' -l blocking -x -d 'Periods in a block, 1 to 64'
 complete -c sdfw -n '__fish_seen_subcommand_from run' -l workers -x -d 'Workers, 1 to 16'
 complete -c sdfw -n '__fish_seen_subcommand_from run' -l policy -x -a 'round lean runs' -d 'Which actor fires next'
