@@ -185,7 +185,7 @@ module _ (g : Shape) where
         let feeds = waits_kept kept a none fed is in
         let same : feeds.0 ≡ c = some_same feeds.0 c (sym feeds.1 ∙ chain.1.told) in
         let source : is_kept kept (channel g c).from ≡ true =
-            subst (λ x. is_kept kept (channel g x).from ≡ true) same feeds.2.source in
+        subst (λ x. is_kept kept (channel g x).from ≡ true) same feeds.2.source in
         chain_kept kept chain.0 cs b none fed (subst (λ x. is_kept kept x ≡ true) chain.1.source source) chain.2
 
     -- where the walk ends, there is no loop
@@ -198,7 +198,7 @@ module _ (g : Shape) where
         (subst (λ x. is_some (short_at halts x) ≡ true) (omega arith) (ap is_some feeds.1))
     no_loop kept holds none fed (ends a chain b first way stops) cs loop =
         let waits : is_some (short_at halts a) ≡ true =
-            found_some (λ x. is_some (short_at halts x)) (range_with_len 0 (length halts)) a first in
+        found_some (λ x. is_some (short_at halts x)) (range_with_len 0 (length halts)) a first in
         let here = some_is (short_at halts a) waits in
         let is = chain_kept kept a chain b none fed (kept_waits kept a here.0 fed here.1) way in
         let feeds = waits_kept kept b none fed is in

@@ -87,7 +87,11 @@ fn cycle_behind(
     Ok(None)
 }
 
-pub(crate) fn cycle_of(alloc: Global, graph: &Graph, halts: &[Halt]) -> Result<Option<Vec<usize>>, AllocError>
+pub(crate) fn cycle_of(
+    alloc: Global,
+    graph: &Graph,
+    halts: &[Halt],
+) -> Result<Option<Vec<usize>>, AllocError>
     ensures { IfOk result (λ r. MatchOption r (HasNoCycle graph.now halts.now)
         (λ v. IsCycle graph.now halts.now v.items)) }
 {
