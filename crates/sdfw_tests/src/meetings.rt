@@ -213,18 +213,7 @@ const ROWS: &[Row] = &[
             runner: Runner::Rows,
             ..PATIENT
         },
-        filled: &[true],
         told: "0 in vain, 7 odd, [[9, 0], [0, 6], [3, 0], [0, 3]]",
-        ..THREE_BLOCKS
-    },
-    Row {
-        name: "by rows each firing passes on its worker, at once",
-        options: Options {
-            runner: Runner::Rows,
-            ..PATIENT
-        },
-        filled: &[false],
-        told: "0 in vain, 0 odd, [[9, 0], [0, 6], [3, 0], [0, 3]]",
         ..THREE_BLOCKS
     },
     Row {
@@ -233,18 +222,7 @@ const ROWS: &[Row] = &[
             runner: Runner::Rings,
             ..PATIENT
         },
-        filled: &[true],
         told: "0 in vain, 7 odd, [[9, 0], [0, 6], [3, 0], [0, 3]]",
-        ..THREE_BLOCKS
-    },
-    Row {
-        name: "over rings each firing passes on its worker, at once",
-        options: Options {
-            runner: Runner::Rings,
-            ..PATIENT
-        },
-        filled: &[false],
-        told: "0 in vain, 0 odd, [[9, 0], [0, 6], [3, 0], [0, 3]]",
         ..THREE_BLOCKS
     },
     Row {
