@@ -1,7 +1,7 @@
 -- Loops of a graph, and what is left if actors are taken away that nothing feeds.
 use Rattle.std.proofs.Common.{◌≡◌, ◌<◌, ◌≤◌, ◌+◌, ◌⊎◌, inl, inr, ℕ, List, [], ◌∷◌, ◌++◌, length, set, Bool, true, false}
-use Rattle.std.proofs.Common.{get_or, Option, Some, None, cond, count_by, refl, sym, ap, ◌∙◌, subst, arith, length-append}
-use Rattle.std.specs.Prelude.{slice_get, option_and_then, MatchOption, find, is_some}
+use Rattle.std.proofs.Common.{Option, Some, None, cond, refl, sym, ap, ◌∙◌, subst, arith, length-append}
+use Rattle.std.specs.Prelude.{option_and_then, MatchOption, find, is_some}
 use Rattle.std.specs.List.{range_with_len}
 use Rattle.std.proofs.Common.{zero, suc, ◌-◌}
 use Rattle.std.specs.Option.{option_map_or}
@@ -9,11 +9,10 @@ use Rattle.std.proofs.lemmas.Bool.{cases_eq, cases_lt, false≢true}
 use Rattle.std.proofs.Common.{All, reverse}
 use Rattle.std.proofs.lemmas.List.{get_or-set_same, get_or-set_other, get_or_past, reverse-append}
 use Rattle.std.proofs.lemmas.List.Elements.{All-nil, All-cons, All-head, All-tail, All-append}
-use Rattle.std.proofs.lemmas.List.Sums.{sum_by-set}
 use Rattle.std.proofs.lemmas.Option.{none-some, slice_get_past}
 use Rattle.sdf_graph.specs.Rates.{Shape, channel}
 use Rattle.sdf_why.specs.declared.cycle.Halt.{Halt}
-use Rattle.sdf_why.specs.Cycles.{first_waiting, short_at, HasNoCycle, IsChain, IsCycle, Waits, none_waits, ends}
+use Rattle.sdf_why.specs.Cycles.{short_at, HasNoCycle, IsChain, IsCycle, none_waits, ends}
 use Rattle.sdf_why.specs.Loops.{is_kept, AreFed, AreTargets, Feeds, HoldsLoops, IsFedBy, IsLoop, IsUnfed, LeadBack}
 
 some_same : (a b : ℕ) → Some a ≡ Some b → a ≡ b

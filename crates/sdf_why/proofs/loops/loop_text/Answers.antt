@@ -1,4 +1,4 @@
-use Rattle.std.proofs.Common.{◌≡◌, ◌<◌, ◌∙◌, rules, sym, ap, subst, List, ℕ, reverse, string_bytes, All, length}
+use Rattle.std.proofs.Common.{◌≡◌, ◌<◌, ◌∙◌, rules, sym, ap, subst, ℕ, string_bytes, All, length}
 use Rattle.std.proofs.lemmas.Option.{MatchOption-at_none}
 use Rattle.sdf_actor.specs.Graphs.{graph_of}
 use Rattle.sdf_kit.specs.Kit.{kit_steps}

@@ -1,8 +1,7 @@
-use Rattle.std.proofs.Common.{Option, MatchOption, sym, subst}
+use Rattle.std.proofs.Common.{MatchOption, sym, subst}
 use Rattle.std.proofs.lemmas.Result.{IfOk-weaker}
 use Rattle.sdf_document.specs.Lists.{files_view}
 use Rattle.sdf_file.specs.Designs.{IsDesignOf}
-use Rattle.sdf_file.specs.declared.design.Design.{Design}
 use Rattle.sdf_why.specs.Told.{SaysNone, refused}
 use Rattle.sdf_why.proofs.told.design_of.Goals as goal
 
