@@ -25,7 +25,7 @@ const PIPED: Around<'static> = Around {
     ..TERMINAL
 };
 
-/// Threads with a clock by which so many milliseconds pass before each reading.
+/// Threads with a clock that goes on by a fixed number of milliseconds before each reading.
 #[derive_where(Clone, Copy)]
 struct Paced<'a, R> {
     rt: &'a R,
@@ -54,7 +54,7 @@ impl<R> Clock for Paced<'_, R> {
     }
 }
 
-/// What is told of a run at this pace.
+/// Returns what a run prints if its clock goes on at this pace.
 fn told_at<R: Threads + AllocGlobal + Sync>(
     rt: &R,
     step: u64,
@@ -70,7 +70,7 @@ fn told_at<R: Threads + AllocGlobal + Sync>(
     told_around(&paced, around, line)
 }
 
-/// The name of a row, the milliseconds between readings, the words, and what is told, with `…` in the place of any text.
+/// A row: its name, the milliseconds between readings, the words, and the printed text. `…` stands for any text.
 type Row = (&'static str, u64, &'static str, &'static str);
 
 /// Runs at a terminal. Refuses a program that shows a short run, one that leaves the line there, and one that shows a run

@@ -238,7 +238,7 @@ fn bytes_of(path: &str) -> Option<&'static [u8]> {
 }
 
 /// Files in memory, and what was written. Only out.wav can be made, and what lies in the folder `made`, one file behind
-/// the other. What is removed takes all with it, and only a part can be renamed. The file `-` is no sound, and `./-` is
+/// the other. Removing a file removes its content, and only a part can be renamed. The file `-` is no sound, and `./-` is
 /// one.
 #[derive(Clone, Copy)]
 pub(crate) struct Shelf<'a> {

@@ -24,7 +24,7 @@ use sdf_sched::Period;
 use sdf_wav::{ContentOut, Reader, Writer};
 use std::thread::Threads;
 
-/// A source of so many frames, of which none is taken, and an output of which nothing is written but the header.
+/// A source of `frames` frames before the first one is taken, and an output whose header alone is written.
 #[derive(Drop)]
 pub(crate) struct Begun {
     pub(crate) source: Source,

@@ -1,4 +1,4 @@
--- What is told of a design that keeps its samples for ever: a loop of its links.
+-- The loop of links by which a design keeps its samples for ever.
 use Rattle.std.specs.Prelude.{◌≡◌, ℕ, ◌<◌, List, [], ◌∷◌, ◌++◌, length, codes, Bool, true, false, slice_index_or}
 use Rattle.std.specs.Prelude.{Option, None, MatchOption, reverse}
 use Rattle.std.specs.List.{flat_map}

@@ -1,4 +1,4 @@
-//! What is told of a design that keeps its samples for ever: a loop of its links.
+//! The loop of links by which a design keeps its samples for ever.
 
 ghost use Rattle.std.specs.Prelude.{◌≡◌, ◌<◌, ◌++◌, ◌↔◌, ℕ, true, false, [], length, slice_index, slice_index_or};
 ghost use Rattle.std.specs.Prelude.{None, IfOk, OnOk, MatchOption, string_bytes, List};
