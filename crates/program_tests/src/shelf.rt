@@ -238,8 +238,8 @@ fn bytes_of(path: &str) -> Option<&'static [u8]> {
 }
 
 /// Files in memory, and what was written. Only out.wav can be made, and what lies in the folder `made`, one file behind
-/// the other. Removing a file removes its content, and only a part can be renamed. The file `-` is no sound, and `./-` is
-/// one.
+/// the other. Removing a file removes its content, and only a part can be renamed. The file `-` is no sound, and `./-`
+/// is one.
 #[derive(Clone, Copy)]
 pub(crate) struct Shelf<'a> {
     pub(crate) written: &'a RefCell<Vec<u8>>,
