@@ -1,5 +1,6 @@
 //! Which runner a command uses, seen in what is written of a sound that ends too soon: one thread has written the
-//! header alone when it finds that out, rows and rings all whole pieces of 4,096 frames, and a parallel run of 65,536.
+//! header alone when it finds that out, rows and rings all whole pieces of 4,096 frames, and a parallel run those of
+//! 131,072 frames for each worker.
 
 use crate::commands::{Around, OPEN, serve_line};
 use std::alloc::{AllocError, Global};
@@ -8,9 +9,9 @@ use std::thread::Threads;
 use std::time::Clock;
 use test_texts::row_says;
 
-/// The header of 70,000 frames, 44,100 a second.
+/// The header of 300,000 frames, 44,100 a second.
 const ANNOUNCED: &[u8] =
-    b"RIFF\x04\x23\x02\0WAVEfmt \x10\0\0\0\x01\0\x01\0\x44\xAC\0\0\x88\x58\x01\0\x02\0\x10\0data\xE0\x22\x02\0";
+    b"RIFF\xE4\x27\x09\0WAVEfmt \x10\0\0\0\x01\0\x01\0\x44\xAC\0\0\x88\x58\x01\0\x02\0\x10\0data\xC0\x27\x09\0";
 
 /// So many of the frames that it announces, which are 0, 1, 2 and so on, up to 4,999 and then anew.
 fn cut(alloc: Global, frames: u32) -> Result<Vec<u8>, AllocError> {
@@ -50,7 +51,7 @@ fn told<T: Threads + AllocGlobal + Clock + Clone + Drop + Sync>(
     Ok(format!(in alloc; "{status} {} {front} {err}", made.len())?)
 }
 
-/// The name of a row, how many of 70,000 frames are there, the words behind the program's name, and what is told.
+/// The name of a row, how many of 300,000 frames are there, the words behind the program's name, and what is told.
 type Row = (&'static str, u32, &'static str, &'static str);
 
 const ROWS: &[Row] = &[
@@ -91,10 +92,16 @@ const ROWS: &[Row] = &[
         "3 0 true sdfw: 30 NotHomed\n",
     ),
     (
-        "in parallel, in parts of a sound that is read whole",
+        "in parallel, less than a piece of two parts",
         65_536,
         "run heavy.toml - - --parallel 2",
         "4 44 true sdfw: 43 Truncated\n",
+    ),
+    (
+        "in parallel, a frame more than a piece",
+        262_145,
+        "run heavy.toml - - --parallel 2",
+        "4 524332 true sdfw: 43 Truncated\n",
     ),
     (
         "in parallel, one worker alone",
@@ -111,7 +118,7 @@ const ROWS: &[Row] = &[
 ];
 
 /// Refuses a program that ignores `--runner`, one that goes by rows where rings are asked for, and a parallel run that
-/// does not read the sound whole.
+/// reads the sound whole, or less than a piece.
 #[test]
 fn the_runner_is_the_one_asked_for(rt: HostRuntime) -> Result<(), Fail> {
     for (name, frames, line, wanted) in ROWS {

@@ -1,22 +1,17 @@
 -- What a run knows that takes and writes as it goes, before its first piece and between two.
-use Rattle.std.proofs.Common.{mul-le-mul_left}
 use Rattle.std.proofs.Common.{◌≡◌, ◌≢◌, ◌⊎◌, inl, inr, Err, ℕ, ◌-◌, ◌*◌, ◌/◌, ◌%◌, ◌≤◌, ◌<◌, ℤ, List, []}
-use Rattle.std.proofs.Common.{length, map, sum, take, Option, Some, None, refl, sym, ap, ◌∙◌, subst, arith}
+use Rattle.std.proofs.Common.{length, map, take, Option, Some, None, refl, sym, ap, ◌∙◌, subst, arith}
 use Rattle.std.specs.Io.KnownBytes.{Appends}
 use Rattle.std.proofs.Math.Nat.{div-mul-le_self, mod-eq-sub-div-mul}
 use Rattle.std.proofs.lemmas.Bool.{cases_lt, lt-ltb}
-use Rattle.std.proofs.lemmas.List.Sums.{get_or-le-sum_by}
 use Rattle.std.proofs.lemmas.Nat.{le-div}
-use Rattle.sdf_limits.specs.declared.TheConstants.{MOST_BLOCK}
+use Rattle.sdf_actor.specs.declared.rest.Rest.{Rest}
 use Rattle.sdf_actor.specs.Nets.{Netlist}
 use Rattle.sdf_answer.specs.Answer.{AreOutputs, periods_of as firings}
 use Rattle.sdf_answer.specs.Laws.{RunsGoOn}
 use Rattle.sdf_answer.specs.Periods.{HasPeriod}
 use Rattle.sdf_kit.specs.declared.kit.Kit.{Kit}
 use Rattle.sdf_kit.specs.Kit.{kit_steps}
-use Rattle.sdf_run.specs.Sessions.{SessionValue}
-use Rattle.sdf_answer.specs.Rows.{IsBlockTableOf}
-use Rattle.sdf_answer.specs.declared.block_table.BlockTable.{BlockTable}
 use Rattle.sdf_actor.specs.Graphs.{graph_of}
 use Rattle.sdf_graph.specs.Periods.{IsLeastPeriod}
 use Rattle.sdf_graph.specs.Rates.{rates}
@@ -32,12 +27,13 @@ use Rattle.sdf_process.specs.declared.exchange.Exchange.{Exchange}
 use Rattle.sdf_plan.specs.declared.fault.Fault.{Fault}
 use Rattle.sdf_plan.specs.declared.fault.Fault.TheVariants.{ChannelsMissing, OutOfMemory}
 use Rattle.sdf_process.specs.declared.source.Source.{Source}
+use Rattle.sdf_process.specs.declared.streaming.Opened.{Opened}
 use Rattle.sdf_process.specs.Output.{announced_fault, exchange_of, interleaved, lists_to, periods_for, IsExchange}
 use Rattle.sdf_process.specs.Sources.{reading_of, source_behind, Takes, TakesAll}
-use Rattle.sdf_process.specs.Streams.{AreBehind, IsReady, IsStream, StandsAt, StandsWhole, Streams}
+use Rattle.sdf_process.specs.Streams.{AreBehind, IsOpened, IsReady, IsStream, StandsAt, StandsWhole, Streams}
 use Rattle.sdf_process.specs.Tasks.{IsBegun}
-use Rattle.sdf_process.proofs.Fed.{run_at}
 use Rattle.sdf_process.proofs.Opened.{frames_known}
+use Rattle.sdf_process.proofs.Pieced.{outputs_of}
 use Rattle.sdf_process.proofs.Pieces.{appends_none}
 use Rattle.sdf_process.proofs.Rendering.{are_inputs, begin, interleaved_cut}
 use Rattle.sdf_process.proofs.Outcomes.{keeps_same}
@@ -50,7 +46,7 @@ module _ (runs : RunsGoOn kit_steps) (n : Netlist Kit ℤ) (p : Schedule) (has :
   exchange = exchange_of n p.repetitions
 
   -- the frames of some periods are those of a run of these periods
-  pub stood : (s : Sound) (blocks frames periods : ℕ) (bytes : List ℕ) (v : SessionValue Kit (List ℤ) ℤ) →
+  pub stood : (s : Sound) (blocks frames periods : ℕ) (bytes : List ℕ) (v : Option (Rest ℤ (List ℤ))) →
       StandsAt n p j s blocks frames bytes v → periods ≤ blocks * j → frames ≡ periods * exchange.made →
       (lists : List (List ℤ)) × AreOutputs kit_steps n (lists_to periods exchange s) (firings p.repetitions periods)
       lists × (bytes ≡ sample_bytes (interleaved (periods * exchange.made) lists))
@@ -58,13 +54,13 @@ module _ (runs : RunsGoOn kit_steps) (n : Netlist Kit ℤ) (p : Schedule) (has :
     map (take (periods * exchange.made)) at.made,
     runs n p periods (blocks * j) (lists_to periods exchange s) (lists_to (blocks * j) exchange s) at.made has less
         (are_inputs n p.repetitions s periods) (begin periods (blocks * j) exchange s less)
-        (run_at n p j s blocks frames bytes v at),
+        (outputs_of n (lists_to (blocks * j) exchange s) (firings p.repetitions (blocks * j)) at.made at.rest at.run),
     at.bytes_are ∙ (ap (λ (k : ℕ). sample_bytes (interleaved k at.made)) same
         ∙ ap sample_bytes (sym (interleaved_cut at.made (periods * exchange.made)))),
   )
 
   -- so far the run came
-  pub came_to : (c : Reading) (samples : List ℤ) (blocks : ℕ) (bytes : List ℕ) (v : SessionValue Kit (List ℤ) ℤ) →
+  pub came_to : (c : Reading) (samples : List ℤ) (blocks : ℕ) (bytes : List ℕ) (v : Option (Rest ℤ (List ℤ))) →
       2 * length samples ≤ c.size → 0 < c.channels → blocks * j * exchange.taken * c.channels ≤ length samples →
       StandsWhole n p j (sound_read c samples) blocks bytes v → IsStream n p.repetitions c samples (blocks * j) bytes
   came_to c samples blocks bytes v within one there at = record {
@@ -78,7 +74,7 @@ module _ (runs : RunsGoOn kit_steps) (n : Netlist Kit ℤ) (p : Schedule) (has :
 
 pub record Flows (n : Netlist Kit ℤ) (p : Schedule) (j : ℕ) (first : Source) (frames all unread : ℕ)
     (old now before after : Option (List ℕ)) (r r' w w' : ℕ) (kept : List ℤ) (source : Source) (o : Owed)
-    (v : SessionValue Kit (List ℤ) ℤ) : Type 0 where
+    (v : Option (Rest ℤ (List ℤ))) : Type 0 where
   pub samples : List ℤ
   pub few : ℕ
   pub bytes : List ℕ
@@ -119,7 +115,7 @@ allowed_lower x a is = go (cases_lt a.channels x.inputs)
         absurd (let no : Some ChannelsMissing ≡ None = sym lacking ∙ is in cc)
     go (inr there) = there
 
-whole_size : (c : Reading) (frames : ℕ) → IsReading c → (known : c.size ≢ 0xFFFFFFFF) →
+pub whole_size : (c : Reading) (frames : ℕ) → IsReading c → (known : c.size ≢ 0xFFFFFFFF) →
     frames ≡ c.size / (2 * c.channels) → 2 * (frames * c.channels) ≡ c.size
 whole_size c frames is known same = go is.within
   where
@@ -134,85 +130,73 @@ whole_size c frames is known same = go is.within
         omega (arith, part, left, here, double, whole)
     go (inr (endless, there)) = absurd (known endless)
 
--- a period has firings
-some_firings : (n : Netlist Kit ℤ) (p : Schedule) → HasPeriod kit_steps n p → 1 ≤ sum p.repetitions
-some_firings n p has =
-    let few : 0 < length p.repetitions = omega (arith, has.period.least.is.all, has.shape.some) in
-    omega (arith, has.period.least.is.positive 0 has.shape.some, get_or-le-sum_by (λ q. q) p.repetitions 0 0 few)
+module _ (t : Opened) (is : IsOpened t)
+    (has : (p : Schedule) → IsPeriodOf (rates (graph_of kit_steps t.net.now)) p → HasPeriod kit_steps t.net.now p)
+    (b : Begun) (begun : IsBegun t.net.now t.period.now.repetitions b)
+    (x : Exchange) (x_is : (q : List ℕ) → IsLeastPeriod (rates (graph_of kit_steps t.net.now)) q →
+    x ≡ exchange_of t.net.now q) (limits : IsExchange x) where
+  abbrev n : Netlist Kit ℤ
+  n = t.net.now
 
--- a block of few firings has few periods
-few_blocks : (j firings : ℕ) → 1 ≤ firings → j * firings ≤ MOST_BLOCK → j ≤ MOST_BLOCK
-few_blocks j firings some short =
-    let more : j * 1 ≤ j * firings = mul-le-mul_left j some in
-    omega (arith, more, short)
+  abbrev p : Schedule
+  p = t.period.now
 
-module _ (n : Netlist Kit ℤ) (t : BlockTable) (is : IsBlockTableOf (rates (graph_of kit_steps n)) t)
-    (has : (p : Schedule) → IsPeriodOf (rates (graph_of kit_steps n)) p → HasPeriod kit_steps n p) (b : Begun)
-    (begun : IsBegun n t.period.repetitions b)
-    (x : Exchange) (x_is : (q : List ℕ) → IsLeastPeriod (rates (graph_of kit_steps n)) q → x ≡ exchange_of n q)
-    (limits : IsExchange x) where
   abbrev c : Reading
   c = reading_of b.source
 
-  there : x ≡ exchange_of n t.period.repetitions
-  there = x_is t.period.repetitions is.period.least
+  there : x ≡ exchange_of n p.repetitions
+  there = x_is p.repetitions is.period.least
 
-  some_periods : 0 < t.factor
-  some_periods = omega (arith, is.table.some)
-
-  short_blocks : t.factor ≤ 4294967295
-  short_blocks = omega (
-    arith,
-    few_blocks t.factor (sum t.period.repetitions) (some_firings n t.period (has t.period is.period)) is.table.short,
-  )
-
-  pub can_flow : RunsGoOn kit_steps → CanFlow n t.period t.factor c b.frames b.output.missing
+  pub can_flow : RunsGoOn kit_steps → CanFlow n p t.blocking c b.frames b.output.missing
   can_flow runs =
       let here = frames_known c.size c.channels b.frames begun.unheard.known in
       record {
         runs = runs;
-        has = has t.period is.period;
+        has = has p is.period;
         unread = begun.unheard.unread;
         one = begun.unheard.sound.one_channel;
-        lower = allowed_lower (exchange_of n t.period.repetitions)
+        lower = allowed_lower (exchange_of n p.repetitions)
             (record { rate = c.rate; channels = c.channels; frames = b.frames }) begun.extent.is_allowed;
         size = whole_size c b.frames begun.unheard.sound here.0 here.1;
         known = here.0;
         fits = begun.unheard.sound.size_fits;
-        some = some_periods;
-        few = short_blocks;
+        some = is.some;
+        few = is.fits;
         taken = subst (λ (y : Exchange). 0 < y.taken) there limits.some_taken;
         made = subst (λ (y : Exchange). 0 < y.made) there limits.some_made;
         all_is = ap (λ (y : Owed). y.missing) begun.owed
-            ∙ ap (λ (k : ℕ). k * (exchange_of n t.period.repetitions).made) begun.extent.periods;
+            ∙ ap (λ (k : ℕ). k * (exchange_of n p.repetitions).made) begun.extent.periods;
       }
 
   -- a run that is begun can go on
-  pub ready_first : (m e : ℕ) → 1 ≤ m → 1 ≤ e → e ≤ MOST_CHANNELS →
-      (v : SessionValue Kit (List ℤ) ℤ) (s : Sound) → StandsAt n t.period t.factor s 0 0 [] v →
-      IsReady n t.period
-      (record { session = v; output = b.output; exchange = x; blocking = t.factor; rate = m; channels = e })
-  ready_first m e some_rate one few v s at = record {
-    live = (at.stands.rest, at.stands.held);
-    net = at.net;
-    period = at.period;
-    factor = at.factor;
-    has = has t.period is.period;
-    some = some_periods;
-    fits = short_blocks;
+  pub ready_first : (m e : ℕ) → 1 ≤ m → 1 ≤ e → e ≤ MOST_CHANNELS → IsReady n p (record {
+    runner = t.runner;
+    output = b.output;
+    exchange = x;
+    blocking = t.blocking;
+    rate = m;
+    channels = e;
+  })
+  ready_first m e some_rate one few = record {
+    goes = is.goes;
+    has = has p is.period;
+    some = is.some;
+    fits = is.fits;
     some_rate = some_rate;
     one_channel = one;
     few_channels = few;
     exchange = there;
     limits = limits;
+    some_inputs = subst (λ (y : Exchange). 0 < y.inputs) (sym there)
+        (omega (arith, (has p is.period).accepted.1.lists.input));
     unspent = ap (λ (y : Owed). y.spent) begun.owed;
     channels = ap (λ (y : Owed). y.channels) begun.owed ∙ sym (ap (λ (y : Exchange). y.outputs) there);
     few = subst (λ (y : Exchange). 2 * (b.output.missing * y.outputs) ≤ 4294967259) (sym there)
-        (subst (λ (m : ℕ). 2 * (m * (exchange_of n t.period.repetitions).outputs) ≤ 4294967259)
+        (subst (λ (m : ℕ). 2 * (m * (exchange_of n p.repetitions).outputs) ≤ 4294967259)
         (sym (ap (λ (y : Owed). y.missing) begun.owed)) begun.extent.few_bytes);
   }
 
--- nothing was taken, or no session was opened
+-- nothing was taken, or no run was opened
 pub untaken : (n : Netlist Kit ℤ) (q : List ℕ) (first : Source) (old new held : Option (List ℕ)) (r r' w : ℕ)
     (e f : Fault) → f ≡ e → TakesAll first old new r r' (Err e) →
     Streams n q first old new held held r r' w w (Err f)

@@ -5,12 +5,12 @@ use Rattle.std.specs.Io.KnownBytes.{Appends}
 use Rattle.std.proofs.Math.Nat.{mul-div_left, mul-le-mul_right, mul-mod_left}
 use Rattle.std.proofs.Math.Seq.{drop-nil}
 use Rattle.std.proofs.lemmas.List.{length-append, length-drop}
+use Rattle.sdf_actor.specs.declared.rest.Rest.{Rest}
 use Rattle.sdf_actor.specs.Nets.{Netlist}
 use Rattle.sdf_answer.specs.Laws.{RunsGoOn}
 use Rattle.sdf_answer.specs.Periods.{HasPeriod}
 use Rattle.sdf_kit.specs.declared.kit.Kit.{Kit}
 use Rattle.sdf_kit.specs.Kit.{kit_steps}
-use Rattle.sdf_run.specs.Sessions.{SessionValue}
 use Rattle.sdf_sched.specs.Period.{Schedule}
 use Rattle.sdf_wav.specs.Device.{one_more}
 use Rattle.sdf_wav.specs.PiecesIn.{Reading, sound_read}
@@ -21,7 +21,9 @@ use Rattle.sdf_process.specs.declared.source.Source.{Source}
 use Rattle.sdf_plan.specs.declared.fault.Fault.{Fault}
 use Rattle.sdf_process.specs.Output.{exchange_of, periods_for, periods_of}
 use Rattle.sdf_process.specs.Sources.{reading_of, TakesAll, TakesMore}
-use Rattle.sdf_process.specs.Streams.{AreBehind, IsStream, PutsBlocks, PutsWhole, StandsAt, StandsWhole, Streams}
+use Rattle.sdf_process.specs.declared.streaming.Stream.{Stream}
+use Rattle.sdf_process.specs.Streams.{AreBehind, IsKept, IsStream, PutsBlocks, PutsWhole, StandsAt, StandsWhole}
+use Rattle.sdf_process.specs.Streams.{Streams, left_by}
 use Rattle.sdf_process.proofs.Pieces.{appends_none}
 use Rattle.sdf_process.proofs.Sizes.{below_by, cancel, less_twice, minus, periods_end, periods_fit, positive}
 use Rattle.sdf_process.proofs.Outcomes.{appends_join, front_join, keeps_same}
@@ -50,13 +52,13 @@ module _ {n : Netlist Kit ℤ} {p : Schedule} {j : ℕ} (first : Source) {frames
   size = can.size
 
   abbrev Here : (unread : ℕ) (old now before after : Option (List ℕ)) (r r' w w' : ℕ) (kept : List ℤ)
-      (source : Source) (o : Owed) (v : SessionValue Kit (List ℤ) ℤ) → Type 0
+      (source : Source) (o : Owed) (v : Option (Rest ℤ (List ℤ))) → Type 0
   Here unread old now before after r r' w w' kept source o v =
       Flows n p j first frames all unread old now before after r r' w w' kept source o v
 
   -- nothing was read
   pub flows_first : (old before : Option (List ℕ)) (r w : ℕ) (kept : List ℤ) (o : Owed)
-      (v : SessionValue Kit (List ℤ) ℤ) → kept ≡ [] → o.missing ≡ all → StandsAt n p j (sound_read c []) 0 0 [] v →
+      (v : Option (Rest ℤ (List ℤ))) → kept ≡ [] → o.missing ≡ all → StandsAt n p j (sound_read c []) 0 0 [] v →
       Here frames old old before before r r w w kept first o v
   flows_first old before r w kept o v empty owed at =
       let none : 0 ≡ 0 * j * x.made = omega arith in
@@ -89,7 +91,7 @@ module _ {n : Netlist Kit ℤ} {p : Schedule} {j : ℕ} (first : Source) {frames
       nothing k = sym (drop-nil k)
 
   module _ {unread : ℕ} (some_left : unread ≤ frames) {old now before after : Option (List ℕ)} {r r1 w w1 : ℕ}
-      {kept : List ℤ} {source : Source} {o : Owed} {v : SessionValue Kit (List ℤ) ℤ}
+      {kept : List ℤ} {source : Source} {o : Owed} {v : Option (Rest ℤ (List ℤ))}
       (here : Here unread old now before after r r1 w w1 kept source o v) where
     behind_here : reading_of source ≡ record c { gone = c.gone + 2 * length here.samples }
     behind_here = ap reading_of here.source_is ∙ reading_behind first here.samples
@@ -123,6 +125,15 @@ module _ {n : Netlist Kit ℤ} {p : Schedule} {j : ℕ} (first : Source) {frames
 
     pub came_here : IsStream n p.repetitions c here.samples (here.few * j) here.bytes
     came_here = came_to can.runs n p can.has j c here.samples here.few here.bytes v within one here.behind.0 here.stands
+
+    -- what is kept stands behind the blocks that were run
+    pub kept_here : (t : Stream) → t.blocking ≡ j → t.channels ≡ c.channels → left_by t.runner ≡ v →
+        IsKept n p t c here.samples here.few here.bytes kept
+    kept_here t is same left = record {
+      channels = sym same;
+      stands = rw (is, left) here.stands;
+      behind = rw is here.behind;
+    }
 
     -- no more was taken
     pub taking_failed : (new : Option (List ℕ)) (r2 : ℕ) (e f : Fault) → f ≡ e → TakesAll first old new r r2 (Err e) →
@@ -169,7 +180,7 @@ module _ {n : Netlist Kit ℤ} {p : Schedule} {j : ℕ} (first : Source) {frames
           here.behind.0 here.stands
 
       -- what was put of them where the periods of a block have another name
-      pub puts_held : (last : Option (List ℕ)) (w2 : ℕ) (o' : Owed) (v' : SessionValue Kit (List ℤ) ℤ)
+      pub puts_held : (last : Option (List ℕ)) (w2 : ℕ) (o' : Owed) (v' : Option (Rest ℤ (List ℤ)))
           (made : Result (List ℤ) Fault) (b : ℕ) → b ≡ j →
           (StandsWhole n p b (sound_read c all_taken) here.few here.bytes v →
           AreBehind x c all_taken (here.few * b) held →
@@ -180,6 +191,14 @@ module _ {n : Netlist Kit ℤ} {p : Schedule} {j : ℕ} (first : Source) {frames
           (puts (subst (λ (k : ℕ). StandsWhole n p k (sound_read c all_taken) here.few here.bytes v)
           (sym is) stands_held)
           (subst (λ (k : ℕ). AreBehind x c all_taken (here.few * k) held) (sym is) behind_held))
+
+      pub kept_held : (t : Stream) → t.blocking ≡ j → t.channels ≡ c.channels → left_by t.runner ≡ v →
+          IsKept n p t c all_taken here.few here.bytes held
+      kept_held t is same left = record {
+        channels = sym same;
+        stands = rw (is, left) stands_held;
+        behind = rw is behind_held;
+      }
 
       held_long : length held ≡ length all_taken - here.few * j * x.taken * c.channels
       held_long = ap length behind_held.1 ∙ length-drop (here.few * j * x.taken * c.channels) all_taken
@@ -211,7 +230,7 @@ module _ {n : Netlist Kit ℤ} {p : Schedule} {j : ℕ} (first : Source) {frames
           omega (arith, made, parts, here.missing, can.all_is)
 
       -- its whole blocks were not written
-      pub putting_failed : (last : Option (List ℕ)) (w2 : ℕ) (o' : Owed) (v' : SessionValue Kit (List ℤ) ℤ)
+      pub putting_failed : (last : Option (List ℕ)) (w2 : ℕ) (o' : Owed) (v' : Option (Rest ℤ (List ℤ)))
           (e f : Fault) → f ≡ e →
           PutsWhole n p j c all_taken here.few here.bytes after last w1 w2 o o' v' (Err e) →
           Streams n p.repetitions first old new before last r r2 w w2 (Err f)
@@ -246,7 +265,7 @@ module _ {n : Netlist Kit ℤ} {p : Schedule} {j : ℕ} (first : Source) {frames
       )
 
       -- they were
-      pub flows_on : (last : Option (List ℕ)) (w2 : ℕ) (o' : Owed) (v' : SessionValue Kit (List ℤ) ℤ) (rest : List ℤ) →
+      pub flows_on : (last : Option (List ℕ)) (w2 : ℕ) (o' : Owed) (v' : Option (Rest ℤ (List ℤ))) (rest : List ℤ) →
           PutsWhole n p j c all_taken here.few here.bytes after last w1 w2 o o' v' (Ok rest) →
           Here (unread - many) old new before last r r2 w w2 rest next o' v'
       flows_on last w2 o' v' rest (blocks, more, at, written, fine, behind, less, owed) = record {
@@ -306,7 +325,7 @@ module _ {n : Netlist Kit ℤ} {p : Schedule} {j : ℕ} (first : Source) {frames
       few_periods : here.few * j * x.made ≤ periods_for x frames * x.made
       few_periods = mul-le-mul_right x.made (periods_fit (here.few * j) x.taken frames can.taken few_enough)
 
-      ended_by : (blocks many : ℕ) (bytes : List ℕ) (v' : SessionValue Kit (List ℤ) ℤ) (last : Option (List ℕ))
+      ended_by : (blocks many : ℕ) (bytes : List ℕ) (v' : Option (Rest ℤ (List ℤ))) (last : Option (List ℕ))
           (w2 : ℕ) → StandsAt n p j (sound_read c here.samples) blocks many bytes v' →
           periods_for x frames ≤ blocks * j →
           many ≡ periods_for x frames * x.made → Appends before last bytes → w2 ≡ w →
@@ -342,14 +361,24 @@ module _ {n : Netlist Kit ℤ} {p : Schedule} {j : ℕ} (first : Source) {frames
       filled : here.few * j * x.made + o.missing ≡ periods_for x frames * x.made
       filled = omega (arith, few_periods, here.missing, can.all_is)
 
-      pub ended_put : (last : Option (List ℕ)) (w2 : ℕ) (v' : SessionValue Kit (List ℤ) ℤ) →
+      -- if blocks are single periods, a last one makes just what is missing
+      pub single_missing : j ≡ 1 → 0 < o.missing → o.missing ≡ j * x.made
+      single_missing single some =
+          let past : here.few * j < periods_for x frames =
+          below_by (here.few * j) (periods_for x frames) x.made (omega (arith, filled, some)) in
+          let next : (here.few + 1) * j ≡ periods_for x frames =
+          omega (arith, past, last_block, (let z : (here.few + 1) * j ≡ here.few * j + j = omega arith in z), single) in
+          let all : (here.few + 1) * j * x.made ≡ here.few * j * x.made + j * x.made = omega arith in
+          omega (arith, filled, all, ap (λ (k : ℕ). k * x.made) next)
+
+      pub ended_put : (last : Option (List ℕ)) (w2 : ℕ) (v' : Option (Rest ℤ (List ℤ))) →
           PutsBlocks n p j (sound_read c here.samples) here.few 1 o.missing here.bytes after last w1 w2 v' (Ok tt) →
           Streams n p.repetitions first old now before last r r1 w w2 (Ok tt)
       ended_put last w2 v' (more, at, written, fine) =
           ended_by (here.few + 1) (here.few * j * x.made + o.missing) (here.bytes ++ more) v' last w2 at last_block
           filled (appends_join before after last here.bytes more here.written written) (fine ∙ here.writer)
 
-      pub ended_failed : (last : Option (List ℕ)) (w2 : ℕ) (v' : SessionValue Kit (List ℤ) ℤ) (f : Fault) →
+      pub ended_failed : (last : Option (List ℕ)) (w2 : ℕ) (v' : Option (Rest ℤ (List ℤ))) (f : Fault) →
           PutsBlocks n p j (sound_read c here.samples) here.few 1 o.missing here.bytes after last w1 w2 v' (Err f) →
           Streams n p.repetitions first old now before last r r1 w w2 (Err f)
       ended_failed last w2 v' f (inl (is_write, (more, at, front, failed))) =
@@ -391,7 +420,7 @@ module _ {n : Netlist Kit ℤ} {p : Schedule} {j : ℕ} (first : Source) {frames
       )
 
       -- so the run ended
-      pub ended : (last : Option (List ℕ)) (w2 : ℕ) (v' : SessionValue Kit (List ℤ) ℤ)
+      pub ended : (last : Option (List ℕ)) (w2 : ℕ) (v' : Option (Rest ℤ (List ℤ)))
           (result : Result (Unit {0}) Fault) →
           PutsBlocks n p j (sound_read c here.samples) here.few 1 o.missing here.bytes after last w1 w2 v' result →
           Streams n p.repetitions first old now before last r r1 w w2 result

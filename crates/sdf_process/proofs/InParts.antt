@@ -72,6 +72,13 @@ cut_is at many x s from to order within =
     (channel_samples_from s (at * x.taken + from) (to - from)) from to 0 x.inputs
     (λ e. between_range (sample s e) (at * x.taken) (many * x.taken) from to order within)
 
+pub first_cut : (many : ℕ) (x : Exchange) (s : Sound) (from to : ℕ) → from ≤ to → to ≤ many * x.taken →
+    cut from to (lists_from 0 many x s) ≡ map (channel_samples_from s from (to - from)) (range_with_len 0 x.inputs)
+first_cut many x s from to order within =
+    cut_is 0 many x s from to order within
+    ∙ ap (λ (k : ℕ). map (channel_samples_from s k (to - from)) (range_with_len 0 x.inputs))
+    (let z : 0 * x.taken + from ≡ from = omega arith in z)
+
 -- it reads no further than the piece goes
 pub within_piece : (at many : ℕ) (x : Exchange) (s : Sound) (to : ℕ) → 0 < x.inputs →
     ((e : ℕ) → e < length (lists_from at many x s) → to ≤ length (get_or (lists_from at many x s) e [])) →
@@ -111,7 +118,9 @@ whole_more outputs xs y each (k, is) i l = go (cases_lt i (length xs))
 
 module _ (can : NetsCanRun kit_steps) (ports : PortsHaveChannels kit_steps) (n : Netlist Kit ℤ) (p : Schedule)
     (has : HasPeriod kit_steps n p) (s : Sound) (at many : ℕ) (made : List (List ℤ)) (rest : Rest ℤ (List ℤ))
-    (run : HasRun kit_steps n (lists_to at (exchange_of n p.repetitions) s) (firings p.repetitions at) made rest) where
+    (run : HasRun kit_steps n (lists_to at (exchange_of n p.repetitions) s) (firings p.repetitions at) made rest)
+    (input : Sound) (given : lists_from at many (exchange_of n p.repetitions) s ≡
+    lists_from 0 many (exchange_of n p.repetitions) input) where
   abbrev q : List ℕ
   q = p.repetitions
 
@@ -187,24 +196,25 @@ module _ (can : NetsCanRun kit_steps) (ports : PortsHaveChannels kit_steps) (n :
   -- so are those of a run in parts, and there is room for them
   pub record IsInParts {Z : Type 0} (ps : List (Vec ℤ Z)) (last : Rest ℤ (List ℤ)) (o : Owed) : Type 0 where
     pub outputs : List (List ℤ)
-    pub goes : GoesOnBy kit_steps n q rest many (lists_from at many x s) outputs last
+    pub goes : GoesOnBy kit_steps n q rest many (lists_from 0 many x input) outputs last
     pub frames : in_turn (items_of ps) ≡ interleaved (many * x.made) outputs
     pub whole : (i : ℕ) → i < length ps → (k : ℕ) × (length (get_or (items_of ps) i []) ≡ k * o.channels)
     pub missing : length (in_turn (items_of ps)) ≤ o.missing * o.channels
     pub size : length (in_turn (items_of ps)) ≡ many * x.made * o.channels
 
-  pub in_parts : {Z : Type 0} (y : Exchange) → y ≡ x → (k : ℕ) → k ≡ many → (ms ps : List (Vec ℤ Z)) → ps ≡ ms →
+  pub in_parts : {Z : Type 0} (y : Exchange) → y ≡ x → (ms ps : List (Vec ℤ Z)) → ps ≡ ms →
       (last : Rest ℤ (List ℤ)) →
-      GoesOnInParts kit_steps n q (lists_from at k y s)
+      GoesOnInParts kit_steps n q (lists_from 0 many y input)
       (λ periods outputs m. m.items ≡ interleaved (periods * y.made) outputs) rest many ms last →
       (o : Owed) → o.channels ≡ x.outputs → many * x.made ≤ o.missing → IsInParts ps last o
-  in_parts {Z} y same k all ms ps are last goes o channels room =
-      let own = subst (λ (z : Exchange). GoesOnInParts kit_steps n q (lists_from at many z s)
-      (λ periods outputs (m : Vec ℤ Z). m.items ≡ interleaved (periods * z.made) outputs) rest many ms last) same
-      (subst (λ (i : ℕ). GoesOnInParts kit_steps n q (lists_from at i y s)
-      (λ periods outputs (m : Vec ℤ Z). m.items ≡ interleaved (periods * y.made) outputs) rest many ms last) all goes) in
+  in_parts {Z} y same ms ps are last goes o channels room =
+      let own = subst (λ (z : Exchange). GoesOnInParts kit_steps n q (lists_from 0 many z input)
+      (λ periods outputs (m : Vec ℤ Z). m.items ≡ interleaved (periods * z.made) outputs) rest many ms last) same goes in
+      let parts = subst (λ (l : List (List ℤ)). HasParts kit_steps n q l
+      (λ periods outputs (m : Vec ℤ Z). m.items ≡ interleaved (periods * x.made) outputs) rest many own.outputs ms)
+      (sym given) own.parts in
       let f = subst (λ (l : List (Vec ℤ Z)). AreFramed x.outputs (many * x.made) own.outputs (items_of l)) (sym are)
-      (framed many own.outputs ms (omega arith) own.parts) in
+      (framed many own.outputs ms (omega arith) parts) in
       let long : length (in_turn (items_of ps)) ≡ many * x.made * x.outputs =
       ap length f.frames ∙ (length-interleaved (many * x.made) own.outputs
       ∙ ap (λ (z : ℕ). many * x.made * z) f.count) in

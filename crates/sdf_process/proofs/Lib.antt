@@ -23,3 +23,4 @@ pub mod Fed
 pub mod Streamed
 pub mod Flow
 pub mod Flowing
+pub mod Ways

@@ -1,16 +1,13 @@
--- What the pieces of a run write, one behind the other.
-use Rattle.std.proofs.Common.{◌≡◌, inl, inr, Result, Ok, Err, ℕ, zero, suc, ◌+◌, ◌-◌, ◌*◌, ◌≤◌, ◌<◌, ℤ, List, [], ◌∷◌}
-use Rattle.std.proofs.Common.{◌++◌, length, get_or, Option, refl, sym, ap, ◌∙◌, subst, arith, append-nil}
-use Rattle.std.specs.Prelude.{IsErrAnd}
-use Rattle.std.specs.Io.KnownBytes.{Appends}
-use Rattle.std.proofs.Math.Nat.{mul-le-mul_right}
+-- What a run that goes on makes of the next blocks of a sound, behind what it made before.
+use Rattle.std.proofs.Common.{◌≡◌, inl, inr, Result, Ok, Err, ℕ, zero, suc, ◌+◌, ◌*◌, ◌≤◌, ◌<◌, ℤ, List, [], ◌∷◌, ◌++◌}
+use Rattle.std.proofs.Common.{length, get_or, Option, Some, refl, sym, ap, ◌∙◌, subst, arith}
 use Rattle.sdf_actor.specs.declared.rest.Rest.{Rest}
 use Rattle.sdf_actor.specs.declared.sides.Lists.TheVariants.{Inputs, Outputs}
 use Rattle.sdf_actor.specs.Laws.{PortsHaveChannels}
 use Rattle.sdf_actor.specs.Nets.{Netlist, IsNet}
-use Rattle.sdf_actor.specs.Rests.{IsRest}
+use Rattle.sdf_actor.specs.Rests.{AreJoined, IsRest}
 use Rattle.sdf_actor.specs.Sides.{list_count}
-use Rattle.sdf_answer.specs.Answer.{AreOutputs, periods_of as firings}
+use Rattle.sdf_answer.specs.Answer.{AreOutputs, HasInputs, periods_of as firings}
 use Rattle.sdf_answer.specs.Feeds.{GoesOnBy, HasRun, NothingRuns}
 use Rattle.sdf_answer.specs.Laws.{NetsCanRun}
 use Rattle.sdf_answer.specs.Periods.{HasPeriod}
@@ -20,17 +17,17 @@ use Rattle.sdf_sched.specs.Period.{Schedule}
 use Rattle.sdf_split.specs.Cuts.{join}
 use Rattle.sdf_split.proofs.Lists.{joined_is, joined_long}
 use Rattle.sdf_wav.specs.Canonical.{sample_bytes}
-use Rattle.sdf_wav.specs.Device.{AppendsFront, one_more}
 use Rattle.sdf_wav.specs.PiecesOut.{Owed}
 use Rattle.sdf_wav.specs.Sound.{Sound}
-use Rattle.sdf_process.specs.declared.exchange.Exchange.{Exchange}
 use Rattle.sdf_plan.specs.declared.fault.Fault.{Fault}
-use Rattle.sdf_process.specs.Output.{exchange_of, interleaved, lists_from, lists_to, periods_of}
-use Rattle.sdf_process.specs.Run.{AreFrames}
-use Rattle.sdf_process.specs.Stages.{PlaysTo, PutsFrames, PutsOutput, PutsPiece, SamplesJoin}
-use Rattle.sdf_process.proofs.Outcomes.{appends_join, front_join}
-use Rattle.sdf_process.proofs.Pieces.{appends_none}
+use Rattle.sdf_process.specs.declared.exchange.Exchange.{Exchange}
+use Rattle.sdf_process.specs.declared.playing.Player.{Player}
+use Rattle.sdf_process.specs.declared.portion.Portion.{Portion}
+use Rattle.sdf_process.specs.Output.{exchange_of, interleaved, lists_from, lists_to}
+use Rattle.sdf_process.specs.Stages.{PutsFrames, SamplesJoin}
+use Rattle.sdf_process.specs.Streams.{Follows, PlaysBy, PutsBlocks, StandsAt, StandsWhole}
 use Rattle.sdf_process.proofs.Played.{frames_on_join, lists_full, lists_joined, made_long}
+use Rattle.sdf_process.proofs.Refusals.{some_same}
 use Rattle.sdf_process.proofs.Rendering.{are_inputs, list_length}
 use Rattle.sdf_process.proofs.Texts.{bytes_append}
 
@@ -53,146 +50,142 @@ pub blank_long : (k : ℕ) → length (blank k) ≡ k
 blank_long zero = refl
 blank_long (suc k) = ap suc (blank_long k)
 
--- before the first piece
-pub plays_first : NothingRuns kit_steps → (n : Netlist Kit ℤ) (q : List ℕ) (s : Sound) (rest : Rest ℤ (List ℤ)) →
-    IsNet kit_steps n → 0 < list_count Inputs n.nodes → 0 < (exchange_of n q).taken →
-    ((inputs : List (List ℤ)) → IsRest kit_steps n inputs (λ _. 0) rest) → PlaysTo n q s 0 [] rest
-plays_first nothing n q s rest good some sized first =
-    let given = are_inputs n q s 0 in
-    let empty : length (get_or (lists_to 0 (exchange_of n q) s) 0 []) ≡ 0 =
-    omega (arith, list_length 0 (exchange_of n q) s 0 (omega (arith, given.count, some))) in (
-      blank (list_count Outputs n.nodes),
-      nothing n q 0 (lists_to 0 (exchange_of n q) s) (blank (list_count Outputs n.nodes)) rest good given
-          (omega (arith, given.count, some)) sized empty
-          (blank_long (list_count Outputs n.nodes)) (λ e l. blank_at (list_count Outputs n.nodes) e)
-          (first (lists_to 0 (exchange_of n q) s)),
-      ap (λ (k : ℕ). sample_bytes (interleaved k (blank (list_count Outputs n.nodes))))
-          (let z : 0 ≡ 0 * (exchange_of n q).made = omega arith in z),
+-- nothing was run
+pub first_stands : NothingRuns kit_steps → (n : Netlist Kit ℤ) (p : Schedule) (rest : Rest ℤ (List ℤ)) →
+    IsNet kit_steps n → 0 < list_count Inputs n.nodes → 0 < (exchange_of n p.repetitions).taken →
+    ((inputs : List (List ℤ)) → IsRest kit_steps n inputs (λ _. 0) rest) → (s : Sound) →
+    StandsAt n p 1 s 0 0 [] (Some rest)
+first_stands nothing n p rest good some sized first s = record {
+  made = blank (list_count Outputs n.nodes);
+  rest = rest;
+  held = refl;
+  run = nothing n p.repetitions (0 * 1) (lists_to (0 * 1) (exchange_of n p.repetitions) s)
+      (blank (list_count Outputs n.nodes)) rest good given (omega (arith, given.count, some)) sized empty
+      (blank_long (list_count Outputs n.nodes)) (λ e l. blank_at (list_count Outputs n.nodes) e)
+      (first (lists_to (0 * 1) (exchange_of n p.repetitions) s));
+  bytes_are = refl;
+}
+  where
+    given : HasInputs n p.repetitions (0 * 1) (lists_to (0 * 1) (exchange_of n p.repetitions) s)
+    given = are_inputs n p.repetitions s (0 * 1)
+
+    empty : length (get_or (lists_to (0 * 1) (exchange_of n p.repetitions) s) 0 []) ≡ 0
+    empty = omega (
+      arith,
+      list_length (0 * 1) (exchange_of n p.repetitions) s 0 (omega (arith, given.count, some)),
     )
 
-module _ (joins : SamplesJoin) (n : Netlist Kit ℤ) (p : Schedule) (has : HasPeriod kit_steps n p)
-    (can : NetsCanRun kit_steps) (ports : PortsHaveChannels kit_steps) (s : Sound) (at many : ℕ)
-    (rest last : Rest ℤ (List ℤ)) (on : List (List ℤ))
-    (goes : GoesOnBy kit_steps n p.repetitions rest many
-    (lists_from at many (exchange_of n p.repetitions) s) on last) where
-  abbrev q : List ℕ
-  q = p.repetitions
+-- ---- the next blocks
 
+module _ (joins : SamplesJoin) (can : NetsCanRun kit_steps) (ports : PortsHaveChannels kit_steps) (n : Netlist Kit ℤ)
+    (p : Schedule) (has : HasPeriod kit_steps n p) (j : ℕ) (s : Sound) (few blocks : ℕ) (bytes : List ℕ)
+    (left : Option (Rest ℤ (List ℤ))) (at : StandsWhole n p j s few bytes left) (on : List (List ℤ))
+    (count : length on ≡ list_count Outputs n.nodes) (last : Rest ℤ (List ℤ))
+    (run : HasRun kit_steps n (lists_to ((few + blocks) * j) (exchange_of n p.repetitions) s)
+    (firings p.repetitions ((few + blocks) * j)) (join at.made on) last) (now : Option (Rest ℤ (List ℤ)))
+    (is : now ≡ Some last) where
   abbrev x : Exchange
   x = exchange_of n p.repetitions
 
-  abbrev more : List ℕ
-  more = sample_bytes (interleaved (many * x.made) on)
+  stands_on_by : (frames : ℕ) → StandsAt n p j s (few + blocks) (few * j * x.made + frames)
+      (bytes ++ sample_bytes (interleaved frames on)) now
+  stands_on_by frames =
+      let same : length at.made ≡ length on = at.run.count ∙ sym count in
+      record {
+        made = join at.made on;
+        rest = last;
+        held = is;
+        run = run;
+        bytes_are = ap (λ (b : List ℕ). b ++ sample_bytes (interleaved frames on)) at.bytes_are
+            ∙ (sym (bytes_append joins (interleaved (few * j * x.made) at.made) (interleaved frames on))
+            ∙ ap sample_bytes (sym (frames_on_join (few * j * x.made) frames at.made on
+            (made_long kit_steps n p has can ports (few * j) (lists_to (few * j) x s) at.made
+            (are_inputs n p.repetitions s (few * j))
+            (outputs_of n (lists_to (few * j) x s) (firings p.repetitions (few * j)) at.made at.rest at.run)) same)));
+      }
 
-  plays_on : (frames : List ℕ) → PlaysTo n q s at frames rest → PlaysTo n q s (at + many) (frames ++ more) last
-  plays_on frames (made, run, same) =
-      let count : length made ≡ length on = run.count ∙ sym goes.count in
-      let long = made_long kit_steps n p has can ports at (lists_to at x s) made (are_inputs n q s at)
-      (outputs_of n (lists_to at x s) (firings q at) made rest run) in
-      let all : at * x.made + many * x.made ≡ (at + many) * x.made = omega arith in (
-        join made on,
-        goes.runs at (lists_to at x s) (lists_to (at + many) x s) made (join made on) (are_inputs n q s at)
-            (lists_full n q at s) run (lists_joined at many x s)
-            (joined_is made on (omega (arith, count))) (joined_long made on),
-        ap (λ (b : List ℕ). b ++ more) same
-            ∙ (sym (bytes_append joins (interleaved (at * x.made) made) (interleaved (many * x.made) on))
-            ∙ (ap sample_bytes (sym (frames_on_join (at * x.made) (many * x.made) made on long count))
-            ∙ ap (λ (k : ℕ). sample_bytes (interleaved k (join made on))) all)),
+  -- what is written of it
+  pub blocks_put : (frames : ℕ) (lists : List (List ℤ)) → lists ≡ on →
+      (before after : Option (List ℕ)) (m m' : ℕ) (r : Result (Unit {0}) Fault) →
+      PutsFrames before after m m' (sample_bytes (interleaved frames lists)) r →
+      PutsBlocks n p j s few blocks frames bytes before after m m' now r
+  blocks_put frames lists same before after m m' r puts =
+      go r (subst (λ (l : List (List ℤ)). PutsFrames before after m m'
+      (sample_bytes (interleaved frames l)) r) same puts)
+    where
+      go : (r : Result (Unit {0}) Fault) → PutsFrames before after m m' (sample_bytes (interleaved frames on)) r →
+          PutsBlocks n p j s few blocks frames bytes before after m m' now r
+      go (Ok y) (written, fine) = (sample_bytes (interleaved frames on), stands_on_by frames, written, fine)
+      go (Err f) (inl (is, front, failed)) = inl (
+        is,
+        (sample_bytes (interleaved frames on), stands_on_by frames, front, failed),
       )
+      go (Err f) (inr (is, kept, fine)) = inr (is, kept, fine)
 
-  module _ (frames : List ℕ) (plays : PlaysTo n q s at frames rest) (k : ℕ) (lists : List (List ℤ))
-      (same_count : k ≡ many * x.made) (same_lists : lists ≡ on) (before after : Option (List ℕ)) (w w' : ℕ) where
-    bytes : sample_bytes (interleaved k lists) ≡ more
-    bytes = ap (λ (i : ℕ). sample_bytes (interleaved i lists)) same_count
-        ∙ ap (λ (l : List (List ℤ)). sample_bytes (interleaved (many * x.made) l)) same_lists
+-- ---- a player goes on
 
-    pub piece_put : Appends before after (sample_bytes (interleaved k lists)) × (w' ≡ w) →
-        PutsPiece n q s at many frames before after w w' (Ok last)
-    piece_put (written, fine) = (more, plays_on frames plays, subst (Appends before after) bytes written, fine)
+-- what is said of a net and a period, said of those that a player plays, and back
+module _ (n : Netlist Kit ℤ) (p : Schedule) (j : ℕ) (v : Player) (by : PlaysBy n p j v)
+    (P : Netlist Kit ℤ → Schedule → Type 0) where
+  pub to_player : P n p → P v.net.now v.period.now
+  to_player h = subst (λ (m : Netlist Kit ℤ). P m v.period.now) (sym by.net) (subst (P n) (sym by.period) h)
 
-    pub piece_failed : (e : Fault) (r : Result (Rest ℤ (List ℤ)) Fault) →
-        PutsFrames {X = Unit {0}} before after w w' (sample_bytes (interleaved k lists)) (Err e) →
-        IsErrAnd r (λ f. f ≡ e) →
-        PutsPiece n q s at many frames before after w w' r
-    piece_failed e (Err f) (inl (is, front, counted)) same =
-        inl (same ∙ is, (more, last, plays_on frames plays, subst (AppendsFront before after) bytes front, counted))
-    piece_failed e (Err f) (inr (is, kept, fine)) same = inr (same ∙ is, kept, fine)
-    piece_failed e (Ok y) puts same = absurd same
+  pub from_player : P v.net.now v.period.now → P n p
+  from_player h = subst (P n) by.period (subst (λ (m : Netlist Kit ℤ). P m v.period.now) by.net h)
 
--- the frames of the pieces so far
-pub are_frames : (n : Netlist Kit ℤ) (q : List ℕ) (s : Sound) (periods : ℕ) (frames : List ℕ) (rest : Rest ℤ (List ℤ)) →
-    PlaysTo n q s periods frames rest → AreFrames n q s periods frames
-are_frames n q s periods frames rest (made, run, same) =
-    inr (made, outputs_of n (lists_to periods (exchange_of n q) s) (firings q periods) made rest run, same)
+-- what it holds is what the run before left
+pub held_is : (n : Netlist Kit ℤ) (p : Schedule) (j : ℕ) (s : Sound) (few frames : ℕ) (bytes : List ℕ)
+    (rest : Rest ℤ (List ℤ)) (at : StandsAt n p j s few frames bytes (Some rest)) →
+    HasRun kit_steps n (lists_to (few * j) (exchange_of n p.repetitions) s) (firings p.repetitions (few * j)) at.made
+    rest
+held_is n p j s few frames bytes rest at =
+    subst (HasRun kit_steps n (lists_to (few * j) (exchange_of n p.repetitions) s)
+    (firings p.repetitions (few * j)) at.made) (sym (some_same rest at.rest at.held)) at.run
 
--- all were written
-pub pieces_put : (n : Netlist Kit ℤ) (q : List ℕ) (s : Sound) (at : ℕ) (frames : List ℕ) (rest : Rest ℤ (List ℤ)) →
-    at ≡ periods_of (exchange_of n q) s → PlaysTo n q s at frames rest →
-    (before after : Option (List ℕ)) (w w' : ℕ) → Appends before after frames → w' ≡ w →
-    PutsOutput n q s before after w w' (Ok tt)
-pieces_put n q s at frames rest all plays before after w w' written fine =
-    go (subst (λ (k : ℕ). PlaysTo n q s k frames rest) all plays)
-  where
-    go : PlaysTo n q s (periods_of (exchange_of n q) s) frames rest → PutsOutput n q s before after w w' (Ok tt)
-    go (made, run, same) = (
-      made,
-      outputs_of n (lists_to (periods_of (exchange_of n q) s) (exchange_of n q) s)
-          (firings q (periods_of (exchange_of n q) s)) made rest run,
-      subst (Appends before after) same written,
-      fine,
-    )
+-- there is room for all that its periods make
+pub all_made : (n : Netlist Kit ℤ) (p : Schedule) (y : Portion) (o : Owed) → y.exchange ≡ exchange_of n p.repetitions →
+    y.frames ≡ y.periods * y.exchange.made → y.frames ≤ o.missing →
+    y.periods * (exchange_of n p.repetitions).made ≤ o.missing
+all_made n p y o is all room =
+    subst (λ (x : Exchange). y.periods * x.made ≤ o.missing) is (subst (λ (k : ℕ). k ≤ o.missing) all room)
 
--- a piece was not
-pub pieces_failed : (n : Netlist Kit ℤ) (q : List ℕ) (s : Sound) (at many : ℕ) (frames : List ℕ)
-    (rest : Rest ℤ (List ℤ)) → at + many ≤ periods_of (exchange_of n q) s → PlaysTo n q s at frames rest →
-    (before mid after : Option (List ℕ)) (w w1 w' : ℕ) → Appends before mid frames → w1 ≡ w →
-    (e : Fault) (r : Result (Unit {0}) Fault) → PutsPiece n q s at many frames mid after w1 w' (Err e) →
-    IsErrAnd r (λ f. f ≡ e) → PutsOutput n q s before after w w' r
-pieces_failed n q s at many frames rest few plays before mid after w w1 w' written fine e (Err f)
-    (inl (is, (more, last, on, front, counted))) same = (
-      at + many,
-      frames ++ more,
-      few,
-      are_frames n q s (at + many) (frames ++ more) last on,
-      inl (same ∙ is, front_join before mid after frames more written front, counted ∙ ap one_more fine),
-    )
-pieces_failed n q s at many frames rest few plays before mid after w w1 w' written fine e (Err f)
-    (inr (is, kept, same_count)) same = (
-      at,
-      frames,
-      omega (arith, few),
-      are_frames n q s at frames rest plays,
-      inr (
-        same ∙ is,
-        subst (Appends before after) (append-nil frames)
-            (appends_join before mid after frames [] written (appends_none mid after kept)),
-        same_count ∙ fine,
-      ),
-    )
-pieces_failed n q s at many frames rest few plays before mid after w w1 w' written fine e (Ok y) puts same = absurd same
+-- it goes on by what the portion's own exchange reads
+pub portion_as : (n : Netlist Kit ℤ) (p : Schedule) (y : Portion) → y.exchange ≡ exchange_of n p.repetitions →
+    (rest : Rest ℤ (List ℤ)) (on : List (List ℤ)) (last : Rest ℤ (List ℤ)) →
+    GoesOnBy kit_steps n p.repetitions rest y.periods (lists_from 0 y.periods y.exchange y.input.now) on last →
+    GoesOnBy kit_steps n p.repetitions rest y.periods
+    (lists_from 0 y.periods (exchange_of n p.repetitions) y.input.now) on last
+portion_as n p y is rest on last goes =
+    subst (λ (x : Exchange). GoesOnBy kit_steps n p.repetitions rest y.periods (lists_from 0 y.periods x y.input.now) on
+    last) is goes
 
--- ---- what is missing
+module _ (n : Netlist Kit ℤ) (p : Schedule) (j : ℕ) (s : Sound) (few blocks : ℕ) (bytes : List ℕ)
+    (rest last : Rest ℤ (List ℤ)) (y : Portion) (follows : Follows n p j s few blocks bytes (Some rest) y)
+    (on : List (List ℤ))
+    (goes : GoesOnBy kit_steps n p.repetitions rest y.periods (lists_from 0 y.periods (exchange_of n p.repetitions)
+    y.input.now) on last) where
+  abbrev e : Exchange
+  e = exchange_of n p.repetitions
 
-pub owed_none : (o : Owed) (made : ℕ) → o ≡ record o { missing = o.missing - 0 * made }
-owed_none o made = ap (λ (k : ℕ). record o { missing = k })
-    (let z : o.missing ≡ o.missing - 0 * made = omega arith in z)
+  all : few * j + y.periods ≡ (few + blocks) * j
+  all = ap (λ (k : ℕ). few * j + k) follows.periods
+      ∙ (let z : few * j + blocks * j ≡ (few + blocks) * j = omega arith in z)
 
-pub owed_more : (o p : Owed) (at many made : ℕ) → p ≡ record o { missing = o.missing - at * made } →
-    record p { missing = p.missing - many * made } ≡ record o { missing = o.missing - (at + many) * made }
-owed_more o p at many made is =
-    let left : o.missing - at * made - many * made ≡ o.missing - (at + many) * made = omega arith in
-    ap (λ (z : Owed). record z { missing = z.missing - many * made }) is ∙ ap (λ (k : ℕ). record o { missing = k }) left
+  joined : AreJoined (lists_to (few * j) e s) (lists_from 0 y.periods e y.input.now) (lists_to ((few + blocks) * j) e s)
+  joined = subst (λ (g : List (List ℤ)). AreJoined (lists_to (few * j) e s) g (lists_to ((few + blocks) * j) e s))
+      follows.lists
+      (subst (λ (k : ℕ). AreJoined (lists_to (few * j) e s) (lists_from (few * j) y.periods e s) (lists_to k e s)) all
+      (lists_joined (few * j) y.periods e s))
 
-pub piece_missing : (periods at many made missing : ℕ) → at + many ≤ periods → missing ≡ periods * made - at * made →
-    many * made ≤ missing
-piece_missing periods at many made missing few is =
-    let less : (at + many) * made ≤ periods * made = mul-le-mul_right made few in
-    let split : (at + many) * made ≡ at * made + many * made = omega arith in
-    omega (arith, is)
-
-pub piece_few : (periods many made outputs most : ℕ) → many ≤ periods → 2 * (periods * made * outputs) ≤ most →
-    2 * (many * made * outputs) ≤ most
-piece_few periods many made outputs most few all =
-    let less : many * made * outputs ≤ periods * made * outputs =
-    mul-le-mul_right outputs (mul-le-mul_right made few) in
-    omega (arith, all)
+  -- the run before and this one are one run
+  pub plays_on : HasRun kit_steps n (lists_to ((few + blocks) * j) e s) (firings p.repetitions ((few + blocks) * j))
+      (join follows.stands.made on) last
+  plays_on =
+      let made = follows.stands.made in
+      let count : length made ≡ length on = follows.stands.run.count ∙ sym goes.count in
+      subst (λ (k : ℕ). HasRun kit_steps n (lists_to ((few + blocks) * j) e s) (firings p.repetitions k)
+      (join made on) last) all
+      (goes.runs (few * j) (lists_to (few * j) e s) (lists_to ((few + blocks) * j) e s) made (join made on)
+      (are_inputs n p.repetitions s (few * j)) (lists_full n p.repetitions (few * j) s)
+      (held_is n p j s few (few * j * e.made) bytes rest follows.stands) joined
+      (joined_is made on (omega (arith, count))) (joined_long made on))

@@ -1,15 +1,12 @@
 -- Frames that are written some at a time.
-use Rattle.std.proofs.Common.{◌≡◌, inl, inr, ℕ, zero, suc, ◌+◌, ◌-◌, ◌*◌, ◌/◌, ◌%◌, ◌≤◌, ℤ, List, [], ◌++◌}
-use Rattle.std.proofs.Common.{Option, Some, None, append-nil, Result, Ok, Err, refl, sym, ap, ◌∙◌, subst, arith}
+use Rattle.std.proofs.Common.{◌≡◌, inl, ℕ, zero, suc, ◌+◌, ◌-◌, ◌*◌, ◌/◌, ◌%◌, ◌≤◌, ℤ, List, [], ◌++◌}
+use Rattle.std.proofs.Common.{Option, Some, None, append-nil, Result, Ok, Err, sym, ap, ◌∙◌, subst, arith}
 use Rattle.std.proofs.Common.{append_assoc}
 use Rattle.std.specs.Prelude.{IsErrAnd}
 use Rattle.std.specs.List.{range_with_len}
 use Rattle.std.specs.Io.KnownBytes.{Appends, Keeps}
 use Rattle.std.proofs.Math.Nat.{mul-div_cancel, mul-le-mul_right, mul-mod_left}
 use Rattle.std.proofs.lemmas.List.Concat.{flat_map-cons}
-use Rattle.sdf_actor.specs.Nets.{Netlist}
-use Rattle.sdf_kit.specs.declared.kit.Kit.{Kit}
-use Rattle.sdf_wav.specs.Sound.{Sound}
 use Rattle.sdf_wav.specs.Canonical.{sample_bytes}
 use Rattle.sdf_wav.specs.Device.{failures_after, one_more}
 use Rattle.sdf_wav.specs.PiecesOut.{Owed, Puts}
@@ -17,10 +14,9 @@ use Rattle.sdf_wav.specs.declared.fault.WavFault.{WavFault}
 use Rattle.sdf_wav.specs.declared.fault.WavFault.TheVariants as wav
 use Rattle.sdf_plan.specs.declared.fault.Fault.{Fault}
 use Rattle.sdf_plan.specs.Faults.{of_wav}
-use Rattle.sdf_plan.specs.declared.fault.Fault.TheVariants.{OutOfMemory}
 use Rattle.sdf_process.specs.Output.{frame, interleaved, interleaved_from}
-use Rattle.sdf_process.specs.Stages.{PutsFrames, PutsHeader, PutsOutput, SamplesJoin}
-use Rattle.sdf_process.proofs.Outcomes.{front_join, keeps_same}
+use Rattle.sdf_process.specs.Stages.{PutsFrames, PutsHeader, SamplesJoin}
+use Rattle.sdf_process.proofs.Outcomes.{front_join}
 use Rattle.sdf_process.proofs.Texts.{bytes_append}
 
 -- frames from two places on, one behind the other
@@ -126,18 +122,6 @@ pub appends_none : (a b : Option (List ℕ)) → Keeps a b → Appends a b []
 appends_none None b p = tt
 appends_none (Some x) None p = absurd p
 appends_none (Some x) (Some y) p = p ∙ sym (append-nil x)
-
--- the lists were not made
-pub unrun : (n : Netlist Kit ℤ) (q : List ℕ) (s : Sound) (held : Option (List ℕ)) (w : ℕ) (e : Fault)
-    (r : Result (Unit {0}) Fault) → e ≡ OutOfMemory → IsErrAnd r (λ f. f ≡ e) → PutsOutput n q s held held w w r
-unrun n q s held w e (Err f) memory is = (
-  0,
-  [],
-  omega arith,
-  inl (refl, refl),
-  inr (is ∙ memory, appends_none held held (keeps_same held), refl),
-)
-unrun n q s held w e (Ok x) memory is = absurd is
 
 -- a failed run
 pub run_fails : (P : Result (Unit {0}) Fault → Type 0) (f : Fault) (r : Result (Unit {0}) Fault) →

@@ -1,6 +1,6 @@
 -- A content that is read on.
 use Rattle.std.proofs.Common.{◌≡◌, ◌≢◌, inl, inr, ℕ, ◌+◌, ◌*◌, ◌≤◌, ℤ, List, [], ◌++◌, length, Option, Result, Ok, Err}
-use Rattle.std.proofs.Common.{MatchResult, sym, ap, ◌∙◌, subst, arith}
+use Rattle.std.proofs.Common.{MatchResult, ◌∷◌, refl, sym, ap, ◌∙◌, subst, arith}
 use Rattle.std.specs.Prelude.{IsErrAnd}
 use Rattle.std.proofs.lemmas.List.{length-append}
 use Rattle.sdf_wav.specs.Device.{Known, LosesFront, failures_after, one_more}
@@ -101,3 +101,7 @@ module _ (c now : Reading) (before : List ℤ) (here : now ≡ record c { gone =
       there = ap (λ (y : Reading). record y { gone = y.gone + 2 * length samples }) here
           ∙ ap (λ (k : ℕ). record c { gone = k }) (let z : c.gone + 2 * length before + 2 * length samples ≡
           c.gone + 2 * length (before ++ samples) = omega (arith, length-append before samples) in z)
+
+pub none_kept : (kept : List ℤ) → length kept ≡ 0 → kept ≡ []
+none_kept [] none = refl
+none_kept (x ∷ kept) none = absurd (omega arith)

@@ -81,7 +81,7 @@ pub record AnnouncedAt (a : Announced) (input left : List ℕ) : Type 0 where
   pub announces : Announces reading samples left a
   pub least : (reading.size ≢ 0xFFFFFFFF → reading.gone ≡ 0) × (reading.size ≡ 0xFFFFFFFF → left ≡ [])
 
-some_same : {X : Type 0} (x y : X) → Some x ≡ Some y → x ≡ y
+pub some_same : {X : Type 0} (x y : X) → Some x ≡ Some y → x ≡ y
 some_same x y e = cc
 
 pub some_no_none : {X : Type 0} (x : X) → Some x ≡ None → ⊥

@@ -1,11 +1,14 @@
 -- A run that reads and writes as it goes: its blocks joined, and its end.
 use Rattle.std.proofs.Common.{◌≡◌, inl, inr, Ok, Err, ℕ, ◌+◌, ◌-◌, ◌*◌, ◌≤◌, ◌<◌, ℤ, List, [], ◌++◌, length, drop}
 use Rattle.std.proofs.Common.{Option, refl, sym, ap, ◌∙◌, subst, arith, append-nil}
+use Rattle.std.proofs.Math.Nat.{mul-le-mul_right}
 use Rattle.std.proofs.lemmas.List.{drop-append-le, drop-drop, length-append, length-drop}
+use Rattle.sdf_actor.specs.declared.rest.Rest.{Rest}
 use Rattle.sdf_actor.specs.Nets.{Netlist}
+use Rattle.sdf_answer.specs.Answer.{periods_of as firings}
+use Rattle.sdf_answer.specs.Feeds.{HasRun}
 use Rattle.sdf_kit.specs.declared.kit.Kit.{Kit}
 use Rattle.sdf_kit.specs.Kit.{kit_steps}
-use Rattle.sdf_run.specs.Sessions.{SessionValue, StandsAfter}
 use Rattle.sdf_sched.specs.Period.{Schedule}
 use Rattle.sdf_wav.specs.PiecesIn.{Reading, sound_read}
 use Rattle.sdf_wav.specs.PiecesOut.{Owed}
@@ -14,27 +17,31 @@ use Rattle.sdf_process.specs.declared.exchange.Exchange.{Exchange}
 use Rattle.sdf_plan.specs.declared.fault.Fault.{Fault}
 use Rattle.sdf_plan.specs.declared.fault.Fault.TheVariants.{OutOfMemory}
 use Rattle.sdf_process.specs.Output.{exchange_of}
-use Rattle.sdf_process.specs.Streams.{AreBehind, PutsBlocks, PutsWhole, StandsAt, StandsWhole}
-use Rattle.sdf_process.proofs.Parts.{lists_stay}
+use Rattle.sdf_process.specs.declared.portion.Portion.{Portion}
+use Rattle.sdf_process.specs.declared.streaming.Runner.{Runner}
+use Rattle.sdf_process.specs.declared.streaming.Runner.TheVariants as runner
+use Rattle.sdf_process.specs.declared.streaming.Stream.{Stream}
+use Rattle.sdf_process.specs.Streams.{AreBehind, CanPut, Follows, GoesBy, IsKept, IsReady, PutsBlocks, PutsWhole}
+use Rattle.sdf_process.specs.Streams.{StandsAt, StandsWhole, WritesOf, left_by}
+use Rattle.sdf_process.proofs.Parts.{lists_behind, lists_stay}
 use Rattle.sdf_process.proofs.Pieces.{appends_none}
 use Rattle.sdf_process.proofs.Outcomes.{keeps_same}
 
--- ---- what a session stands after, as the sound is read on
+-- ---- what a run stands after, as the sound is read on
 
 -- more samples change nothing of it
 pub stands_on : (n : Netlist Kit ℤ) (p : Schedule) (j : ℕ) (c : Reading) (xs ys : List ℤ) (blocks frames : ℕ)
-    (bytes : List ℕ) (v : SessionValue Kit (List ℤ) ℤ) →
+    (bytes : List ℕ) (v : Option (Rest ℤ (List ℤ))) →
     (exchange_of n p.repetitions).inputs ≤ c.channels →
     blocks * j * (exchange_of n p.repetitions).taken * c.channels ≤ length xs →
     StandsAt n p j (sound_read c xs) blocks frames bytes v →
     StandsAt n p j (sound_read c (xs ++ ys)) blocks frames bytes v
 stands_on n p j c xs ys blocks frames bytes v lower there at = record {
-  net = at.net;
-  period = at.period;
-  factor = at.factor;
   made = at.made;
-  stands = subst (λ (l : List (List ℤ)). StandsAfter kit_steps v blocks l at.made)
-      (sym (lists_stay (blocks * j) (exchange_of n p.repetitions) c xs ys lower there)) at.stands;
+  rest = at.rest;
+  held = at.held;
+  run = subst (λ (l : List (List ℤ)). HasRun kit_steps n l (firings p.repetitions (blocks * j)) at.made at.rest)
+      (sym (lists_stay (blocks * j) (exchange_of n p.repetitions) c xs ys lower there)) at.run;
   bytes_are = at.bytes_are;
 }
 
@@ -47,9 +54,82 @@ behind_on x c xs ys kept periods (there, is) = (
 )
 
 frames_as : (n : Netlist Kit ℤ) (p : Schedule) (j : ℕ) (s : Sound) (blocks frames many : ℕ) (bytes : List ℕ)
-    (v : SessionValue Kit (List ℤ) ℤ) → frames ≡ many → StandsAt n p j s blocks frames bytes v →
+    (v : Option (Rest ℤ (List ℤ))) → frames ≡ many → StandsAt n p j s blocks frames bytes v →
     StandsAt n p j s blocks many bytes v
 frames_as n p j s blocks frames many bytes v same at = subst (λ (k : ℕ). StandsAt n p j s blocks k bytes v) same at
+
+-- ---- a portion of what is kept
+
+-- it can be run
+pub can_put : (n : Netlist Kit ℤ) (p : Schedule) (t : Stream) → IsReady n p t → (y : Portion) →
+    y.exchange ≡ t.exchange → y.frames ≤ t.output.missing → CanPut n p t.blocking t.output y
+can_put n p t ready y same room = record {
+  has = ready.has;
+  some = ready.some;
+  exchange = same ∙ ready.exchange;
+  unspent = ready.unspent;
+  channels = ready.channels ∙ ap (λ (x : Exchange). x.outputs) (sym same);
+  missing = room;
+  few =
+      let less : y.frames * y.exchange.outputs ≤ t.output.missing * y.exchange.outputs =
+      mul-le-mul_right y.exchange.outputs room in
+      let outputs : t.output.missing * y.exchange.outputs ≡ t.output.missing * t.exchange.outputs =
+      ap (λ (x : Exchange). t.output.missing * x.outputs) same in
+      omega (arith, less, outputs, ready.few);
+}
+
+-- and follows what was run before
+pub kept_follows : (n : Netlist Kit ℤ) (p : Schedule) (t : Stream) (c : Reading) (samples : List ℤ) (few blocks : ℕ)
+    (bytes : List ℕ) (kept : List ℤ) → IsKept n p t c samples few bytes kept → (y : Portion) →
+    y.periods ≡ blocks * t.blocking → y.input.now.channels ≡ t.channels → y.input.now.samples ≡ kept →
+    Follows n p t.blocking (sound_read c samples) few blocks bytes (left_by t.runner) y
+kept_follows n p t c samples few blocks bytes kept keeps y periods channels is = record {
+  stands = keeps.stands;
+  periods = periods;
+  lists = lists_behind (few * t.blocking) y.periods (exchange_of n p.repetitions) (sound_read c samples) y.input.now
+      (channels ∙ sym keeps.channels) (is ∙ keeps.behind.1);
+}
+
+-- the run can go on behind it
+pub ready_on : (n : Netlist Kit ℤ) (p : Schedule) (t : Stream) → IsReady n p t → (v : Runner) (o : Owed) (frames : ℕ) →
+    GoesBy n p t.blocking v → o ≡ record t.output { missing = t.output.missing - frames } → IsReady n p (record {
+      runner = v;
+      output = o;
+      exchange = t.exchange;
+      blocking = t.blocking;
+      rate = t.rate;
+      channels = t.channels;
+    })
+ready_on n p t ready v o frames goes owed = record {
+  goes = goes;
+  has = ready.has;
+  some = ready.some;
+  fits = ready.fits;
+  some_rate = ready.some_rate;
+  one_channel = ready.one_channel;
+  few_channels = ready.few_channels;
+  exchange = ready.exchange;
+  limits = ready.limits;
+  some_inputs = ready.some_inputs;
+  unspent = ap (λ (z : Owed). z.spent) owed ∙ ready.unspent;
+  channels = ap (λ (z : Owed). z.channels) owed ∙ ready.channels;
+  few = subst (λ (k : ℕ). 2 * (k * t.exchange.outputs) ≤ 4294967259) (sym (ap (λ (z : Owed). z.missing) owed))
+      (fewer t.output.missing frames t.exchange.outputs ready.few);
+}
+  where
+    fewer : (m k o : ℕ) → 2 * (m * o) ≤ 4294967259 → 2 * ((m - k) * o) ≤ 4294967259
+    fewer m k o h = let less : (m - k) * o ≤ m * o = mul-le-mul_right o (let z : m - k ≤ m = omega arith in z) in
+        omega (arith, less, h)
+
+-- whole blocks are written whole, by a session as by a player
+pub writes_whole : (v : Runner) (made frames : ℕ) → frames ≡ made → WritesOf v made frames
+writes_whole (runner.Session v) made frames is = tt
+writes_whole (runner.Player v) made frames is = is
+
+pub writes_rest : (n : Netlist Kit ℤ) (p : Schedule) (j : ℕ) (v : Runner) → GoesBy n p j v → (made missing : ℕ) →
+    (j ≡ 1 → missing ≡ made) → WritesOf v made missing
+writes_rest n p j (runner.Session v) goes made missing is = tt
+writes_rest n p j (runner.Player v) goes made missing is = is goes.single
 
 -- ---- whole blocks of what is kept
 
@@ -81,7 +161,7 @@ module _ (n : Netlist Kit ℤ) (p : Schedule) (j : ℕ) (c : Reading) (samples k
     frames_all = omega arith
 
   -- there is none
-  pub whole_none : (held : Option (List ℕ)) (w : ℕ) (o : Owed) (v : SessionValue Kit (List ℤ) ℤ) →
+  pub whole_none : (held : Option (List ℕ)) (w : ℕ) (o : Owed) (v : Option (Rest ℤ (List ℤ))) →
       length kept < j * x.taken * c.channels → StandsWhole n p j (sound_read c samples) few bytes v →
       PutsWhole n p j c samples few bytes held held w w o o v (Ok kept)
   whole_none held w o v less at =
@@ -99,7 +179,7 @@ module _ (n : Netlist Kit ℤ) (p : Schedule) (j : ℕ) (c : Reading) (samples k
 
   module _ (blocks frames : ℕ) (some : blocks * (j * x.taken * c.channels) ≤ length kept)
       (all : frames ≡ blocks * j * x.made) (before after : Option (List ℕ)) (w w' : ℕ) (o o' : Owed)
-      (v : SessionValue Kit (List ℤ) ℤ) where
+      (v : Option (Rest ℤ (List ℤ))) where
     full : few * j * x.made + frames ≡ (few + blocks) * j * x.made
     full = ap (λ (k : ℕ). few * j * x.made + k) all ∙ frames_all blocks some
 
@@ -139,7 +219,7 @@ module _ (n : Netlist Kit ℤ) (p : Schedule) (j : ℕ) (c : Reading) (samples k
 
 -- memory was refused before
 pub whole_refused : (n : Netlist Kit ℤ) (p : Schedule) (j : ℕ) (c : Reading) (samples : List ℤ) (few : ℕ)
-    (bytes : List ℕ) (held : Option (List ℕ)) (w : ℕ) (o o' : Owed) (v : SessionValue Kit (List ℤ) ℤ) (f : Fault) →
+    (bytes : List ℕ) (held : Option (List ℕ)) (w : ℕ) (o o' : Owed) (v : Option (Rest ℤ (List ℤ))) (f : Fault) →
     f ≡ OutOfMemory →
     PutsWhole n p j c samples few bytes held held w w o o' v (Err f)
 whole_refused n p j c samples few bytes held w o o' v f is = inr (is, keeps_same held, refl)

@@ -236,7 +236,7 @@ unheard_sound s frames some one few whole short = record {
         ∙ mul-div_left frames (let z : 0 < 2 * s.channels = omega (arith, one) in z))
 
 -- what was taken whole is what the source holds
-taken_whole : (first : Source) (old new : Option (List ℕ)) (r r' : ℕ) (s : Sound) → (reading_of first).gone ≡ 0 →
+pub taken_whole : (first : Source) (old new : Option (List ℕ)) (r r' : ℕ) (s : Sound) → (reading_of first).gone ≡ 0 →
     (reading_of first).size ≢ 0xFFFFFFFF → TakesAll first old new r r' (Ok s) →
     (2 * length s.samples ≡ (reading_of first).size) × Takes first s.samples old new
     × (sound_read (reading_of first) s.samples ≡ s) × (r' ≡ r)

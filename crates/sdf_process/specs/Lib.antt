@@ -2,6 +2,6 @@ pub mod Output
 pub mod Run
 pub mod Stages
 pub mod Sources
-pub mod Streams
 pub mod Tasks
+pub mod Streams
 pub mod Laws

@@ -3,9 +3,7 @@ use Rattle.std.specs.Prelude.{◌≡◌, ◌≢◌, ◌⊎◌, ℕ, ◌+◌, ◌
 use Rattle.std.specs.Prelude.{None, Result, Ok, Err, false}
 use Rattle.std.specs.Io.KnownBytes.{Appends, Keeps}
 use Rattle.sdf_actor.specs.Nets.{Netlist}
-use Rattle.sdf_actor.specs.declared.rest.Rest.{Rest}
 use Rattle.sdf_answer.specs.Answer.{AreOutputs, periods_of as firings}
-use Rattle.sdf_answer.specs.Feeds.{HasRun}
 use Rattle.sdf_kit.specs.declared.kit.Kit.{Kit}
 use Rattle.sdf_kit.specs.Kit.{kit_steps}
 use Rattle.sdf_wav.specs.Canonical.{sample_bytes, canonical_wav, write_fault, IsCanonical}
@@ -23,7 +21,7 @@ use Rattle.sdf_process.specs.declared.exchange.Exchange.{Exchange}
 use Rattle.sdf_process.specs.declared.exchange.Extent.{Extent}
 use Rattle.sdf_plan.specs.declared.fault.Fault.{Fault}
 use Rattle.sdf_plan.specs.declared.fault.Fault.TheVariants.{OutOfMemory, Wav, Read, Write}
-use Rattle.sdf_process.specs.Output.{announced_by, exchange_of, input_lists, interleaved, lists_to, output_frames}
+use Rattle.sdf_process.specs.Output.{announced_by, exchange_of, input_lists, interleaved, output_frames}
 use Rattle.sdf_process.specs.Output.{output_header, periods_of, IsExtent}
 use Rattle.sdf_process.specs.Run.{Announces, AreFrames, IsAllowed, IsRun}
 
@@ -51,23 +49,6 @@ PutsOutput n q s before after w w' (Err f) =
     (periods : ℕ) × (frames : List ℕ) × (periods ≤ periods_of (exchange_of n q) s) × AreFrames n q s periods frames
     × (((f ≡ Write) × AppendsFront before after frames × (w' ≡ one_more w))
     ⊎ ((f ≡ OutOfMemory) × Appends before after frames × (w' ≡ w)))
-
--- The first periods of a sound were run: these are the bytes of their frames, and this is what the run leaves.
-abbrev pub PlaysTo : Netlist Kit ℤ → List ℕ → Sound → ℕ → List ℕ → Rest ℤ (List ℤ) → Type 0
-PlaysTo n q s periods frames rest =
-    (made : List (List ℤ)) × HasRun kit_steps n (lists_to periods (exchange_of n q) s) (firings q periods) made rest
-    × (frames ≡ sample_bytes (interleaved (periods * (exchange_of n q).made) made))
-
--- Behind the frames of the first periods those of so many more were written: all of them, or a front where the writer
--- failed, or none where memory was refused.
-abbrev pub PutsPiece : Netlist Kit ℤ → List ℕ → Sound → ℕ → ℕ → List ℕ → Option (List ℕ) → Option (List ℕ) → ℕ → ℕ →
-    Result (Rest ℤ (List ℤ)) Fault → Type 0
-PutsPiece n q s at many frames before after w w' (Ok rest) =
-    (more : List ℕ) × PlaysTo n q s (at + many) (frames ++ more) rest × Appends before after more × (w' ≡ w)
-PutsPiece n q s at many frames before after w w' (Err f) =
-    ((f ≡ Write) × ((more : List ℕ) × (rest : Rest ℤ (List ℤ)) × PlaysTo n q s (at + many) (frames ++ more) rest
-    × AppendsFront before after more × (w' ≡ one_more w)))
-    ⊎ ((f ≡ OutOfMemory) × Keeps before after × (w' ≡ w))
 
 -- where the content c of an input was read from its start on, to its end, and this is its sound
 pub record IsHeardFrom (c : Reading) (input : List ℕ) (s : Sound) (left : List ℕ) : Type 0 where

@@ -1,13 +1,21 @@
 -- A run that takes its input and writes its output as it goes.
-use Rattle.std.specs.Prelude.{◌≡◌, ◌⊎◌, ℕ, ◌+◌, ◌-◌, ◌*◌, ◌<◌, ◌≤◌, ℤ, List, ◌++◌, length, drop, Option, Result, Ok}
-use Rattle.std.specs.Prelude.{Err, false}
+use Rattle.std.specs.Prelude.{◌≡◌, ◌⊎◌, ℕ, ◌+◌, ◌-◌, ◌*◌, ◌<◌, ◌≤◌, ℤ, List, [], ◌++◌, length, drop, Option, Some}
+use Rattle.std.specs.Prelude.{Result, Ok, Err, false}
 use Rattle.std.specs.Io.KnownBytes.{Appends, Keeps}
+use Rattle.sdf_graph.specs.Rates.{rates}
+use Rattle.sdf_actor.specs.Graphs.{graph_of}
 use Rattle.sdf_actor.specs.Nets.{Netlist}
+use Rattle.sdf_actor.specs.Rests.{IsRest}
+use Rattle.sdf_actor.specs.Sides.{list_count}
+use Rattle.sdf_actor.specs.declared.rest.Rest.{Rest}
+use Rattle.sdf_actor.specs.declared.sides.Lists.TheVariants.{Inputs, Outputs}
+use Rattle.sdf_answer.specs.Answer.{periods_of as firings}
+use Rattle.sdf_answer.specs.Feeds.{HasRun}
 use Rattle.sdf_answer.specs.Periods.{HasPeriod}
 use Rattle.sdf_kit.specs.declared.kit.Kit.{Kit}
 use Rattle.sdf_kit.specs.Kit.{kit_steps}
-use Rattle.sdf_run.specs.Sessions.{SessionValue, StandsAfter, IsLive}
-use Rattle.sdf_sched.specs.Period.{Schedule}
+use Rattle.sdf_run.specs.Sessions.{SessionValue, IsLive}
+use Rattle.sdf_sched.specs.Period.{Schedule, IsPeriodOf}
 use Rattle.sdf_wav.specs.Canonical.{sample_bytes}
 use Rattle.sdf_wav.specs.Device.{AppendsFront, one_more}
 use Rattle.sdf_wav.specs.PiecesIn.{Reading, sound_read}
@@ -17,34 +25,112 @@ use Rattle.sdf_wav.specs.declared.wav.TheConstants.{MOST_CHANNELS}
 use Rattle.sdf_process.specs.declared.exchange.Exchange.{Exchange}
 use Rattle.sdf_plan.specs.declared.fault.Fault.{Fault}
 use Rattle.sdf_plan.specs.declared.fault.Fault.TheVariants.{OutOfMemory, Write}
+use Rattle.sdf_process.specs.declared.playing.Player.{Player}
+use Rattle.sdf_process.specs.declared.portion.Portion.{Portion}
 use Rattle.sdf_process.specs.declared.source.Source.{Source}
+use Rattle.sdf_process.specs.declared.streaming.Opened.{Opened}
+use Rattle.sdf_process.specs.declared.streaming.Runner.{Runner}
+use Rattle.sdf_process.specs.declared.streaming.Runner.TheVariants as runner
 use Rattle.sdf_process.specs.declared.streaming.Stream.{Stream}
-use Rattle.sdf_process.specs.Output.{exchange_of, interleaved, lists_to, periods_of, IsExchange}
+use Rattle.sdf_process.specs.Output.{exchange_of, interleaved, lists_from, lists_to, periods_of, IsExchange}
 use Rattle.sdf_process.specs.Run.{AreFrames}
 use Rattle.sdf_process.specs.Sources.{reading_of, Takes, TakesAll}
 use Rattle.sdf_process.specs.Stages.{PutsOutput}
+use Rattle.sdf_process.specs.Tasks.{IsPlayer}
 
--- A session of net n stands after the first blocks of j periods of a sound, and these are the bytes of the first frames
--- of what it made of them.
+-- The first blocks of j periods of a sound were run by net n: this is what the run left, and these are the bytes of the
+-- first frames of what it made of them.
 pub record StandsAt (n : Netlist Kit ℤ) (p : Schedule) (j : ℕ) (s : Sound) (blocks frames : ℕ) (bytes : List ℕ)
-    (v : SessionValue Kit (List ℤ) ℤ) : Type 0 where
-  pub net : v.net ≡ n
-  pub period : v.period ≡ p
-  pub factor : v.factor ≡ j
+    (left : Option (Rest ℤ (List ℤ))) : Type 0 where
   pub made : List (List ℤ)
-  pub stands : StandsAfter kit_steps v blocks (lists_to (blocks * j) (exchange_of n p.repetitions) s) made
+  pub rest : Rest ℤ (List ℤ)
+  pub held : left ≡ Some rest
+  pub run : HasRun kit_steps n (lists_to (blocks * j) (exchange_of n p.repetitions) s)
+      (firings p.repetitions (blocks * j)) made rest
   pub bytes_are : bytes ≡ sample_bytes (interleaved frames made)
 
 -- all that it made
-abbrev pub StandsWhole : Netlist Kit ℤ → Schedule → ℕ → Sound → ℕ → List ℕ → SessionValue Kit (List ℤ) ℤ → Type 0
-StandsWhole n p j s blocks bytes v = StandsAt n p j s blocks (blocks * j * (exchange_of n p.repetitions).made) bytes v
+abbrev pub StandsWhole : Netlist Kit ℤ → Schedule → ℕ → Sound → ℕ → List ℕ → Option (Rest ℤ (List ℤ)) → Type 0
+StandsWhole n p j s blocks bytes left =
+    StandsAt n p j s blocks (blocks * j * (exchange_of n p.repetitions).made) bytes left
 
--- A run that can go on: its session is one of net n that is not spent, and its output is begun.
+-- ---- what a run goes on by
+
+-- a session of net n that is not spent, fed by blocks of j periods
+pub record FeedsBy (n : Netlist Kit ℤ) (p : Schedule) (j : ℕ) (v : SessionValue Kit (List ℤ) ℤ) : Type 0 where
+  pub live : IsLive v
+  pub net : v.net ≡ n
+  pub period : v.period ≡ p
+  pub factor : v.factor ≡ j
+
+-- a player of net n, whose blocks are single periods
+pub record PlaysBy (n : Netlist Kit ℤ) (p : Schedule) (j : ℕ) (v : Player) : Type 0 where
+  pub player : IsPlayer v
+  pub net : v.net.now ≡ n
+  pub period : v.period.now ≡ p
+  pub single : j ≡ 1
+
+abbrev pub GoesBy : Netlist Kit ℤ → Schedule → ℕ → Runner → Type 0
+GoesBy n p j (runner.Session v) = FeedsBy n p j v
+GoesBy n p j (runner.Player v) = PlaysBy n p j v
+
+-- what it left, unless it is spent
+abbrev pub left_by : Runner → Option (Rest ℤ (List ℤ))
+left_by (runner.Session v) = v.rest
+left_by (runner.Player v) = Some v.rest
+
+-- a player writes all frames that it makes
+abbrev pub WritesOf : Runner → ℕ → ℕ → Type 0
+WritesOf (runner.Session v) made frames = Unit {0}
+WritesOf (runner.Player v) made frames = frames ≡ made
+
+-- the portion is the next blocks of a sound of which the first few were run
+pub record Follows (n : Netlist Kit ℤ) (p : Schedule) (j : ℕ) (s : Sound) (few blocks : ℕ) (bytes : List ℕ)
+    (left : Option (Rest ℤ (List ℤ))) (y : Portion) : Type 0 where
+  pub stands : StandsWhole n p j s few bytes left
+  pub periods : y.periods ≡ blocks * j
+  pub lists : lists_from (few * j) y.periods (exchange_of n p.repetitions) s ≡
+      lists_from 0 y.periods (exchange_of n p.repetitions) y.input.now
+
+abbrev pub IsFollowed : Netlist Kit ℤ → Schedule → ℕ → Option (Rest ℤ (List ℤ)) → Portion → Type 0
+IsFollowed n p j left y =
+    (s : Sound) × (few : ℕ) × (blocks : ℕ) × (bytes : List ℕ) × Follows n p j s few blocks bytes left y
+
+-- the frames of a portion can be written behind those before
+pub record CanPut (n : Netlist Kit ℤ) (p : Schedule) (j : ℕ) (o : Owed) (y : Portion) : Type 0 where
+  pub has : HasPeriod kit_steps n p
+  pub some : 0 < j
+  pub exchange : y.exchange ≡ exchange_of n p.repetitions
+  pub unspent : o.spent ≡ false
+  pub channels : o.channels ≡ y.exchange.outputs
+  pub missing : y.frames ≤ o.missing
+  pub few : 2 * (y.frames * y.exchange.outputs) ≤ 4294967259
+
+-- a player can play the portion
+pub record CanPlay (v : Player) (y : Portion) : Type 0 where
+  pub player : IsPlayer v
+  pub exchange : y.exchange ≡ exchange_of v.net.now v.period.now.repetitions
+  pub rest : (fed : List (List ℤ)) × (few : ℕ)
+      × IsRest kit_steps v.net.now fed (firings v.period.now.repetitions few) v.rest
+
+-- and plays the same net then, cut in the same way
+abbrev pub StaysPlayer : Player → Player → Type 0
+StaysPlayer v w = (w.net ≡ v.net) × (w.period ≡ v.period) × (w.cut ≡ v.cut)
+
+-- a run of net n that was fed nothing yet
+pub record IsOpened (t : Opened) : Type 0 where
+  pub period : IsPeriodOf (rates (graph_of kit_steps t.net.now)) t.period.now
+  pub inputs : list_count Inputs t.net.now.nodes ≤ MOST_CHANNELS
+  pub outputs : list_count Outputs t.net.now.nodes ≤ MOST_CHANNELS
+  pub goes : GoesBy t.net.now t.period.now t.blocking t.runner
+  pub stands : (s : Sound) → StandsAt t.net.now t.period.now t.blocking s 0 0 [] (left_by t.runner)
+  pub some : 0 < t.blocking
+  pub fits : t.blocking ≤ 4294967295
+  pub piece : 0 < t.frames
+
+-- A run that can go on: it goes by net n, and its output is begun.
 pub record IsReady (n : Netlist Kit ℤ) (p : Schedule) (t : Stream) : Type 0 where
-  pub live : IsLive t.session
-  pub net : t.session.net ≡ n
-  pub period : t.session.period ≡ p
-  pub factor : t.session.factor ≡ t.blocking
+  pub goes : GoesBy n p t.blocking t.runner
   pub has : HasPeriod kit_steps n p
   pub some : 0 < t.blocking
   pub fits : t.blocking ≤ 4294967295
@@ -53,6 +139,7 @@ pub record IsReady (n : Netlist Kit ℤ) (p : Schedule) (t : Stream) : Type 0 wh
   pub few_channels : t.channels ≤ MOST_CHANNELS
   pub exchange : t.exchange ≡ exchange_of n p.repetitions
   pub limits : IsExchange t.exchange
+  pub some_inputs : 0 < t.exchange.inputs
   pub unspent : t.output.spent ≡ false
   pub channels : t.output.channels ≡ t.exchange.outputs
   pub few : 2 * (t.output.missing * t.exchange.outputs) ≤ 4294967259
@@ -60,7 +147,7 @@ pub record IsReady (n : Netlist Kit ℤ) (p : Schedule) (t : Stream) : Type 0 wh
 -- So many more blocks were fed, and so many frames of what they made were written behind all before: all of them, or a
 -- front where the writer failed, or none where memory was refused.
 abbrev pub PutsBlocks : Netlist Kit ℤ → Schedule → ℕ → Sound → ℕ → ℕ → ℕ → List ℕ → Option (List ℕ) → Option (List ℕ) →
-    ℕ → ℕ → SessionValue Kit (List ℤ) ℤ → Result (Unit {0}) Fault → Type 0
+    ℕ → ℕ → Option (Rest ℤ (List ℤ)) → Result (Unit {0}) Fault → Type 0
 PutsBlocks n p j s few blocks frames bytes before after w w' v (Ok x) =
     (more : List ℕ) × StandsAt n p j s (few + blocks) (few * j * (exchange_of n p.repetitions).made + frames)
     (bytes ++ more) v × Appends before after more × (w' ≡ w)
@@ -75,9 +162,16 @@ abbrev pub AreBehind : Exchange → Reading → List ℤ → ℕ → List ℤ �
 AreBehind x c samples periods kept = (periods * x.taken * c.channels ≤ length samples)
     × (kept ≡ drop (periods * x.taken * c.channels) samples)
 
+-- these samples are kept behind the first blocks of a content, which were run
+pub record IsKept (n : Netlist Kit ℤ) (p : Schedule) (t : Stream) (c : Reading) (samples : List ℤ) (few : ℕ)
+    (bytes : List ℕ) (kept : List ℤ) : Type 0 where
+  pub channels : c.channels ≡ t.channels
+  pub stands : StandsWhole n p t.blocking (sound_read c samples) few bytes (left_by t.runner)
+  pub behind : AreBehind (exchange_of n p.repetitions) c samples (few * t.blocking) kept
+
 -- All whole blocks of what is kept were fed, and what they made was written; what is kept now is no block.
 abbrev pub PutsWhole : Netlist Kit ℤ → Schedule → ℕ → Reading → List ℤ → ℕ → List ℕ → Option (List ℕ) →
-    Option (List ℕ) → ℕ → ℕ → Owed → Owed → SessionValue Kit (List ℤ) ℤ → Result (List ℤ) Fault → Type 0
+    Option (List ℕ) → ℕ → ℕ → Owed → Owed → Option (Rest ℤ (List ℤ)) → Result (List ℤ) Fault → Type 0
 PutsWhole n p j c samples few bytes before after w w' o o' v (Ok kept) =
     (blocks : ℕ) × (more : List ℕ) × StandsWhole n p j (sound_read c samples) (few + blocks) (bytes ++ more) v
     × Appends before after more × (w' ≡ w)

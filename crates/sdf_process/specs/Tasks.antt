@@ -15,8 +15,9 @@ use Rattle.sdf_wav.specs.PiecesIn.{Reading, known_frames, IsReading}
 use Rattle.sdf_wav.specs.declared.wav.TheConstants.{MOST_CHANNELS}
 use Rattle.sdf_process.specs.declared.playing.Cut.{Cut}
 use Rattle.sdf_process.specs.declared.playing.Player.{Player}
+use Rattle.sdf_process.specs.declared.playing.Score.{Score}
 use Rattle.sdf_process.specs.declared.begun.Begun.{Begun}
-use Rattle.sdf_process.specs.declared.streaming.Shared.{Shared}
+use Rattle.sdf_process.specs.declared.begun.Shared.{Shared}
 use Rattle.sdf_process.specs.declared.task.Task.{Task}
 use Rattle.sdf_process.specs.Output.{exchange_of, IsExtent}
 use Rattle.sdf_process.specs.Sources.{reading_of}
@@ -35,15 +36,18 @@ pub record IsShared (t : Shared) : Type 0 where
   pub inputs : list_count Inputs t.net.now.nodes ≤ MOST_CHANNELS
   pub outputs : list_count Outputs t.net.now.nodes ≤ MOST_CHANNELS
 
--- the period is one of the net's, and a WAV file can have the channels of the net
-pub record CanPlay (p : Player) : Type 0 where
-  pub period : IsPeriodOf (rates (graph_of kit_steps p.net.now)) p.period.now
-  pub inputs : list_count Inputs p.net.now.nodes ≤ MOST_CHANNELS
-  pub outputs : list_count Outputs p.net.now.nodes ≤ MOST_CHANNELS
+-- the period is one of the net's
+abbrev pub IsScore : Score → Type 0
+IsScore t = IsPeriodOf (rates (graph_of kit_steps t.net.now)) t.period.now
 
 -- a sound is cut in time for a net that is warm after the periods of warm-up, unless it is run on one thread
 abbrev pub IsCut : Netlist Kit ℤ → List ℕ → Option Cut → Type 0
 IsCut n q cut = IfSome cut (λ (c : Cut). WarmsIn kit_steps n q c.warm)
+
+-- a player of a net by one of its periods
+pub record IsPlayer (v : Player) : Type 0 where
+  pub period : IsPeriodOf (rates (graph_of kit_steps v.net.now)) v.period.now
+  pub cut : IsCut v.net.now v.period.now.repetitions v.cut
 
 -- nothing was read of a content of so many frames
 pub record IsUnheard (c : Reading) (frames : ℕ) : Type 0 where

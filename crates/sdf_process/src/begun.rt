@@ -1,28 +1,31 @@
 //! A run whose output is begun: the rest of it, in the way of the plan.
 
-ghost use Rattle.std.specs.Prelude.{◌≤◌};
-ghost use Rattle.sdf_graph.specs.Rates.{rates};
-ghost use Rattle.sdf_actor.specs.Graphs.{graph_of};
+ghost use Rattle.std.specs.Prelude.{◌≡◌, ◌≤◌, [], IfOk, MatchResult};
 ghost use Rattle.sdf_actor.specs.Sides.{list_count};
 ghost use Rattle.sdf_actor.specs.declared.sides.Lists.TheVariants.{Inputs, Outputs};
-ghost use Rattle.sdf_kit.specs.Kit.{kit_steps};
-ghost use Rattle.sdf_sched.specs.Period.{IsPeriodOf};
+ghost use Rattle.sdf_plan.specs.declared.fault.Fault.TheVariants.{OutOfMemory};
+ghost use Rattle.sdf_wav.specs.Sound.{Sound};
 ghost use Rattle.sdf_wav.specs.declared.wav.TheConstants.{MOST_CHANNELS};
-ghost use Rattle.sdf_process.specs.Streams.{Streams};
-ghost use Rattle.sdf_process.specs.Tasks.{IsBegun, IsTask};
+ghost use Rattle.sdf_process.specs.Streams.{StandsAt, Streams};
+ghost use Rattle.sdf_process.specs.Tasks.{IsBegun, IsScore, IsShared, IsTask};
 
-use crate::exchange::Extent;
-use crate::playing::{Player, put_pieces};
+use crate::exchange::{Exchange, Extent};
+use crate::playing::{Player, Score};
 use crate::source::Source;
-use crate::streaming::{Shared, run_stream};
+use crate::streaming::{Opened, Runner, run_stream};
 use crate::task::Task;
 use sdf_actor::Net;
+use sdf_answer::BlockTable;
 use sdf_kit::Kit;
 use sdf_plan::{Fault, Way};
-use sdf_run::{Gate, Mode};
-use sdf_sched::Period;
+use sdf_run::laws::nets_have_periods;
+use sdf_run::{Gate, Mode, Session};
 use sdf_wav::{ContentOut, Reader, Writer};
+use std::alloc::Global;
 use std::thread::Threads;
+
+/// Frames that a session is fed at a time.
+const FRAMES: usize = 4096;
 
 /// A source of `frames` frames before the first one is taken, and an output whose header alone is written.
 #[derive(Drop)]
@@ -33,23 +36,95 @@ pub(crate) struct Begun {
     pub(crate) output: ContentOut,
 }
 
-/// A net, one of its periods, and the most parts of a sound that are run at once.
+/// A net, the table of blocks that its workers follow, and how they run them.
 #[derive(Clone, Copy)]
-struct Score<'a> {
-    net: &'a Net<Kit>,
-    period: &'a Period,
-    parts: u32,
+pub(crate) struct Shared<'a> {
+    pub(crate) net: &'a Net<Kit>,
+    pub(crate) table: &'a BlockTable,
+    pub(crate) mode: Mode,
 }
 
-/// Runs a net on a whole sound, on one thread or in parts at once, and writes the frames of its output.
-fn play_whole<T: Threads + AllocGlobal + Sync, R: Reader, W: Writer>(
+/// A session that was fed nothing.
+fn open_session<'a>(alloc: Global, shared: Shared<'a>) -> Result<Session<'a, Kit>, Fault>
+    requires { IsShared shared }
+    ensures stands { let t = shared.entry.table.now in MatchResult result
+        (λ v. (s : Sound) → StandsAt shared.entry.net.now t.period t.factor s 0 0 [] v.rest)
+        (λ e. e ≡ OutOfMemory) }
+    ensures is { IfOk result (λ v. (v.net ≡ shared.entry.net.now) × (v.period ≡ shared.entry.table.now.period)
+        × (v.factor ≡ shared.entry.table.now.factor)) }
+    ensures mode { IfOk result (λ v. v.mode ≡ shared.entry.mode) }
+{
+    let session = Session::open(alloc, shared.net, shared.table, shared.mode)?;
+    Ok(session)
+}
+
+/// Runs a net by workers that follow a table of blocks on the frames of a source.
+fn run_shared<T: Threads + AllocGlobal + Sync, R: Reader, W: Writer, G: Gate>(
     rt: &T,
     reader: &mut R,
     writer: &mut W,
+    gate: &G,
+    shared: Shared<'_>,
+    begun: Begun,
+) -> Result<(), Fault>
+    requires shared { IsShared shared }
+    requires begun { IsBegun shared.net.now shared.table.now.period.repetitions begun }
+    ensures { Streams shared.entry.net.now shared.entry.table.now.period.repetitions begun.source
+        (R.remaining reader.old) (R.remaining reader.new) (W.contents writer.old) (W.contents writer.new)
+        (R.failures reader.old) (R.failures reader.new) (W.failures writer.old) (W.failures writer.new) result }
+{
+    nets_have_periods(shared.net);
+    let session = open_session(rt.alloc(), shared)?;
+    let opened = Opened {
+        net: shared.net,
+        period: &shared.table.period,
+        runner: Runner::Session(session),
+        blocking: shared.table.factor,
+        frames: FRAMES,
+    };
+    run_stream(rt, reader, writer, gate, opened, begun)
+}
+
+/// Plays the frames of a source on one thread, or in parts at once.
+fn play<T: Threads + AllocGlobal + Sync, R: Reader, W: Writer, G: Gate>(
+    rt: &T,
+    reader: &mut R,
+    writer: &mut W,
+    gate: &G,
     score: Score<'_>,
     begun: Begun,
 ) -> Result<(), Fault>
-    requires period { IsPeriodOf (rates (graph_of kit_steps score.net.now)) score.period.now }
+    requires score { IsScore score }
+    requires inputs { list_count Inputs score.net.now.nodes ≤ MOST_CHANNELS }
+    requires outputs { list_count Outputs score.net.now.nodes ≤ MOST_CHANNELS }
+    requires begun { IsBegun score.net.now score.period.now.repetitions begun }
+    ensures { Streams score.entry.net.now score.entry.period.now.repetitions begun.source
+        (R.remaining reader.old) (R.remaining reader.new) (W.contents writer.old) (W.contents writer.new)
+        (R.failures reader.old) (R.failures reader.new) (W.failures writer.old) (W.failures writer.new) result }
+{
+    let exchange = Exchange::of_net(score.net);
+    let player = Player::open(rt.alloc(), score)?;
+    let frames = player.piece(exchange);
+    let opened = Opened {
+        net: score.net,
+        period: score.period,
+        runner: Runner::Player(player),
+        blocking: 1,
+        frames,
+    };
+    run_stream(rt, reader, writer, gate, opened, begun)
+}
+
+/// Takes all frames of a source, and then plays them.
+fn play_heard<T: Threads + AllocGlobal + Sync, R: Reader, W: Writer, G: Gate>(
+    rt: &T,
+    reader: &mut R,
+    writer: &mut W,
+    gate: &G,
+    score: Score<'_>,
+    begun: Begun,
+) -> Result<(), Fault>
+    requires score { IsScore score }
     requires inputs { list_count Inputs score.net.now.nodes ≤ MOST_CHANNELS }
     requires outputs { list_count Outputs score.net.now.nodes ≤ MOST_CHANNELS }
     requires begun { IsBegun score.net.now score.period.now.repetitions begun }
@@ -59,21 +134,22 @@ fn play_whole<T: Threads + AllocGlobal + Sync, R: Reader, W: Writer>(
 {
     let Begun {
         source,
+        frames,
         extent,
-        mut output,
-        ..
+        output,
     } = begun;
-    let input = source.take_all(rt.alloc(), reader)?;
-    let player = Player {
-        net: score.net,
-        period: score.period,
-        input: &input,
-        parts: score.parts,
+    let sound = source.take_all(rt.alloc(), reader)?;
+    let heard = Begun {
+        source: Source::Heard { sound, taken: 0 },
+        frames,
+        extent,
+        output,
     };
-    put_pieces(rt, writer, player, &mut output, extent.periods)
+    play(rt, reader, writer, gate, score, heard)
 }
 
-/// Runs a net in the way of its plan on the frames of a source, and writes the frames of its output.
+/// Runs a net in the way of its plan on the frames of a source, and writes the frames of its output. One thread alone
+/// takes all frames before it plays them.
 pub(crate) fn run_begun<T: Threads + AllocGlobal + Sync, R: Reader, W: Writer, G: Gate>(
     rt: &T,
     reader: &mut R,
@@ -95,7 +171,7 @@ pub(crate) fn run_begun<T: Threads + AllocGlobal + Sync, R: Reader, W: Writer, G
                 period,
                 parts: 1,
             };
-            play_whole(rt, reader, writer, score, begun)
+            play_heard(rt, reader, writer, gate, score, begun)
         }
         Way::Parts { period, parts, .. } => {
             let score = Score {
@@ -103,7 +179,7 @@ pub(crate) fn run_begun<T: Threads + AllocGlobal + Sync, R: Reader, W: Writer, G
                 period,
                 parts: *parts,
             };
-            play_whole(rt, reader, writer, score, begun)
+            play(rt, reader, writer, gate, score, begun)
         }
         Way::Rows(table) => {
             let shared = Shared {
@@ -111,7 +187,7 @@ pub(crate) fn run_begun<T: Threads + AllocGlobal + Sync, R: Reader, W: Writer, G
                 table,
                 mode: Mode::Rows,
             };
-            run_stream(rt, reader, writer, shared, gate, begun)
+            run_shared(rt, reader, writer, gate, shared, begun)
         }
         Way::Rings { table, patience } => {
             let shared = Shared {
@@ -121,7 +197,7 @@ pub(crate) fn run_begun<T: Threads + AllocGlobal + Sync, R: Reader, W: Writer, G
                     patience: *patience,
                 },
             };
-            run_stream(rt, reader, writer, shared, gate, begun)
+            run_shared(rt, reader, writer, gate, shared, begun)
         }
     }
 }

@@ -1,22 +1,19 @@
 //! What a net exchanges with WAV files: channels and samples of a period, and what they make of a file's rate and size.
 
-ghost use Rattle.std.specs.Prelude.{◌≡◌, ◌≤◌, ◌<◌, ◌+◌, ◌*◌, ◌/◌, ℕ, List, length, nat_lt, MatchResult, IfOk, Some};
+ghost use Rattle.std.specs.Prelude.{◌≡◌, ◌≤◌, ◌<◌, ◌+◌, ◌*◌, ◌/◌, ℕ, List, length, nat_lt, MatchResult, Some};
 ghost use Rattle.sdf_graph.specs.Periods.{IsLeastPeriod};
 ghost use Rattle.sdf_graph.specs.Rates.{rates};
 ghost use Rattle.sdf_actor.specs.declared.sides.Lists.TheVariants.{Inputs, Outputs};
 ghost use Rattle.sdf_actor.specs.Graphs.{graph_of};
 ghost use Rattle.sdf_actor.specs.Sides.{list_count};
-ghost use Rattle.sdf_actor.specs.Wires.{lists as items_of};
 ghost use Rattle.sdf_kit.specs.Kit.{kit_steps};
 ghost use Rattle.sdf_process.specs.Output.{exchange_of, announced_by, announced_fault, periods_for, rate_for};
-ghost use Rattle.sdf_process.specs.Output.{lists_from, IsExchange, IsExtent};
+ghost use Rattle.sdf_process.specs.Output.{IsExchange, IsExtent};
 
-use crate::samples::channel_lists;
 use sdf_actor::Net;
 use sdf_kit::Kit;
 use sdf_plan::Fault;
 use sdf_wav::{FormatFault, MOST_CHANNELS, Wav};
-use std::alloc::{AllocError, Global};
 
 /// The channels and samples that a net moves in a period.
 #[derive(Clone, Copy)]
@@ -119,23 +116,5 @@ impl Exchange {
             rate: rate as u32,
             periods: periods as u32,
         })
-    }
-
-    /// Makes the input lists for `periods` periods behind the first `at`, with zeros past the end of the sound, in the
-    /// memory of `spares`.
-    pub(crate) fn inputs_from(
-        self,
-        alloc: Global,
-        input: &Wav,
-        at: u32,
-        periods: u32,
-        spares: &mut [Vec<i32>],
-    ) -> Result<Vec<Vec<i32>>, AllocError>
-        requires { IsExchange self }
-        ensures { IfOk result (λ all. items_of all.items ≡ lists_from at periods self input.now) }
-    {
-        let from = at as usize * self.taken;
-        let len = periods as usize * self.taken;
-        channel_lists(alloc, input, from, len, self.inputs, spares)
     }
 }

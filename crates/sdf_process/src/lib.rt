@@ -4,16 +4,16 @@
 //! `sdf_sched` and `sdf_prec` for the design, its period and its table, on `sdf_run`, `sdf_split`, `sdf_fission` and
 //! `sdf_answer` for the run and on `sdf_wav` for the files. Begin with `process`, whose contract carries what the
 //! project is for; then `laws`. `running` opens the input and begins the output. `begun` runs the rest in the way of
-//! the plan: a whole sound (`playing`), or the frames of a source as they come (`source`, `streaming`). The definitions
-//! are in `specs/Output.antt` and `specs/Run.antt`.
+//! the plan: `streaming` takes the frames of a `source` a piece at a time, and feeds them to a session or a player
+//! (`playing`). The definitions are in `specs/Output.antt` and `specs/Run.antt`.
 #![tactic(auto)]
 
 mod begun;
-mod ends;
 mod exchange;
 mod hearing;
 pub mod laws;
 mod playing;
+mod portion;
 pub mod process;
 mod putting;
 mod running;

@@ -1,35 +1,32 @@
-//! A net that plays a sound some periods at a time, on one thread or in parts at once. It holds what these periods read
-//! and make, and the memory of the periods before, which they use again.
+//! A net that plays a sound some periods at a time, on one thread or in parts at once. It holds what the periods before
+//! left, and their memory, which it uses again.
 
-ghost use Rattle.std.specs.Prelude.{◌≡◌, ◌+◌, ◌-◌, ◌*◌, ◌^◌, ◌≤◌, ◌<◌, ℕ, List, false, IfOk, IfSome, IfNone};
-ghost use Rattle.std.specs.Prelude.{MatchResult};
-ghost use Rattle.sdf_actor.specs.declared.sides.Lists.TheVariants.{Outputs};
-ghost use Rattle.sdf_actor.specs.Sides.{list_count};
+ghost use Rattle.std.specs.Prelude.{◌≡◌, ◌-◌, ◌*◌, ◌^◌, ◌≤◌, ◌<◌, ℕ, List, [], IfOk, IfSome, IfNone, MatchResult, Some};
 ghost use Rattle.sdf_actor.specs.Wires.{lists as items_of};
 ghost use Rattle.sdf_answer.specs.Feeds.{GoesOnBy};
-ghost use Rattle.sdf_fission.specs.WarmUps.{IsLasting};
+ghost use Rattle.sdf_fission.specs.WarmUps.{IsLasting, WarmsIn};
 ghost use Rattle.sdf_kit.specs.Kit.{kit_steps};
 ghost use Rattle.sdf_plan.specs.declared.fault.Fault.TheVariants.{OutOfMemory};
-ghost use Rattle.sdf_split.specs.Parts.{IsSplit};
+ghost use Rattle.sdf_sched.specs.Period.{Schedule};
+ghost use Rattle.sdf_wav.specs.Sound.{Sound};
 ghost use Rattle.sdf_process.specs.declared.playing.Cut.{Cut};
-ghost use Rattle.sdf_process.specs.Output.{exchange_of, lists_from, periods_of, IsExchange};
-ghost use Rattle.sdf_process.specs.Stages.{PlaysTo, PutsOutput, PutsPiece};
-ghost use Rattle.sdf_process.specs.Tasks.{CanPlay, IsCut};
+ghost use Rattle.sdf_process.specs.Output.{exchange_of, lists_from, IsExchange};
+ghost use Rattle.sdf_process.specs.Streams.{CanPlay, CanPut, Follows, IsFollowed, PutsBlocks, StandsAt, StaysPlayer};
+ghost use Rattle.sdf_process.specs.Tasks.{IsCut, IsPlayer, IsScore};
 
-use crate::ends::PieceEnds;
 use crate::exchange::Exchange;
+use crate::portion::Portion;
 use crate::putting::{put_frames, put_in_turn};
-use sdf_actor::laws::nets_are_wired;
 use sdf_actor::{Net, Rest};
 use sdf_fission::warm_up::warm_up;
 use sdf_kit::{Kept, Kit};
 use sdf_plan::Fault;
-use sdf_run::laws::{histories_make_runs, net_facts, nets_can_run, nets_have_periods};
+use sdf_run::laws::net_facts;
 use sdf_run::{Passage, Spares, resume_one_in};
 use sdf_sched::Period;
 use sdf_split::{Split, Workers, part_size, resume_split};
 use sdf_wav::laws::puts_join;
-use sdf_wav::{ContentOut, Wav, Writer};
+use sdf_wav::{ContentOut, Writer};
 use std::alloc::{AllocError, Global};
 use std::thread::Threads;
 
@@ -40,12 +37,11 @@ const PIECE: usize = 32_768;
 /// have less warm-up, and threads are started less often.
 const PART: usize = 131_072;
 
-/// A net, one of its periods, the sound that it plays, and the most parts of it that are run at once.
+/// A net, one of its periods, and the most parts of a sound that are run at once.
 #[derive(Clone, Copy)]
-pub(crate) struct Player<'a> {
+pub(crate) struct Score<'a> {
     pub(crate) net: &'a Net<Kit>,
     pub(crate) period: &'a Period,
-    pub(crate) input: &'a Wav,
     pub(crate) parts: u32,
 }
 
@@ -56,19 +52,15 @@ pub(crate) struct Cut {
     pub(crate) warm: u32,
 }
 
-/// The periods of a piece of a sound, how many come before them, and how they are cut, unless they are run on one
-/// thread.
-#[derive(Clone, Copy)]
-struct Piece {
-    at: u32,
-    many: u32,
-    cut: Option<Cut>,
-}
-
-/// The memory that each piece of a sound leaves to the next one.
+/// A net that plays a sound.
 #[derive(Drop)]
-struct Memory<'a, T> {
-    rt: &'a T,
+pub(crate) struct Player<'a> {
+    pub(crate) net: &'a Net<Kit>,
+    pub(crate) period: &'a Period,
+    /// How pieces are cut, unless they are run on one thread.
+    pub(crate) cut: Option<Cut>,
+    /// What the periods before left.
+    pub(crate) rest: Rest<i32, Kept>,
     /// The input lists of the last piece on one thread.
     inputs: Vec<Vec<i32>>,
     /// The memory of runs on one thread.
@@ -77,33 +69,21 @@ struct Memory<'a, T> {
     workers: Workers<Vec<i16>, i32, Kept>,
 }
 
-impl<'a, T: AllocGlobal> Memory<'a, T> {
-    /// Begins with none.
-    fn new(rt: &'a T) -> Memory<'a, T> {
-        Memory {
-            rt,
-            inputs: Vec::new(rt.alloc()),
-            spares: Spares::none(rt.alloc()),
-            workers: Workers::none(rt.alloc()),
-        }
-    }
-}
-
 /// Returns how a sound is cut in time, if it is to be run in several parts and the net is known to forget.
-fn cut_of(alloc: Global, player: Player<'_>) -> Result<Option<Cut>, AllocError>
-    requires { CanPlay player }
-    ensures warm { IfOk result (IsCut player.entry.net.now player.entry.period.now.repetitions) }
-    ensures parts { IfOk result (λ cut. IfSome cut (λ (c : Cut). c.parts ≡ player.entry.parts)) }
-    ensures whole { IfOk result (λ cut. IfNone cut (2 ≤ player.entry.parts →
-        IsLasting kit_steps player.entry.net.now)) }
+fn cut_of(alloc: Global, score: Score<'_>) -> Result<Option<Cut>, AllocError>
+    requires { IsScore score }
+    ensures warm { IfOk result (IsCut score.entry.net.now score.entry.period.now.repetitions) }
+    ensures parts { IfOk result (λ cut. IfSome cut (λ (c : Cut). c.parts ≡ score.entry.parts)) }
+    ensures whole { IfOk result (λ cut. IfNone cut (2 ≤ score.entry.parts →
+        IsLasting kit_steps score.entry.net.now)) }
 {
-    if player.parts < 2 {
+    if score.parts < 2 {
         return Ok(None);
     }
-    let Some(warm) = warm_up(alloc, player.net)? else {
+    let Some(warm) = warm_up(alloc, score.net)? else {
         return Ok(None);
     };
-    let parts = player.parts;
+    let parts = score.parts;
     Ok(Some(Cut { parts, warm }))
 }
 
@@ -121,212 +101,159 @@ fn piece_periods(exchange: Exchange, cut: Option<Cut>) -> u32
     }
 }
 
-/// Runs some more periods of a sound on one thread, with zeros past its end.
-fn play<T: AllocGlobal>(
-    memory: &mut Memory<'_, T>,
-    player: Player<'_>,
-    rest: &Rest<i32, Kept>,
-    piece: Piece,
-) -> Result<(Vec<Vec<i32>>, Rest<i32, Kept>), Fault>
-    requires player { CanPlay player }
-    requires played { (frames : List ℕ) ×
-        PlaysTo player.net.now player.period.now.repetitions player.input.now piece.at frames rest.now }
-    requires short { piece.many < 2 ^ 32 }
-    ensures { let n = player.entry.net.now in let q = player.entry.period.now.repetitions in MatchResult result
-        (λ r. GoesOnBy kit_steps n q rest.now piece.many
-        (lists_from piece.at piece.many (exchange_of n q) player.entry.input.now) (items_of r.0.items) r.1)
-        (λ e. e ≡ OutOfMemory) }
-{
-    let exchange = Exchange::of_net(player.net);
-    let Memory {
-        rt,
-        inputs,
-        spares,
-        ..
-    } = memory;
-    let lists = exchange.inputs_from(rt.alloc(), player.input, piece.at, piece.many, inputs)?;
-    let passage = Passage {
-        net: player.net,
-        period: player.period,
-        periods: piece.many,
-        inputs: &lists,
-    };
-    let (ran, last) = resume_one_in(rt.alloc(), passage, rest, spares)?;
-    *inputs = lists;
-    Ok((ran.outputs, last))
-}
-
-/// Runs some more periods of a sound on one thread, and writes their frames.
-fn put_whole<T: AllocGlobal, W: Writer>(
-    memory: &mut Memory<'_, T>,
-    writer: &mut W,
-    player: Player<'_>,
-    output: &mut ContentOut,
-    rest: &Rest<i32, Kept>,
-    piece: Piece,
-) -> Result<Rest<i32, Kept>, Fault>
-    requires player { CanPlay player }
-    requires played { (frames : List ℕ) ×
-        PlaysTo player.net.now player.period.now.repetitions player.input.now piece.at frames rest.now }
-    requires short { piece.many < 2 ^ 32 }
-    requires unspent { output.old.spent ≡ false }
-    requires channels { output.old.channels ≡ list_count Outputs player.net.now.nodes }
-    requires missing { piece.many * (exchange_of player.net.now player.period.now.repetitions).made ≤
-        output.old.missing }
-    requires few { let x = exchange_of player.net.now player.period.now.repetitions in
-        2 * (piece.many * x.made * x.outputs) ≤ 4294967259 }
-    ensures puts { (frames : List ℕ) →
-        PlaysTo player.entry.net.now player.entry.period.now.repetitions player.entry.input.now piece.at
-        frames rest.now →
-        PutsPiece player.entry.net.now player.entry.period.now.repetitions player.entry.input.now piece.at
-        piece.many frames
-        (W.contents writer.old) (W.contents writer.new) (W.failures writer.old) (W.failures writer.new) result }
-    ensures owed { IfOk result (λ x. output.new ≡ record output.old {
-      missing = output.old.missing
-          - piece.many * (exchange_of player.entry.net.now player.entry.period.now.repetitions).made;
-    }) }
-{
-    puts_join();
-    nets_have_periods(player.net);
-    nets_can_run::<Kit>();
-    nets_are_wired::<Kit>();
-    let exchange = Exchange::of_net(player.net);
-    let (lists, last) = play(memory, player, rest, piece)?;
-    put_frames(
-        memory.rt.alloc(),
-        writer,
-        output,
-        &lists,
-        piece.many as usize * exchange.made,
-    )?;
-    memory.spares.give_back(lists);
-    Ok(last)
-}
-
-/// Runs the periods of a piece in parts at once, and writes the frames that these make.
-fn put_parts<T: Threads + AllocGlobal + Sync, W: Writer>(
-    memory: &mut Memory<'_, T>,
-    writer: &mut W,
-    output: &mut ContentOut,
-    ends: PieceEnds<'_>,
-    split: Split<'_, Kit>,
-    rest: &Rest<i32, Kept>,
-) -> Result<Rest<i32, Kept>, Fault>
-    requires split { IsSplit kit_steps (lists_from ends.at split.periods
-        (exchange_of split.net.now split.period.now.repetitions) ends.input.now) split }
-    requires periods { ends.periods ≡ split.periods }
-    requires exchange { ends.exchange ≡ exchange_of split.net.now split.period.now.repetitions }
-    requires played { (frames : List ℕ) ×
-        PlaysTo split.net.now split.period.now.repetitions ends.input.now ends.at frames rest.now }
-    requires unspent { output.old.spent ≡ false }
-    requires channels { output.old.channels ≡ list_count Outputs split.net.now.nodes }
-    requires missing { split.periods * (exchange_of split.net.now split.period.now.repetitions).made ≤
-        output.old.missing }
-    ensures puts { (frames : List ℕ) →
-        PlaysTo split.entry.net.now split.entry.period.now.repetitions ends.entry.input.now ends.entry.at
-        frames rest.now →
-        PutsPiece split.entry.net.now split.entry.period.now.repetitions ends.entry.input.now ends.entry.at
-        split.entry.periods frames
-        (W.contents writer.old) (W.contents writer.new) (W.failures writer.old) (W.failures writer.new) result }
-    ensures owed { IfOk result (λ x. output.new ≡ record output.old {
-      missing = output.old.missing
-          - split.entry.periods * (exchange_of split.entry.net.now split.entry.period.now.repetitions).made;
-    }) }
-{
-    puts_join();
-    nets_have_periods(split.net);
-    nets_can_run::<Kit>();
-    nets_are_wired::<Kit>();
-    let Memory { rt, workers, .. } = memory;
-    let (parts, last) = resume_split(*rt, rt.alloc(), &ends, split, rest, workers)?;
-    put_in_turn(writer, output, &parts)?;
-    workers.give_back(parts);
-    Ok(last)
-}
-
-/// Runs some more periods of a sound, and writes their frames.
-fn put_piece<T: Threads + AllocGlobal + Sync, W: Writer>(
-    memory: &mut Memory<'_, T>,
-    writer: &mut W,
-    player: Player<'_>,
-    output: &mut ContentOut,
-    rest: &Rest<i32, Kept>,
-    piece: Piece,
-) -> Result<Rest<i32, Kept>, Fault>
-    requires player { CanPlay player }
-    requires played { (frames : List ℕ) ×
-        PlaysTo player.net.now player.period.now.repetitions player.input.now piece.at frames rest.now }
-    requires cut { IsCut player.net.now player.period.now.repetitions piece.cut }
-    requires short { piece.many < 2 ^ 32 }
-    requires unspent { output.old.spent ≡ false }
-    requires channels { output.old.channels ≡ list_count Outputs player.net.now.nodes }
-    requires missing { piece.many * (exchange_of player.net.now player.period.now.repetitions).made ≤
-        output.old.missing }
-    requires few { let x = exchange_of player.net.now player.period.now.repetitions in
-        2 * (piece.many * x.made * x.outputs) ≤ 4294967259 }
-    ensures puts { (frames : List ℕ) →
-        PlaysTo player.entry.net.now player.entry.period.now.repetitions player.entry.input.now piece.at
-        frames rest.now →
-        PutsPiece player.entry.net.now player.entry.period.now.repetitions player.entry.input.now piece.at
-        piece.many frames
-        (W.contents writer.old) (W.contents writer.new) (W.failures writer.old) (W.failures writer.new) result }
-    ensures owed { IfOk result (λ x. output.new ≡ record output.old {
-      missing = output.old.missing
-          - piece.many * (exchange_of player.entry.net.now player.entry.period.now.repetitions).made;
-    }) }
-{
-    let Some(Cut { parts, warm }) = piece.cut else {
-        return put_whole(memory, writer, player, output, rest, piece);
-    };
-    net_facts(player.net);
-    let ends = PieceEnds {
-        exchange: Exchange::of_net(player.net),
-        input: player.input,
-        at: piece.at,
-        periods: piece.many,
-    };
-    let split = Split {
-        net: player.net,
-        period: player.period,
-        periods: piece.many,
-        warm,
-        size: part_size(piece.many, parts.max(1), warm),
-    };
-    put_parts(memory, writer, output, ends, split, rest)
-}
-
-/// Runs a net on a sound, a piece at a time, and writes the frames of each before the next one is run.
-pub(crate) fn put_pieces<T: Threads + AllocGlobal + Sync, W: Writer>(
-    rt: &T,
-    writer: &mut W,
-    player: Player<'_>,
-    output: &mut ContentOut,
-    periods: u32,
-) -> Result<(), Fault>
-    requires player { CanPlay player }
-    requires periods { periods ≡
-        periods_of (exchange_of player.net.now player.period.now.repetitions) player.input.now }
-    requires few { let x = exchange_of player.net.now player.period.now.repetitions in
-        2 * (periods * x.made * x.outputs) ≤ 4294967259 }
-    requires owed { let x = exchange_of player.net.now player.period.now.repetitions in
-        output.old ≡ record { channels = x.outputs; missing = periods * x.made; spent = false } }
-    ensures { PutsOutput player.entry.net.now player.entry.period.now.repetitions player.entry.input.now
-        (W.contents writer.old)
-        (W.contents writer.new) (W.failures writer.old) (W.failures writer.new) result }
-{
-    net_facts(player.net);
-    histories_make_runs::<Kit>();
-    let exchange = Exchange::of_net(player.net);
-    let cut = cut_of(rt.alloc(), player)?;
-    let most = piece_periods(exchange, cut);
-    let mut memory = Memory::new(rt);
-    let mut rest = player.net.first_rest(rt.alloc())?;
-    let mut at = 0;
-    while at < periods {
-        let many = most.min(periods - at);
-        let piece = Piece { at, many, cut };
-        rest = put_piece(&mut memory, writer, player, output, &rest, piece)?;
-        at += many;
+impl<'a> Player<'a> {
+    /// Begins before the first period.
+    pub(crate) fn open(alloc: Global, score: Score<'a>) -> Result<Player<'a>, Fault>
+        requires score { IsScore score }
+        requires taken { 0 < (exchange_of score.net.now score.period.now.repetitions).taken }
+        ensures player { MatchResult result
+            (λ v. IsPlayer v × (v.net ≡ score.entry.net) × (v.period ≡ score.entry.period))
+            (λ e. e ≡ OutOfMemory) }
+        ensures stands { IfOk result (λ v. (s : Sound) → StandsAt score.entry.net.now score.entry.period.now 1 s 0 0 []
+            (Some v.rest)) }
+        ensures parts { IfOk result (λ v. IfSome v.cut (λ (c : Cut). c.parts ≡ score.entry.parts)) }
+        ensures whole { IfOk result (λ v. IfNone v.cut (2 ≤ score.entry.parts →
+            IsLasting kit_steps score.entry.net.now)) }
+    {
+        net_facts(score.net);
+        let cut = cut_of(alloc, score)?;
+        let rest = score.net.first_rest(alloc)?;
+        Ok(Player {
+            net: score.net,
+            period: score.period,
+            cut,
+            rest,
+            inputs: Vec::new(alloc),
+            spares: Spares::none(alloc),
+            workers: Workers::none(alloc),
+        })
     }
-    Ok(())
+
+    /// Returns how many frames it is best fed at a time.
+    pub(crate) fn piece(&self, exchange: Exchange) -> usize
+        requires { IsExchange exchange }
+        ensures { 0 < result }
+    {
+        piece_periods(exchange, self.cut) as usize * exchange.taken
+    }
+
+    /// Runs the periods of a portion on one thread.
+    fn play(&mut self, alloc: Global, portion: Portion<'_>) -> Result<Vec<Vec<i32>>, Fault>
+        requires { CanPlay self.old portion }
+        ensures made { let o = self.old in let q = o.period.now.repetitions in MatchResult result
+            (λ r. GoesOnBy kit_steps o.net.now q o.rest portion.entry.periods
+            (lists_from 0 portion.entry.periods portion.entry.exchange portion.entry.input.now)
+            (items_of r.items) self.new.rest)
+            (λ e. e ≡ OutOfMemory) }
+        ensures stays { StaysPlayer self.old self.new }
+    {
+        let lists = portion.lists(alloc, &mut self.inputs)?;
+        let passage = Passage {
+            net: self.net,
+            period: self.period,
+            periods: portion.periods,
+            inputs: &lists,
+        };
+        let (ran, last) = resume_one_in(alloc, passage, &self.rest, &mut self.spares)?;
+        self.inputs = lists;
+        self.rest = last;
+        Ok(ran.outputs)
+    }
+
+    /// Plays a portion on one thread, and writes the frames that it makes.
+    fn put_whole<W: Writer>(
+        &mut self,
+        alloc: Global,
+        writer: &mut W,
+        output: &mut ContentOut,
+        portion: Portion<'_>,
+    ) -> Result<(), Fault>
+        requires player { IsPlayer self.old }
+        requires can { (j : ℕ) × CanPut self.old.net.now self.old.period.now j output.old portion
+            × IsFollowed self.old.net.now self.old.period.now j (Some self.old.rest) portion }
+        requires all { portion.frames ≡ portion.periods * portion.exchange.made }
+        ensures puts { let o = self.old in (j : ℕ) (s : Sound) (few blocks : ℕ) (bytes : List ℕ) →
+            Follows o.net.now o.period.now j s few blocks bytes (Some o.rest) portion.entry →
+            PutsBlocks o.net.now o.period.now j s few blocks portion.entry.frames bytes (W.contents writer.old)
+            (W.contents writer.new) (W.failures writer.old) (W.failures writer.new) (Some self.new.rest) result }
+        ensures owed { IfOk result (λ x. output.new ≡
+            record output.old { missing = output.old.missing - portion.entry.frames }) }
+        ensures stays { StaysPlayer self.old self.new }
+    {
+        puts_join();
+        let lists = self.play(alloc, portion)?;
+        put_frames(alloc, writer, output, &lists, portion.frames)?;
+        self.spares.give_back(lists);
+        Ok(())
+    }
+
+    /// Plays a portion in parts at once, and writes the frames that these make.
+    fn put_parts<T: Threads + AllocGlobal + Sync, W: Writer>(
+        &mut self,
+        rt: &T,
+        writer: &mut W,
+        output: &mut ContentOut,
+        portion: Portion<'_>,
+        cut: Cut,
+    ) -> Result<(), Fault>
+        requires player { IsPlayer self.old }
+        requires can { (j : ℕ) × CanPut self.old.net.now self.old.period.now j output.old portion
+            × IsFollowed self.old.net.now self.old.period.now j (Some self.old.rest) portion }
+        requires all { portion.frames ≡ portion.periods * portion.exchange.made }
+        requires warm { WarmsIn kit_steps self.old.net.now self.old.period.now.repetitions cut.warm }
+        ensures puts { let o = self.old in (j : ℕ) (s : Sound) (few blocks : ℕ) (bytes : List ℕ) →
+            Follows o.net.now o.period.now j s few blocks bytes (Some o.rest) portion.entry →
+            PutsBlocks o.net.now o.period.now j s few blocks portion.entry.frames bytes (W.contents writer.old)
+            (W.contents writer.new) (W.failures writer.old) (W.failures writer.new) (Some self.new.rest) result }
+        ensures owed { IfOk result (λ x. output.new ≡
+            record output.old { missing = output.old.missing - portion.entry.frames }) }
+        ensures stays { StaysPlayer self.old self.new }
+    {
+        puts_join();
+        let split = Split {
+            net: self.net,
+            period: self.period,
+            periods: portion.periods,
+            warm: cut.warm,
+            size: part_size(portion.periods, cut.parts.max(1), cut.warm),
+        };
+        let (parts, last) = resume_split(
+            rt,
+            rt.alloc(),
+            &portion,
+            split,
+            &self.rest,
+            &mut self.workers,
+        )?;
+        self.rest = last;
+        put_in_turn(writer, output, &parts)?;
+        self.workers.give_back(parts);
+        Ok(())
+    }
+
+    /// Plays a portion, and writes the frames that it makes.
+    pub(crate) fn put<T: Threads + AllocGlobal + Sync, W: Writer>(
+        &mut self,
+        rt: &T,
+        writer: &mut W,
+        output: &mut ContentOut,
+        portion: Portion<'_>,
+    ) -> Result<(), Fault>
+        requires player { IsPlayer self.old }
+        requires can { (j : ℕ) × CanPut self.old.net.now self.old.period.now j output.old portion
+            × IsFollowed self.old.net.now self.old.period.now j (Some self.old.rest) portion }
+        requires all { portion.frames ≡ portion.periods * portion.exchange.made }
+        ensures puts { let o = self.old in (j : ℕ) (s : Sound) (few blocks : ℕ) (bytes : List ℕ) →
+            Follows o.net.now o.period.now j s few blocks bytes (Some o.rest) portion.entry →
+            PutsBlocks o.net.now o.period.now j s few blocks portion.entry.frames bytes (W.contents writer.old)
+            (W.contents writer.new) (W.failures writer.old) (W.failures writer.new) (Some self.new.rest) result }
+        ensures owed { IfOk result (λ x. output.new ≡
+            record output.old { missing = output.old.missing - portion.entry.frames }) }
+        ensures stays { StaysPlayer self.old self.new }
+    {
+        match self.cut {
+            Some(cut) => self.put_parts(rt, writer, output, portion, cut),
+            None => self.put_whole(rt.alloc(), writer, output, portion),
+        }
+    }
 }

@@ -42,6 +42,9 @@ fn read_more<R: Reader>(
 {
     pieces_join();
     let samples = content.next(alloc, reader, frames)?;
+    if kept.is_empty() {
+        return Ok(samples);
+    }
     kept.extend_from_slice(&samples)?;
     Ok(kept)
 }

@@ -1,5 +1,6 @@
-use Rattle.std.proofs.Common.{rules}
-use Rattle.sdf_process.proofs.Readings.{more_failed, more_read}
+use Rattle.std.proofs.Common.{◌++◌, ◌∙◌, sym, ap, rules}
+use Rattle.std.proofs.lemmas.Bool.{eqb-true}
+use Rattle.sdf_process.proofs.Readings.{more_failed, more_read, none_kept}
 use Rattle.sdf_process.proofs.source.read_more.Goals as goal
 
 pub returns-in_err-samples : goal.returns-in_err-samples
@@ -10,6 +11,18 @@ returns-in_err-samples g c = λ d before old r here reads counted.
     c.in_err-samples.field-0.0 c.from_residual.result _ c.pieces_join.ensures.falls
     (c.in_err-samples.ensures.bytes c.requires.unspoilt) (c.in_err-samples.ensures.counted c.requires.unspoilt)
     (c.in_err-samples.ensures.cut c.requires.unspoilt c.requires.sized) c.from_residual.ensures.1
+
+pub returns-then-is_empty : goal.returns-then-is_empty
+returns-then-is_empty g c = λ d before old r here reads counted.
+    let none = none_kept c.args.kept.items
+    (sym c.args.kept.ok.0 ∙ eqb-true c.args.kept.len 0 (sym c.if-is_empty.ensures)) in
+    more_read d c.args.content.now before here c.args.frames old (g.R.Reader.remaining c.args.reader.now)
+    (g.R.Reader.remaining c.next.new.reader) r (g.R.Reader.failures c.args.reader.now)
+    (g.R.Reader.failures c.next.new.reader) reads counted
+    c.pieces_join.ensures.goes_on c.in_ok-samples.samples.items c.args.kept.items c.in_ok-samples.samples.items
+    (c.in_ok-samples.ensures.bytes c.requires.unspoilt) (c.in_ok-samples.ensures.counted c.requires.unspoilt)
+    c.in_ok-samples.ensures.piece c.requires.sized c.requires.enough c.next.new.self
+    c.in_ok-samples.ensures.goes_on (ap (λ l. l ++ c.in_ok-samples.samples.items) (sym none))
 
 pub returns : goal.returns
 returns g c = λ d before old r here reads counted.

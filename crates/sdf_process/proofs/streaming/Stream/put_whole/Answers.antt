@@ -1,18 +1,21 @@
 use Rattle.std.proofs.Common.{◌≡◌, ◌≤◌, ◌<◌, ◌*◌, ◌/◌, length, drop, refl, arith, ap, sym, ◌∙◌}
+use Rattle.std.proofs.Math.Facts.{Fits-of_lt}
 use Rattle.std.proofs.lemmas.List.{length-drop}
 use Rattle.sdf_wav.specs.PiecesIn.{sound_read}
 use Rattle.sdf_wav.specs.Sound.{Sound}
 use Rattle.sdf_process.specs.declared.exchange.Exchange.{Exchange}
 use Rattle.sdf_process.specs.Output.{exchange_of}
-use Rattle.sdf_process.proofs.Contents.{sound_made}
-use Rattle.sdf_process.proofs.Parts.{lists_behind}
+use Rattle.sdf_process.specs.Streams.{left_by}
+use Rattle.sdf_process.proofs.Contents.{sound_made, sound_refused}
 use Rattle.sdf_process.proofs.Refusals.{fails_by}
 use Rattle.sdf_process.proofs.Sizes.{blocks_there, frames_small, no_block, periods_small, periods_there, rest_short}
-use Rattle.sdf_process.proofs.Streamed.{whole_failed, whole_none, whole_put}
+use Rattle.sdf_process.proofs.Streamed.{can_put, kept_follows, ready_on, whole_failed, whole_none, whole_put, writes_whole}
 use Rattle.sdf_process.proofs.streaming.Stream.put_whole.Goals as goal
 
 pub returns-then-blocks-eq0-clause-puts : goal.returns-then-blocks-eq0-clause-puts
-returns-then-blocks-eq0-clause-puts g c = λ n p d samples few bytes ready same at behind.
+returns-then-blocks-eq0-clause-puts g c = λ n p d samples few bytes ready keeps.
+    let same = keeps.channels in
+    let behind = keeps.behind in
     let x = exchange_of n p.repetitions in
     let j = c.args.self.now.blocking in
     let block : j * c.args.self.now.exchange.taken * c.from.result ≡ j * x.taken * d.channels =
@@ -31,36 +34,83 @@ returns-then-blocks-eq0-clause-puts g c = λ n p d samples few bytes ready same 
       block,
     ) in
     whole_none n p j d samples c.args.kept.items few bytes behind (g.W.Writer.contents c.args.writer.now)
-    (g.W.Writer.failures c.args.writer.now) c.args.self.now.output c.args.self.now.session less at
+    (g.W.Writer.failures c.args.writer.now) c.args.self.now.output (left_by c.args.self.now.runner) less keeps.stands
 
-pub overflow_mul-frames-2 : goal.overflow_mul-frames-2
-overflow_mul-frames-2 g c =
+pub returns-in_err-input-clause-puts : goal.returns-in_err-input-clause-puts
+returns-in_err-input-clause-puts g c = λ n p d samples few bytes ready keeps.
+    absurd (sound_refused c.new.result c.args.self.now.rate c.args.self.now.channels c.args.kept.items
+    c.in_err-input.field-0.0 c.new.ensures c.in_err-input.was ready.some_rate ready.one_channel ready.few_channels
+    c.requires.whole)
+
+pub overflow_cast-portion : goal.overflow_cast-portion
+overflow_cast-portion g c =
     let ready = c.requires.ready.2 in
-    omega (
+    Fits-of_lt (omega (
+      arith,
+      periods_small c.args.self.now.blocking c.args.self.now.exchange.taken c.args.self.now.exchange.made
+          c.from.result c.args.self.now.channels c.len.result ready.some ready.limits.some_taken ready.limits.few_made
+          c.from.ensures ready.one_channel (omega (arith, c.len.ensures, c.requires.few)),
+    ))
+
+pub overflow_mul-portion : goal.overflow_mul-portion
+overflow_mul-portion g c =
+    let ready = c.requires.ready.2 in
+    Fits-of_lt (omega (
       arith,
       frames_small c.args.self.now.blocking c.args.self.now.exchange.taken c.args.self.now.exchange.made
           c.from.result c.args.self.now.channels c.len.result ready.some ready.limits.some_taken ready.limits.few_made
-          c.from.ensures c.requires.ready.2.one_channel (omega (arith, c.len.ensures, c.requires.few)),
-    )
+          c.from.ensures ready.one_channel (omega (arith, c.len.ensures, c.requires.few)),
+    ))
 
-pub put-requires-clause-periods : goal.put-requires-clause-periods
-put-requires-clause-periods g c κs within =
+pub invariant_of-portion : goal.invariant_of-portion
+invariant_of-portion g c =
     let ready = c.requires.ready.2 in
-    periods_small c.args.self.now.blocking c.args.self.now.exchange.taken c.args.self.now.exchange.made c.from.result
-    c.args.self.now.channels c.len.result ready.some ready.limits.some_taken ready.limits.few_made c.from.ensures
-    c.requires.ready.2.one_channel (omega (arith, c.len.ensures, c.requires.few))
+    record {
+      fits = periods_small c.args.self.now.blocking c.args.self.now.exchange.taken c.args.self.now.exchange.made
+          c.from.result c.args.self.now.channels c.len.result ready.some ready.limits.some_taken ready.limits.few_made
+          c.from.ensures ready.one_channel (omega (arith, c.len.ensures, c.requires.few));
+      limits = ready.limits;
+      some = ready.some_inputs;
+    }
 
-pub put-requires-clause-missing : goal.put-requires-clause-missing
-put-requires-clause-missing g c κs within =
+pub put-requires-clause-can : goal.put-requires-clause-can
+put-requires-clause-can g c κs within =
     let ready = c.requires.ready.2 in
+    let sound = sound_made c.in_ok-input.input c.new.result c.args.self.now.rate c.args.self.now.channels
+    c.args.kept.items c.new.ensures
+    c.in_ok-input.was ready.some_rate ready.one_channel ready.few_channels
+    c.requires.whole in
     let there = periods_there c.args.self.now.blocking c.args.self.now.exchange.taken c.args.self.now.exchange.made
     c.from.result c.args.self.now.channels c.len.result ready.some ready.limits.some_taken ready.limits.few_made
-    c.from.ensures c.requires.ready.2.one_channel (omega (arith, c.len.ensures, c.requires.few)) in
-    c.requires.missing (c.len.result / (c.args.self.now.blocking * c.args.self.now.exchange.taken * c.from.result)
-    * c.args.self.now.blocking) (omega (arith, there, c.len.ensures))
+    c.from.ensures ready.one_channel (omega (arith, c.len.ensures, c.requires.few)) in
+    let blocks = c.len.result / (c.args.self.now.blocking * c.args.self.now.exchange.taken * c.from.result) in
+    let room = c.requires.missing (blocks * c.args.self.now.blocking) (omega (arith, there, c.len.ensures)) in
+    let n = c.requires.ready.0 in
+    let p = c.requires.ready.1 in
+    let k = c.requires.ready.3 in (
+      n,
+      p,
+      c.args.self.now.blocking,
+      ready.goes,
+      can_put n p c.args.self.now ready _ refl room,
+      (
+        sound_read k.0 k.1,
+        k.2,
+        blocks,
+        k.3,
+        kept_follows n p c.args.self.now k.0 k.1 k.2 blocks k.3 c.args.kept.items k.4 _ refl
+            (ap (λ (y : Sound). y.channels) sound) (ap (λ (y : Sound). y.samples) sound),
+      ),
+    )
+
+pub put-requires-clause-all : goal.put-requires-clause-all
+put-requires-clause-all g c κs within =
+    writes_whole c.args.self.now.runner _ _ refl
 
 pub returns-in_err-put-clause-puts : goal.returns-in_err-put-clause-puts
-returns-in_err-put-clause-puts g c = λ n p d samples few bytes ready same at behind.
+returns-in_err-put-clause-puts g c = λ n p d samples few bytes ready keeps.
+    let same = keeps.channels in
+    let behind = keeps.behind in
     let x = exchange_of n p.repetitions in
     let j = c.args.self.now.blocking in
     let block : j * c.args.self.now.exchange.taken * c.from.result ≡ j * x.taken * d.channels =
@@ -80,21 +130,28 @@ returns-in_err-put-clause-puts g c = λ n p d samples few bytes ready same at be
     ) in
     let sound = sound_made c.in_ok-input.input c.new.result c.args.self.now.rate c.args.self.now.channels
     c.args.kept.items c.new.ensures
-    c.in_ok-input.was c.requires.ready.2.some_rate c.requires.ready.2.one_channel c.requires.ready.2.few_channels
+    c.in_ok-input.was ready.some_rate ready.one_channel ready.few_channels
     c.requires.whole in
     let kept = ap (λ (y : Sound). y.samples) sound in
-    let lists = lists_behind (few * j) (blocks * j) x (sound_read d samples) c.in_ok-input.input
-    (ap (λ (y : Sound). y.channels) sound ∙ sym same) (kept ∙ behind.1) in
+    let follows = kept_follows n p c.args.self.now d samples few blocks bytes c.args.kept.items keeps _
+    refl (ap (λ (y : Sound). y.channels) sound) kept in
+    let room = periods_there j c.args.self.now.exchange.taken c.args.self.now.exchange.made c.from.result
+    c.args.self.now.channels c.len.result ready.some ready.limits.some_taken ready.limits.few_made c.from.ensures
+    ready.one_channel (omega (arith, c.len.ensures, c.requires.few)) in
+    let whole = c.requires.missing (blocks * j) (omega (arith, room, c.len.ensures)) in
+    let can = can_put n p c.args.self.now ready _ refl whole in
     let all = ap (λ (y : Exchange). blocks * j * y.made) ready.exchange in
     fails_by c.from_residual-in_err-put.result c.in_err-put.field-0.0 _ _ c.from_residual-in_err-put.ensures.1
     (whole_failed n p j d samples c.args.kept.items few bytes behind blocks (blocks * j * c.args.self.now.exchange.made)
     there all (g.W.Writer.contents c.args.writer.now) (g.W.Writer.contents c.put.new.writer)
     (g.W.Writer.failures c.args.writer.now) (g.W.Writer.failures c.put.new.writer) c.args.self.now.output
-    c.put.new.self.output c.put.new.self.session c.in_err-put.field-0.0 c.in_err-put.field-0.0 refl
-    (c.in_err-put.ensures.puts n p (sound_read d samples) few bytes ready at lists))
+    c.put.new.output (left_by c.put.new.self) c.in_err-put.field-0.0 c.in_err-put.field-0.0 refl
+    (c.in_err-put.ensures.puts n p j (sound_read d samples) few blocks bytes ready.goes can follows))
 
 pub returns-clause-puts : goal.returns-clause-puts
-returns-clause-puts g c = λ n p d samples few bytes ready same at behind.
+returns-clause-puts g c = λ n p d samples few bytes ready keeps.
+    let same = keeps.channels in
+    let behind = keeps.behind in
     let x = exchange_of n p.repetitions in
     let j = c.args.self.now.blocking in
     let block : j * c.args.self.now.exchange.taken * c.from.result ≡ j * x.taken * d.channels =
@@ -114,11 +171,13 @@ returns-clause-puts g c = λ n p d samples few bytes ready same at behind.
     ) in
     let sound = sound_made c.in_ok-input.input c.new.result c.args.self.now.rate c.args.self.now.channels
     c.args.kept.items c.new.ensures
-    c.in_ok-input.was c.requires.ready.2.some_rate c.requires.ready.2.one_channel c.requires.ready.2.few_channels
+    c.in_ok-input.was ready.some_rate ready.one_channel ready.few_channels
     c.requires.whole in
     let kept = ap (λ (y : Sound). y.samples) sound in
-    let lists = lists_behind (few * j) (blocks * j) x (sound_read d samples) c.in_ok-input.input
-    (ap (λ (y : Sound). y.channels) sound ∙ sym same) (kept ∙ behind.1) in
+    let room = periods_there j c.args.self.now.exchange.taken c.args.self.now.exchange.made c.from.result
+    c.args.self.now.channels c.len.result ready.some ready.limits.some_taken ready.limits.few_made c.from.ensures
+    ready.one_channel (omega (arith, c.len.ensures, c.requires.few)) in
+    let whole = c.requires.missing (blocks * j) (omega (arith, room, c.len.ensures)) in
     let all = ap (λ (y : Exchange). blocks * j * y.made) ready.exchange in
     let rest : c.in_ok-rest.rest.items ≡ drop (blocks * (j * x.taken * d.channels)) c.args.kept.items =
     c.in_ok-rest.ensures ∙ (ap (drop (blocks * (j * c.args.self.now.exchange.taken * c.from.result)))
@@ -138,9 +197,16 @@ returns-clause-puts g c = λ n p d samples few bytes ready same at behind.
     whole_put n p j d samples c.args.kept.items few bytes behind blocks (blocks * j * c.args.self.now.exchange.made)
     there all (g.W.Writer.contents c.args.writer.now) (g.W.Writer.contents c.put.new.writer)
     (g.W.Writer.failures c.args.writer.now) (g.W.Writer.failures c.put.new.writer) c.args.self.now.output
-    c.put.new.self.output c.put.new.self.session c.in_ok-rest.rest.items rest short c.in_ok-put.ensures.owed.0
-    (c.in_ok-put.ensures.puts n p (sound_read d samples) few bytes ready at lists)
+    c.put.new.output (left_by c.put.new.self) c.in_ok-rest.rest.items rest short c.in_ok-put.ensures.owed
+    (c.in_ok-put.ensures.puts n p j (sound_read d samples) few blocks bytes ready.goes
+    (can_put n p c.args.self.now ready _ refl whole)
+    (kept_follows n p c.args.self.now d samples few blocks bytes c.args.kept.items keeps _
+    refl (ap (λ (y : Sound). y.channels) sound) kept))
 
 pub returns-clause-ready : goal.returns-clause-ready
-returns-clause-ready g c = λ n p ready.
-    (c.in_ok-put.ensures.ready n p ready, c.in_ok-put.ensures.owed.1, c.in_ok-put.ensures.owed.2)
+returns-clause-ready g c = λ n p ready. (
+  ready_on n p c.args.self.now ready c.put.new.self c.put.new.output _
+      (c.in_ok-put.ensures.goes n p c.args.self.now.blocking ready.goes) c.in_ok-put.ensures.owed,
+  refl,
+  refl,
+)

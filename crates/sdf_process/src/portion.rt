@@ -1,4 +1,4 @@
-//! What the parts of a piece of a sound read, and the frames that they make.
+//! The periods of a sound that a run is fed at a time: what is read of them, and the frames that are made.
 
 ghost use Rattle.std.specs.Prelude.{◌≡◌, ◌*◌, ◌≤◌, ◌<◌, ℕ, [], length, slice_index_or, IfOk};
 ghost use Rattle.sdf_actor.specs.Wires.{lists as items_of};
@@ -11,22 +11,38 @@ use sdf_split::Ends;
 use sdf_wav::Wav;
 use std::alloc::{AllocError, Global};
 
-/// `periods` periods of a sound behind the first `at`, with zeros past its end. Each part makes its own input lists of
-/// them, and its own frames.
+/// The first `periods` periods of a sound, with zeros past its end, and how many frames of what they make are written.
+/// Each part of a run in parts makes its own input lists of them, and its own frames.
 #[derive(Clone, Copy)]
-pub(crate) struct PieceEnds<'a> {
+pub(crate) struct Portion<'a> {
     pub(crate) exchange: Exchange,
     pub(crate) input: &'a Wav,
-    pub(crate) at: u32,
     pub(crate) periods: u32,
+    pub(crate) frames: usize,
+    ghost fits: { periods ≤ 4294967295 },
     ghost limits: { IsExchange exchange },
     ghost some: { 0 < exchange.inputs },
 }
 
-impl<'a> Ends<i32> for PieceEnds<'a> {
+impl<'a> Portion<'a> {
+    /// Makes the input lists, in the memory of `spares`.
+    pub(crate) fn lists(
+        self,
+        alloc: Global,
+        spares: &mut [Vec<i32>],
+    ) -> Result<Vec<Vec<i32>>, AllocError>
+        ensures { IfOk result (λ all. items_of all.items ≡
+            lists_from 0 self.entry.periods self.entry.exchange self.entry.input.now) }
+    {
+        let len = self.periods as usize * self.exchange.taken;
+        channel_lists(alloc, self.input, 0, len, self.exchange.inputs, spares)
+    }
+}
+
+impl<'a> Ends<i32> for Portion<'a> {
     type Made = Vec<i16>;
 
-    ghost inputs = { λ p. lists_from p.at p.periods p.exchange p.input.now };
+    ghost inputs = { λ p. lists_from 0 p.periods p.exchange p.input.now };
 
     ghost makes = { λ p periods outputs made. made.items ≡ interleaved (periods * p.exchange.made) outputs };
 
@@ -38,21 +54,13 @@ impl<'a> Ends<i32> for PieceEnds<'a> {
         mut spares: Vec<Vec<i32>>,
     ) -> Result<Vec<Vec<i32>>, AllocError>
         requires order { from ≤ to }
-        requires within { let p = self.now in let inputs = lists_from p.at p.periods p.exchange p.input.now in
+        requires within { let p = self.now in let inputs = lists_from 0 p.periods p.exchange p.input.now in
             (e : ℕ) → e < length inputs → to ≤ length (slice_index_or inputs e []) }
         ensures { let p = self.now in IfOk result
-            (λ v. items_of v.items ≡ cut from to (lists_from p.at p.periods p.exchange p.input.now)) }
+            (λ v. items_of v.items ≡ cut from to (lists_from 0 p.periods p.exchange p.input.now)) }
     {
-        let exchange = self.exchange;
-        let start = self.at as usize * exchange.taken + from;
-        channel_lists(
-            alloc,
-            self.input,
-            start,
-            to - from,
-            exchange.inputs,
-            &mut spares,
-        )
+        let channels = self.exchange.inputs;
+        channel_lists(alloc, self.input, from, to - from, channels, &mut spares)
     }
 
     fn finish(

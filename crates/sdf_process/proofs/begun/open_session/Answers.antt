@@ -2,7 +2,7 @@ use Rattle.std.proofs.Common.{ap}
 use Rattle.sdf_plan.specs.Faults.{of_run}
 use Rattle.sdf_process.proofs.Fed.{opened_refused, stands_first}
 use Rattle.sdf_process.proofs.Refusals.{fails_by}
-use Rattle.sdf_process.proofs.streaming.open_session.Goals as goal
+use Rattle.sdf_process.proofs.begun.open_session.Goals as goal
 
 pub returns-in_err-session-clause-stands : goal.returns-in_err-session-clause-stands
 returns-in_err-session-clause-stands c =
@@ -18,6 +18,13 @@ returns-clause-stands c = λ s.
     (ap (λ z. z.period) c.in_ok-session.ensures.value.1)
     (ap (λ z. z.factor) c.in_ok-session.ensures.value.1)
     c.in_ok-session.ensures.stands s
+
+pub returns-clause-is : goal.returns-clause-is
+returns-clause-is c = (
+  ap (λ z. z.net) c.in_ok-session.ensures.value.1,
+  ap (λ z. z.period) c.in_ok-session.ensures.value.1,
+  ap (λ z. z.factor) c.in_ok-session.ensures.value.1,
+)
 
 pub returns-clause-mode : goal.returns-clause-mode
 returns-clause-mode c = ap (λ z. z.mode) c.in_ok-session.ensures.value.1

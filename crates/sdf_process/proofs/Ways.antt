@@ -1,0 +1,115 @@
+-- How a run begins in the way of its plan: by a session, or by a player, whose sound may be taken whole before.
+use Rattle.std.proofs.Common.{◌≡◌, ◌≢◌, ℕ, ℤ, ◌*◌, ◌≤◌, ◌<◌, List, [], length, sum, Option, Result, Ok, sym, ap}
+use Rattle.std.proofs.Common.{mul-le-mul_left, subst, arith}
+use Rattle.std.proofs.lemmas.List.Sums.{get_or-le-sum_by}
+use Rattle.sdf_limits.specs.declared.TheConstants.{MOST_BLOCK}
+use Rattle.sdf_actor.specs.Nets.{Netlist}
+use Rattle.sdf_answer.specs.Periods.{HasPeriod}
+use Rattle.sdf_kit.specs.declared.kit.Kit.{Kit}
+use Rattle.sdf_kit.specs.Kit.{kit_steps}
+use Rattle.sdf_run.specs.Sessions.{SessionValue}
+use Rattle.sdf_sched.specs.Period.{Schedule}
+use Rattle.sdf_wav.specs.PiecesIn.{Reading, sound_read}
+use Rattle.sdf_wav.specs.Sound.{Sound}
+use Rattle.sdf_wav.specs.declared.wav.TheConstants.{MOST_CHANNELS}
+use Rattle.sdf_plan.specs.declared.fault.Fault.{Fault}
+use Rattle.sdf_process.specs.declared.begun.Begun.{Begun}
+use Rattle.sdf_process.specs.declared.begun.Shared.{Shared}
+use Rattle.sdf_process.specs.declared.source.Source.TheVariants.{Heard}
+use Rattle.sdf_process.specs.Output.{exchange_of, IsExtent}
+use Rattle.sdf_process.specs.Sources.{reading_of, Takes, TakesAll}
+use Rattle.sdf_process.specs.Stages.{PutsOutput}
+use Rattle.sdf_process.specs.Streams.{FeedsBy, StandsAt, Streams}
+use Rattle.sdf_process.specs.Tasks.{IsBegun, IsShared}
+use Rattle.sdf_process.proofs.Flow.{allowed_lower, whole_size}
+use Rattle.sdf_process.proofs.Opened.{frames_known}
+use Rattle.sdf_process.proofs.Taken.{heard_puts, taken_whole, unheard_sound, whole_streams}
+
+-- ---- a session
+
+-- a period has firings
+some_firings : (n : Netlist Kit ℤ) (p : Schedule) → HasPeriod kit_steps n p → 1 ≤ sum p.repetitions
+some_firings n p has =
+    let few : 0 < length p.repetitions = omega (arith, has.period.least.is.all, has.shape.some) in
+    omega (arith, has.period.least.is.positive 0 has.shape.some, get_or-le-sum_by (λ q. q) p.repetitions 0 0 few)
+
+-- a block of few firings has few periods
+few_blocks : (j firings : ℕ) → 1 ≤ firings → j * firings ≤ MOST_BLOCK → j ≤ MOST_BLOCK
+few_blocks j firings some short =
+    let more : j * 1 ≤ j * firings = mul-le-mul_left j some in
+    omega (arith, more, short)
+
+-- the blocks of a session have few periods
+pub session_fits : (t : Shared) → IsShared t → HasPeriod kit_steps t.net.now t.table.now.period →
+    t.table.now.factor ≤ 4294967295
+session_fits t shared has = omega (
+  arith,
+  few_blocks t.table.now.factor (sum t.table.now.period.repetitions)
+      (some_firings t.net.now t.table.now.period has) shared.table.table.short,
+)
+
+-- and it is not spent, if it stands after nothing
+pub session_goes : (n : Netlist Kit ℤ) (p : Schedule) (j : ℕ) (v : SessionValue Kit (List ℤ) ℤ) →
+    (v.net ≡ n) × (v.period ≡ p) × (v.factor ≡ j) → ((s : Sound) → StandsAt n p j s 0 0 [] v.rest) →
+    FeedsBy n p j v
+session_goes n p j v is stands =
+    let at = stands (record { rate = 0; channels = 0; samples = [] }) in
+    record { live = (at.rest, at.held); net = is.0; period = is.1; factor = is.2 }
+
+-- ---- a source that is taken whole before it is played
+
+module _ (n : Netlist Kit ℤ) (q : List ℕ) (b : Begun) (begun : IsBegun n q b) (old left : Option (List ℕ)) (r r1 : ℕ)
+    (s : Sound) (takes : TakesAll b.source old left r r1 (Ok s)) where
+  abbrev c : Reading
+  c = reading_of b.source
+
+  whole : (2 * length s.samples ≡ c.size) × Takes b.source s.samples old left × (sound_read c s.samples ≡ s)
+      × (r1 ≡ r)
+  whole = taken_whole b.source old left r r1 s begun.unheard.unread known takes
+    where
+      known : c.size ≢ 0xFFFFFFFF
+      known = (frames_known c.size c.channels b.frames begun.unheard.known).0
+
+  rate_is : c.rate ≡ s.rate
+  rate_is = ap (λ (y : Sound). y.rate) whole.2
+
+  channels_is : c.channels ≡ s.channels
+  channels_is = ap (λ (y : Sound). y.channels) whole.2
+
+  -- it is begun as before
+  pub heard_begun : IsBegun n q (record { source = Heard s 0; frames = b.frames; extent = b.extent; output = b.output })
+  heard_begun = record {
+    unheard = unheard_sound s b.frames (subst (λ (k : ℕ). 1 ≤ k) rate_is begun.unheard.sound.some_rate)
+        (subst (λ (k : ℕ). 1 ≤ k) channels_is begun.unheard.sound.one_channel)
+        (subst (λ (k : ℕ). k ≤ MOST_CHANNELS) channels_is begun.unheard.sound.few_channels)
+        (omega (
+          arith,
+          whole.0,
+          whole_size c b.frames begun.unheard.sound (frames_known c.size c.channels b.frames begun.unheard.known).0
+              (frames_known c.size c.channels b.frames begun.unheard.known).1,
+          ap (λ (k : ℕ). b.frames * k) channels_is,
+        ))
+        (omega (arith, whole.0, begun.unheard.sound.size_fits));
+    extent = subst (λ (k : ℕ). IsExtent (exchange_of n q)
+        (record { rate = s.rate; channels = k; frames = b.frames }) b.extent) channels_is
+        (subst (λ (k : ℕ). IsExtent (exchange_of n q)
+        (record { rate = k; channels = c.channels; frames = b.frames }) b.extent) rate_is begun.extent);
+    owed = begun.owed;
+  }
+
+  -- what is played of it is played of the source
+  pub heard_streams : 0 < (exchange_of n q).taken → (new before after : Option (List ℕ)) (r' w w' : ℕ)
+      (result : Result (Unit {0}) Fault) → Streams n q (Heard s 0) left new before after r1 r' w w' result →
+      Streams n q b.source old new before after r r' w w' result
+  heard_streams some new before after r' w w' result streams =
+      subst (λ (x : Option (List ℕ)). Streams n q b.source old x before after r r' w w' result) (sym puts.1)
+      (subst (λ (k : ℕ). Streams n q b.source old left before after r k w w' result) (sym puts.2)
+      (whole_streams n q b.source old left r r1 s begun.unheard.unread
+      (frames_known c.size c.channels b.frames begun.unheard.known).0 takes before after w w' result puts.0))
+    where
+      puts : PutsOutput n q s before after w w' result × (new ≡ left) × (r' ≡ r1)
+      puts = heard_puts n q s (subst (λ (k : ℕ). 1 ≤ k) channels_is begun.unheard.sound.one_channel)
+          (subst (λ (k : ℕ). (exchange_of n q).inputs ≤ k) channels_is
+          (allowed_lower (exchange_of n q)
+          (record { rate = c.rate; channels = c.channels; frames = b.frames }) begun.extent.is_allowed)) some
+          left new before after r1 r' w w' result streams

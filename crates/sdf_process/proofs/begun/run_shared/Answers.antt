@@ -1,0 +1,37 @@
+use Rattle.std.proofs.Common.{Result, refl, arith, rules}
+use Rattle.sdf_plan.specs.declared.fault.Fault.{Fault}
+use Rattle.sdf_process.specs.Streams.{Streams}
+use Rattle.sdf_process.proofs.Flow.{unopened}
+use Rattle.sdf_process.proofs.Pieces.{run_fails}
+use Rattle.sdf_process.proofs.Ways.{session_fits, session_goes}
+use Rattle.sdf_process.proofs.begun.run_shared.Goals as goal
+
+pub returns-in_err-session : goal.returns-in_err-session
+returns-in_err-session g c =
+    let n = c.args.shared.net.now in
+    let q = c.args.shared.table.now.period.repetitions in
+    run_fails (λ (r : Result (Unit {0}) Fault). Streams n q c.args.begun.source
+    (g.R.Reader.remaining c.args.reader.now) (g.R.Reader.remaining c.args.reader.now)
+    (g.W.Writer.contents c.args.writer.now) (g.W.Writer.contents c.args.writer.now)
+    (g.R.Reader.failures c.args.reader.now) (g.R.Reader.failures c.args.reader.now)
+    (g.W.Writer.failures c.args.writer.now) (g.W.Writer.failures c.args.writer.now) r)
+    c.in_err-session.field-0.0 c.from_residual.result c.from_residual.ensures.1
+    (unopened n q c.args.begun.source (g.R.Reader.remaining c.args.reader.now)
+    (g.W.Writer.contents c.args.writer.now) (g.R.Reader.failures c.args.reader.now)
+    (g.W.Writer.failures c.args.writer.now) c.in_err-session.field-0.0 c.in_err-session.field-0.0 c.in_err-session.ensures.stands refl)
+
+pub run_stream-requires-clause-opened : goal.run_stream-requires-clause-opened
+run_stream-requires-clause-opened g c κs within =
+    let t = c.args.shared in
+    record {
+      period = c.requires.shared.table.period;
+      inputs = c.requires.shared.inputs;
+      outputs = c.requires.shared.outputs;
+      goes = session_goes t.net.now t.table.now.period t.table.now.factor c.in_ok-session.session
+          c.in_ok-session.ensures.is c.in_ok-session.ensures.stands;
+      stands = c.in_ok-session.ensures.stands;
+      some = omega (arith, c.requires.shared.table.table.some);
+      fits = session_fits t c.requires.shared
+          (c.nets_have_periods.ensures t.table.now.period c.requires.shared.table.period);
+      piece = search rules;
+    }
