@@ -1,7 +1,7 @@
+pub mod Wav
 pub mod Sizes
 pub mod Lists
 pub mod Outcomes
-pub mod Fronts
 pub mod Channels
 pub mod Contents
 pub mod Refusals

@@ -15,7 +15,6 @@ use Rattle.sdf_wav.specs.PiecesOut.{Owed}
 use Rattle.sdf_wav.specs.Sound.{Sound}
 use Rattle.sdf_process.specs.declared.exchange.Exchange.{Exchange}
 use Rattle.sdf_plan.specs.declared.fault.Fault.{Fault}
-use Rattle.sdf_plan.specs.declared.fault.Fault.TheVariants.{OutOfMemory}
 use Rattle.sdf_process.specs.Output.{exchange_of}
 use Rattle.sdf_process.specs.declared.portion.Portion.{Portion}
 use Rattle.sdf_process.specs.declared.streaming.Runner.{Runner}
@@ -216,10 +215,3 @@ module _ (n : Netlist Kit ℤ) (p : Schedule) (j : ℕ) (c : Reading) (samples k
       ),
     )
     whole_failed e f same (inr (is, kept, fine)) = inr (same ∙ is, kept, fine)
-
--- memory was refused before
-pub whole_refused : (n : Netlist Kit ℤ) (p : Schedule) (j : ℕ) (c : Reading) (samples : List ℤ) (few : ℕ)
-    (bytes : List ℕ) (held : Option (List ℕ)) (w : ℕ) (o o' : Owed) (v : Option (Rest ℤ (List ℤ))) (f : Fault) →
-    f ≡ OutOfMemory →
-    PutsWhole n p j c samples few bytes held held w w o o' v (Err f)
-whole_refused n p j c samples few bytes held w o o' v f is = inr (is, keeps_same held, refl)

@@ -18,13 +18,12 @@ use Rattle.sdf_plan.specs.declared.fault.Fault.{Fault}
 use Rattle.sdf_plan.specs.declared.fault.Fault.TheVariants.{OutOfMemory}
 use Rattle.sdf_process.specs.declared.source.Source.{Source}
 use Rattle.sdf_process.specs.declared.source.Source.TheVariants.{Content, Heard}
-use Rattle.sdf_process.specs.Output.{announced_by, exchange_of, lists_to, periods_of}
+use Rattle.sdf_process.specs.Output.{exchange_of, lists_to, periods_of}
 use Rattle.sdf_process.specs.Run.{AreFrames}
 use Rattle.sdf_process.specs.Sources.{reading_of, source_behind, ReadsBy, ReadsMore, Takes, TakesAll, TakesMore}
 use Rattle.sdf_process.specs.Stages.{PutsOutput}
 use Rattle.sdf_process.specs.Streams.{Streams}
 use Rattle.sdf_process.specs.Tasks.{IsUnheard}
-use Rattle.sdf_process.proofs.Opened.{frames_known, sound_announced}
 use Rattle.sdf_process.proofs.Parts.{lists_stay}
 use Rattle.sdf_process.proofs.Sizes.{periods_fit}
 
@@ -187,16 +186,6 @@ module _ (old : Option (List ℕ)) (r : ℕ) where
           omega (arith, there, place, both_long) in z)
 
 -- ---- a whole sound
-
--- its frames are those that the source announces
-pub all_announced : (first : Source) (frames : ℕ) → known_frames (reading_of first) ≡ Some frames →
-    (old new : Option (List ℕ)) (r r' : ℕ) (s : Sound) → TakesAll first old new r r' (Ok s) → announced_by s ≡
-    record { rate = (reading_of first).rate; channels = (reading_of first).channels; frames = frames }
-all_announced (Content c) frames known old new r r' s takes =
-    sound_announced c frames known s takes.2 takes.3 (takes.4 (frames_known c.size c.channels frames known).0)
-all_announced (Heard t taken) frames known old new r r' s takes =
-    sound_announced (reading_of (Heard t taken)) frames known s (ap (λ (y : Sound). y.rate) takes.0)
-    (ap (λ (y : Sound). y.channels) takes.0) (ap (λ (y : Sound). 2 * length y.samples) takes.0)
 
 -- of a sound that was read before nothing is taken
 pub unheard_sound : (s : Sound) (frames : ℕ) → 1 ≤ s.rate → 1 ≤ s.channels → s.channels ≤ MOST_CHANNELS →

@@ -3,23 +3,12 @@
 ghost use Rattle.std.specs.Prelude.{◌≡◌, ◌*◌, ◌≤◌, ◌<◌, false, length, None, IfOk};
 ghost use Rattle.sdf_wav.specs.PiecesOut.{file_header};
 ghost use Rattle.sdf_process.specs.Output.{IsExchange};
-ghost use Rattle.sdf_process.specs.Stages.{PutsHeader, ReadsContent, WavLaws};
+ghost use Rattle.sdf_process.specs.Stages.{PutsHeader, ReadsContent};
 
 use crate::exchange::{Exchange, Extent};
 use sdf_plan::Fault;
-use sdf_wav::laws::{files_are_canonical, one_outcome, pieces_join, puts_join};
 use sdf_wav::{ContentIn, ContentOut, Reader, Wav, Writer};
 use std::alloc::Global;
-
-/// The laws of WAV files that a run stands on.
-pub(crate) fn wav_laws()
-    ensures { WavLaws }
-{
-    pieces_join();
-    one_outcome();
-    puts_join();
-    files_are_canonical();
-}
 
 /// Writes the header of an output.
 pub(crate) fn begin<W: Writer>(
@@ -60,7 +49,6 @@ pub(crate) fn read_content<R: Reader>(
         (R.failures reader.new) result }
     ensures few { IfOk result (λ s. 2 * length s.samples ≤ 0xFFFFFFFF) }
 {
-    pieces_join();
     let samples = content.next(alloc, reader, usize::MAX)?;
     Ok(Wav::new(content.rate(), content.channels(), samples)?)
 }

@@ -4,11 +4,7 @@ ghost use Rattle.sdf_process.specs.Laws.{OneOutput};
 
 use sdf_actor::laws::one_history;
 use sdf_file::Design;
-use sdf_graph::laws::{
-    alike_sequences, graphs_are_sound, graphs_have_periods, one_least_period, periods_repeat,
-};
 use sdf_kit::Kit;
-use sdf_wav::laws::one_outcome;
 
 /// There is one output: whatever runs a design on a WAV file, by whatever order of firings, it makes the same sound. It
 /// stands on the uniqueness of channel histories (Kahn 1974) and of the sound that a file says.
@@ -19,11 +15,5 @@ pub fn one_output(design: &Design)
     let _ = net.repetitions();
     let graph = net.graph();
     let _ = graph.channels();
-    graphs_are_sound();
-    graphs_have_periods();
-    one_least_period();
-    periods_repeat();
-    alike_sequences();
     one_history::<Kit>();
-    one_outcome();
 }

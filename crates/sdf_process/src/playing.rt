@@ -25,7 +25,6 @@ use sdf_run::laws::net_facts;
 use sdf_run::{Passage, Spares, resume_one_in};
 use sdf_sched::Period;
 use sdf_split::{Split, Workers, part_size, resume_split};
-use sdf_wav::laws::puts_join;
 use sdf_wav::{ContentOut, Writer};
 use std::alloc::{AllocError, Global};
 use std::thread::Threads;
@@ -180,7 +179,6 @@ impl<'a> Player<'a> {
             record output.old { missing = output.old.missing - portion.entry.frames }) }
         ensures stays { StaysPlayer self.old self.new }
     {
-        puts_join();
         let lists = self.play(alloc, portion)?;
         put_frames(alloc, writer, output, &lists, portion.frames)?;
         self.spares.give_back(lists);
@@ -209,7 +207,6 @@ impl<'a> Player<'a> {
             record output.old { missing = output.old.missing - portion.entry.frames }) }
         ensures stays { StaysPlayer self.old self.new }
     {
-        puts_join();
         let split = Split {
             net: self.net,
             period: self.period,

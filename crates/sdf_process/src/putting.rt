@@ -8,7 +8,6 @@ ghost use Rattle.sdf_process.specs.Stages.{PutsFrames, PutsHeader};
 
 use crate::samples::fill_frames;
 use sdf_plan::Fault;
-use sdf_wav::laws::puts_join;
 use sdf_wav::{ContentOut, Writer};
 use std::alloc::Global;
 
@@ -32,7 +31,6 @@ pub(crate) fn put_frames<W: Writer>(
         (W.failures writer.new) (sample_bytes (interleaved frames (items_of lists.now))) result }
     ensures owed { IfOk result (λ x. output.new ≡ record output.old { missing = output.old.missing - frames }) }
 {
-    puts_join();
     let mut piece = vec![in alloc; 0; FRAMES.min(frames) * lists.len()]?;
     let mut at = 0;
     while at < frames {
@@ -61,7 +59,6 @@ pub(crate) fn put_in_turn<W: Writer>(
     ensures owed { (frames : ℕ) → length (in_turn (items_of parts.now)) ≡ frames * output.old.channels →
         IfOk result (λ x. output.new ≡ record output.old { missing = output.old.missing - frames }) }
 {
-    puts_join();
     for list in parts {
         output.put(writer, list)?;
     }

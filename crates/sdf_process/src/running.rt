@@ -8,7 +8,7 @@ ghost use Rattle.sdf_process.specs.Tasks.{IsUnheard, IsTask};
 
 use crate::begun::{Begun, run_begun};
 use crate::exchange::{Announced, Exchange};
-use crate::hearing::{begin, read_content, wav_laws};
+use crate::hearing::{begin, read_content};
 use crate::source::Source;
 use crate::task::Task;
 use sdf_plan::Fault;
@@ -40,7 +40,6 @@ fn run_ahead<T: Threads + AllocGlobal + Sync, R: Reader, W: Writer, G: Gate>(
         (R.failures reader.old) (R.failures reader.new) (W.failures writer.old) (W.failures writer.new) result }
 {
     let Unheard { content, frames } = unheard;
-    wav_laws();
     let exchange = Exchange::of_net(task.net);
     let announced = Announced {
         rate: content.rate(),
@@ -75,7 +74,6 @@ fn run_behind<T: Threads + AllocGlobal + Sync, R: Reader, W: Writer, G: Gate>(
         (R.remaining reader.old) (R.remaining reader.new) (W.contents writer.old) (W.contents writer.new)
         (R.failures reader.old) (R.failures reader.new) (W.failures writer.old) (W.failures writer.new) result }
 {
-    wav_laws();
     let exchange = Exchange::of_net(task.net);
     let sound = read_content(rt.alloc(), reader, content)?;
     let extent = exchange.extent(Announced::by(&sound))?;
@@ -103,7 +101,6 @@ pub(crate) fn run_net<T: Threads + AllocGlobal + Sync, R: Reader, W: Writer, G: 
         (W.contents writer.old) (W.contents writer.new)
         (R.failures reader.old) (R.failures reader.new) (W.failures writer.old) (W.failures writer.new) result }
 {
-    wav_laws();
     let content = ContentIn::open(reader)?;
     match content.frames() {
         Some(frames) => {

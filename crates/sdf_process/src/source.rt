@@ -7,7 +7,6 @@ ghost use Rattle.sdf_process.specs.Sources.{reading_of, source_behind, ReadsBy, 
 
 use crate::hearing::read_content;
 use sdf_plan::Fault;
-use sdf_wav::laws::pieces_join;
 use sdf_wav::{ContentIn, Reader, Wav};
 use std::alloc::Global;
 
@@ -40,7 +39,6 @@ fn read_more<R: Reader>(
         (λ f. ReadsMore c before frames kept.items old (R.remaining reader.new) r (R.failures reader.new)
         content.new (Err f)) }
 {
-    pieces_join();
     let samples = content.next(alloc, reader, frames)?;
     if kept.is_empty() {
         return Ok(samples);

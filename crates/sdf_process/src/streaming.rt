@@ -22,7 +22,6 @@ use sdf_plan::Fault;
 use sdf_run::laws::{nets_have_periods, runs_go_on};
 use sdf_run::{Gate, Session};
 use sdf_sched::Period;
-use sdf_wav::laws::puts_join;
 use sdf_wav::{ContentOut, Reader, Wav, Writer};
 use std::alloc::{AllocError, Global};
 use std::thread::Threads;
@@ -58,7 +57,6 @@ fn put_fed<T: Threads + AllocGlobal + Sync, W: Writer, G: Gate>(
     ensures owed { IfOk result (λ x. output.new ≡
         record output.old { missing = output.old.missing - portion.entry.frames }) }
 {
-    puts_join();
     let inputs = portion.lists(rt.alloc(), &mut [])?;
     let ran = session.feed(rt, &inputs, gate)?;
     put_frames(rt.alloc(), writer, output, &ran.outputs, portion.frames)

@@ -16,3 +16,4 @@ pub mod Opens
 pub mod PiecesIn
 pub mod Round
 pub mod Canonical
+pub mod Theorems

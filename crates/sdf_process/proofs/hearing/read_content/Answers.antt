@@ -3,13 +3,14 @@ use Rattle.sdf_wav.specs.PiecesIn.{Reading}
 use Rattle.sdf_wav.specs.Sound.{Sound, sound_of}
 use Rattle.sdf_process.proofs.Contents.{content_failed, content_read, few_read, sound_made}
 use Rattle.sdf_process.proofs.hearing.read_content.Given.{Over}
+use Rattle.sdf_wav.proofs.Theorems.{few_end, pieces_fall, pieces_go_on}
 use Rattle.sdf_process.proofs.hearing.read_content.Goals as goal
 
 pub returns-in_err-samples-clause-reads : goal.returns-in_err-samples-clause-reads
 returns-in_err-samples-clause-reads g c =
     content_failed (g.R.Reader.remaining c.args.reader.now) (g.R.Reader.remaining c.next.new.reader)
     (g.R.Reader.failures c.args.reader.now) (g.R.Reader.failures c.next.new.reader)
-    c.args.content 18446744073709551615 c.pieces_join.ensures.falls c.in_err-samples.field-0.0 c.from_residual.result
+    c.args.content 18446744073709551615 pieces_fall c.in_err-samples.field-0.0 c.from_residual.result
     (c.in_err-samples.ensures.bytes c.requires.unspoilt) (c.in_err-samples.ensures.counted c.requires.unspoilt)
     (c.in_err-samples.ensures.cut c.requires.unspoilt) c.from_residual.ensures.1
 
@@ -34,7 +35,7 @@ pub returns-clause-reads : goal.returns-clause-reads
 returns-clause-reads g c =
     content_read (g.R.Reader.remaining c.args.reader.now) (g.R.Reader.remaining c.next.new.reader)
     (g.R.Reader.failures c.args.reader.now) (g.R.Reader.failures c.next.new.reader)
-    c.args.content 18446744073709551615 refl c.requires.unread c.pieces_join.ensures.goes_on c.pieces_join.ensures.few
+    c.args.content 18446744073709551615 refl c.requires.unread pieces_go_on few_end
     c.in_ok-samples.samples
     (c.in_ok-samples.ensures.bytes c.requires.unspoilt) (c.in_ok-samples.ensures.counted c.requires.unspoilt)
     c.in_ok-samples.ensures.piece c.next.new.self

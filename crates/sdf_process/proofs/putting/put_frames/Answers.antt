@@ -8,6 +8,7 @@ use Rattle.sdf_process.specs.Output.{interleaved, interleaved_from}
 use Rattle.sdf_process.proofs.Lists.{length-lists}
 use Rattle.sdf_process.proofs.Pieces.{frames_on, owed_on, put_failed, whole_frames}
 use Rattle.sdf_process.proofs.Sounds.{frames_length}
+use Rattle.sdf_wav.proofs.Theorems.{puts_join}
 use Rattle.sdf_process.proofs.putting.put_frames.Goals as goal
 
 pub put-requires-clause-whole : goal.put-requires-clause-whole
@@ -31,7 +32,7 @@ returns-in_err-put-clause-puts g c =
     ap length slice ∙ (frames_length xs at (end - at) ∙ ap (λ k. (end - at) * k) (length-lists c.args.lists.now)) in
     let unspent : c.loop-at.output.spent ≡ false =
     ap (λ (o : Owed). o.spent) c.loop-at.invariant.owed ∙ c.requires.unspent in
-    put_failed c.puts_join.ensures (g.W.Writer.contents c.args.writer.now) (g.W.Writer.contents c.loop-at.writer)
+    put_failed puts_join (g.W.Writer.contents c.args.writer.now) (g.W.Writer.contents c.loop-at.writer)
     (g.W.Writer.contents c.put.new.writer)
     (g.W.Writer.failures c.args.writer.now) (g.W.Writer.failures c.loop-at.writer)
     (g.W.Writer.failures c.put.new.writer) xs c.args.frames at end (omega arith) (search rules)
@@ -55,7 +56,7 @@ loop-at-preserved g c =
       room = search rules;
       written = subst (λ l. Appends (g.W.Writer.contents c.args.writer.now) (g.W.Writer.contents c.put.new.writer)
           (sample_bytes l)) (frames_on xs at end (omega arith))
-          (c.puts_join.ensures (g.W.Writer.contents c.args.writer.now) (g.W.Writer.contents c.loop-at.writer)
+          (puts_join (g.W.Writer.contents c.args.writer.now) (g.W.Writer.contents c.loop-at.writer)
           (g.W.Writer.contents c.put.new.writer) (interleaved at xs) (interleaved_from at (end - at) xs)
           c.loop-at.invariant.written (subst (λ l. Appends (g.W.Writer.contents c.loop-at.writer)
           (g.W.Writer.contents c.put.new.writer) (sample_bytes l)) slice (c.in_ok-put.ensures.writes unspent)));

@@ -9,6 +9,7 @@ use Rattle.sdf_process.specs.Output.{in_turn}
 use Rattle.sdf_process.proofs.Lists.{length-lists, list_read}
 use Rattle.sdf_process.proofs.Pieces.{put_stopped, fewer_missing, owed_on, whole_frames}
 use Rattle.sdf_process.proofs.InTurn.{at_most, in_turn_grown, in_turn_split, one_count}
+use Rattle.sdf_wav.proofs.Theorems.{puts_join}
 use Rattle.sdf_process.proofs.putting.put_in_turn.Goals as goal
 
 pub put-requires-clause-whole : goal.put-requires-clause-whole
@@ -45,7 +46,7 @@ returns-in_err-put-clause-puts g c =
     let item : c.deref.result.now ≡ get_or xs i [] =
     c.deref.ensures.value ∙ list_read c.args.parts.now i c.list-item.result c.loop-list-test.true c.list-item.is in
     let unspent = ap (λ (o : Owed). o.spent) c.loop-list.invariant.owed.2 ∙ c.requires.unspent in
-    put_stopped c.puts_join.ensures (g.W.Writer.contents c.args.writer.now) (g.W.Writer.contents c.loop-list.writer)
+    put_stopped puts_join (g.W.Writer.contents c.args.writer.now) (g.W.Writer.contents c.loop-list.writer)
     (g.W.Writer.contents c.put.new.writer)
     (g.W.Writer.failures c.args.writer.now) (g.W.Writer.failures c.loop-list.writer)
     (g.W.Writer.failures c.put.new.writer) (in_turn (take i xs)) (get_or xs i []) (in_turn (drop (i + 1) xs))
@@ -70,7 +71,7 @@ loop-list-preserved g c =
     record {
       written = subst (λ l. Appends (g.W.Writer.contents c.args.writer.now) (g.W.Writer.contents c.put.new.writer)
           (sample_bytes l)) (sym grown)
-          (c.puts_join.ensures (g.W.Writer.contents c.args.writer.now) (g.W.Writer.contents c.loop-list.writer)
+          (puts_join (g.W.Writer.contents c.args.writer.now) (g.W.Writer.contents c.loop-list.writer)
           (g.W.Writer.contents c.put.new.writer) (in_turn (take i xs)) (get_or xs i [])
           c.loop-list.invariant.written (subst (λ l. Appends (g.W.Writer.contents c.loop-list.writer)
           (g.W.Writer.contents c.put.new.writer) (sample_bytes l)) item (c.in_ok-put.ensures.writes unspent)));

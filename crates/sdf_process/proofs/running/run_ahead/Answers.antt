@@ -6,6 +6,7 @@ use Rattle.sdf_process.specs.Stages.{RunsOn}
 use Rattle.sdf_process.proofs.Finished.{streamed}
 use Rattle.sdf_process.proofs.Opened.{announced_same, header_failed_ahead, refused_ahead}
 use Rattle.sdf_process.proofs.Pieces.{run_fails}
+use Rattle.sdf_process.proofs.Wav.{wav_laws}
 use Rattle.sdf_process.proofs.running.run_ahead.Goals as goal
 
 pub returns-in_err-extent : goal.returns-in_err-extent
@@ -23,7 +24,7 @@ returns-in_err-extent g c =
     (g.R.Reader.failures c.args.reader.now) (g.R.Reader.failures c.args.reader.now)
     (g.W.Writer.failures c.args.writer.now) (g.W.Writer.failures c.args.writer.now) x)
     c.in_err-extent.field-0.0 c.from_residual.result c.from_residual.ensures.1
-    (λ read opened. refused_ahead c.wav_laws.ensures n q c.of_net-exchange.result same c.of_net-exchange.ensures.limits
+    (λ read opened. refused_ahead wav_laws n q c.of_net-exchange.result same c.of_net-exchange.ensures.limits
     read (g.R.Reader.remaining c.args.reader.now) c.args.unheard.content opened.answers
     c.requires.content.unread opened.only
     c.args.unheard.frames c.requires.content.known (g.W.Writer.contents c.args.writer.now)
@@ -46,7 +47,7 @@ returns-in_err-output g c =
     (g.R.Reader.failures c.args.reader.now) (g.R.Reader.failures c.args.reader.now)
     (g.W.Writer.failures c.args.writer.now) (g.W.Writer.failures c.begin.new.writer) x)
     c.in_err-output.field-0.0 c.from_residual-in_err-output.result c.from_residual-in_err-output.ensures.1
-    (λ read opened. header_failed_ahead c.wav_laws.ensures n q c.of_net-exchange.result same
+    (λ read opened. header_failed_ahead wav_laws n q c.of_net-exchange.result same
     c.of_net-exchange.ensures.limits read (g.R.Reader.remaining c.args.reader.now)
     c.args.unheard.content opened.answers
     c.requires.content.unread opened.only
@@ -87,7 +88,7 @@ returns g c = λ read opened.
     let told = announced_same c.rate.result c.channels.result c.args.unheard.frames c.args.unheard.content.rate
     c.args.unheard.content.channels
     c.args.unheard.frames c.rate.ensures.value c.channels.ensures.value refl in
-    streamed c.wav_laws.ensures n q c.of_net-exchange.result same c.of_net-exchange.ensures.limits read
+    streamed wav_laws n q c.of_net-exchange.result same c.of_net-exchange.ensures.limits read
     (g.R.Reader.remaining c.args.reader.now) c.args.unheard.content opened.answers
     c.requires.content.unread opened.only
     c.args.unheard.frames c.requires.content.known c.in_ok-extent.extent

@@ -10,6 +10,7 @@ use Rattle.sdf_process.proofs.Flow.{allowed_lower}
 use Rattle.sdf_process.proofs.Opened.{content_failed_behind, refused_behind, header_failed_behind, heard_behind}
 use Rattle.sdf_process.proofs.Pieces.{run_fails}
 use Rattle.sdf_process.proofs.Taken.{heard_puts, unheard_sound}
+use Rattle.sdf_process.proofs.Wav.{wav_laws}
 use Rattle.sdf_process.proofs.running.run_behind.Goals as goal
 
 pub returns-in_err-sound : goal.returns-in_err-sound
@@ -23,7 +24,7 @@ returns-in_err-sound g c =
     (g.R.Reader.failures c.args.reader.now) (g.R.Reader.failures c.read_content.new.reader)
     (g.W.Writer.failures c.args.writer.now) (g.W.Writer.failures c.args.writer.now) x)
     c.in_err-sound.field-0.0 c.from_residual.result c.from_residual.ensures.1
-    (λ read opened. content_failed_behind c.wav_laws.ensures n q c.of_net-exchange.result same
+    (λ read opened. content_failed_behind wav_laws n q c.of_net-exchange.result same
     c.of_net-exchange.ensures.limits read (g.R.Reader.remaining c.args.reader.now) c.args.content opened.answers
     c.requires.unread opened.only
     c.requires.unknown (g.R.Reader.remaining c.read_content.new.reader) (g.W.Writer.contents c.args.writer.now)
@@ -42,7 +43,7 @@ returns-in_err-extent g c =
     (g.R.Reader.failures c.args.reader.now) (g.R.Reader.failures c.read_content.new.reader)
     (g.W.Writer.failures c.args.writer.now) (g.W.Writer.failures c.args.writer.now) x)
     c.in_err-extent.field-0.0 c.from_residual-in_err-extent.result c.from_residual-in_err-extent.ensures.1
-    (λ read opened. refused_behind c.wav_laws.ensures n q c.of_net-exchange.result same c.of_net-exchange.ensures.limits
+    (λ read opened. refused_behind wav_laws n q c.of_net-exchange.result same c.of_net-exchange.ensures.limits
     read (g.R.Reader.remaining c.args.reader.now) c.args.content opened.answers c.requires.unread opened.only
     c.requires.unknown (g.R.Reader.remaining c.read_content.new.reader) (g.R.Reader.failures c.args.reader.now)
     (g.R.Reader.failures c.args.reader.now) (g.R.Reader.failures c.read_content.new.reader) refl c.in_ok-sound.sound
@@ -61,7 +62,7 @@ returns-in_err-output g c =
     (g.R.Reader.failures c.args.reader.now) (g.R.Reader.failures c.read_content.new.reader)
     (g.W.Writer.failures c.args.writer.now) (g.W.Writer.failures c.begin.new.writer) x)
     c.in_err-output.field-0.0 c.from_residual-in_err-output.result c.from_residual-in_err-output.ensures.1
-    (λ read opened. header_failed_behind c.wav_laws.ensures n q c.of_net-exchange.result same
+    (λ read opened. header_failed_behind wav_laws n q c.of_net-exchange.result same
     c.of_net-exchange.ensures.limits read (g.R.Reader.remaining c.args.reader.now) c.args.content opened.answers
     c.requires.unread opened.only
     c.requires.unknown (g.R.Reader.remaining c.read_content.new.reader) (g.R.Reader.failures c.args.reader.now)
@@ -105,7 +106,7 @@ returns g c = λ read opened.
     c.in_ok-extent.ensures) in
     let left = g.R.Reader.remaining c.read_content.new.reader in
     let failed = g.R.Reader.failures c.read_content.new.reader in
-    let hears = heard_behind c.wav_laws.ensures n q c.of_net-exchange.result same c.of_net-exchange.ensures.limits read
+    let hears = heard_behind wav_laws n q c.of_net-exchange.result same c.of_net-exchange.ensures.limits read
     (g.R.Reader.remaining c.args.reader.now) c.args.content opened.answers c.requires.unread opened.only
     c.requires.unknown left (g.R.Reader.failures c.args.reader.now)
     (g.R.Reader.failures c.args.reader.now) failed refl s c.in_ok-sound.ensures.reads
@@ -128,7 +129,7 @@ returns g c = λ read opened.
     (g.W.Writer.contents c.run_begun.new.writer) (g.R.Reader.failures c.args.reader.now)
     k (g.W.Writer.failures c.args.writer.now)
     (g.W.Writer.failures c.run_begun.new.writer) c.run_begun.result) (sym puts.2)
-    (answered c.wav_laws.ensures n q limits read left (g.W.Writer.contents c.args.writer.now)
+    (answered wav_laws n q limits read left (g.W.Writer.contents c.args.writer.now)
     (g.W.Writer.contents c.begin.new.writer) (g.W.Writer.contents c.run_begun.new.writer)
     (g.R.Reader.failures c.args.reader.now) failed
     (g.W.Writer.failures c.args.writer.now) (g.W.Writer.failures c.begin.new.writer)

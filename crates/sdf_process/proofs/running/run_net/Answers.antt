@@ -4,6 +4,7 @@ use Rattle.sdf_plan.specs.declared.fault.Fault.{Fault}
 use Rattle.sdf_process.specs.Run.{IsRun}
 use Rattle.sdf_process.proofs.Pieces.{run_fails}
 use Rattle.sdf_process.proofs.Refusals.{unopened}
+use Rattle.sdf_process.proofs.Wav.{wav_laws}
 use Rattle.sdf_process.proofs.running.run_net.Goals as goal
 
 pub returns-in_err-content : goal.returns-in_err-content
@@ -14,7 +15,7 @@ returns-in_err-content g c =
     (g.R.Reader.failures c.args.reader.now) (g.R.Reader.failures c.open.new.reader)
     (g.W.Writer.failures c.args.writer.now) (g.W.Writer.failures c.args.writer.now) x)
     (of_wav c.in_err-content.field-0.0) c.from_residual.result c.from_residual.ensures.1
-    (unopened c.wav_laws.ensures c.args.task.net.now c.args.task.plan.now.period.repetitions
+    (unopened wav_laws c.args.task.net.now c.args.task.plan.now.period.repetitions
     (g.R.Reader.remaining c.args.reader.now) (g.R.Reader.remaining c.open.new.reader)
     (g.W.Writer.contents c.args.writer.now)
     (g.R.Reader.failures c.args.reader.now) (g.R.Reader.failures c.open.new.reader)

@@ -1,6 +1,7 @@
 use Rattle.std.proofs.Common.{◌++◌, ◌∙◌, sym, ap, rules}
 use Rattle.std.proofs.lemmas.Bool.{eqb-true}
 use Rattle.sdf_process.proofs.Readings.{more_failed, more_read, none_kept}
+use Rattle.sdf_wav.proofs.Theorems.{pieces_fall, pieces_go_on}
 use Rattle.sdf_process.proofs.source.read_more.Goals as goal
 
 pub returns-in_err-samples : goal.returns-in_err-samples
@@ -8,7 +9,7 @@ returns-in_err-samples g c = λ d before old r here reads counted.
     more_failed d c.args.content.now before here c.args.frames old (g.R.Reader.remaining c.args.reader.now)
     (g.R.Reader.remaining c.next.new.reader) r (g.R.Reader.failures c.args.reader.now)
     (g.R.Reader.failures c.next.new.reader) reads counted
-    c.in_err-samples.field-0.0 c.from_residual.result _ c.pieces_join.ensures.falls
+    c.in_err-samples.field-0.0 c.from_residual.result _ pieces_fall
     (c.in_err-samples.ensures.bytes c.requires.unspoilt) (c.in_err-samples.ensures.counted c.requires.unspoilt)
     (c.in_err-samples.ensures.cut c.requires.unspoilt c.requires.sized) c.from_residual.ensures.1
 
@@ -19,7 +20,7 @@ returns-then-is_empty g c = λ d before old r here reads counted.
     more_read d c.args.content.now before here c.args.frames old (g.R.Reader.remaining c.args.reader.now)
     (g.R.Reader.remaining c.next.new.reader) r (g.R.Reader.failures c.args.reader.now)
     (g.R.Reader.failures c.next.new.reader) reads counted
-    c.pieces_join.ensures.goes_on c.in_ok-samples.samples.items c.args.kept.items c.in_ok-samples.samples.items
+    pieces_go_on c.in_ok-samples.samples.items c.args.kept.items c.in_ok-samples.samples.items
     (c.in_ok-samples.ensures.bytes c.requires.unspoilt) (c.in_ok-samples.ensures.counted c.requires.unspoilt)
     c.in_ok-samples.ensures.piece c.requires.sized c.requires.enough c.next.new.self
     c.in_ok-samples.ensures.goes_on (ap (λ l. l ++ c.in_ok-samples.samples.items) (sym none))
@@ -29,7 +30,7 @@ returns g c = λ d before old r here reads counted.
     more_read d c.args.content.now before here c.args.frames old (g.R.Reader.remaining c.args.reader.now)
     (g.R.Reader.remaining c.next.new.reader) r (g.R.Reader.failures c.args.reader.now)
     (g.R.Reader.failures c.next.new.reader) reads counted
-    c.pieces_join.ensures.goes_on c.in_ok-samples.samples.items c.args.kept.items c.extend_from_slice.new.self.items
+    pieces_go_on c.in_ok-samples.samples.items c.args.kept.items c.extend_from_slice.new.self.items
     (c.in_ok-samples.ensures.bytes c.requires.unspoilt) (c.in_ok-samples.ensures.counted c.requires.unspoilt)
     c.in_ok-samples.ensures.piece c.requires.sized c.requires.enough c.next.new.self
     c.in_ok-samples.ensures.goes_on (search rules)

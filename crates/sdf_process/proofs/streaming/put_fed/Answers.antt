@@ -5,6 +5,7 @@ use Rattle.sdf_answer.proofs.Theorems.{nets_can_run}
 use Rattle.sdf_kit.specs.Kit.{kit_steps}
 use Rattle.sdf_process.proofs.Fed.{feeds_still, put_done, put_refused}
 use Rattle.sdf_process.proofs.Outcomes.{keeps_same}
+use Rattle.sdf_wav.proofs.Theorems.{puts_join}
 use Rattle.sdf_process.proofs.streaming.put_fed.Goals as goal
 
 pub returns-in_err-ran-clause-puts : goal.returns-in_err-ran-clause-puts
@@ -22,7 +23,7 @@ returns-clause-puts g c = λ n p j s few blocks bytes by can follows.
     put_done n p j c.args.session.now by c.args.output.now y can blocks follows.periods
     (items_of c.deref.result.now) (ap items_of c.deref.ensures.value ∙ c.in_ok-inputs.ensures)
     c.feed.new.self (items_of c.in_ok-ran.ran.outputs.items) c.in_ok-ran.ran.rounds c.in_ok-ran.ensures
-    c.puts_join.ensures (nets_can_run kit_steps) (ports_have_channels kit_steps) s few bytes follows
+    puts_join (nets_can_run kit_steps) (ports_have_channels kit_steps) s few bytes follows
     y.frames (items_of c.deref-2.result.now) (ap items_of c.deref-2.ensures.value)
     (g.W.Writer.contents c.args.writer.now) (g.W.Writer.contents c.put_frames.new.writer)
     (g.W.Writer.failures c.args.writer.now) (g.W.Writer.failures c.put_frames.new.writer)

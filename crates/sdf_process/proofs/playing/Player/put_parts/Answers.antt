@@ -15,6 +15,7 @@ use Rattle.sdf_process.proofs.InParts.{in_parts}
 use Rattle.sdf_process.proofs.Pieced.{all_made, blocks_put, held_is, plays_on}
 use Rattle.sdf_process.proofs.Played.{piece_full, piece_given}
 use Rattle.sdf_process.proofs.Pieces.{run_fails}
+use Rattle.sdf_wav.proofs.Theorems.{puts_join}
 use Rattle.sdf_process.proofs.playing.Player.put_parts.Goals as goal
 
 pub resume_split-requires-clause-split : goal.resume_split-requires-clause-split
@@ -90,7 +91,7 @@ returns-in_err-put_in_turn-clause-puts g c = λ j s few blocks bytes follows.
     (g.W.Writer.contents c.args.writer.now) (g.W.Writer.contents c.put_in_turn.new.writer)
     (g.W.Writer.failures c.args.writer.now) (g.W.Writer.failures c.put_in_turn.new.writer) (Some c.in_ok-parts.last) r)
     c.in_err-put_in_turn.field-0.0 c.from_residual-in_err-put_in_turn.result c.from_residual-in_err-put_in_turn.ensures.1
-    (blocks_put c.puts_join.ensures (nets_can_run kit_steps) (ports_have_channels kit_steps) n p can.has j s few blocks
+    (blocks_put puts_join (nets_can_run kit_steps) (ports_have_channels kit_steps) n p can.has j s few blocks
     bytes (Some v.rest) follows.stands h.outputs h.goes.count c.in_ok-parts.last
     (plays_on n p j s few blocks bytes v.rest c.in_ok-parts.last y follows h.outputs h.goes)
     (Some c.in_ok-parts.last) refl y.frames h.outputs refl (g.W.Writer.contents c.args.writer.now)
@@ -118,7 +119,7 @@ returns-clause-puts g c = λ j s few blocks bytes follows.
     (can.channels ∙ ap (λ (x : Exchange). x.outputs) can.exchange)
     (all_made n p y c.args.output.now can.exchange c.requires.all can.missing) in
     let puts = c.in_ok-put_in_turn.ensures.puts in
-    blocks_put c.puts_join.ensures (nets_can_run kit_steps) (ports_have_channels kit_steps) n p can.has j s few blocks
+    blocks_put puts_join (nets_can_run kit_steps) (ports_have_channels kit_steps) n p can.has j s few blocks
     bytes (Some v.rest) follows.stands h.outputs h.goes.count c.in_ok-parts.last
     (plays_on n p j s few blocks bytes v.rest c.in_ok-parts.last y follows h.outputs h.goes)
     (Some c.in_ok-parts.last) refl y.frames h.outputs refl (g.W.Writer.contents c.args.writer.now)

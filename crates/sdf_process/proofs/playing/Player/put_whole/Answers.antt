@@ -7,6 +7,7 @@ use Rattle.sdf_plan.specs.declared.fault.Fault.{Fault}
 use Rattle.sdf_process.specs.Streams.{PutsBlocks}
 use Rattle.sdf_process.proofs.Pieced.{blocks_put, plays_on, portion_as}
 use Rattle.sdf_process.proofs.Pieces.{run_fails}
+use Rattle.sdf_wav.proofs.Theorems.{puts_join}
 use Rattle.sdf_process.proofs.playing.Player.put_whole.Goals as goal
 
 pub returns-in_err-put_frames-clause-puts : goal.returns-in_err-put_frames-clause-puts
@@ -21,7 +22,7 @@ returns-in_err-put_frames-clause-puts g c = λ j s few blocks bytes follows.
     (g.W.Writer.contents c.args.writer.now) (g.W.Writer.contents c.put_frames.new.writer)
     (g.W.Writer.failures c.args.writer.now) (g.W.Writer.failures c.put_frames.new.writer) (Some c.play.new.self.rest) r)
     c.in_err-put_frames.field-0.0 c.from_residual-in_err-put_frames.result c.from_residual-in_err-put_frames.ensures.1
-    (blocks_put c.puts_join.ensures (nets_can_run kit_steps) (ports_have_channels kit_steps) n p c.requires.can.1.has j s
+    (blocks_put puts_join (nets_can_run kit_steps) (ports_have_channels kit_steps) n p c.requires.can.1.has j s
     few blocks bytes (Some v.rest) follows.stands on goes.count c.play.new.self.rest
     (plays_on n p j s few blocks bytes v.rest c.play.new.self.rest c.args.portion follows on goes)
     (Some c.play.new.self.rest) refl c.args.portion.frames (items_of c.deref.result.now)
@@ -37,7 +38,7 @@ returns-clause-puts g c = λ j s few blocks bytes follows.
     let on = items_of c.in_ok-lists.lists.items in
     let goes = portion_as n p c.args.portion c.requires.can.1.exchange v.rest on c.play.new.self.rest
     c.in_ok-lists.ensures.made in
-    blocks_put c.puts_join.ensures (nets_can_run kit_steps) (ports_have_channels kit_steps) n p c.requires.can.1.has j s
+    blocks_put puts_join (nets_can_run kit_steps) (ports_have_channels kit_steps) n p c.requires.can.1.has j s
     few blocks bytes (Some v.rest) follows.stands on goes.count c.play.new.self.rest
     (plays_on n p j s few blocks bytes v.rest c.play.new.self.rest c.args.portion follows on goes)
     (Some c.play.new.self.rest) refl c.args.portion.frames (items_of c.deref.result.now)
