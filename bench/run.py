@@ -36,7 +36,7 @@ CROSSOVER_HOMES = {
 
 def noise(path, seconds, channels, halvings):
     """A WAV file of noise, its full scale halved so many times."""
-    samples = array.array("h", random.Random(1).randbytes(2 * seconds * RATE * channels))
+    samples = array.array("h", random.Random(1).randbytes(2 * int(seconds * RATE) * channels))
     data = array.array("h", (sample >> halvings for sample in samples)).tobytes()
     form = struct.pack("<IHHIIHH", 16, 1, channels, RATE, 2 * channels * RATE, 2 * channels, 16)
     head = b"RIFF" + struct.pack("<I", 36 + len(data)) + b"WAVEfmt " + form + b"data" + struct.pack("<I", len(data))

@@ -35,8 +35,14 @@ class Ended:
     def asked(self):
         return self.counts[4]
 
+    def greatest(self):
+        return self.counts[5]
+
     def refused(self):
         return self.counts[6]
+
+    def together(self):
+        return self.counts[8]
 
 
 def wav(samples, size=None, before=b"", channels=1):
@@ -106,7 +112,7 @@ def run(words, kind=None, at=0, how="error", one=False, window=None, sound=None,
     made = output.read_bytes() if output.is_file() else None
     if sound:
         said, made = b"", said
-    return Ended(status, said, faults, made, struct.unpack("<8Q", counts.read_bytes()))
+    return Ended(status, said, faults, made, struct.unpack("<9Q", counts.read_bytes()))
 
 
 def describe(ended):

@@ -164,11 +164,32 @@ link = [{ from = "in", to = "by32" }, { from = "by32", to = "again" }, { from = 
 FRAMES = 10000
 
 
+def widened(more):
+    return run([SDFW, "run", "widened.toml", "frames.wav", "out.wav", *more])
+
+
 def makes_all(more):
     """Whether a run on these frames is done, and makes each sample and the zeros behind it."""
-    ended = run([SDFW, "run", "widened.toml", "frames.wav", "out.wav", *more])
+    ended = widened(more)
     wanted = b"".join(struct.pack("<h", 7 * at % 1000 - 500) + bytes(2046) for at in range(FRAMES))
     return True if ended.status == 0 and (ended.output or b"")[44:] == wanted else describe(ended)
+
+
+def at_once(workers):
+    """Whether so many parts are at work at the same time, one of them on the first thread."""
+    together = widened(["--parallel", str(workers)]).together()
+    return True if together == workers - 1 else f"{together} threads at work at the same time"
+
+
+# Frames of a sound of some pieces, in a parallel run by two workers.
+LONG = 2000000
+
+
+def in_pieces():
+    """Whether a parallel run asks for no block of memory as large as its sound."""
+    (Folder.here() / "whole.wav").write_bytes(wav([7 * at % 1000 - 500 for at in range(LONG)]))
+    ended = run([SDFW, "run", "pieces.toml", "whole.wav", "out.wav", "--parallel", "2"])
+    return True if ended.status == 0 and ended.greatest() < LONG else f"{ended.greatest()} bytes, {describe(ended)}"
 
 
 def outputs_of_sdfw(lists):
@@ -177,6 +198,9 @@ def outputs_of_sdfw(lists):
     (Folder.here() / "frames.wav").write_bytes(wav([7 * at % 1000 - 500 for at in range(FRAMES)]))
     ways = [*RUNNERS.values(), ["--parallel", "2"]]
     lists.cases("sdfw: 10,240,000 samples", [(" ".join(more), lambda more=more: makes_all(more)) for more in ways])
+    lists.cases("sdfw: parts at work at the same time, in pieces", [
+        *((f"--parallel {workers}", lambda workers=workers: at_once(workers)) for workers in (2, 3, 4)),
+        ("a sound of eight pieces", in_pieces)])
 
 
 def asked_by_run(runner, samples, sound):

@@ -34,6 +34,7 @@ struct counts {
     _Atomic uint64_t greatest;      /* the greatest request */
     _Atomic uint64_t refused;       /* how many calls were refused */
     _Atomic uint64_t foreign;       /* requests for memory from outside the program, which are left out */
+    _Atomic uint64_t together;      /* the most started threads that were at work at the same time */
 };
 
 static struct counts unseen;
@@ -181,9 +182,29 @@ void free(void *block) {
     next_free(block);
 }
 
+struct started { void *(*work)(void *); void *given; };
+
+static _Atomic uint64_t at_work;
+
+/* The work of a thread, between two counts of those that are at work. */
+static void *counted_work(void *started) {
+    struct started own = *(struct started *)started;
+    free(started);
+    uint64_t now = atomic_fetch_add(&at_work, 1) + 1;
+    uint64_t most = atomic_load(&counts->together);
+    while (now > most && !atomic_compare_exchange_weak(&counts->together, &most, now)) {}
+    void *made = own.work(own.given);
+    atomic_fetch_sub(&at_work, 1);
+    return made;
+}
+
 int pthread_create(pthread_t *thread, const pthread_attr_t *how, void *(*work)(void *), void *given) {
-    if (is_program(CALLER) && is_refused(THREAD)) return EAGAIN;
-    return next_pthread_create(thread, how, work, given);
+    if (!is_program(CALLER)) return next_pthread_create(thread, how, work, given);
+    if (is_refused(THREAD)) return EAGAIN;
+    struct started *own = next_malloc(sizeof *own);
+    if (!own) return EAGAIN;
+    *own = (struct started){work, given};
+    return next_pthread_create(thread, how, counted_work, own);
 }
 
 /* What a refused read or write answers. */
