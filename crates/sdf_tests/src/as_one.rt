@@ -16,8 +16,8 @@ use std::thread::Threads;
 use test_actors::gates::Delay;
 
 /// A net, how many periods its blocks have and how many blocks are run, on the samples from one number to another and
-/// then zeros, by how many workers and in which modes, and for how many turns firings are held up: a firing takes
-/// fewer.
+/// then zeros, by how many workers and in which modes, which firings of an actor are held up (each `every`-th), and for
+/// how many turns: a firing takes fewer.
 #[derive(Clone, Copy)]
 struct Row {
     net: Worked,
@@ -26,6 +26,7 @@ struct Row {
     samples: (i32, i32),
     workers: &'static [usize],
     modes: &'static [Mode],
+    every: u64,
     turns: u32,
 }
 
@@ -37,31 +38,72 @@ const PATIENT: Mode = Mode::Rings {
 
 const SOON_PATIENT: Mode = Mode::Rings { patience: 1 };
 
-/// Two periods of a small net.
+/// One worker, two, three, and more than there are actors.
+const CREWS: &[usize] = &[1, 2, 3, 16];
+
+/// Two periods of a small net, which is held up a little.
 const SMALL: Row = Row {
     net: BLOCKS,
     factor: 1,
     blocks: 2,
     samples: (1, 13),
-    workers: &[2],
+    workers: CREWS,
     modes: &[Mode::Rows, IMPATIENT, SOON_PATIENT, PATIENT],
+    every: 1,
+    turns: 10_000,
+};
+
+const NETS: &[Row] = &[
+    SMALL,
+    Row {
+        net: Worked::Looped,
+        ..SMALL
+    },
+    Row {
+        net: Worked::Forked,
+        ..SMALL
+    },
+    Row {
+        net: Worked::Branches(2),
+        ..SMALL
+    },
+    Row {
+        net: Worked::Turned,
+        factor: 3,
+        blocks: 3,
+        samples: (1, 19),
+        workers: &[2],
+        turns: 1000,
+        ..SMALL
+    },
+    // As many actors, links and workers as there may be: a sample for each of two blocks.
+    Row {
+        net: Worked::Large,
+        samples: (-1, 1),
+        workers: &[16],
+        turns: 0,
+        ..SMALL
+    },
+];
+
+/// One period of a small net, each of whose firings is held up for long.
+const HELD_BLOCKS: Row = Row {
+    blocks: 1,
     turns: 1_000_000,
+    ..SMALL
 };
 
-const LOOPED: Row = Row {
+const HELD_LOOP: Row = Row {
     net: Worked::Looped,
-    ..SMALL
+    ..HELD_BLOCKS
 };
 
-const BRANCHES: Row = Row {
-    net: Worked::Branches(2),
-    ..SMALL
+const HELD_FORK: Row = Row {
+    net: Worked::Forked,
+    ..HELD_BLOCKS
 };
 
-/// One worker, three, and more than there are actors.
-const OTHER_CREWS: &[usize] = &[1, 3, 16];
-
-/// Two periods of the converter, which is not held up: it has many firings.
+/// Two periods of the converter, which is not held up.
 const CONVERTER: Row = Row {
     net: Worked::Converter,
     samples: (0, 294),
@@ -71,39 +113,12 @@ const CONVERTER: Row = Row {
     ..SMALL
 };
 
-const OTHERS: &[Row] = &[
-    Row {
-        workers: OTHER_CREWS,
-        turns: 10_000,
-        ..SMALL
-    },
-    Row {
-        workers: OTHER_CREWS,
-        turns: 10_000,
-        ..LOOPED
-    },
-    Row {
-        workers: OTHER_CREWS,
-        turns: 10_000,
-        ..BRANCHES
-    },
-    Row {
-        net: Worked::Turned,
-        factor: 3,
-        blocks: 3,
-        samples: (1, 19),
-        turns: 1000,
-        ..SMALL
-    },
-];
-
+/// One period of the converter, of whose 612 firings 9 are held up for long, and longer runs, in which none is.
 const CONVERTERS: &[Row] = &[
     Row {
         net: Worked::Converter,
-        blocks: 1,
-        workers: &[1, 3],
-        turns: 1000,
-        ..SMALL
+        every: 128,
+        ..HELD_BLOCKS
     },
     CONVERTER,
     Row {
@@ -116,17 +131,21 @@ const CONVERTERS: &[Row] = &[
     },
 ];
 
-/// Holds each firing until the next one comes, whatever worker's it is, or for so many turns.
+/// Holds each `every`-th firing of an actor until the next one comes, whatever worker's it is, or for so many turns.
 #[derive(Drop)]
 struct UntilAnother {
+    every: u64,
     turns: u32,
     /// The firings that have come.
     come: AtomicU64,
 }
 
 impl Gate for UntilAnother {
-    fn before(&self, _processor: usize, _actor: ActorId, _firing: u64) {
+    fn before(&self, _processor: usize, _actor: ActorId, firing: u64) {
         let before = self.come.fetch_add(1, Ordering::SeqCst);
+        if firing.checked_rem(self.every) != Some(0) {
+            return;
+        }
         for _ in 0..self.turns {
             if self.come.load(Ordering::SeqCst).saturating_sub(before) > 1 {
                 return;
@@ -148,16 +167,16 @@ fn makes<R: Threads + AllocGlobal + Sync, A: Actor<Token = i32>>(
     requires fits { IsBlockTableOf (rates (graph_of A.steps net.now)) table.now }
 {
     let inputs = ramp(rt.alloc(), row.samples.0, row.samples.1, net.samples_in())?;
-    let (blocks, turns) = (row.blocks, row.turns);
+    let (blocks, every, turns) = (row.blocks, row.every, row.turns);
     let times = Times { blocks, mode };
     match held {
         Some(processor) => {
-            let gate = Delay::new(processor, turns);
+            let gate = Delay::new(processor, every, turns);
             make_as_one(rt, net, table, times, &inputs, &gate)
         }
         None => {
             let come = AtomicU64::new(0);
-            let gate = UntilAnother { turns, come };
+            let gate = UntilAnother { every, turns, come };
             make_as_one(rt, net, table, times, &inputs, &gate)
         }
     }
@@ -196,51 +215,39 @@ fn by_each_crew<R: Threads + AllocGlobal + Sync, A: Actor<Token = i32>>(
     Ok(())
 }
 
-/// As many actors, links and workers as there may be: a sample for each of two blocks.
-const LARGE: Row = Row {
-    net: Worked::Large,
-    samples: (-1, 1),
-    workers: &[16],
-    turns: 0,
-    ..SMALL
-};
-
-/// Refuses runs that are said to want memory where there is plenty, as by `Sizes::new`, `places`, `seats`, `make_jobs`
-/// and `make_works` for over 60 actors or for 16 workers.
-#[test]
-fn the_largest_net(rt: HostRuntime) -> Result<(), Fail> {
-    by_each_crew(&rt, &LARGE.net.net(rt.alloc())?, &LARGE)
+fn are_as_one<R: Threads + AllocGlobal + Sync>(rt: &R, row: &Row) -> Result<(), Fail> {
+    by_each_crew(rt, &row.net.net(rt.alloc())?, row)
 }
 
 #[test]
 fn blocks(rt: HostRuntime) -> Result<(), Fail> {
-    by_each_crew(&rt, &SMALL.net.net(rt.alloc())?, &SMALL)
+    are_as_one(&rt, &HELD_BLOCKS)
 }
 
 #[test]
 fn a_loop(rt: HostRuntime) -> Result<(), Fail> {
-    by_each_crew(&rt, &LOOPED.net.net(rt.alloc())?, &LOOPED)
+    are_as_one(&rt, &HELD_LOOP)
 }
 
 #[test]
-fn branches(rt: HostRuntime) -> Result<(), Fail> {
-    by_each_crew(&rt, &BRANCHES.net.net(rt.alloc())?, &BRANCHES)
+fn a_fork(rt: HostRuntime) -> Result<(), Fail> {
+    are_as_one(&rt, &HELD_FORK)
 }
 
-/// The rows one after another.
-fn each_as_one<R: Threads + AllocGlobal + Sync>(rt: &R, rows: &[Row]) -> Result<(), Fail> {
-    for row in rows {
-        by_each_crew(rt, &row.net.net(rt.alloc())?, row)?;
+/// Refuses also runs that are said to want memory where there is plenty, as by `Sizes::new`, `places`, `seats`,
+/// `make_jobs` and `make_works` for over 60 actors or for 16 workers.
+#[test]
+fn nets(rt: HostRuntime) -> Result<(), Fail> {
+    for row in NETS {
+        are_as_one(&rt, row)?;
     }
     Ok(())
 }
 
 #[test]
-fn by_other_crews(rt: HostRuntime) -> Result<(), Fail> {
-    each_as_one(&rt, OTHERS)
-}
-
-#[test]
 fn the_converter(rt: HostRuntime) -> Result<(), Fail> {
-    each_as_one(&rt, CONVERTERS)
+    for row in CONVERTERS {
+        are_as_one(&rt, row)?;
+    }
+    Ok(())
 }

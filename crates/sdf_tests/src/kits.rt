@@ -84,6 +84,8 @@ pub(crate) enum Worked {
     /// A fork and an adder, and between them so many branches, each a gain that may fire from the start: actors 2 and
     /// on.
     Branches(usize),
+    /// Two branches, whose links begin with nothing.
+    Forked,
     /// 147 samples to 160, in four stages.
     Converter,
     /// Each sample becomes 4,096, which are handed on one by one, and these one again.
@@ -103,6 +105,7 @@ impl Worked {
             Worked::Dealt => joined(alloc, DEALT, DEALT_ENDS, &[]),
             Worked::Turned => joined(alloc, TURNED, TURNED_ENDS, TURNED_BEGUN),
             Worked::Branches(ways) => branches(alloc, ways),
+            Worked::Forked => joined(alloc, FORKED, FORKED_ENDS, &[]),
             Worked::Converter => joined(alloc, CONVERTER, CHAINED, &[]),
             Worked::Wide => joined(alloc, WIDE, WIDE_ENDS, &[]),
             Worked::Large => large(alloc),
@@ -135,6 +138,17 @@ const TURNED_ENDS: &[[usize; 4]] = &[
 ];
 
 const TURNED_BEGUN: &[(usize, &[i32])] = &[(3, &[-1, -2, -3, -4]), (4, &[-5, -6, -7, -8, -9])];
+
+const FORKED: &[Part] = &[In(1), Fork(2), Gain(1, 0), Gain(1, 0), Add(2), Out(0, 1)];
+
+const FORKED_ENDS: &[[usize; 4]] = &[
+    [0, 0, 1, 0],
+    [1, 0, 2, 0],
+    [1, 1, 3, 0],
+    [2, 0, 4, 0],
+    [3, 0, 4, 1],
+    [4, 0, 5, 0],
+];
 
 const CONVERTER: &[Part] = &[
     In(1),

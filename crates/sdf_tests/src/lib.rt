@@ -24,7 +24,6 @@ mod passes;
 #[cfg(test)]
 mod patience;
 #[cfg(test)]
-#[cfg(test)]
 mod sessions;
 #[cfg(test)]
 mod small_nets;

@@ -112,14 +112,19 @@ pub(crate) fn planned<A: Actor>(
     })
 }
 
-/// A period of a net and a table of one column for two of them, in which the firings of a node stand in runs.
-pub(crate) fn in_runs<A: Actor>(alloc: Global, net: &Net<A>) -> Result<BlockTable, Fail>
+/// A period of a net and a table for two of them on three workers, in which the firings of a node stand in runs, all of
+/// them in the column `home`.
+pub(crate) fn in_runs<A: Actor>(
+    alloc: Global,
+    net: &Net<A>,
+    home: usize,
+) -> Result<BlockTable, Fail>
     ensures fits { IfOk result (IsBlockTableOf (rates (graph_of A.steps net.now))) }
     ensures factor { IfOk result (λ table. table.factor ≡ 2) }
 {
     let period = class_s(alloc, net.graph(), net.repetitions(), &mut Round::new())?;
-    let homes = vec![in alloc; Some(0); net.len()]?;
-    let table = Table::by_homes_in_runs(alloc, net.graph(), &period, 2, 1, &homes)?;
+    let homes = vec![in alloc; Some(home); net.len()]?;
+    let table = Table::by_homes_in_runs(alloc, net.graph(), &period, 2, 3, &homes)?;
     Ok(BlockTable {
         period,
         factor: 2,

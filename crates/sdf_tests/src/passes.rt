@@ -1,22 +1,28 @@
-//! The gate: each firing passes it once, on its processor, in its turn, and then fires.
+//! The gate: each firing passes it once, on its processor, in its turn, and then fires. A seat that alone has firings
+//! is worked in the thread of the caller.
 
 ghost use Rattle.std.specs.Prelude.{◌≡◌, IfOk};
 ghost use Rattle.sdf_graph.specs.Rates.{rates};
 ghost use Rattle.sdf_actor.specs.Graphs.{graph_of};
 ghost use Rattle.sdf_answer.specs.Rows.{IsBlockTableOf};
 
-use crate::nets::{Times, begun, feed_twice, in_runs, list, planned, run_by};
+use crate::nets::{Times, begun, feed_twice, in_runs, list, pair, planned, run_by};
 use sdf_actor::{Actor, Net, Node};
 use sdf_answer::BlockTable;
+use sdf_node::{ActorId, Gate};
 use sdf_prec::Table;
 use sdf_run::Mode;
 use std::alloc::Global;
+use std::path::PathBuf;
 use std::process::Abort;
+use std::sync::atomic::{AtomicU64, Ordering};
 use std::test::Fail;
 use std::thread::Threads;
+use std::{fs, io};
 use test_actors::Watched;
 use test_actors::gates::{Hold, Watch};
 use test_actors::nets::{sink, source};
+use test_texts::row_says;
 
 /// The source, an actor that goes in runs, one of two phases, one with a channel to itself, and the sink.
 const ACTORS: usize = 5;
@@ -76,12 +82,12 @@ fn all_passed(rt: &impl Abort, name: &str, watch: &Watch, table: &Table, blocks:
     }
 }
 
-/// A table for so many workers, free or homed, or for one, whose firings stand in runs.
+/// A table for so many workers, free or homed, or for three, of which this one has all firings, in runs.
 #[derive(Clone, Copy)]
 enum Kind {
     Free(usize),
     Homed(usize),
-    InRuns,
+    InRuns(usize),
 }
 
 /// The name of a row, a table, and how it is run.
@@ -94,7 +100,7 @@ fn table<A: Actor>(alloc: Global, net: &Net<A>, kind: Kind) -> Result<BlockTable
     match kind {
         Kind::Free(workers) => planned(alloc, net, 2, workers, false),
         Kind::Homed(workers) => planned(alloc, net, 2, workers, true),
-        Kind::InRuns => in_runs(alloc, net),
+        Kind::InRuns(home) => in_runs(alloc, net, home),
     }
 }
 
@@ -126,19 +132,27 @@ const IMPATIENT: Mode = Mode::Rings { patience: 0 };
 const PATIENT: Mode = Mode::Rings { patience: 1000 };
 
 const ROWS: &[Row] = &[
-    ("one worker by rows, in runs", Kind::InRuns, Mode::Rows),
+    (
+        "one worker of three by rows, in runs",
+        Kind::InRuns(0),
+        Mode::Rows,
+    ),
     ("two workers by rows", Kind::Homed(2), Mode::Rows),
     (
         "three workers by rows, without homes",
         Kind::Free(3),
         Mode::Rows,
     ),
-    ("one worker over rings, in runs", Kind::InRuns, IMPATIENT),
+    (
+        "one worker of three over rings, in runs",
+        Kind::InRuns(0),
+        IMPATIENT,
+    ),
     ("two workers over rings", Kind::Homed(2), IMPATIENT),
     ("three workers over rings", Kind::Homed(3), IMPATIENT),
     (
-        "one patient worker over rings, in runs",
-        Kind::InRuns,
+        "one patient worker of three over rings, in runs",
+        Kind::InRuns(0),
         PATIENT,
     ),
     ("two patient workers over rings", Kind::Homed(2), PATIENT),
@@ -150,6 +164,74 @@ const ROWS: &[Row] = &[
 fn by_rows_and_over_rings(rt: HostRuntime) -> Result<(), Fail> {
     for row in ROWS {
         all_pass_on(&rt, row)?;
+    }
+    Ok(())
+}
+
+/// Counts the firings that pass in another thread than the one that it was made in.
+#[derive(Drop)]
+struct Elsewhere {
+    host: HostRuntime,
+    caller: PathBuf,
+    elsewhere: AtomicU64,
+}
+
+/// Returns the name by which the system knows the thread that calls.
+fn own_thread(host: HostRuntime) -> io::Result<PathBuf> {
+    fs::read_link(&host, "/proc/thread-self")
+}
+
+impl Gate for Elsewhere {
+    fn before(&self, _processor: usize, _actor: ActorId, _firing: u64) {
+        match own_thread(self.host) {
+            Ok(thread) if thread == self.caller => {}
+            _ => {
+                self.elsewhere.fetch_add(1, Ordering::SeqCst);
+            }
+        }
+    }
+}
+
+/// Whether all firings of two blocks of a net pass in the thread of the caller, over rings by a table of this kind.
+fn stays<R: Threads + AllocGlobal + Sync, A: Actor<Token = i64>>(
+    rt: &R,
+    host: HostRuntime,
+    net: &Net<A>,
+    kind: Kind,
+) -> Result<String, Fail> {
+    let table = table(rt.alloc(), net, kind)?;
+    let inputs = list(rt.alloc(), &[7; 24])?;
+    let gate = Elsewhere {
+        host,
+        caller: own_thread(host)?,
+        elsewhere: AtomicU64::new(0),
+    };
+    let (blocks, mode) = (2, IMPATIENT);
+    run_by(rt, net, &table, Times { blocks, mode }, &inputs, &gate)?;
+    let stays = gate.elsewhere.load(Ordering::SeqCst) == 0;
+    Ok(format!(in rt.alloc(); "{stays}")?)
+}
+
+fn stays_by<R: Threads + AllocGlobal + Sync>(
+    rt: &R,
+    host: HostRuntime,
+    kind: Kind,
+) -> Result<String, Fail> {
+    stays(rt, host, &pair(rt.alloc(), 2, 3, &[])?, kind)
+}
+
+/// The name of a row, a table, and whether all firings pass in the caller's thread.
+const SEATS: &[(&str, Kind, &str)] = &[
+    ("the first seat of three has all", Kind::InRuns(0), "true"),
+    ("the last one has all", Kind::InRuns(2), "true"),
+    ("two seats have some", Kind::Homed(2), "false"),
+];
+
+/// Refuses a round that starts a thread for a seat without firings.
+#[test]
+fn seats_without_firings(rt: HostRuntime) -> Result<(), Fail> {
+    for (name, kind, wanted) in SEATS {
+        row_says(name, stays_by(&rt, rt, *kind), wanted)?;
     }
     Ok(())
 }

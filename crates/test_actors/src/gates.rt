@@ -204,19 +204,21 @@ impl<'a> Gate for Watch<'a> {
     }
 }
 
-/// Holds a processor before each of its firings, for so many turns.
+/// Holds a processor for `turns` turns before each firing whose number is a multiple of `every`.
 #[derive(Drop)]
 pub struct Delay {
     processor: usize,
+    every: u64,
     turns: u32,
     /// Is read once a turn.
     read: AtomicU64,
 }
 
 impl Delay {
-    pub fn new(processor: usize, turns: u32) -> Delay {
+    pub fn new(processor: usize, every: u64, turns: u32) -> Delay {
         Delay {
             processor,
+            every,
             turns,
             read: AtomicU64::new(0),
         }
@@ -224,8 +226,8 @@ impl Delay {
 }
 
 impl Gate for Delay {
-    fn before(&self, processor: usize, _actor: ActorId, _firing: u64) {
-        if processor == self.processor {
+    fn before(&self, processor: usize, _actor: ActorId, firing: u64) {
+        if processor == self.processor && firing.checked_rem(self.every) == Some(0) {
             for _ in 0..self.turns {
                 let _ = self.read.load(Ordering::SeqCst);
             }

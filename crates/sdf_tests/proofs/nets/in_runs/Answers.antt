@@ -11,6 +11,6 @@ returns-clause-fits g c =
     record {
       period = subst (λ x. IsPeriodOf (rates x) c.in_ok-period.period) c.graph.ensures.value c.in_ok-period.ensures.0;
       table = subst (λ x. IsTableOf (rates x) q 2 c.in_ok-table.table) c.graph-2.ensures.value
-          (sized (rates c.graph-2.result.now) q 2 1 c.in_ok-table.table c.in_ok-table.ensures.0
+          (sized (rates c.graph-2.result.now) q 2 3 c.in_ok-table.table c.in_ok-table.ensures.0
           c.in_ok-table.ensures.1);
     }
