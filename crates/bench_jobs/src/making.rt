@@ -127,8 +127,14 @@ fn make_converter<R: AllocGlobal + Print>(
     attenuation: u32,
 ) -> Result<()> {
     let texts = converter_texts(rt.alloc(), from, to, 2, attenuation)?;
+    show_converter(rt, &texts)
+}
+
+/// Prints the digests of a converter.
+fn show_converter<R: AllocGlobal + Print>(rt: &R, texts: &ConverterTexts) -> Result<()> {
     show_stages(rt, &texts.files)?;
-    show_design(rt, &converter_design(rt.alloc(), &texts)?)
+    let text = design_text(rt.alloc(), texts)?;
+    Ok(show(rt, "converter", text.as_bytes())?)
 }
 
 /// Prints the digests of the stages of a converter.
@@ -155,10 +161,10 @@ pub(crate) fn converter_design(alloc: Global, texts: &ConverterTexts) -> Result<
     Ok(read_design(alloc, texts.graph.as_bytes(), &files)?)
 }
 
-/// Prints the digest of what `check` prints of a converter.
-fn show_design<R: AllocGlobal + Print>(rt: &R, design: &Design) -> Result<()> {
-    let text = check_text(rt.alloc(), design)?;
-    Ok(show(rt, "converter", text.as_bytes())?)
+/// Returns what `check` prints of a converter.
+fn design_text(alloc: Global, texts: &ConverterTexts) -> Result<String> {
+    let design = converter_design(alloc, texts)?;
+    Ok(check_text(alloc, &design)?)
 }
 
 /// Reads a chain of filters that name the same file, writes other costs into its text, and runs it.
