@@ -133,8 +133,7 @@ fn make_converter<R: AllocGlobal + Print>(
 /// Prints the digests of a converter.
 fn show_converter<R: AllocGlobal + Print>(rt: &R, texts: &ConverterTexts) -> Result<()> {
     show_stages(rt, &texts.files)?;
-    let text = design_text(rt.alloc(), texts)?;
-    Ok(show(rt, "converter", text.as_bytes())?)
+    show_design(rt, &converter_design(rt.alloc(), texts)?)
 }
 
 /// Prints the digests of the stages of a converter.
@@ -161,10 +160,10 @@ pub(crate) fn converter_design(alloc: Global, texts: &ConverterTexts) -> Result<
     Ok(read_design(alloc, texts.graph.as_bytes(), &files)?)
 }
 
-/// Returns what `check` prints of a converter.
-fn design_text(alloc: Global, texts: &ConverterTexts) -> Result<String> {
-    let design = converter_design(alloc, texts)?;
-    Ok(check_text(alloc, &design)?)
+/// Prints the digest of what `check` prints of a converter.
+fn show_design<R: AllocGlobal + Print>(rt: &R, design: &Design) -> Result<()> {
+    let text = check_text(rt.alloc(), design)?;
+    Ok(show(rt, "converter", text.as_bytes())?)
 }
 
 /// Reads a chain of filters that name the same file, writes other costs into its text, and runs it.

@@ -10,9 +10,9 @@ use bench_inputs::noise::{Length, Level, Noise};
 use bench_inputs::numbers::{Numbers, show};
 use sdf_file::Design;
 use sdf_options::{Options, Runner};
-use sdf_plan::Plan;
 use sdf_plan::parallel::parallel_plan;
 use sdf_plan::planning::plan;
+use sdf_plan::{Fault, Plan};
 use sdf_process::process::process;
 use sdf_wav::{FromRead, ToWrite};
 use std::alloc::Global;
@@ -42,12 +42,12 @@ pub(crate) enum Way {
 
 impl Way {
     /// Returns the plan by which a design is run in this way.
-    fn plan(self, alloc: Global, design: &Design) -> Result<Plan>
+    fn plan(self, alloc: Global, design: &Design) -> Result<Plan, Fault>
         ensures { IfOk result (λ plan. Suits design.now.net plan) }
     {
         match self {
-            Way::OneThread | Way::TwoLevels => Ok(plan(alloc, design, &Options::DEFAULT)?),
-            Way::Rings => Ok(plan(alloc, design, &OVER_RINGS)?),
+            Way::OneThread | Way::TwoLevels => plan(alloc, design, &Options::DEFAULT),
+            Way::Rings => plan(alloc, design, &OVER_RINGS),
             Way::FourWorkers => Ok(parallel_plan(alloc, design, 4)?.plan),
         }
     }
