@@ -127,8 +127,13 @@ fn make_converter<R: AllocGlobal + Print>(
     attenuation: u32,
 ) -> Result<()> {
     let texts = converter_texts(rt.alloc(), from, to, 2, attenuation)?;
+    show_converter(rt, &texts)
+}
+
+/// Prints the digests of a converter.
+fn show_converter<R: AllocGlobal + Print>(rt: &R, texts: &ConverterTexts) -> Result<()> {
     show_stages(rt, &texts.files)?;
-    show_design(rt, &converter_design(rt.alloc(), &texts)?)
+    show_design(rt, &converter_design(rt.alloc(), texts)?)
 }
 
 /// Prints the digests of the stages of a converter.

@@ -1,5 +1,6 @@
 //! Runs of designs on noise.
 
+ghost use Rattle.std.specs.Prelude.{IfOk};
 ghost use Rattle.sdf_plan.specs.Plans.{Suits};
 
 use crate::files::{design_at, design_in};
@@ -9,11 +10,12 @@ use bench_inputs::noise::{Length, Level, Noise};
 use bench_inputs::numbers::{Numbers, show};
 use sdf_file::Design;
 use sdf_options::{Options, Runner};
-use sdf_plan::Plan;
 use sdf_plan::parallel::parallel_plan;
 use sdf_plan::planning::plan;
+use sdf_plan::{Fault, Plan};
 use sdf_process::process::process;
 use sdf_wav::{FromRead, ToWrite};
+use std::alloc::Global;
 use std::rt::Files;
 use std::thread::Threads;
 
@@ -36,6 +38,19 @@ pub(crate) enum Way {
     TwoLevels,
     Rings,
     FourWorkers,
+}
+
+impl Way {
+    /// Returns the plan by which a design is run in this way.
+    fn plan(self, alloc: Global, design: &Design) -> Result<Plan, Fault>
+        ensures { IfOk result (λ plan. Suits design.now.net plan) }
+    {
+        match self {
+            Way::OneThread | Way::TwoLevels => plan(alloc, design, &Options::DEFAULT),
+            Way::Rings => plan(alloc, design, &OVER_RINGS),
+            Way::FourWorkers => Ok(parallel_plan(alloc, design, 4)?.plan),
+        }
+    }
 }
 
 /// The shipped converter.
@@ -89,18 +104,6 @@ impl<'a, R: AllocGlobal + Files + Print + Sync + Threads> Playing<'a, R> {
         Ok(show(self.rt, name, &made)?)
     }
 
-    /// Runs a design by options.
-    fn play_with(
-        &mut self,
-        name: &str,
-        design: &Design,
-        options: &Options,
-        noise: Noise,
-    ) -> Result<()> {
-        let plan = plan(self.rt.alloc(), design, options)?;
-        self.play_by(name, design, &plan, noise)
-    }
-
     /// Runs a design of one channel by a plan at half scale and at full scale.
     fn play_levels(&mut self, design: &Design, plan: &Plan) -> Result<()>
         requires { Suits design.now.net plan.now }
@@ -109,26 +112,27 @@ impl<'a, R: AllocGlobal + Files + Print + Sync + Threads> Playing<'a, R> {
         self.play_by("full scale", design, plan, self.noise(1, Level::Full))
     }
 
-    /// Runs a design of one channel at both levels.
-    fn play_twice(&mut self, design: &Design) -> Result<()> {
-        let plan = plan(self.rt.alloc(), design, &Options::DEFAULT)?;
-        self.play_levels(design, &plan)
-    }
-
-    /// Runs a design by four workers.
-    fn play_by_workers(&mut self, name: &str, design: &Design, noise: Noise) -> Result<()> {
-        let paced = parallel_plan(self.rt.alloc(), design, 4)?;
-        self.play_by(name, design, &paced.plan, noise)
+    /// Runs a design by the plan of a way.
+    fn play_by_way(
+        &mut self,
+        name: &str,
+        design: &Design,
+        plan: &Plan,
+        way: Way,
+        noise: Noise,
+    ) -> Result<()>
+        requires { Suits design.now.net plan.now }
+    {
+        match way {
+            Way::TwoLevels => self.play_levels(design, plan),
+            _ => self.play_by(name, design, plan, noise),
+        }
     }
 
     /// Runs a design in a way.
     fn play(&mut self, name: &str, design: &Design, way: Way, noise: Noise) -> Result<()> {
-        match way {
-            Way::OneThread => self.play_with(name, design, &Options::DEFAULT, noise),
-            Way::TwoLevels => self.play_twice(design),
-            Way::Rings => self.play_with(name, design, &OVER_RINGS, noise),
-            Way::FourWorkers => self.play_by_workers(name, design, noise),
-        }
+        let plan = way.plan(self.rt.alloc(), design)?;
+        self.play_by_way(name, design, &plan, way, noise)
     }
 
     /// Makes or reads a design.

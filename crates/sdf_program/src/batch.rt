@@ -1,7 +1,8 @@
 //! The command that makes sounds of several others.
 
-ghost use Rattle.std.specs.Prelude.{◌≡◌, IfSome};
+ghost use Rattle.std.specs.Prelude.{◌≡◌, IfSome, MatchResult};
 ghost use Rattle.sdf_plan.specs.Plans.{Suits};
+ghost use Rattle.sdf_plan.specs.Statuses.{status_of};
 ghost use Rattle.sdf_words.specs.Limits.{IsCrew};
 
 use crate::running::{Planned, Running, plan_of, run_planned};
@@ -173,22 +174,11 @@ fn settle<S: Storage>(storage: &S, item: &Item<'_>, ended: Result<(), Fault>) ->
     settled
 }
 
-/// Runs a plan on a file. What is said of a run that ends well comes into `said`.
-fn run_item<S: Storage, T: Threads + AllocGlobal + Clock + Sync>(
-    world: &World<S, T>,
-    said: &mut Vec<u8>,
-    planned: Planned<'_>,
-    item: &Item<'_>,
-    sources: &mut Sources,
-) -> Result<(), Fault>
-    requires { Suits planned.running.loaded.now.design.net planned.plan.now }
-{
-    let alloc = world.threads.alloc();
-    sources.forget_sound(alloc);
-    let mut nothing: &[u8] = b"";
-    let mut unwritten = Vec::new(alloc);
-    let ended = run_planned(world, &mut nothing, &mut unwritten, said, planned, sources);
-    settle(world.storage, item, ended)
+/// What became of a file: what was said of its run, and how that ended.
+#[derive(Drop)]
+struct Outcome {
+    said: Vec<u8>,
+    ended: Result<(), Fault>,
 }
 
 /// Returns the first line of a text.
@@ -207,44 +197,89 @@ fn bare(line: &str) -> &str {
     }
 }
 
-/// Returns what became of a file, on one line.
-fn outcome(alloc: Global, ended: &Result<(), Fault>) -> Result<String, AllocError> {
-    match ended {
-        Ok(()) => String::from_str(alloc, "done"),
-        Err(fault) => {
-            let text = fault_text(alloc, fault)?;
-            String::from_str(alloc, bare(first_line(text.as_str())))
+impl Outcome {
+    /// Returns what became of the file, on one line.
+    fn text(&self, alloc: Global) -> Result<String, AllocError> {
+        match &self.ended {
+            Ok(()) => String::from_str(alloc, "done"),
+            Err(fault) => {
+                let text = fault_text(alloc, fault)?;
+                String::from_str(alloc, bare(first_line(text.as_str())))
+            }
         }
+    }
+
+    /// Prints the line of the file `input`.
+    fn show<O: Write>(&self, alloc: Global, out: &mut O, input: &str) -> Result<(), Fault> {
+        let shown = printable(alloc, input)?;
+        let text = self.text(alloc)?;
+        let line = format!(in alloc; "{}: {}\n", shown.as_str(), text.as_str())?;
+        put(out, line.as_bytes())
+    }
+
+    /// Says more of the file: what was said of its run, or of its fault.
+    fn say<E: Write>(&self, alloc: Global, err: &mut E, batching: Batching<'_>, sources: &Sources) {
+        let _ = err.write_all(&self.said);
+        if let Err(fault) = &self.ended {
+            if let Ok(text) = why(alloc, fault, &batching.asked.options, sources) {
+                let _ = err.write_all(text.as_bytes());
+            }
+        }
+    }
+
+    /// Returns the exit status of the run.
+    fn status(&self) -> u8
+        ensures { MatchResult self.now.ended (λ _. result ≡ 0) (λ fault. result ≡ status_of fault) }
+    {
+        match &self.ended {
+            Ok(()) => 0,
+            Err(fault) => status(fault),
+        }
+    }
+
+    /// Prints what became of the file `input`, says more if that is asked for, and gives the exit status of the run.
+    fn tell<O: Write, E: Write>(
+        &self,
+        alloc: Global,
+        out: &mut O,
+        err: &mut E,
+        batching: Batching<'_>,
+        input: &str,
+        sources: &Sources,
+    ) -> Result<u8, Fault> {
+        self.show(alloc, out, input)?;
+        if batching.is_said {
+            self.say(alloc, err, batching, sources);
+        }
+        Ok(self.status())
     }
 }
 
-/// Prints the line of a file.
-fn show_item<O: Write>(
-    alloc: Global,
-    out: &mut O,
-    input: &str,
-    ended: &Result<(), Fault>,
-) -> Result<(), Fault> {
-    let shown = printable(alloc, input)?;
-    let outcome = outcome(alloc, ended)?;
-    let line = format!(in alloc; "{}: {}\n", shown.as_str(), outcome.as_str())?;
-    put(out, line.as_bytes())
-}
-
-/// Says more of a file: what was said of its run, or of its fault.
-fn say<E: Write>(
-    alloc: Global,
-    err: &mut E,
-    said: &[u8],
-    ended: &Result<(), Fault>,
-    batching: Batching<'_>,
-    sources: &Sources,
-) {
-    let _ = err.write_all(said);
-    if let Err(fault) = ended {
-        if let Ok(text) = why(alloc, fault, &batching.asked.options, sources) {
-            let _ = err.write_all(text.as_bytes());
-        }
+/// Runs a plan on a file.
+fn run_item<S: Storage, T: Threads + AllocGlobal + Clock + Sync>(
+    world: &World<S, T>,
+    planned: Planned<'_>,
+    item: &Item<'_>,
+    sources: &mut Sources,
+) -> Outcome
+    requires { Suits planned.running.loaded.now.design.net planned.plan.now }
+{
+    let alloc = world.threads.alloc();
+    sources.forget_sound(alloc);
+    let mut nothing: &[u8] = b"";
+    let mut unwritten = Vec::new(alloc);
+    let mut said = Vec::new(alloc);
+    let ended = run_planned(
+        world,
+        &mut nothing,
+        &mut unwritten,
+        &mut said,
+        planned,
+        sources,
+    );
+    Outcome {
+        said,
+        ended: settle(world.storage, item, ended),
     }
 }
 
@@ -259,22 +294,22 @@ fn serve_item<S: Storage, T: Threads + AllocGlobal + Clock + Sync, O: Write, E: 
 ) -> Result<u8, Fault>
     requires { Suits course.batching.loaded.now.design.net course.plan.now }
 {
-    let alloc = world.threads.alloc();
     let Course { batching, plan } = course;
     let planned = Planned {
         running: running_of(batching, item.input, item.part.as_str()),
         plan,
     };
-    let mut said = Vec::new(alloc);
-    let ended = run_item(world, &mut said, planned, item, sources);
-    show_item(alloc, out, item.input, &ended)?;
-    if batching.is_said {
-        say(alloc, err, &said, &ended, batching, sources);
-    }
-    match &ended {
-        Ok(()) => Ok(0),
-        Err(fault) => Ok(status(fault)),
-    }
+    let outcome = run_item(world, planned, item, sources);
+    let status = outcome.tell(
+        world.threads.alloc(),
+        out,
+        err,
+        batching,
+        item.input,
+        sources,
+    );
+    drop(outcome);
+    status
 }
 
 /// Runs a plan on files, one after the other, and gives the greatest exit status of these runs.
@@ -315,5 +350,7 @@ pub(crate) fn run_batch<S: Storage, T: Threads + AllocGlobal + Clock + Sync, O: 
         batching,
         plan: &plan,
     };
-    serve_items(world, out, err, course, sources)
+    let done = serve_items(world, out, err, course, sources);
+    drop(plan);
+    done
 }

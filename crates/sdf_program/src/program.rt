@@ -273,8 +273,8 @@ fn line_of(alloc: Global, given: &[String]) -> Result<Vec<&str>, AllocError> {
     Ok(line)
 }
 
-/// Does what the words ask for, of which the first is the program's name, if they could be had, and gives the exit
-/// status. What a fault can be told by is left in `background`.
+/// Does what the words ask for, of which the first is the program's name, and gives the exit status. What a fault can
+/// be told by is left in `background`.
 fn answer<
     S: Storage,
     T: Threads + AllocGlobal + Clock + Clone + Drop + Sync,
@@ -286,12 +286,11 @@ fn answer<
     stdin: &mut I,
     out: &mut O,
     err: &mut E,
-    given: Result<Vec<String>, WordFault>,
+    given: &[String],
     background: &mut Background,
 ) -> Result<u8, Fault> {
     let alloc = world.threads.alloc();
-    let given = given?;
-    let line = line_of(alloc, &given)?;
+    let line = line_of(alloc, given)?;
     match words(alloc, line.as_slice()) {
         Ok(asked) => {
             background.asked(&asked, world.terminal);
@@ -313,7 +312,11 @@ fn ended<E: Write>(
 ) -> u8 {
     match done {
         Ok(status) => status,
-        Err(fault) => tell(alloc, err, &fault, background),
+        Err(fault) => {
+            let status = tell(alloc, err, &fault, background);
+            drop(fault);
+            status
+        }
     }
 }
 
@@ -334,6 +337,9 @@ pub fn serve<
 ) -> u8 {
     let alloc = world.threads.alloc();
     let mut background = Background::new(alloc);
-    let done = answer(world, stdin, out, err, given, &mut background);
+    let done = match given {
+        Ok(given) => answer(world, stdin, out, err, &given, &mut background),
+        Err(fault) => Err(Fault::from(fault)),
+    };
     ended(alloc, err, done, &background)
 }

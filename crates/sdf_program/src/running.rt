@@ -79,8 +79,15 @@ fn run_between<T: Threads + AllocGlobal + Sync, R: Read, W: Write>(
     )
 }
 
-/// Says how loud the outputs of a run are.
-fn tell_levels<E: Write>(alloc: Global, err: &mut E, levels: &Levels) -> Result<(), AllocError> {
+/// Says how loud the outputs of a run are, if they were counted.
+fn tell_levels<E: Write>(
+    alloc: Global,
+    err: &mut E,
+    levels: Option<Levels>,
+) -> Result<(), AllocError> {
+    let Some(levels) = levels else {
+        return Ok(());
+    };
     let text = levels.text(alloc)?;
     let _ = err.write_all(text.as_bytes());
     Ok(())
@@ -92,6 +99,23 @@ struct Ran {
     ended: Result<(), Fault>,
     levels: Option<Levels>,
     refused: Option<ErrorKind>,
+}
+
+impl Ran {
+    /// Notes how the system refused the file `output`, and says how loud the outputs are if the run ended well.
+    fn finish<E: Write>(
+        self,
+        alloc: Global,
+        err: &mut E,
+        output: &str,
+        refused: &mut Vec<Refused>,
+    ) -> Result<(), Fault> {
+        if let Some(kind) = self.refused {
+            refuse_kind(alloc, refused, output, kind);
+        }
+        self.ended?;
+        Ok(tell_levels(alloc, err, self.levels)?)
+    }
 }
 
 /// Runs a plan on a stream into another one, and shows how far it has come.
@@ -138,14 +162,7 @@ fn run_into<T: Threads + AllocGlobal + Clock + Sync, R: Read, W: Write, E: Write
     requires { Suits planned.running.loaded.now.design.net planned.plan.now }
 {
     let ran = run_shown(threads, from, to, err, planned);
-    if let Some(kind) = ran.refused {
-        let name = planned.running.asked.output;
-        refuse_kind(threads.alloc(), refused, name, kind);
-    }
-    if let (Ok(()), Some(levels)) = (&ran.ended, &ran.levels) {
-        tell_levels(threads.alloc(), err, levels)?;
-    }
-    ran.ended
+    ran.finish(threads.alloc(), err, planned.running.asked.output, refused)
 }
 
 /// Runs a plan on a stream that is open. OUT is made or emptied where none of the files that are read is OUT.
@@ -297,10 +314,18 @@ fn crew_plan<T: Threads + AllocGlobal, E: Write>(
 {
     let alloc = threads.alloc();
     let Paced { plan, pace } = parallel_plan(alloc, design, workers_of(threads, crew))?;
-    if is_said {
-        tell_pace(alloc, err, design, pace)?;
+    let told = if is_said {
+        tell_pace(alloc, err, design, pace)
+    } else {
+        Ok(())
+    };
+    match told {
+        Ok(()) => Ok(plan),
+        Err(refused) => {
+            drop(plan);
+            Err(Fault::from(refused))
+        }
     }
-    Ok(plan)
 }
 
 /// The plan of a run.
@@ -336,5 +361,7 @@ pub(crate) fn run<S: Storage, T: Threads + AllocGlobal + Clock + Sync, I: Read, 
         running,
         plan: &plan,
     };
-    run_planned(world, stdin, out, err, planned, sources)
+    let done = run_planned(world, stdin, out, err, planned, sources);
+    drop(plan);
+    done
 }
