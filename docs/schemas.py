@@ -251,6 +251,7 @@ def on_graphs(program, schema):
 
 def answers(program):
     """What `--json` prints, each with the name of its schema."""
+    yield "kinds", subprocess.run([program, "kinds", "--json"], capture_output=True, text=True).stdout
     for graph in [*sorted(TOP.glob("examples/*/graph.toml")), TOP / "examples/none/graph.toml"]:
         for name, words in (
             ("check", ["check"]),

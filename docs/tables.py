@@ -1,7 +1,8 @@
 """Compares what the documents repeat with where it comes from.
 
-- docs/FORMATS.md: the list of faults is what `sdfw explain` prints (`--write` writes it anew); the table of kinds is
-  what `sdfw kinds` prints, which is proved to be the rows that the reader follows.
+- docs/FORMATS.md: the list of faults is what `sdfw explain` prints (`--write` writes it anew); the tables of kinds are
+  what `sdfw kinds` and `sdfw kinds --json` print, which is proved to be the rows that the reader follows.
+- The lines that `sdfw explain` shows before and after a fault, put into a design of examples/, have it and mend it.
 - docs/PROOFS.md: the list of public functions without a must-fail edit is the repository's.
 - The head of each crate's root file names the crates that crates.txt says it stands on, and where to begin; so does
   the list of crates in docs/ARCHITECTURE.md.
@@ -18,12 +19,14 @@
 faults, the schema of graph files and what is shown of commands anew, to be read before it is committed.
 """
 
+import json
 import os
 import pathlib
 import re
 import shutil
 import subprocess
 import sys
+import tempfile
 import textwrap
 
 TOP = pathlib.Path(__file__).resolve().parent.parent
@@ -42,7 +45,7 @@ WIDTH = 120
 def fault(program, number):
     """A fault's entry, of what the program says of it."""
     said = subprocess.run([program, "explain", str(number)], check=True, capture_output=True, text=True)
-    first, *rest = said.stdout.splitlines()
+    first, *rest = said.stdout.split("\nbefore:\n")[0].splitlines()
     parts = dict(line.split(": ", 1) for line in rest)
     place = f", `{parts['where']}`" if "where" in parts else ""
     limits = f" Within: {parts['limits']}." if "limits" in parts else ""
@@ -65,15 +68,88 @@ def faults(program, write):
     return ["docs/FORMATS.md: its list of faults is not the program's (python3 docs/tables.py --write)"]
 
 
-def kinds(program):
-    """Whether the document's kinds are those that the program lists: a row of the table as a line, without marks."""
+def fault_of(program, design, text):
+    """The number of the fault that a design has with this text in place of its own, or 0."""
+    with tempfile.TemporaryDirectory() as folder:
+        shutil.copytree(design.parent, folder, dirs_exist_ok=True)
+        path = pathlib.Path(folder) / design.name
+        path.write_text(text)
+        said = subprocess.run([program, "check", path], capture_output=True, text=True).stderr
+    return int(said.split()[1]) if said else 0
+
+
+def repairs(program):
+    """What is wrong with the lines before and after a fault that `sdfw explain` shows: an example that has one of both
+    has the fault with the first, and none with the second."""
+    designs = {path: path.read_text() for path in schemas.graph_files() if path.is_relative_to(TOP / "examples")}
+    wrong, count = [], 0
+    for number in range(1, 64):
+        said = subprocess.run([program, "explain", str(number)], check=True, capture_output=True, text=True).stdout
+        if "\nbefore:\n" not in said:
+            continue
+        count += 1
+        before, after = (textwrap.dedent(part) for part in said.split("\nbefore:\n")[1].split("after:\n"))
+        seen = set()
+        for path, text in designs.items():
+            if before in text:
+                seen.add((fault_of(program, path, text), fault_of(program, path, text.replace(before, after))))
+            if after in text:
+                seen.add((fault_of(program, path, text.replace(after, before)), fault_of(program, path, text)))
+        if (number, 0) not in seen:
+            wrong.append(f"sdfw explain {number}: no example has the fault by its lines and is mended by them")
+    return wrong if count == 15 else [*wrong, f"sdfw explain shows lines before and after {count} faults, not 15"]
+
+
+def table(head):
+    """The rows of a table of docs/FORMATS.md."""
     page = PAGE.read_text()
-    rows = page[page.index("| kind | keys") :].split("\n\n", 1)[0].splitlines()[2:]
-    lines = [row.strip("| ").replace("`", "").replace(" | ", ": ", 1) for row in rows]
+    return page[page.index(head) :].split("\n\n", 1)[0].splitlines()[2:]
+
+
+def key_text(key):
+    """A key of `sdfw kinds --json` as `sdfw kinds` writes it."""
+    least, most, default = key["least"], key["most"], key["default"]
+    numbers = "of 32 bits" if (least, most) == (-(1 << 31), (1 << 31) - 1) else f"{key.get('from', least)}..{most}"
+    if "values" in key:
+        values = numbers if numbers.startswith("of ") else f"of {numbers}"
+        return f"{key['name']} or file: 1..{key['values']} values {values}"
+    absent = "" if key["needed"] else " or absent" if default is None else f" ({default})"
+    return f"{key['name']} {numbers}{absent}"
+
+
+def kind_text(name, since, keys):
+    """A kind of `sdfw kinds --json` as `sdfw kinds` writes it."""
+    return f"{name}{f', format {since}' if since > 1 else ''}: " + ", ".join(key_text(key) for key in keys)
+
+
+def port_row(kind):
+    """A row of the table of ports."""
+
+    def moved(ports, samples):
+        if kind["cycle"] != 1 and ports == kind["cycle"]:
+            return f"{samples} at port j, 0 elsewhere"
+        return f"{samples} at each" if isinstance(ports, str) else f"{samples}"
+
+    takes, puts = moved(kind["inputs"], kind["takes"]), moved(kind["outputs"], kind["puts"])
+    moves = f"{takes}, {puts}" if kind["cycle"] == 1 else f"in phase j: {takes}; {puts}"
+    return f"| `{kind['name']}` | {kind['inputs']}, {kind['outputs']} | {moves} |"
+
+
+def kinds(program):
+    """Whether the document's kinds are those that the program lists: a row of the table as a line, without marks, and
+    with the ports as JSON."""
+    lines = [row.strip("| ").replace("`", "").replace(" | ", ": ", 1) for row in table("| kind | keys")]
     said = subprocess.run([program, "kinds"], check=True, capture_output=True, text=True).stdout.splitlines()
-    if lines == said:
-        return []
-    return ["docs/FORMATS.md: its table of kinds is not what `sdfw kinds` prints"]
+    every = json.loads(subprocess.run([program, "kinds", "--json"], check=True, capture_output=True, text=True).stdout)
+    texts = [kind_text(kind["name"], kind["since"], kind["keys"]) for kind in every["kinds"]]
+    wrong = []
+    if lines != said:
+        wrong.append("docs/FORMATS.md: its table of kinds is not what `sdfw kinds` prints")
+    if [*texts, kind_text("every kind", 1, every["keys"])] != said:
+        wrong.append("`sdfw kinds --json` has other keys than `sdfw kinds`")
+    if [port_row(kind) for kind in every["kinds"]] != table("| kind | ports"):
+        wrong.append("docs/FORMATS.md: its table of ports is not what `sdfw kinds --json` prints")
+    return wrong
 
 
 def edited(crate):
@@ -270,7 +346,7 @@ def main():
     program = words[0] if words else os.path.relpath(TOP / "build" / "sdfw", TOP)
     os.chdir(TOP)
     write = "--write" in sys.argv
-    wrong = faults(program, write) + kinds(program) + unedited() + edits() + heads() + stands_on()
+    wrong = faults(program, write) + repairs(program) + kinds(program) + unedited() + edits() + heads() + stands_on()
     wrong += schemas.differences(program, write) + sessions(program, write) + paths() + named() + widths()
     print("\n".join(wrong) or "the documents say what the program and the sources say")
     sys.exit(1 if wrong else 0)

@@ -50,7 +50,7 @@ _sdfw() {
     fir:-*) mapfile -t COMPREPLY < <(compgen -W "--rate --pass --stop --low-stop --low-pass --attenuation --up --shift --help" -- "$word") ;;
     fir:*) mapfile -t COMPREPLY < <(compgen -W "lowpass highpass bandpass" -- "$word") ;;
     resample:-*) mapfile -t COMPREPLY < <(compgen -W "--channels --attenuation --help" -- "$word") ;;
-    kinds:-*) mapfile -t COMPREPLY < <(compgen -W "--help" -- "$word") ;;
+    kinds:-*) mapfile -t COMPREPLY < <(compgen -W "--json --help" -- "$word") ;;
     explain:-*) mapfile -t COMPREPLY < <(compgen -W "--help" -- "$word") ;;
     check:*|schedule:*|run:*|analyze:*|draw:*|profile:*|resample:*)
       compopt -o filenames

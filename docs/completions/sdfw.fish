@@ -78,6 +78,7 @@ complete -c sdfw -n '__fish_seen_subcommand_from resample' -l channels -x -d 'Ch
 complete -c sdfw -n '__fish_seen_subcommand_from resample' -l attenuation -x -d 'Of what is stopped, in dB, at most 200'
 complete -c sdfw -n '__fish_seen_subcommand_from resample' -l help -d 'Print help (see more with \'--help\')'
 complete -c sdfw -n '__fish_seen_subcommand_from resample' -F
+complete -c sdfw -n '__fish_seen_subcommand_from kinds' -l json -d 'Answers in JSON, with the ports of each kind'
 complete -c sdfw -n '__fish_seen_subcommand_from kinds' -l help -d 'Print help (see more with \'--help\')'
 complete -c sdfw -n '__fish_seen_subcommand_from explain' -l help -d 'Print help (see more with \'--help\')'
 complete -c sdfw -n '__fish_seen_subcommand_from help' -a 'check schedule run analyze draw profile fir resample kinds explain'

@@ -93,9 +93,10 @@ const ANSWERS: &[Row] = &[
         "longer help",
         "help kinds",
         "0\nLists the kinds of actors, their keys and limits: a line for each kind, and a last one for the keys\n\
-         that every actor may have. A number in parentheses stands where the key is absent.\n\nUsage: sdfw kinds\n\
-         \nOptions:\n  -h, --help\n          Print help (see a summary with '-h')\n\nExamples:\n  sdfw kinds\n  \
-         sdfw kinds | grep fir\n--\n--\n",
+         that every actor may have. A number in parentheses stands where the key is absent.\n\nUsage: sdfw kinds [OPTIONS]\n\
+         \nOptions:\n      --json\n          Answers in JSON, with the ports of each kind: one value on one line. A fault is \
+         one too, on standard error\n\n  -h, --help\n          Print help (see a summary with '-h')\n\nExamples:\n  \
+         sdfw kinds\n  sdfw kinds | grep fir\n  sdfw kinds --json\n--\n--\n",
     ),
     (
         "longer help of an option",
@@ -112,6 +113,11 @@ const ANSWERS: &[Row] = &[
 
 /// Answers in JSON. Refuses an answer that is text, one of another command, and a fault that is a line of text.
 const IN_JSON: &[Row] = &[
+    (
+        "kinds",
+        "kinds --json",
+        "0\n{\"keys\":[…,\"name\":\"offset\",\"outputs\":1,\"puts\":1,\"since\":2,\"takes\":1}]}\n--\n--\n",
+    ),
     (
         "a check",
         "check plain.toml --json",

@@ -128,6 +128,12 @@ const ROWS: &[Row] = &[
     ),
     ("kinds that are not printed", MUTE, "kinds", UNWRITTEN),
     (
+        "kinds in JSON that are not printed",
+        MUTE,
+        "kinds --json",
+        "5\n--\n{\"fault\":48,\"name\":\"Write\"}\n--\n",
+    ),
+    (
         "an explanation that is not printed",
         MUTE,
         "explain 5",

@@ -8,13 +8,13 @@ use sdf_draw::{dot, svg};
 use sdf_file::{Design, check_text};
 use sdf_files::files::put;
 use sdf_files::world::World;
-use sdf_json::{analysis_json, check_json, comparison_json, schedule_json};
+use sdf_json::{analysis_json, check_json, comparison_json, kinds_json, schedule_json};
 use sdf_options::Options;
 use sdf_plan::Fault;
 use sdf_plan::planning::plan;
 use sdf_plan::schedule::schedule;
 use sdf_words::explained;
-use std::alloc::Global;
+use std::alloc::{AllocError, Global};
 use std::io::Write;
 
 /// Prints an answer.
@@ -89,12 +89,22 @@ pub fn drawn(
     }
 }
 
+/// Returns the table of kinds.
+fn listed(alloc: Global, json: bool) -> Result<String, AllocError> {
+    if json {
+        kinds_json(alloc)
+    } else {
+        kinds_text(alloc)
+    }
+}
+
 /// Prints the table of kinds.
 pub fn print_kinds<S, T: AllocGlobal, O: Write>(
     world: &World<S, T>,
     out: &mut O,
+    json: bool,
 ) -> Result<(), Fault> {
-    show(out, kinds_text(world.threads.alloc())?.as_str())
+    show(out, listed(world.threads.alloc(), json)?.as_str())
 }
 
 /// Prints what the fault of this number means.

@@ -175,6 +175,7 @@ impl Background {
             Words::Batch { batch, why, .. } if why.is_said(terminal) => {
                 self.telling = Telling::Why(batch.options);
             }
+            Words::Kinds { json: true } => self.telling = Telling::Json,
             _ => {}
         }
     }

@@ -49,12 +49,16 @@ are_read (files.Given fs) = true
 abbrev pub file_named : List ℕ → Files → Option (List ℕ)
 file_named name files = option_map (λ f. f.1) (find (λ f. bytes_eq name f.0) files)
 
+-- the keys of a coefficient file
+abbrev pub file_keys : List (List ℕ)
+file_keys = codes "format" ∷ codes "values" ∷ []
+
 -- the values that a coefficient file lists
 unfoldable pub coefficients : List ℕ → List ℕ → Result (List ℤ) Fault
 coefficients name bytes = do
   ms ← or_fault (not_toml (file name)) (table_in bytes)
   format ← format_at (file name) 1 ms
-  known ← known_keys (file name) (codes "format" ∷ codes "values" ∷ []) ms
+  known ← known_keys (file name) file_keys ms
   d ← or_fault (missing_key (file name) (codes "values")) (get_member (codes "values") ms)
   integers_at (file name) (codes "values") d
 

@@ -79,7 +79,8 @@ fn array_at<'a>(key: &'static str, table: &'a Table) -> Result<&'a [Value], Read
 
 static TOP_KEYS: [&str; 3] = ["format", "actor", "link"];
 
-fn top_keys() -> &'static [&'static str]
+/// Returns the keys at the top of a graph file.
+pub fn top_keys() -> &'static [&'static str]
     ensures { texts_of result.now ≡ top_keys }
 {
     TOP_KEYS.as_slice()

@@ -1,9 +1,9 @@
 //! Coefficient files.
-ghost use Rattle.std.specs.Prelude.{◌≡◌, map, find, option_map, string_bytes, bytes_eq, codes, [], ◌∷◌};
+ghost use Rattle.std.specs.Prelude.{◌≡◌, map, find, option_map, string_bytes, bytes_eq};
 ghost use Rattle.toml.specs.View.{table_view};
 ghost use Rattle.sdf_document.specs.Fault.{Gives};
 ghost use Rattle.sdf_document.specs.Tables.{texts_of};
-ghost use Rattle.sdf_document.specs.Lists.{file_named, files_view, coefficients};
+ghost use Rattle.sdf_document.specs.Lists.{file_named, files_view, file_keys, coefficients};
 
 use crate::fault::{DocumentFault, ReadFault, Spot};
 use crate::table::{format_at, table_in, test_keys};
@@ -31,8 +31,9 @@ pub(crate) fn file_named<'a>(name: &str, files: &'a [(String, Vec<u8>)]) -> Opti
 
 static FILE_KEYS: [&str; 2] = ["format", "values"];
 
-fn file_keys() -> &'static [&'static str]
-    ensures { texts_of result.now ≡ codes "format" ∷ codes "values" ∷ [] }
+/// Returns the keys of a coefficient file.
+pub fn file_keys() -> &'static [&'static str]
+    ensures { texts_of result.now ≡ file_keys }
 {
     FILE_KEYS.as_slice()
 }

@@ -25,8 +25,8 @@ fn is_kind(format: u32, text: &str, kind: KindWord) -> bool
     text == row.word && row.since <= format
 }
 
-/// The kind of a word in a format.
-fn kind_named(format: u32, text: &str) -> Option<KindWord>
+/// Returns the kind of a word, if it is one of a format up to `format`.
+pub fn kind_named(format: u32, text: &str) -> Option<KindWord>
     ensures { result ≡ kind_named format text.now }
 {
     kinds()

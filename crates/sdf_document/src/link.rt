@@ -92,7 +92,8 @@ fn initial_at(alloc: Global, link: usize, table: &Table) -> Result<Vec<i32>, Rea
 
 static LINK_KEYS: [&str; 3] = ["from", "to", "initial"];
 
-fn link_keys() -> &'static [&'static str]
+/// Returns the keys of a link.
+pub fn link_keys() -> &'static [&'static str]
     ensures { texts_of result.now ≡ link_keys }
 {
     LINK_KEYS.as_slice()

@@ -132,14 +132,14 @@ static KINDS: [KindWord; 14] = [
 ];
 
 /// The keys that every actor may have, tested after those of its kind.
-pub(crate) fn shared_keys() -> &'static [Key]
+pub fn shared_keys() -> &'static [Key]
     ensures { keys_view result.now ≡ shared_keys }
 {
     SHARED_KEYS.as_slice()
 }
 
 /// All kinds.
-pub(crate) fn kinds() -> &'static [KindWord]
+pub fn kinds() -> &'static [KindWord]
     ensures { result.now ≡ kinds }
 {
     KINDS.as_slice()
@@ -152,7 +152,7 @@ fn row_with(word: &'static str, since: u32, keys: &'static [Key]) -> Row
 }
 
 /// The row of a kind.
-pub(crate) fn row_of(kind: KindWord) -> Row
+pub fn row_of(kind: KindWord) -> Row
     ensures { row_view result ≡ row_of kind }
 {
     match kind {

@@ -4,3 +4,5 @@ pub mod FlatTables
 pub mod FlatLayers
 pub mod FlatFaults
 pub mod FlatSchedules
+pub mod FlatKinds
+pub mod KindPorts

@@ -8,3 +8,5 @@ pub mod Tables
 pub mod Schedules
 pub mod Analyses
 pub mod Comparisons
+pub mod Ports
+pub mod Kinds

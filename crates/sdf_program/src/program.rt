@@ -199,7 +199,7 @@ fn obey<
         }
         Words::Fir { wanted } => ended_well(fir(world, out, err, wanted)),
         Words::Resample { conversion } => ended_well(resample(world, err, conversion)),
-        Words::Kinds => ended_well(print_kinds(world, out)),
+        Words::Kinds { json } => ended_well(print_kinds(world, out, json)),
         Words::Explain { number } => ended_well(print_meaning(world, out, number)),
     }
 }

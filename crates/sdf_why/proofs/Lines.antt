@@ -10,7 +10,7 @@ one_more n = sym (map-id (range_with_len 0 (n + 1)))
     ∙ ap (λ xs. xs ++ n ∷ []) (map-id (range_with_len 0 n)))
 
 -- a line after those before it
-pub line_added : (line : ℕ → List ℕ) (n : ℕ) (first before after : List ℕ) →
+pub line_added : {X : Type 0} (line : ℕ → List X) (n : ℕ) (first before after : List X) →
     before ≡ first ++ flat_map line (range_with_len 0 n) → after ≡ before ++ line n
     → after ≡ first ++ flat_map line (range_with_len 0 (n + 1))
 line_added line n first before after so_far added =

@@ -13,6 +13,7 @@ use Rattle.sdf_why.specs.Words.{end, key_line}
 use Rattle.sdf_why.specs.Tables.{root, text_at, entry, actor_text, first_saying}
 use Rattle.sdf_why.specs.Actors.{lines_of, actor_told, actor_key, first_told}
 use Rattle.sdf_why.specs.Links.{link_key}
+use Rattle.sdf_why.specs.Near.{near_key, near_kind, near_end}
 
 -- ---- a coefficient file
 
@@ -81,13 +82,15 @@ told kinds channel_count d files = counted (codes "link") 0 MOST_LINKS d
 told kinds (kit_value place key) d files = place_key kinds place key d files
 told kinds (not_toml place) d files = []
 told kinds (bad_format place) d files = place_format place d files
-told kinds (unknown_key place key) d files = place_key kinds place key d files ++ known_keys kinds place key d
+told kinds (unknown_key place key) d files =
+    place_key kinds place key d files ++ near_key place key d ++ known_keys kinds place key d
 told kinds (missing_key place key) d files = place_key kinds place key d files
 told kinds (wrong_type place key) d files = place_key kinds place key d files
 told kinds (bad_name place key) d files = place_key kinds place key d files
 told kinds (name_twice a) d files = twice a d
-told kinds (unknown_kind a) d files = actor_told d a ++ key_line (codes "format") (get (codes "format") d) None
-told kinds (bad_port c key) d files = link_key c key None d
+told kinds (unknown_kind a) d files =
+    actor_told d a ++ near_kind a d ++ key_line (codes "format") (get (codes "format") d) None
+told kinds (bad_port c key) d files = link_key c key None d ++ near_end c key d
 told kinds (no_file name) d files = file_user name d
 
 -- what is told of the bytes of a graph file

@@ -12,3 +12,4 @@ pub mod Channels
 pub mod More
 pub mod Told
 pub mod Said
+pub mod Near

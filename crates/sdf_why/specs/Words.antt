@@ -77,6 +77,10 @@ key_line key None (Some limits) = codes "  " ++ printable_text key ++ codes " wa
 key_line key (Some d) limits =
     codes "  " ++ printable_text key ++ codes " = " ++ value_text d ++ limits_text limits ++ end
 
+-- a name that may have been meant
+unfoldable pub hint_line : List ℕ → List ℕ
+hint_line name = codes "  did you mean " ++ quoted name ++ codes "?" ++ end
+
 -- what was said of a file
 unfoldable pub said_line : List ℕ → List ℕ → List ℕ
 said_line name said = codes "  " ++ quoted name ++ codes ": " ++ printable_text said ++ end

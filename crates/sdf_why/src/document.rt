@@ -10,6 +10,7 @@ ghost use Rattle.sdf_why.specs.Documents.{known_keys, same_name, twice, counted,
 use crate::actors::{push_actor_key, push_actor_of, push_first};
 use crate::limits::row_of;
 use crate::links::push_link_key;
+use crate::near::{push_near_end, push_near_key, push_near_kind};
 use crate::tables::{Source, actor_text, entry, first_saying, root, text_at, value_at};
 use crate::words::push_key;
 use sdf_document::{DocumentFault, Place, kinds_text};
@@ -245,15 +246,18 @@ fn push_told(
         DocumentFault::Format(place) => push_format(alloc, text, source, place),
         DocumentFault::UnknownKey(place, key) => {
             push_place(alloc, text, source, place, key.as_str())?;
+            push_near_key(alloc, text, graph, place, key.as_str())?;
             push_known(text, source, place, key.as_str())
         }
         DocumentFault::NameTwice(number) => push_twice(alloc, text, graph, *number),
         DocumentFault::UnknownKind(number) => {
             push_actor_of(alloc, text, graph, *number)?;
+            push_near_kind(alloc, text, graph, *number)?;
             push_key(alloc, text, "format", value_at(graph, "format"), None)
         }
         DocumentFault::BadPort(number, key) => {
-            push_link_key(alloc, text, graph, *number, key, None)
+            push_link_key(alloc, text, graph, *number, key, None)?;
+            push_near_end(alloc, text, graph, *number, key)
         }
         DocumentFault::NoFile(name) => push_first(alloc, text, graph, "file", name.as_str()),
     }

@@ -3,7 +3,7 @@
 ghost use Rattle.std.specs.Prelude.{◌≡◌, ◌++◌, OnOk, option_map, string_bytes};
 ghost use Rattle.toml.specs.View.{view};
 ghost use Rattle.sdf_why.specs.Words.{quoted, value_text, article, name_text, kind_text, end_text, actor_line};
-ghost use Rattle.sdf_why.specs.Words.{link_words};
+ghost use Rattle.sdf_why.specs.Words.{link_words, hint_line};
 ghost use Rattle.sdf_why.specs.Words.{link_line, lack_line, limits_text, key_line, is_vowel, said_line};
 ghost use Rattle.sdf_options.specs.Printable.{printable_text};
 
@@ -223,6 +223,16 @@ pub(crate) fn push_key(
         (None, Some(limits)) => write!(text, " wants {limits}")?,
         (None, None) => {}
     }
+    Ok(text.push_str("\n")?)
+}
+
+/// Adds a name that may have been meant.
+pub(crate) fn push_hint(alloc: Global, text: &mut String, name: &str) -> Result<(), AllocError>
+    ensures { OnOk result (string_bytes text.new ≡ string_bytes text.old ++ hint_line name.now) }
+{
+    text.push_str("  did you mean ")?;
+    push_quoted(alloc, text, name)?;
+    text.push_str("?")?;
     Ok(text.push_str("\n")?)
 }
 

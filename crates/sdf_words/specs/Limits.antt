@@ -30,5 +30,5 @@ IsWithinLimits (Design graph task why) = IsTaskWithinLimits task
 IsWithinLimits (Batch graph batch why) = AreWithinLimits batch.options × IfSome batch.parallel IsCrew
 IsWithinLimits (Fir wanted) = Unit {0}
 IsWithinLimits (Resample conversion) = Unit {0}
-IsWithinLimits Kinds = Unit {0}
+IsWithinLimits (Kinds json) = Unit {0}
 IsWithinLimits (Explain number) = (1 ≤ number) × (number ≤ MOST_FAULT)

@@ -128,7 +128,9 @@ pub enum Words<'a> {
         conversion: Conversion<'a>,
     },
     /// The table of kinds.
-    Kinds,
+    Kinds {
+        json: bool,
+    },
     /// What a fault is, by its number, 1 to 63.
     Explain {
         number: u32,

@@ -9,7 +9,6 @@ ghost use Rattle.sdf_words.specs.declared.asked.TheConstants.{MOST_FAULT};
 use crate::asked::{Batch, Conversion, Crew, MOST_FAULT, Run, Task, Why, Words};
 use crate::commands::{batch_command, sdfw_command};
 use crate::explain::{NAMES, number_named};
-use crate::similar::nearest;
 use clap::error::ErrorKind;
 use clap::{ArgMatches, Command};
 use sdf_filters::{Band, Wanted};
@@ -18,6 +17,7 @@ use sdf_options::printable::printable;
 use sdf_options::{
     Options, PLACEMENT_WORDS, PLACEMENTS, POLICIES, POLICY_WORDS, RUNNER_WORDS, RUNNERS, WordFault,
 };
+use sdf_similar::nearest;
 use std::alloc::{AllocError, Global};
 
 // The option's parser keeps its number within these limits, so none is lost here.
@@ -229,7 +229,9 @@ fn asked<'a>(name: &str, matches: &ArgMatches<'a>) -> Option<Words<'a>>
     match name {
         "fir" => fir_of(matches),
         "resample" => resample_of(matches),
-        "kinds" => Some(Words::Kinds),
+        "kinds" => Some(Words::Kinds {
+            json: matches.get_flag("json"),
+        }),
         "explain" => Some(Words::Explain {
             number: number_of(matches, "NUMBER", 1, MOST_FAULT)?,
         }),

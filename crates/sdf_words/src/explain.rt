@@ -8,11 +8,13 @@ ghost use Rattle.sdf_words.specs.Names.{heading, IsNamed, Explains};
 mod documents;
 mod graphs;
 mod names;
+mod repairs;
 mod sounds;
 mod tables;
 
 use crate::asked::MOST_FAULT;
 pub(crate) use names::NAMES;
+use repairs::REPAIRS;
 use std::alloc::{AllocError, Global};
 
 /// What a fault means, within which limits it does not come, and what to do about it. `place` is how its line goes on.
@@ -105,13 +107,25 @@ fn push_heading(text: &mut String, number: u32, name: &str) -> Result<(), AllocE
     Ok(())
 }
 
+/// Adds lines of a graph file before and after the fault of this number is mended, if there are some.
+fn push_repair(text: &mut String, number: u32) -> Result<(), AllocError> {
+    for repair in &REPAIRS {
+        if repair.number == number {
+            let (before, after) = (repair.before, repair.after);
+            return write!(text, "before:\n{before}after:\n{after}");
+        }
+    }
+    Ok(())
+}
+
 /// The lines below the first one of an explanation.
-fn lines(alloc: Global, meaning: Meaning) -> Result<String, AllocError> {
+fn lines(alloc: Global, number: u32, meaning: Meaning) -> Result<String, AllocError> {
     let mut text = String::new(alloc);
     push_line(&mut text, "where", meaning.place)?;
     push_line(&mut text, "means", meaning.means)?;
     push_line(&mut text, "limits", meaning.limits)?;
     push_line(&mut text, "remedy", meaning.remedy)?;
+    push_repair(&mut text, number)?;
     Ok(text)
 }
 
@@ -124,6 +138,6 @@ pub fn explained(alloc: Global, number: u32) -> Result<String, AllocError>
         return Ok(text);
     };
     push_heading(&mut text, number, name)?;
-    text.push_str(lines(alloc, meaning)?.as_str())?;
+    text.push_str(lines(alloc, number, meaning)?.as_str())?;
     Ok(text)
 }

@@ -128,7 +128,8 @@ const RUNS: &[Row] = &[
 
 /// Other commands, whole. Refuses other defaults than those that the help has.
 const COMMANDS: &[Row] = &[
-    ("kinds", "kinds", "Kinds"),
+    ("kinds", "kinds", "Kinds { json: false }"),
+    ("kinds in JSON", "kinds --json", "Kinds { json: true }"),
     ("a number", "explain 1", "Explain { number: 1 }"),
     ("a number", "explain 10", "Explain { number: 10 }"),
     ("a number", "explain 63", "Explain { number: 63 }"),

@@ -1,7 +1,7 @@
-//! The JSON of a design, of its schedule and of its analysis.
+//! The JSON of a design, of its schedule, of its analysis and of the kinds of actors.
 
 use sdf_file::{Design, read_design};
-use sdf_json::{analysis_json, check_json, schedule_json};
+use sdf_json::{analysis_json, check_json, kinds_json, schedule_json};
 use sdf_options::Options;
 use std::alloc::Global;
 use std::test::Fail;
@@ -70,5 +70,52 @@ fn json_of_an_analysis(rt: HostRuntime) -> Result<(), Fail> {
         "{\"blocking\":1,\"bound\":4,\"links\":[{\"capacity\":6,\"from\":{\"actor\":\"in\",\"port\":0},\
          \"to\":{\"actor\":\"out\",\"port\":0}}],\"loads\":[3,2],\"makespan\":4,\"placement\":\"homed\",\
          \"policy\":\"round\",\"samples\":6,\"span\":4,\"speedup_hundredths\":125,\"work\":5,\"workers\":2}\n",
+    )
+}
+
+/// The two tables of kinds in `docs/FORMATS.md`.
+#[test]
+fn json_of_the_kinds(rt: HostRuntime) -> Result<(), Fail> {
+    says(
+        Ok(kinds_json(rt.alloc())?),
+        "{\"keys\":[{\"default\":null,\"least\":0,\"most\":15,\"name\":\"processor\",\"needed\":false},\
+         {\"default\":1,\"least\":1,\"most\":1000000,\"name\":\"cost\",\"needed\":false}],\"kinds\":[{\"cycle\":1,\
+         \"inputs\":0,\"keys\":[{\"default\":null,\"least\":0,\"most\":7,\"name\":\"channel\",\"needed\":true},\
+         {\"default\":1,\"least\":1,\"most\":1024,\"name\":\"block\",\"needed\":false}],\"name\":\"input\",\
+         \"outputs\":1,\"puts\":\"block\",\"since\":1,\"takes\":0},{\"cycle\":1,\"inputs\":1,\
+         \"keys\":[{\"default\":null,\"least\":0,\"most\":7,\"name\":\"channel\",\"needed\":true},{\"default\":1,\
+         \"least\":1,\"most\":1024,\"name\":\"block\",\"needed\":false}],\"name\":\"output\",\"outputs\":0,\
+         \"puts\":0,\"since\":1,\"takes\":\"block\"},{\"cycle\":1,\"inputs\":1,\"keys\":[{\"default\":1,\
+         \"least\":1,\"most\":64,\"name\":\"up\",\"needed\":false},{\"default\":1,\"least\":1,\"most\":64,\
+         \"name\":\"down\",\"needed\":false},{\"default\":null,\"least\":0,\"most\":15,\"name\":\"shift\",\
+         \"needed\":true},{\"default\":null,\"least\":-32768,\"most\":32767,\"name\":\"taps\",\"needed\":true,\
+         \"values\":1024}],\"name\":\"fir\",\"outputs\":1,\"puts\":\"up\",\"since\":1,\"takes\":\"down\"},\
+         {\"cycle\":1,\"inputs\":1,\"keys\":[{\"default\":null,\"least\":1,\"most\":64,\"name\":\"factor\",\
+         \"needed\":true}],\"name\":\"decimate\",\"outputs\":1,\"puts\":1,\"since\":1,\"takes\":\"factor\"},\
+         {\"cycle\":1,\"inputs\":1,\"keys\":[{\"default\":null,\"least\":1,\"most\":64,\"name\":\"factor\",\
+         \"needed\":true}],\"name\":\"interpolate\",\"outputs\":1,\"puts\":\"factor\",\"since\":1,\"takes\":1},\
+         {\"cycle\":1,\"inputs\":\"ways\",\"keys\":[{\"default\":null,\"least\":2,\"most\":16,\"name\":\"ways\",\
+         \"needed\":true}],\"name\":\"add\",\"outputs\":1,\"puts\":1,\"since\":1,\"takes\":1},{\"cycle\":1,\
+         \"inputs\":1,\"keys\":[{\"default\":null,\"least\":2,\"most\":16,\"name\":\"ways\",\"needed\":true}],\
+         \"name\":\"fork\",\"outputs\":\"ways\",\"puts\":1,\"since\":1,\"takes\":1},{\"cycle\":1,\"inputs\":1,\
+         \"keys\":[{\"default\":null,\"least\":-32768,\"most\":32767,\"name\":\"gain\",\"needed\":true},\
+         {\"default\":null,\"least\":0,\"most\":15,\"name\":\"shift\",\"needed\":true}],\"name\":\"gain\",\
+         \"outputs\":1,\"puts\":1,\"since\":1,\"takes\":1},{\"cycle\":1,\"inputs\":1,\"keys\":[{\"default\":null,\
+         \"least\":0,\"most\":65536,\"name\":\"length\",\"needed\":true}],\"name\":\"delay\",\"outputs\":1,\
+         \"puts\":1,\"since\":1,\"takes\":1},{\"cycle\":1,\"inputs\":1,\"keys\":[{\"default\":null,\
+         \"least\":-2147483648,\"most\":2147483647,\"name\":\"offset\",\"needed\":true},{\"default\":null,\
+         \"least\":-2147483648,\"most\":2147483647,\"name\":\"values\",\"needed\":true,\"values\":65536}],\
+         \"name\":\"table\",\"outputs\":1,\"puts\":1,\"since\":1,\"takes\":1},{\"cycle\":\"ways\",\"inputs\":1,\
+         \"keys\":[{\"default\":null,\"least\":2,\"most\":16,\"name\":\"ways\",\"needed\":true},{\"default\":1,\
+         \"least\":1,\"most\":64,\"name\":\"run\",\"needed\":false}],\"name\":\"deal\",\"outputs\":\"ways\",\
+         \"puts\":\"run\",\"since\":2,\"takes\":\"run\"},{\"cycle\":\"ways\",\"inputs\":\"ways\",\
+         \"keys\":[{\"default\":null,\"least\":2,\"most\":16,\"name\":\"ways\",\"needed\":true},{\"default\":1,\
+         \"least\":1,\"most\":64,\"name\":\"run\",\"needed\":false}],\"name\":\"gather\",\"outputs\":1,\
+         \"puts\":\"run\",\"since\":2,\"takes\":\"run\"},{\"cycle\":1,\"inputs\":1,\"keys\":[{\"default\":-32768,\
+         \"least\":-32768,\"most\":32767,\"name\":\"least\",\"needed\":false},{\"default\":32767,\
+         \"from\":\"least\",\"least\":-32768,\"most\":32767,\"name\":\"greatest\",\"needed\":false}],\
+         \"name\":\"clip\",\"outputs\":1,\"puts\":1,\"since\":2,\"takes\":1},{\"cycle\":1,\"inputs\":1,\
+         \"keys\":[{\"default\":null,\"least\":-32768,\"most\":32767,\"name\":\"value\",\"needed\":true}],\
+         \"name\":\"offset\",\"outputs\":1,\"puts\":1,\"since\":2,\"takes\":1}]}\n",
     )
 }

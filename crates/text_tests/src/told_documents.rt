@@ -12,7 +12,7 @@ struct Row {
     told: &'static str,
 }
 
-static ROWS: [Row; 15] = [
+static ROWS: [Row; 22] = [
     Row {
         graph: "format = 1\nlink = []\n[[actor]]\nname = \"half\"\nkind = \"fir\"\nup = 147\nshift = 0\ntaps = [1]\n",
         told: "28 KitValue actor 0 key up\n  \
@@ -82,6 +82,45 @@ static ROWS: [Row; 15] = [
             link = [{ from = \"a\", to = \"a:16\" }]\n",
         told: "57 BadPort link 0 key to\n  \
             link 0 is a:0 -> a:16\n  to = \"a:16\"\n",
+    },
+    Row {
+        graph: "format = 1\nlink = []\n[[actor]]\nname = \"d\"\nkind = \"gian\"\n",
+        told: "56 UnknownKind actor 0\n  \
+            actor 0 is \"d\", a gian\n  did you mean \"gain\"?\n  format = 1\n",
+    },
+    Row {
+        graph: "format = 1\nlink = []\n[[actor]]\nname = \"d\"\nkind = \"resampler\"\n",
+        told: "56 UnknownKind actor 0\n  \
+            actor 0 is \"d\", a resampler\n  format = 1\n",
+    },
+    Row {
+        graph: "format = 1\nlink = []\n[[actor]]\nname = \"d\"\nkind = \"gain\"\nshfit = 1\n",
+        told: "51 UnknownKey actor 0 key shfit\n  \
+            actor 0 is \"d\", a gain\n  shfit = 1\n  did you mean \"shift\"?\n  \
+            gain: gain -32768..32767, shift 0..15\n",
+    },
+    Row {
+        graph: "format = 1\nlink = []\n[[actor]]\nname = \"t\"\nkind = \"table\"\nfiel = \"a.toml\"\n",
+        told: "51 UnknownKey actor 0 key fiel\n  \
+            actor 0 is \"t\", a table\n  fiel = \"a.toml\"\n  did you mean \"file\"?\n  \
+            table: offset of 32 bits, values or file: 1..65536 values of 32 bits\n",
+    },
+    Row {
+        graph: "format = 1\nlinks = []\n",
+        told: "51 UnknownKey top key links\n  \
+            links = a list of 0\n  did you mean \"link\"?\n",
+    },
+    Row {
+        graph: "format = 1\nactor = [{ name = \"a\", kind = \"fork\", ways = 2 }]\n\
+            link = [{ form = \"a\", to = \"a\" }]\n",
+        told: "51 UnknownKey link 0 key form\n  \
+            link 0 is ? -> a:0\n  form = \"a\"\n  did you mean \"from\"?\n",
+    },
+    Row {
+        graph: "format = 1\nactor = [{ name = \"half\", kind = \"gain\", gain = 1, shift = 1 }, { name = \"have\",\n\
+            kind = \"fork\", ways = 2 }]\nlink = [{ from = \"hale:0\", to = \"have\" }]\n",
+        told: "57 BadPort link 0 key from\n  \
+            link 0 is hale:0 -> have:0\n  from = \"hale:0\"\n  did you mean \"half\"?\n",
     },
     Row {
         graph: "format = 3\n",

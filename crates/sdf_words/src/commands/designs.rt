@@ -164,8 +164,7 @@ a pipe and do not know the size yet. The sound is read whole before OUT is writt
 pub(super) const JSON: Argument = Argument {
     name: "json",
     help: "Answers in JSON, also of a fault",
-    more: "Answers in JSON: one value on one line in place of the text. A fault is one too, on standard error, but
-for a mistake in the words",
+    more: "Answers in JSON: one value on one line in place of the text. A fault is one too, on standard error",
     given: Given::Switch(Switch {
         against: &["why"],
         value: None,

@@ -1,6 +1,6 @@
 //! The commands that say what the program knows: what each takes, and what its help says.
 
-use super::{Argument, Given, Row, Values};
+use super::{Argument, Given, PLAIN, Row, Values};
 use crate::asked::MOST_FAULT;
 
 const NUMBER: Argument = Argument {
@@ -10,6 +10,13 @@ const NUMBER: Argument = Argument {
     given: Given::Place(Values::Signed(1, MOST_FAULT as i64)),
 };
 
+const JSON: Argument = Argument {
+    name: "json",
+    help: "Answers in JSON, with the ports of each kind",
+    more: "Answers in JSON, with the ports of each kind: one value on one line. A fault is one too, on standard error",
+    given: PLAIN,
+};
+
 pub(super) const ROWS: &[Row] = &[
     Row {
         name: "kinds",
@@ -17,16 +24,17 @@ pub(super) const ROWS: &[Row] = &[
         more: "Lists the kinds of actors, their keys and limits: a line for each kind, and a last one for the keys
 that every actor may have. A number in parentheses stands where the key is absent.",
         schedules: false,
-        arguments: &[],
+        arguments: &[JSON],
         examples: "Examples:
   sdfw kinds
-  sdfw kinds | grep fir",
+  sdfw kinds | grep fir
+  sdfw kinds --json",
     },
     Row {
         name: "explain",
         help: "Says what a fault means and what to do about it",
         more: "Says what a fault means and what to do about it: how its line goes on, within which limits it does
-not come, and a remedy.",
+not come, and a remedy. For fifteen faults of designs it shows lines of a graph file before and after.",
         schedules: false,
         arguments: &[NUMBER],
         examples: "Examples:

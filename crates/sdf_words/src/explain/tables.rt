@@ -58,7 +58,7 @@ pub(super) static MEANINGS: [Meaning; 21] = [
         place: "link C",
         means: "An end of the link names a port that the actor does not have, or an input where an output is needed.",
         limits: "ports 0 to 15, by the actor's kind",
-        remedy: "`from` is an output port, `to` an input port; docs/FORMATS.md lists the ports of each kind.",
+        remedy: "`from` is an output port, `to` an input port; `sdfw kinds --json` lists the ports of each kind.",
     },
     // 21 PortTwice
     Meaning {

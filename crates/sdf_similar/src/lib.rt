@@ -1,7 +1,11 @@
 //! Names that are like a word that is none of them.
+//!
+//! It depends on `strsim` alone, so that the words of the command line and of graph files are measured alike. Begin at
+//! `nearest`; the definitions are in `specs/Similar.antt`.
+#![tactic(auto)]
 
 ghost use Rattle.std.specs.Prelude.{◌≡◌, IfOk, map, option_map};
-ghost use Rattle.sdf_words.specs.Similar.{edit_bound, fewest_edits, first_within, nearest};
+ghost use Rattle.sdf_similar.specs.Similar.{edit_bound, fewest_edits, first_within, nearest};
 
 use std::alloc::{AllocError, Global};
 use strsim::levenshtein;

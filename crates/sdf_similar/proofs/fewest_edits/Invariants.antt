@@ -1,6 +1,6 @@
 use Rattle.std.proofs.Common.{◌≡◌, map, drop}
-use Rattle.sdf_words.specs.Similar.{fewest_edits}
-use Rattle.sdf_words.proofs.similar.fewest_edits.Given as goal
+use Rattle.sdf_similar.specs.Similar.{fewest_edits}
+use Rattle.sdf_similar.proofs.fewest_edits.Given as goal
 
 -- the fewest so far, and then those to the names that are left
 abbrev pub invariant-loop-name : goal.invariant-loop-name

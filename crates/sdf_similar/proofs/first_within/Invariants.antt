@@ -1,6 +1,6 @@
 use Rattle.std.proofs.Common.{◌≡◌, map, drop}
-use Rattle.sdf_words.specs.Similar.{first_within}
-use Rattle.sdf_words.proofs.similar.first_within.Given as goal
+use Rattle.sdf_similar.specs.Similar.{first_within}
+use Rattle.sdf_similar.proofs.first_within.Given as goal
 
 abbrev pub invariant-loop-name : goal.invariant-loop-name
 invariant-loop-name l =

@@ -1,0 +1,78 @@
+-- The ports of each kind.
+use Rattle.std.specs.Prelude.{◌≡◌, ℕ, ◌<◌, ◌==◌, cond, List, [], ◌∷◌, codes, if◌then◌else◌, bytes_eq}
+use Rattle.sdf_actor.specs.declared.node.Node.{Node}
+use Rattle.sdf_actor.specs.declared.sides.Side.TheVariants.{Input, Output}
+use Rattle.sdf_actor.specs.Nets.{inputs_of, outputs_of, cycle_of}
+use Rattle.sdf_actor.specs.Graphs.{rate_of}
+use Rattle.sdf_kit.specs.declared.kit.Kit.{Kit}
+use Rattle.sdf_kit.specs.Kit.{kit_steps}
+use Rattle.sdf_document.specs.declared.row.KindWord.{KindWord}
+use Rattle.sdf_document.specs.declared.row.KindWord.TheVariants as word
+use Rattle.sdf_document.specs.declared.key.KeyValue.{KeyValue}
+use Rattle.sdf_document.specs.Rows.{KeyRow, row_of}
+use Rattle.sdf_document.specs.Kinds.{entry_of, natural, first, rest}
+use Rattle.sdf_file.specs.Designs.{node_of}
+use Rattle.sdf_json.specs.declared.ports.Amount.{Amount}
+use Rattle.sdf_json.specs.declared.ports.Amount.TheVariants.{Zero, One, Block, Up, Down, Factor, Ways, Run}
+use Rattle.sdf_json.specs.declared.ports.PortRow.{PortRow}
+
+-- one phase, and the same at each port of a side
+abbrev pub steady : Amount → Amount → Amount → Amount → PortRow
+steady inputs takes outputs puts =
+    record { inputs = inputs; takes = takes; outputs = outputs; puts = puts; cycle = One }
+
+-- the ports of one side in turn, a run at each
+abbrev pub turned : Amount → Amount → PortRow
+turned inputs outputs = record { inputs = inputs; takes = Run; outputs = outputs; puts = Run; cycle = Ways }
+
+abbrev pub ports_of : KindWord → PortRow
+ports_of word.Input = steady Zero Zero One Block
+ports_of word.Output = steady One Block Zero Zero
+ports_of word.Fir = steady One Down One Up
+ports_of word.Decimate = steady One Factor One One
+ports_of word.Interpolate = steady One One One Factor
+ports_of word.Add = steady Ways One One One
+ports_of word.Fork = steady One One Ways One
+ports_of word.Gain = steady One One One One
+ports_of word.Delay = steady One One One One
+ports_of word.Table = steady One One One One
+ports_of word.Deal = turned One Ways
+ports_of word.Gather = turned Ways One
+ports_of word.Clip = steady One One One One
+ports_of word.Offset = steady One One One One
+
+-- ---- that a kind has them
+
+-- the number at a key, by the keys of a row and their values
+abbrev pub value_of : List ℕ → List KeyRow → List KeyValue → ℕ
+value_of name [] vs = 0
+value_of name (k ∷ ks) vs = if bytes_eq k.name name then natural (first vs) else value_of name ks (rest vs)
+
+abbrev pub amount_in : KindWord → List KeyValue → Amount → ℕ
+amount_in k vs Zero = 0
+amount_in k vs One = 1
+amount_in k vs Block = value_of (codes "block") (row_of k).keys vs
+amount_in k vs Up = value_of (codes "up") (row_of k).keys vs
+amount_in k vs Down = value_of (codes "down") (row_of k).keys vs
+amount_in k vs Factor = value_of (codes "factor") (row_of k).keys vs
+amount_in k vs Ways = value_of (codes "ways") (row_of k).keys vs
+amount_in k vs Run = value_of (codes "run") (row_of k).keys vs
+
+-- what a firing at phase j moves at port p of a side of so many ports: in a cycle of `ways` at one of its `ways` ports
+abbrev pub moved_by : Amount → Amount → ℕ → ℕ → ℕ → ℕ
+moved_by Ways Ways n p j = cond (p == j) n 0
+moved_by cycle ports n p j = n
+
+-- the node of an actor has as many ports on each side and firings in a cycle, and moves as much at each port
+pub record HasPorts (row : PortRow) (amount : Amount → ℕ) (node : Node Kit) : Type 0 where
+  pub inputs : inputs_of kit_steps node ≡ amount row.inputs
+  pub outputs : outputs_of kit_steps node ≡ amount row.outputs
+  pub cycle : cycle_of kit_steps node ≡ amount row.cycle
+  pub takes : (p j : ℕ) → p < amount row.inputs →
+      rate_of kit_steps Input node p j ≡ moved_by row.cycle row.inputs (amount row.takes) p j
+  pub puts : (p j : ℕ) → p < amount row.outputs →
+      rate_of kit_steps Output node p j ≡ moved_by row.cycle row.outputs (amount row.puts) p j
+
+abbrev pub KindsHaveTheirPorts : Type 0
+KindsHaveTheirPorts = (k : KindWord) (vs : List KeyValue) →
+    HasPorts (ports_of k) (amount_in k vs) (node_of (entry_of k vs))
