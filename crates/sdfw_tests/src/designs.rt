@@ -167,3 +167,10 @@ link = [{ from = "in", to = "deal" }, { from = "deal:0", to = "left" }, { from =
 pub(crate) const PLAIN: &str = r#"format = 1
 actor = [{ name = "in", kind = "input", channel = 0 }, { name = "out", kind = "output", channel = 0 }]
 link = [{ from = "in", to = "out" }]"#;
+
+/// Blocks of 1,024 samples to blocks of 1,023, by one worker. In runs the source fires 1,023 times, then the sink: all
+/// 1,047,552 samples of a period stand on the link.
+pub(crate) const LONG: &str = r#"format = 1
+actor = [{ name = "in", kind = "input", channel = 0, block = 1024, processor = 0 },
+    { name = "out", kind = "output", channel = 0, block = 1023, processor = 0 }]
+link = [{ from = "in", to = "out" }]"#;

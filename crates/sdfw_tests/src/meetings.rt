@@ -1,7 +1,7 @@
 //! What workers do between a file and a file, seen by gates: the runner is the one that was asked for, and each worker
 //! runs as far ahead of the others as its plan says.
 
-use crate::designs::{DEALT, PAIR, PLAIN, SUM};
+use crate::designs::{DEALT, LONG, PAIR, PLAIN, SUM};
 use crate::running::Samples::{Counted, These};
 use crate::running::{Samples, row_makes, run_gated, sound};
 use sdf_options::{Options, Placement, Policy, Runner};
@@ -34,6 +34,16 @@ const PATIENT: Options = Options {
     ..Options::DEFAULT
 };
 
+const PATIENT_ROWS: Options = Options {
+    runner: Runner::Rows,
+    ..PATIENT
+};
+
+const PATIENT_RINGS: Options = Options {
+    runner: Runner::Rings,
+    ..PATIENT
+};
+
 const BLOCKS_OF_FOUR: Options = Options {
     workers: 2,
     blocking: 4,
@@ -46,6 +56,14 @@ const SPREAD_OUT: Options = Options {
     policy: Policy::Runs,
     placement: Placement::Spread,
     runner: Runner::Rings,
+    ..Options::DEFAULT
+};
+
+/// One worker, by the file.
+const BY_ROWS_IN_RUNS: Options = Options {
+    policy: Policy::Runs,
+    placement: Placement::File,
+    runner: Runner::Rows,
     ..Options::DEFAULT
 };
 
@@ -164,7 +182,30 @@ const BY_THE_FILE: Row = Row {
     ..SPREAD
 };
 
+/// Over 1,000,000 frames, which are one block and stand on one link.
+const LONG_BLOCK: Row = Row {
+    name: "over 1,000,000 samples by rows, for memory that is said to be wanted",
+    graph: LONG,
+    actors: 2,
+    options: BY_ROWS_IN_RUNS,
+    samples: Counted(1_047_552),
+    filled: &[true],
+    hold: NOTHING,
+    told: "0 in vain, 0 odd, [[1023, 0], [1024, 0]]",
+    ..TWO_GAINS
+};
+
 const ROWS: &[Row] = &[
+    LONG_BLOCK,
+    Row {
+        name: "over 1,000,000 samples over rings, for memory that is said to be wanted",
+        options: Options {
+            runner: Runner::Rings,
+            ..BY_ROWS_IN_RUNS
+        },
+        filled: &[false],
+        ..LONG_BLOCK
+    },
     Row {
         name: "firings of a row meet",
         options: Options {
@@ -185,19 +226,13 @@ const ROWS: &[Row] = &[
     },
     Row {
         name: "over rings a worker is in the next block while another is in this one",
-        options: Options {
-            runner: Runner::Rings,
-            ..PATIENT
-        },
+        options: PATIENT_RINGS,
         told: "0 in vain, 0 odd, [[6, 0], [0, 4], [2, 0], [0, 2]]",
         ..TWO_BLOCKS
     },
     Row {
         name: "by rows no worker is in the next block while another is in this one",
-        options: Options {
-            runner: Runner::Rows,
-            ..PATIENT
-        },
+        options: PATIENT_ROWS,
         in_vain: true,
         told: "1 in vain, 0 odd, [[6, 0], [0, 4], [2, 0], [0, 2]]",
         ..TWO_BLOCKS
@@ -209,28 +244,19 @@ const ROWS: &[Row] = &[
     },
     Row {
         name: "by rows each firing passes on its worker, in feeds, of which the last numbers anew",
-        options: Options {
-            runner: Runner::Rows,
-            ..PATIENT
-        },
+        options: PATIENT_ROWS,
         told: "0 in vain, 7 odd, [[9, 0], [0, 6], [3, 0], [0, 3]]",
         ..THREE_BLOCKS
     },
     Row {
         name: "over rings each firing passes on its worker, in feeds, of which the last numbers anew",
-        options: Options {
-            runner: Runner::Rings,
-            ..PATIENT
-        },
+        options: PATIENT_RINGS,
         told: "0 in vain, 7 odd, [[9, 0], [0, 6], [3, 0], [0, 3]]",
         ..THREE_BLOCKS
     },
     Row {
         name: "`left` meets the second firing of `deal` in a row",
-        options: Options {
-            runner: Runner::Rows,
-            ..PATIENT
-        },
+        options: PATIENT_ROWS,
         hold: Hold {
             held: &[2],
             awaited: &[1],
@@ -242,10 +268,7 @@ const ROWS: &[Row] = &[
     },
     Row {
         name: "over rings `right` begins after `left`, whose worker looks at its neighbour",
-        options: Options {
-            runner: Runner::Rings,
-            ..PATIENT
-        },
+        options: PATIENT_RINGS,
         hold: Hold {
             held: &[3],
             awaited: &[2],
@@ -387,7 +410,8 @@ fn is_told<T: Threads + AllocGlobal + Sync>(rt: &T, row: &Row) -> Result<(), Fai
 }
 
 /// Refuses one thread where workers were asked for, also where one was, a block too many, and rings that take more than
-/// a block.
+/// a block; and memory that is refused where there is plenty, as for over 1,000,000 frames on one thread or by workers,
+/// or for a channel with room for as many.
 #[test]
 fn what_gates_see(rt: HostRuntime) -> Result<(), Fail> {
     for row in ROWS {
