@@ -44,6 +44,7 @@ PRINTED = [
     ("analyze --json", ["analyze", "blocks.toml", "--json"]),
     ("analyze --compare --json", ["analyze", "blocks.toml", "--compare", "--json"]),
     ("kinds", ["kinds"]),
+    ("kinds --json", ["kinds", "--json"]),
     ("explain", ["explain", "10"]),
     ("help", ["help"]),
     ("--help", ["--help"]),
