@@ -94,9 +94,11 @@ times:
 allocations:
 	scripts/allocations
 
-# Seconds and memory on noise, in turn with C, and with sox and ffmpeg where they are installed (needs python3 and gcc).
+# Seconds and memory on noise, in turn with C, and with sox and ffmpeg where they are installed (needs python3 and gcc);
+# then what `run --parallel` gains, beside four copies of one thread at once.
 bench: build
 	python3 bench/run.py
+	python3 bench/parallel.py
 
 # Memory, reads, writes and threads refused, one call at a time, devices that fail, and workers that are held up
 # (needs python3 and gcc).
