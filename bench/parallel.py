@@ -7,7 +7,7 @@ four workers. Bytes that differ are said. It asserts nothing.
 
     bench/parallel.py [--program FILE] [--rounds N] [--seconds N ..] [WORD ..]    designs whose names hold a word
 """
-import argparse, importlib.util, os, pathlib, subprocess, sys, tempfile, time
+import argparse, importlib.util, pathlib, subprocess, sys, tempfile, time
 
 TOP = pathlib.Path(__file__).resolve().parent.parent
 COPIES = 4
@@ -24,21 +24,16 @@ def shared():
 
 
 def timed(commands):
-    """The seconds until all commands, begun at once, have ended, and the greatest memory of one in kilobytes."""
-    began, most = time.perf_counter(), 0
+    """The seconds until all commands, begun at once, have ended."""
+    began = time.perf_counter()
     running = [subprocess.Popen(command) for command in commands]
-    for process in running:
-        _, status, used = os.wait4(process.pid, 0)
-        process.returncode = os.waitstatus_to_exitcode(status)
-        most = max(most, used.ru_maxrss)
-    took = time.perf_counter() - began
-    if any(process.returncode for process in running):
+    if any([process.wait() for process in running]):
         sys.exit(f"{commands[0]} failed")
-    return took, most
+    return time.perf_counter() - began
 
 
 def measured(program, graph, sound, folder, rounds):
-    """For each way the least seconds and the greatest memory, and whether all wrote the same bytes."""
+    """For each way the least seconds, whether all wrote the same bytes, and the command of four workers."""
     ways = {"one": ([], 1), "1": (["--parallel", "1"], 1), "2": (["--parallel", "2"], 1),
             "4": (["--parallel", "4"], 1), "copies": ([], COPIES)}
     seen, made = {way: [] for way in ways}, {}
@@ -48,8 +43,8 @@ def measured(program, graph, sound, folder, rounds):
             commands = [[program, "run", str(graph), str(sound), str(out), *words] for out in outs]
             seen[way].append(timed(commands))
             made[way] = outs[0].read_bytes()
-    least = {way: (min(took for took, _ in runs), max(size for _, size in runs)) for way, runs in seen.items()}
-    return least, len(set(made.values())) == 1
+    words = [program, "run", str(graph), str(sound), str(folder / "4-0.wav"), *ways["4"][0]]
+    return {way: min(runs) for way, runs in seen.items()}, len(set(made.values())) == 1, words
 
 
 def main():
@@ -78,11 +73,12 @@ def main():
                     continue
                 sound = folder / "sound.wav"
                 run.noise(sound, seconds, channels, 0)
-                least, same = measured(asked.program, graph, sound, folder, asked.rounds)
-                one, four = least["one"][0], least["4"][0]
-                columns = [f"{least[way][0]:.3f}" for way in ("one", "1", "2", "4")]
-                copies = COPIES * one / least["copies"][0]
-                size = f"{least['4'][1] / 1024:.1f} MB"
+                least, same, words = measured(asked.program, graph, sound, folder, asked.rounds)
+                one, four = least["one"], least["4"]
+                columns = [f"{least[way]:.3f}" for way in ("one", "1", "2", "4")]
+                copies = COPIES * one / least["copies"]
+                _, memory = run.run(run.compiled(folder, "measure"), words)
+                size = f"{memory / 1024:.1f} MB"
                 print(f"| {name}, {seconds:g} | {' | '.join(columns)} | {one / four:.2f} | {copies:.2f} | {size} |"
                       f"{'' if same else ' OTHER BYTES'}", flush=True)
 
