@@ -192,7 +192,8 @@ module _ (n : Netlist Kit ℤ) (p : Schedule) (j : ℕ) (v : SessionValue Kit (L
         next = follows.lists ∙ (ap (λ (e : Exchange). lists_from 0 y.periods e y.input.now) (sym can_put.exchange)
             ∙ sym given)
 
-        after_both : StandsAfter kit_steps w (few + blocks) (lists_to ((few + blocks) * j) x s) (join follows.stands.made on)
+        after_both : StandsAfter kit_steps w (few + blocks) (lists_to ((few + blocks) * j) x s)
+            (join follows.stands.made on)
         after_both = fed.stands few (lists_to (few * j) x s) (lists_to ((few + blocks) * j) x s) follows.stands.made
             (join follows.stands.made on) (session_stands n p j v by s few (few * j * x.made) bytes follows.stands)
             (subst (λ (g : List (List ℤ)). AreJoined (lists_to (few * j) x s) g
@@ -206,7 +207,8 @@ module _ (n : Netlist Kit ℤ) (p : Schedule) (j : ℕ) (v : SessionValue Kit (L
         run_both : HasRun kit_steps n (lists_to ((few + blocks) * j) x s) (firings p.repetitions ((few + blocks) * j))
             (join follows.stands.made on) after_both.rest
         run_both = from_session n p j w (feeds_still n p j v by w (found.0) inputs on rounds found.1)
-            (λ m z k. HasRun kit_steps m (lists_to ((few + blocks) * j) x s) (firings z.repetitions ((few + blocks) * k))
+            (λ m z k. HasRun kit_steps m (lists_to ((few + blocks) * j) x s)
+            (firings z.repetitions ((few + blocks) * k))
             (join follows.stands.made on) after_both.rest) after_both.run
 
 -- ---- a session that was fed nothing

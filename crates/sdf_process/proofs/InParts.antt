@@ -25,7 +25,8 @@ use Rattle.sdf_split.proofs.Lists.{joined_is, joined_long}
 use Rattle.sdf_wav.specs.PiecesOut.{Owed}
 use Rattle.sdf_wav.specs.Sound.{Sound}
 use Rattle.sdf_process.specs.declared.exchange.Exchange.{Exchange}
-use Rattle.sdf_process.specs.Output.{exchange_of, channel_samples_from, in_turn, interleaved, lists_from, lists_to, sample}
+use Rattle.sdf_process.specs.Output.{exchange_of, channel_samples_from, in_turn, interleaved, lists_from, lists_to}
+use Rattle.sdf_process.specs.Output.{sample}
 use Rattle.sdf_process.proofs.Played.{AllLong, frames_on_join, from_at, lists_full, lists_joined, made_long}
 use Rattle.sdf_process.proofs.InTurn.{in_turn_more}
 use Rattle.sdf_process.proofs.Lists.{length-lists}
@@ -209,7 +210,8 @@ module _ (can : NetsCanRun kit_steps) (ports : PortsHaveChannels kit_steps) (n :
       (o : Owed) → o.channels ≡ x.outputs → many * x.made ≤ o.missing → IsInParts ps last o
   in_parts {Z} y same ms ps are last goes o channels room =
       let own = subst (λ (z : Exchange). GoesOnInParts kit_steps n q (lists_from 0 many z input)
-      (λ periods outputs (m : Vec ℤ Z). m.items ≡ interleaved (periods * z.made) outputs) rest many ms last) same goes in
+      (λ periods outputs (m : Vec ℤ Z). m.items ≡ interleaved (periods * z.made) outputs) rest many ms
+      last) same goes in
       let parts = subst (λ (l : List (List ℤ)). HasParts kit_steps n q l
       (λ periods outputs (m : Vec ℤ Z). m.items ≡ interleaved (periods * x.made) outputs) rest many own.outputs ms)
       (sym given) own.parts in

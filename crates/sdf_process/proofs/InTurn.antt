@@ -11,7 +11,8 @@ use Rattle.std.proofs.lemmas.List.Folds.{length-flat_map-take}
 use Rattle.sdf_process.specs.Output.{in_turn}
 
 pub in_turn_more : (xs : List (List ℤ)) (y : List ℤ) → in_turn (xs ++ y ∷ []) ≡ in_turn xs ++ y
-in_turn_more xs y = flat_map-append (λ (l : List ℤ). l) xs (y ∷ []) ∙ ap (λ (l : List ℤ). in_turn xs ++ l) (append-nil y)
+in_turn_more xs y = flat_map-append (λ (l : List ℤ). l) xs (y ∷ [])
+    ∙ ap (λ (l : List ℤ). in_turn xs ++ l) (append-nil y)
 
 module _ (xs : List (List ℤ)) (i : ℕ) (within : i < length xs) where
   -- one list more

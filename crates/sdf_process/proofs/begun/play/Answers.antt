@@ -18,7 +18,8 @@ returns-in_err-player g c =
     c.in_err-player.field-0.0 c.from_residual.result c.from_residual.ensures.1
     (unopened n q c.args.begun.source (g.R.Reader.remaining c.args.reader.now)
     (g.W.Writer.contents c.args.writer.now) (g.R.Reader.failures c.args.reader.now)
-    (g.W.Writer.failures c.args.writer.now) c.in_err-player.field-0.0 c.in_err-player.field-0.0 c.in_err-player.ensures.player refl)
+    (g.W.Writer.failures c.args.writer.now) c.in_err-player.field-0.0 c.in_err-player.field-0.0
+    c.in_err-player.ensures.player refl)
 
 pub open-requires-clause-taken : goal.open-requires-clause-taken
 open-requires-clause-taken g c =

@@ -18,7 +18,8 @@ returns-in_err-session g c =
     c.in_err-session.field-0.0 c.from_residual.result c.from_residual.ensures.1
     (unopened n q c.args.begun.source (g.R.Reader.remaining c.args.reader.now)
     (g.W.Writer.contents c.args.writer.now) (g.R.Reader.failures c.args.reader.now)
-    (g.W.Writer.failures c.args.writer.now) c.in_err-session.field-0.0 c.in_err-session.field-0.0 c.in_err-session.ensures.stands refl)
+    (g.W.Writer.failures c.args.writer.now) c.in_err-session.field-0.0 c.in_err-session.field-0.0
+    c.in_err-session.ensures.stands refl)
 
 pub run_stream-requires-clause-opened : goal.run_stream-requires-clause-opened
 run_stream-requires-clause-opened g c κs within =

@@ -8,7 +8,8 @@ use Rattle.sdf_process.specs.Output.{exchange_of}
 use Rattle.sdf_process.specs.Sources.{reading_of}
 use Rattle.sdf_process.specs.Streams.{PutsBlocks, Streams, left_by}
 use Rattle.sdf_process.proofs.Flow.{can_flow, ready_first}
-use Rattle.sdf_process.proofs.Flowing.{asks_enough, ended, ended_whole, flows_first, flows_on, held_few, kept_held, kept_here}
+use Rattle.sdf_process.proofs.Flowing.{asks_enough, ended, ended_whole, flows_first, flows_on, held_few, kept_held}
+use Rattle.sdf_process.proofs.Flowing.{kept_here}
 use Rattle.sdf_process.proofs.Flowing.{held_missing, held_whole, kept_whole, puts_held, putting_failed, taking_failed}
 use Rattle.sdf_process.proofs.Flowing.{short, single_missing, sized, unspoilt}
 use Rattle.sdf_process.proofs.Pieces.{run_fails}
@@ -156,7 +157,8 @@ returns-in_err-kept g c =
     c.min-many.result (search rules) (g.R.Reader.remaining c.take.new.reader)
     (g.R.Reader.failures c.take.new.reader) c.take.new.self c.in_ok-samples.samples.items more
     (g.W.Writer.contents c.put_whole.new.writer) (g.W.Writer.failures c.put_whole.new.writer)
-    c.put_whole.new.self.output (left_by c.put_whole.new.self.runner) c.in_err-kept.field-0.0 c.in_err-kept.field-0.0 refl
+    c.put_whole.new.self.output (left_by c.put_whole.new.self.runner) c.in_err-kept.field-0.0
+    c.in_err-kept.field-0.0 refl
     (puts_held c.args.begun.source at.can at.within at.flows
     c.min-many.result (search rules) (g.R.Reader.remaining c.take.new.reader)
     (g.R.Reader.failures c.take.new.reader) c.take.new.self c.in_ok-samples.samples.items more

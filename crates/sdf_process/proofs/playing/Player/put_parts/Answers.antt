@@ -90,7 +90,8 @@ returns-in_err-put_in_turn-clause-puts g c = λ j s few blocks bytes follows.
     run_fails (λ (r : Result (Unit {0}) Fault). PutsBlocks n p j s few blocks y.frames bytes
     (g.W.Writer.contents c.args.writer.now) (g.W.Writer.contents c.put_in_turn.new.writer)
     (g.W.Writer.failures c.args.writer.now) (g.W.Writer.failures c.put_in_turn.new.writer) (Some c.in_ok-parts.last) r)
-    c.in_err-put_in_turn.field-0.0 c.from_residual-in_err-put_in_turn.result c.from_residual-in_err-put_in_turn.ensures.1
+    c.in_err-put_in_turn.field-0.0 c.from_residual-in_err-put_in_turn.result
+    c.from_residual-in_err-put_in_turn.ensures.1
     (blocks_put puts_join (nets_can_run kit_steps) (ports_have_channels kit_steps) n p can.has j s few blocks
     bytes (Some v.rest) follows.stands h.outputs h.goes.count c.in_ok-parts.last
     (plays_on n p j s few blocks bytes v.rest c.in_ok-parts.last y follows h.outputs h.goes)

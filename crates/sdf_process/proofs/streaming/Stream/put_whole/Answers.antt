@@ -9,7 +9,8 @@ use Rattle.sdf_process.specs.Streams.{left_by}
 use Rattle.sdf_process.proofs.Contents.{sound_made, sound_refused}
 use Rattle.sdf_process.proofs.Refusals.{fails_by}
 use Rattle.sdf_process.proofs.Sizes.{blocks_there, frames_small, no_block, periods_small, periods_there, rest_short}
-use Rattle.sdf_process.proofs.Streamed.{can_put, kept_follows, ready_on, whole_failed, whole_none, whole_put, writes_whole}
+use Rattle.sdf_process.proofs.Streamed.{can_put, kept_follows, ready_on, whole_failed, whole_none, whole_put}
+use Rattle.sdf_process.proofs.Streamed.{writes_whole}
 use Rattle.sdf_process.proofs.streaming.Stream.put_whole.Goals as goal
 
 pub returns-then-blocks-eq0-clause-puts : goal.returns-then-blocks-eq0-clause-puts
