@@ -176,7 +176,7 @@ def makes_all(more):
 
 
 def at_once(workers):
-    """Whether so many parts are at work at the same time, one of them on the first thread."""
+    """Whether `workers` parts are at work at the same time, one of them on the first thread."""
     together = widened(["--parallel", str(workers)]).together()
     return True if together == workers - 1 else f"{together} threads at work at the same time"
 

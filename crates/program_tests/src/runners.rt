@@ -51,7 +51,7 @@ fn told<T: Threads + AllocGlobal + Clock + Clone + Drop + Sync>(
     Ok(format!(in alloc; "{status} {} {front} {err}", made.len())?)
 }
 
-/// The name of a row, how many of 300,000 frames are there, the words behind the program's name, and what is told.
+/// The name of a row, how many of 300,000 frames are there, the words behind the program's name, and the answer.
 type Row = (&'static str, u32, &'static str, &'static str);
 
 const ROWS: &[Row] = &[

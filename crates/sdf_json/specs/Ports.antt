@@ -58,12 +58,12 @@ amount_in k vs Factor = value_of (codes "factor") (row_of k).keys vs
 amount_in k vs Ways = value_of (codes "ways") (row_of k).keys vs
 amount_in k vs Run = value_of (codes "run") (row_of k).keys vs
 
--- what a firing at phase j moves at port p of a side of so many ports: in a cycle of `ways` at one of its `ways` ports
+-- the samples that a firing at phase j moves at port p of a side: in a cycle of `ways` at one of its `ways` ports
 abbrev pub moved_by : Amount → Amount → ℕ → ℕ → ℕ → ℕ
 moved_by Ways Ways n p j = cond (p == j) n 0
 moved_by cycle ports n p j = n
 
--- the node of an actor has as many ports on each side and firings in a cycle, and moves as much at each port
+-- the node of an actor has the ports and the firings of the row, and moves its samples at each port
 pub record HasPorts (row : PortRow) (amount : Amount → ℕ) (node : Node Kit) : Type 0 where
   pub inputs : inputs_of kit_steps node ≡ amount row.inputs
   pub outputs : outputs_of kit_steps node ≡ amount row.outputs

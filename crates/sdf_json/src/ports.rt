@@ -19,8 +19,8 @@ pub enum Amount {
     Run,
 }
 
-/// The ports of a kind on each side, the samples that a firing moves at each, and the firings of a cycle. A side with
-/// as many ports as a cycle has firings, more than one, is served in turn: each firing moves samples at one port.
+/// The ports of a kind on each side, the samples that a firing moves at each, and the firings of a cycle. If a cycle
+/// has more than one firing, a side with that number of ports is served in turn: each firing moves samples at one port.
 #[derive(Clone, Copy, Debug, PartialEq, Eq)]
 pub struct PortRow {
     pub inputs: Amount,

@@ -1,4 +1,4 @@
--- The laws of WAV files that a run stands on.
+-- The laws of WAV files, as runs use them.
 use Rattle.sdf_wav.proofs.Theorems.{files_are_canonical, files_open, not_both, one_fault, one_sound, pieces_end}
 use Rattle.sdf_wav.proofs.Theorems.{puts_join}
 use Rattle.sdf_process.specs.Stages.{WavLaws}

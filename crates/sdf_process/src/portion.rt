@@ -1,4 +1,4 @@
-//! The periods of a sound that a run is fed at a time: what is read of them, and the frames that are made.
+//! A portion of a sound, some periods long: the lists that are read from it, and the frames that are made of it.
 
 ghost use Rattle.std.specs.Prelude.{◌≡◌, ◌*◌, ◌≤◌, ◌<◌, ℕ, [], length, slice_index_or, IfOk};
 ghost use Rattle.sdf_actor.specs.Wires.{lists as items_of};

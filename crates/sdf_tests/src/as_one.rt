@@ -131,7 +131,7 @@ const CONVERTERS: &[Row] = &[
     },
 ];
 
-/// Holds each `every`-th firing of an actor until the next one comes, whatever worker's it is, or for so many turns.
+/// Holds each `every`-th firing of an actor until the next one comes, whatever worker's it is, or for `turns` turns.
 #[derive(Drop)]
 struct UntilAnother {
     every: u64,

@@ -82,7 +82,7 @@ fn all_passed(rt: &impl Abort, name: &str, watch: &Watch, table: &Table, blocks:
     }
 }
 
-/// A table for so many workers, free or homed, or for three, of which this one has all firings, in runs.
+/// A table for a number of workers, free or homed, or for three, of which this one has all firings, in runs.
 #[derive(Clone, Copy)]
 enum Kind {
     Free(usize),
