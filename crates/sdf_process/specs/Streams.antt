@@ -157,6 +157,20 @@ PutsBlocks n p j s few blocks frames bytes before after w w' v (Err f) =
     × (w' ≡ one_more w)))
     ⊎ ((f ≡ OutOfMemory) × Keeps before after × (w' ≡ w))
 
+-- ---- a player that plays the next portion
+
+-- it can: the portion follows what it played
+abbrev pub CanPutNext : Player → Owed → Portion → Type 0
+CanPutNext v o y = (j : ℕ) × CanPut v.net.now v.period.now j o y
+    × IsFollowed v.net.now v.period.now j (Some v.rest) y
+
+-- and then, whatever sound it played, its next blocks were put
+abbrev pub PutsNext : Player → Player → Portion → Option (List ℕ) → Option (List ℕ) → ℕ → ℕ →
+    Result (Unit {0}) Fault → Type 0
+PutsNext v now y before after w w' result = (j : ℕ) (s : Sound) (few blocks : ℕ) (bytes : List ℕ) →
+    Follows v.net.now v.period.now j s few blocks bytes (Some v.rest) y →
+    PutsBlocks v.net.now v.period.now j s few blocks y.frames bytes before after w w' (Some now.rest) result
+
 -- samples in which so many periods stand, and the others behind them
 abbrev pub AreBehind : Exchange → Reading → List ℤ → ℕ → List ℤ → Type 0
 AreBehind x c samples periods kept = (periods * x.taken * c.channels ≤ length samples)

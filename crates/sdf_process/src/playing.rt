@@ -1,17 +1,16 @@
 //! A net that plays a sound some periods at a time, on one thread or in parts at once. It holds what the periods before
 //! left, and their memory, which it uses again.
 
-ghost use Rattle.std.specs.Prelude.{◌≡◌, ◌-◌, ◌*◌, ◌^◌, ◌≤◌, ◌<◌, ℕ, List, [], IfOk, IfSome, IfNone, MatchResult, Some};
+ghost use Rattle.std.specs.Prelude.{◌≡◌, ◌-◌, ◌*◌, ◌≤◌, ◌<◌, [], IfOk, IfSome, IfNone, MatchResult, Some};
 ghost use Rattle.sdf_actor.specs.Wires.{lists as items_of};
 ghost use Rattle.sdf_answer.specs.Feeds.{GoesOnBy};
 ghost use Rattle.sdf_fission.specs.WarmUps.{IsLasting, WarmsIn};
 ghost use Rattle.sdf_kit.specs.Kit.{kit_steps};
 ghost use Rattle.sdf_plan.specs.declared.fault.Fault.TheVariants.{OutOfMemory};
-ghost use Rattle.sdf_sched.specs.Period.{Schedule};
 ghost use Rattle.sdf_wav.specs.Sound.{Sound};
 ghost use Rattle.sdf_process.specs.declared.playing.Cut.{Cut};
 ghost use Rattle.sdf_process.specs.Output.{exchange_of, lists_from, IsExchange};
-ghost use Rattle.sdf_process.specs.Streams.{CanPlay, CanPut, Follows, IsFollowed, PutsBlocks, StandsAt, StaysPlayer};
+ghost use Rattle.sdf_process.specs.Streams.{CanPlay, CanPutNext, PutsNext, StandsAt, StaysPlayer};
 ghost use Rattle.sdf_process.specs.Tasks.{IsCut, IsPlayer, IsScore};
 
 use crate::exchange::Exchange;
@@ -168,13 +167,10 @@ impl<'a> Player<'a> {
         portion: Portion<'_>,
     ) -> Result<(), Fault>
         requires player { IsPlayer self.old }
-        requires can { (j : ℕ) × CanPut self.old.net.now self.old.period.now j output.old portion
-            × IsFollowed self.old.net.now self.old.period.now j (Some self.old.rest) portion }
+        requires can { CanPutNext self.old output.old portion }
         requires all { portion.frames ≡ portion.periods * portion.exchange.made }
-        ensures puts { let o = self.old in (j : ℕ) (s : Sound) (few blocks : ℕ) (bytes : List ℕ) →
-            Follows o.net.now o.period.now j s few blocks bytes (Some o.rest) portion.entry →
-            PutsBlocks o.net.now o.period.now j s few blocks portion.entry.frames bytes (W.contents writer.old)
-            (W.contents writer.new) (W.failures writer.old) (W.failures writer.new) (Some self.new.rest) result }
+        ensures puts { PutsNext self.old self.new portion.entry (W.contents writer.old) (W.contents writer.new)
+            (W.failures writer.old) (W.failures writer.new) result }
         ensures owed { IfOk result (λ x. output.new ≡
             record output.old { missing = output.old.missing - portion.entry.frames }) }
         ensures stays { StaysPlayer self.old self.new }
@@ -195,14 +191,11 @@ impl<'a> Player<'a> {
         cut: Cut,
     ) -> Result<(), Fault>
         requires player { IsPlayer self.old }
-        requires can { (j : ℕ) × CanPut self.old.net.now self.old.period.now j output.old portion
-            × IsFollowed self.old.net.now self.old.period.now j (Some self.old.rest) portion }
+        requires can { CanPutNext self.old output.old portion }
         requires all { portion.frames ≡ portion.periods * portion.exchange.made }
         requires warm { WarmsIn kit_steps self.old.net.now self.old.period.now.repetitions cut.warm }
-        ensures puts { let o = self.old in (j : ℕ) (s : Sound) (few blocks : ℕ) (bytes : List ℕ) →
-            Follows o.net.now o.period.now j s few blocks bytes (Some o.rest) portion.entry →
-            PutsBlocks o.net.now o.period.now j s few blocks portion.entry.frames bytes (W.contents writer.old)
-            (W.contents writer.new) (W.failures writer.old) (W.failures writer.new) (Some self.new.rest) result }
+        ensures puts { PutsNext self.old self.new portion.entry (W.contents writer.old) (W.contents writer.new)
+            (W.failures writer.old) (W.failures writer.new) result }
         ensures owed { IfOk result (λ x. output.new ≡
             record output.old { missing = output.old.missing - portion.entry.frames }) }
         ensures stays { StaysPlayer self.old self.new }
@@ -237,13 +230,10 @@ impl<'a> Player<'a> {
         portion: Portion<'_>,
     ) -> Result<(), Fault>
         requires player { IsPlayer self.old }
-        requires can { (j : ℕ) × CanPut self.old.net.now self.old.period.now j output.old portion
-            × IsFollowed self.old.net.now self.old.period.now j (Some self.old.rest) portion }
+        requires can { CanPutNext self.old output.old portion }
         requires all { portion.frames ≡ portion.periods * portion.exchange.made }
-        ensures puts { let o = self.old in (j : ℕ) (s : Sound) (few blocks : ℕ) (bytes : List ℕ) →
-            Follows o.net.now o.period.now j s few blocks bytes (Some o.rest) portion.entry →
-            PutsBlocks o.net.now o.period.now j s few blocks portion.entry.frames bytes (W.contents writer.old)
-            (W.contents writer.new) (W.failures writer.old) (W.failures writer.new) (Some self.new.rest) result }
+        ensures puts { PutsNext self.old self.new portion.entry (W.contents writer.old) (W.contents writer.new)
+            (W.failures writer.old) (W.failures writer.new) result }
         ensures owed { IfOk result (λ x. output.new ≡
             record output.old { missing = output.old.missing - portion.entry.frames }) }
         ensures stays { StaysPlayer self.old self.new }
