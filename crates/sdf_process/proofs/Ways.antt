@@ -21,7 +21,7 @@ use Rattle.sdf_process.specs.Sources.{reading_of, Takes, TakesAll}
 use Rattle.sdf_process.specs.Stages.{PutsOutput}
 use Rattle.sdf_process.specs.Streams.{FeedsBy, StandsAt, Streams}
 use Rattle.sdf_process.specs.Tasks.{IsBegun, IsShared}
-use Rattle.sdf_process.proofs.Flow.{allowed_lower, whole_size}
+use Rattle.sdf_process.proofs.Came.{allowed_lower, whole_size}
 use Rattle.sdf_process.proofs.Opened.{frames_known}
 use Rattle.sdf_process.proofs.Taken.{heard_puts, taken_whole, unheard_sound, whole_streams}
 
