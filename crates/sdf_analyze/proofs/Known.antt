@@ -2,7 +2,7 @@
 use Rattle.std.proofs.Common.{ℕ, List, ◌∷◌, [], ◌++◌, slice_index, subst}
 use Rattle.std.specs.List.{Contains}
 use Rattle.std.proofs.lemmas.List.Elements.{All-push}
-use Rattle.sdf_graph.specs.Laws.{OneLeastPeriod}
+use Rattle.sdf_graph.proofs.Theorems.{one_least_period}
 use Rattle.sdf_sched.specs.Period.{Schedule, IsPeriodOf}
 use Rattle.sdf_prec.specs.Blocks.{block}
 use Rattle.sdf_times.specs.Times.{IsSpan}
@@ -20,11 +20,11 @@ module _ (d : DesignValue) (known : List BlockSpan) (are : AreSpans d known) whe
       (are at.0 (record { periods = periods; span = span }) at.1 s is)
 
   -- one span more
-  pub known_more : OneLeastPeriod → (periods span : ℕ) (s : Schedule) → IsPeriodOf (rates_of d) s →
+  pub known_more : (periods span : ℕ) (s : Schedule) → IsPeriodOf (rates_of d) s →
       IsSpan (rates_of d) (firings_of periods s) (slice_index d.costs) span →
       AreSpans d (known ++ record { periods = periods; span = span } ∷ [])
-  known_more one periods span s is its = All-push (λ (b : BlockSpan). (s : Schedule) → IsPeriodOf (rates_of d) s →
+  known_more periods span s is its = All-push (λ (b : BlockSpan). (s : Schedule) → IsPeriodOf (rates_of d) s →
       IsSpan (rates_of d) (firings_of b.periods s) (slice_index d.costs) b.span) known
       (record { periods = periods; span = span }) are
       (λ t other. subst (λ reps. IsSpan (rates_of d) (slice_index (block periods reps)) (slice_index d.costs) span)
-      (one (rates_of d) s.repetitions t.repetitions is.least other.least) its)
+      (one_least_period (rates_of d) s.repetitions t.repetitions is.least other.least) its)

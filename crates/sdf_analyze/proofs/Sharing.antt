@@ -2,7 +2,7 @@
 use Rattle.std.proofs.Common.{◌≡◌, ◌≢◌, ℕ, List, slice_index, refl, sym, subst}
 use Rattle.std.specs.List.{All, Contains}
 use Rattle.sdf_graph.specs.Rates.{Rates, rates}
-use Rattle.sdf_graph.specs.Laws.{OneLeastPeriod}
+use Rattle.sdf_graph.proofs.Theorems.{one_least_period}
 use Rattle.sdf_actor.specs.Graphs.{graph_of}
 use Rattle.sdf_kit.specs.Kit.{kit_steps}
 use Rattle.sdf_sched.specs.Period.{Schedule}
@@ -72,7 +72,7 @@ figures_stay r cost j m s order t f are = record {
   held = are.held;
 }
 
-module _ (one : OneLeastPeriod) (d : DesignValue) (o : Options) (other : Policy) (s : Schedule)
+module _ (d : DesignValue) (o : Options) (other : Policy) (s : Schedule)
     (scheduled : IsScheduleBy other (graph_of kit_steps d.net) s) where
   abbrev by_other : Options
   by_other = record o { policy = other }
@@ -82,7 +82,8 @@ module _ (one : OneLeastPeriod) (d : DesignValue) (o : Options) (other : Policy)
       IsScheduleBy other (graph_of kit_steps d.net) (reordered period s.order)
   as_often policy period is =
       subst (λ q. IsScheduleBy other (graph_of kit_steps d.net) (record { order = s.order; repetitions = q }))
-      (one (rates (graph_of kit_steps d.net)) s.repetitions period.repetitions scheduled.period.least is.period.least)
+      (one_least_period (rates (graph_of kit_steps d.net)) s.repetitions period.repetitions scheduled.period.least
+      is.period.least)
       scheduled
 
   figured : (periods : ℕ) (t : Tabled) (f : Figured) → o.placement ≢ File → IsFigured d o periods t f →
@@ -129,14 +130,14 @@ module _ (one : OneLeastPeriod) (d : DesignValue) (o : Options) (other : Policy)
   }
 
 -- so options share the outcome of an entry with which they share the table
-pub shared_outcome : OneLeastPeriod → (d : DesignValue) (entries : List Entry) (o : Options) (s : Schedule)
+pub shared_outcome : (d : DesignValue) (entries : List Entry) (o : Options) (s : Schedule)
     (w : Outcome) → All (λ (e : Entry). IsOutcome d e.options e.outcome) entries →
     IsScheduleBy o.policy (graph_of kit_steps d.net) s →
     (e : Entry) × Contains entries e × ShareTable e.options o × (w ≡ e.outcome) → IsOutcome d o w
-shared_outcome one d entries o s w each scheduled found =
+shared_outcome d entries o s w each scheduled found =
     let e : Entry = found.0 in
     let known : IsOutcome d e.options e.outcome =
     subst (λ (x : Entry). IsOutcome d x.options x.outcome) found.1.2 (each found.1.0 e found.1.1) in
     subst (λ x. IsOutcome d x w) (sym found.2.same)
     (subst (λ x. IsOutcome d (record (e.options) { policy = o.policy }) x) (sym found.3)
-    (outcome_stays one d e.options o.policy s scheduled e.outcome found.2.placement known))
+    (outcome_stays d e.options o.policy s scheduled e.outcome found.2.placement known))

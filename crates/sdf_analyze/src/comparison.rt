@@ -21,7 +21,6 @@ use crate::periods::Periods;
 use crate::spans::{BlockSpan, span_once};
 use crate::ways::ways;
 use sdf_file::Design;
-use sdf_graph::laws::one_least_period;
 use sdf_options::{Options, Placement};
 use sdf_plan::Fault;
 use sdf_plan::schedule::tabled;
@@ -158,7 +157,6 @@ fn outcome_beside(
     ensures spans { AreSpans design.now spans.new.items }
     ensures outcome { MatchResult result (IsOutcome design.now options.now) (IsScheduleFault design.now) }
 {
-    one_least_period();
     let period = periods.by(options.policy);
     match shared(entries, options) {
         Some(outcome) => Ok(outcome),

@@ -10,7 +10,6 @@ ghost use Rattle.sdf_plan.specs.Placements.{rates_of, firings_of};
 ghost use Rattle.sdf_analyze.specs.Spans.{AreSpans};
 
 use sdf_file::Design;
-use sdf_graph::laws::one_least_period;
 use sdf_prec::PrecFault;
 use sdf_sched::Period;
 use sdf_times::span;
@@ -81,7 +80,6 @@ pub(crate) fn span_once(
         (IsSpan (rates_of design.now) (firings_of periods period.now) (slice_index design.now.costs))
         (λ fault. fault ≡ OutOfMemory) }
 {
-    one_least_period();
     if let Some(span) = known_span(known, periods) {
         return Ok(span);
     }

@@ -9,3 +9,4 @@ mod Warming
 mod Parts
 mod Walks
 mod Passing
+pub mod Theorems

@@ -4,8 +4,8 @@ use Rattle.std.proofs.Common.{◌∙◌, ◌⊎◌, inl, inr, ⊎_elim, arith}
 use Rattle.std.specs.Prelude.{slice_index}
 use Rattle.std.proofs.lemmas.Bool.{cases_lt, cases_eq}
 use Rattle.std.proofs.lemmas.List.{get_or-set_same, get_or-set_other}
-use Rattle.sdf_graph.specs.Laws.{SumsRise}
 use Rattle.sdf_graph.specs.Rates.{Shape, Edge, rates, channel, rate_at, sum_to}
+use Rattle.sdf_graph.proofs.Theorems.{sums_rise}
 use Rattle.sdf_fission.specs.declared.warm_up.TheConstants.{MAX_FIRINGS}
 use Rattle.sdf_fission.specs.declared.warm_up.Move.{Move}
 use Rattle.sdf_fission.specs.declared.warm_up.Move.TheVariants.{Stays, MovesOn, TooFar}
@@ -20,10 +20,10 @@ pub record ArePassed (g : Shape) (memory : ℕ → ℕ) (since : List ℕ) (n i 
   pub next : (c : ℕ) → i ≤ c → c < length g.channels →
       IsLate (channel g c) memory (slice_index since) ⊎ EndsWalk (rates g) n (channel g c).from
 
-module _ (rises : SumsRise) (g : Shape) (memory : ℕ → ℕ) where
+module _ (g : Shape) (memory : ℕ → ℕ) where
   cold_rises : (e : Edge) (f h : ℕ → ℕ) → f e.from ≤ h e.from → cold e memory f ≤ cold e memory h
   cold_rises e f h l =
-      let more = rises (rate_at e.put) (f e.from + memory e.from) (h e.from + memory e.from) (omega arith) in
+      let more = sums_rise (rate_at e.put) (f e.from + memory e.from) (h e.from + memory e.from) (omega arith) in
       omega (arith, more)
 
   -- a channel that is late with one that is too far has no late firing that is near
@@ -73,7 +73,7 @@ module _ (rises : SumsRise) (g : Shape) (memory : ℕ → ℕ) where
         let put : sum_to (rate_at (channel g c).put) (slice_index new (channel g c).from + memory (channel g c).from)
         ≡ sum_to (rate_at (channel g c).put) (slice_index old (channel g c).from + memory (channel g c).from) =
         ap (λ n. sum_to (rate_at (channel g c).put) (n + memory (channel g c).from)) (other (channel g c).from apart) in
-        let more = rises (rate_at (channel g c).take) (slice_index old (channel g c).to)
+        let more = sums_rise (rate_at (channel g c).take) (slice_index old (channel g c).to)
         (slice_index new (channel g c).to) (rise (channel g c).to) in
         omega (arith, put, more, late)
 
@@ -165,26 +165,26 @@ so_far_late g memory old new i Stays late before = λ c l. ⊎_elim
 so_far_late g memory old new i MovesOn late before = before
 so_far_late g memory old new i TooFar late before = before
 
-pub passes_late : SumsRise → (g : Shape) (memory : ℕ → ℕ) (old new : List ℕ) (i : ℕ) (moves : Move) →
+pub passes_late : (g : Shape) (memory : ℕ → ℕ) (old new : List ℕ) (i : ℕ) (moves : Move) →
     IsLate (channel g i) memory (slice_index new) → IsPassing g memory old new i moves →
     IsPassing g memory old new (i + 1) moves
-passes_late rises g memory old new i moves late before = record {
+passes_late g memory old new i moves late before = record {
   early = before.early;
-  passed = λ n behind. pass_late rises g memory new n i late (before.passed n behind);
+  passed = λ n behind. pass_late g memory new n i late (before.passed n behind);
   so_far = so_far_late g memory old new i moves late before.so_far;
 }
 
 -- and after one whose target is moved on
-pub passes_moved : SumsRise → (g : Shape) (memory : ℕ → ℕ) (old now new : List ℕ) (i : ℕ) (moves : Move) →
+pub passes_moved : (g : Shape) (memory : ℕ → ℕ) (old now new : List ℕ) (i : ℕ) (moves : Move) →
     i < length g.channels → (channel g i).from < g.actors → (channel g i).to < length now →
     IsMovedOn (channel g i) memory now new → IsPassing g memory old now i moves →
     IsPassing g memory old new (i + 1) MovesOn
-passes_moved rises g memory old now new i moves known from to moved before = record {
-  early = early_on rises g memory i known from now new to moved before.early;
-  passed = λ n behind. pass_moved rises g memory i known from now new to moved n (before.passed n behind);
+passes_moved g memory old now new i moves known from to moved before = record {
+  early = early_on g memory i known from now new to moved before.early;
+  passed = λ n behind. pass_moved g memory i known from now new to moved n (before.passed n behind);
   so_far = λ n behind. (
     (channel g i).to,
-    walk rises g memory i known from now new to moved n (before.passed n behind),
+    walk g memory i known from now new to moved n (before.passed n behind),
   );
 }
 

@@ -3,7 +3,6 @@
 ghost use Rattle.std.specs.Prelude.{◌≡◌, ℕ, ◌*◌, ◌≤◌, ◌<◌, length, slice_index};
 ghost use Rattle.sdf_graph.specs.Rates.{rate_at, sum_to, IsCycle};
 
-use sdf_graph::laws::cycles_begin_anew;
 use sdf_limits::MOST_RATE;
 
 /// Returns what the first `firings` firings of one cycle move.
@@ -26,7 +25,6 @@ pub(crate) fn moved_by(rates: &[u32], firings: u32) -> u64
     ensures value { result ≡ sum_to (rate_at rates.now) firings }
     ensures few { result ≤ MOST_RATE * firings }
 {
-    cycles_begin_anew();
     let firings = firings as usize;
     let cycles = (firings / rates.len()) as u64;
     cycles * moved_in_cycle(rates, rates.len()) + moved_in_cycle(rates, firings % rates.len())

@@ -12,7 +12,6 @@ ghost use Rattle.sdf_fission.specs.WarmUps.{AreFar, NoneIsLate, IsMove, IsPass, 
 use crate::memory::Forgetful;
 use crate::sums::moved_by;
 use sdf_actor::{Net, Node};
-use sdf_graph::laws::{one_least_period, sums_rise};
 use sdf_graph::{Channel, Graph};
 use std::alloc::{AllocError, Global};
 
@@ -66,13 +65,13 @@ fn cold_samples(channel: &Channel, memory: &[u32], since: &[u32]) -> u64
 }
 
 /// Finds the first firing that has `amount` samples of a list of rates behind it, by halves, if it is not too far.
+#[tactic(auto, using(sdf_graph::proofs::Theorems::sums_rise))]
 fn first_past(rates: &[u32], amount: u64) -> Option<u32>
     requires { (n : ℕ) × IsCycle n rates.now }
     ensures few { IfSome result (λ firings. firings ≤ MAX_FIRINGS) }
     ensures first { MatchOption result (AreFar rates.now amount)
         (IsLeast (λ firings. amount ≤ sum_to (rate_at rates.now) firings)) }
 {
-    sums_rise();
     let mut low = 0;
     let mut high = MAX_FIRINGS;
     while low < high {
@@ -91,6 +90,7 @@ fn first_past(rates: &[u32], amount: u64) -> Option<u32>
 }
 
 /// Moves the firing of a channel's target on to where the channel is late.
+#[tactic(auto, using(sdf_graph::proofs::Theorems::sums_rise))]
 fn move_target(channel: &Channel, memory: &[u32], since: &mut [u32]) -> Move
     requires channel { IsChannel (length since.old) channel.now }
     requires memory { AreFirings (length since.old) memory.now }
@@ -98,7 +98,6 @@ fn move_target(channel: &Channel, memory: &[u32], since: &mut [u32]) -> Move
     ensures since { AreFirings (length since.old) since.new }
     ensures is { IsMove channel.now (slice_index memory.now) since.old since.new result }
 {
-    sums_rise();
     match first_past(&channel.take, cold_samples(channel, memory, since)) {
         Some(firing) if since[channel.to] < firing => {
             since[channel.to] = firing;
@@ -119,7 +118,6 @@ fn move_on(graph: &Graph, memory: &[u32], since: &mut [u32]) -> Move
     ensures early { AreEarly graph.now (slice_index memory.now) since.new }
     ensures pass { IsPass graph.now (slice_index memory.now) since.old since.new result }
 {
-    sums_rise();
     let mut moves = Move::Stays;
     for channel in graph.channels() {
         match move_target(channel, memory, since) {
@@ -214,8 +212,6 @@ pub fn warm_up<A: Forgetful>(alloc: Global, net: &Net<A>) -> Result<Option<u32>,
     // A net without a warm-up keeps samples for ever, or for too long.
     ensures lasts { IfOk result (λ r. IfNone r (IsLasting A.steps net.now)) }
 {
-    one_least_period();
-    sums_rise();
     let graph = net.graph();
     let Some(memory) = memories_of(alloc, net)? else {
         return Ok(None);

@@ -10,6 +10,7 @@ use Rattle.sdf_actor.specs.Steps.{Steps, phase, total_in, sum_in, block_at, stat
 use Rattle.sdf_actor.specs.Histories.{taken, taken_before, put}
 use Rattle.sdf_actor.specs.Nets as nets
 use Rattle.sdf_actor.specs.Nets.{Netlist, wiring, answers, answer_of, IsHistoryOf}
+use Rattle.sdf_answer.proofs.Theorems.{blocks_are_counted}
 use Rattle.sdf_one.proofs.Known.{Known}
 use Rattle.sdf_one.proofs.Parts.{joined, inner}
 use Rattle.sdf_one.proofs.Works.{state_push}
@@ -56,7 +57,7 @@ module _ {A S T : Type 0} (s : Steps A S T) (n : Netlist A T) (net : Known s n) 
     source_puts ext block is i (suc j) h =
         let past : List (List T) = taken_before (wiring s n) W a (i + j) in
         let now : List T = taken (wiring s n) W a (i + j) in
-        let long : length past ≡ i + j = net.laws.counts n W a (i + j) in
+        let long : length past ≡ i + j = blocks_are_counted s n W a (i + j) in
         let answer : answers s n inputs a past now ≡
         between (block * (i + j)) (block * (i + j + 1)) (get_or inputs ext []) =
         ap (λ x. answer_of s inputs x past now) is ∙ ap
@@ -119,7 +120,7 @@ module _ {A S T : Type 0} (s : Steps A S T) (n : Netlist A T) (net : Known s n) 
         let past : List (List T) = taken_before (wiring s n) W a (i + j) in
         let now : List T = taken (wiring s n) W a (i + j) in
         let at : 0 + length past ≡ i + j = (let z : 0 + length past ≡ length past = omega arith in z)
-        ∙ net.laws.counts n W a (i + j) in
+        ∙ blocks_are_counted s n W a (i + j) in
         let turned : phase s x (0 + length past) ≡ phase s x (begin + j) = ap (phase s x) at ∙ sym (turn j) in
         let before : state_after s x past ≡ state_at s x begin state block j = states j (omega arith) in
         let here : now ≡ block_at s x begin block j = part j (omega arith) in
@@ -135,7 +136,7 @@ module _ {A S T : Type 0} (s : Steps A S T) (n : Netlist A T) (net : Known s n) 
         let past : List (List T) = taken_before (wiring s n) W a (i + j) in
         let now : List T = taken (wiring s n) W a (i + j) in
         let turned : phase s x (length past) ≡ phase s x (begin + j) =
-        ap (phase s x) (net.laws.counts n W a (i + j)) ∙ sym (turn j) in
+        ap (phase s x) (blocks_are_counted s n W a (i + j)) ∙ sym (turn j) in
         let before : state_after s x past ≡ state_at s x begin state block j = states j (omega arith) in
         let here : now ≡ block_at s x begin block j = part j (omega arith) in
         let answer : answers s n inputs a past now ≡

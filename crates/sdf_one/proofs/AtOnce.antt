@@ -16,6 +16,7 @@ use Rattle.sdf_actor.specs.Histories.{taken_before, spread}
 use Rattle.sdf_actor.specs.Nets as nets
 use Rattle.sdf_actor.specs.Nets.{Netlist, wiring, to_port, from_port, inputs_of, outputs_of, cycle_of, InputsReach}
 use Rattle.sdf_actor.specs.Nets.{IsHistoryOf}
+use Rattle.sdf_actor.specs.Laws.{HistoryGrowsByFiring}
 use Rattle.sdf_one.specs.declared.work.Work.{Work}
 use Rattle.sdf_answer.specs.Held.{Held}
 use Rattle.sdf_answer.specs.Blocks.{samples, room, at_ports, ArePorts}
@@ -25,6 +26,8 @@ use Rattle.sdf_answer.specs.Lists.{list}
 use Rattle.sdf_one.specs.Firings.{phase_at}
 use Rattle.sdf_one.specs.AtOnce.{GoesAtOnce, fronts, all_made, CanFireAtOnce, AreFired}
 use Rattle.sdf_answer.specs.Periods.{AreApart}
+use Rattle.sdf_actor.proofs.Theorems.{taken_stays}
+use Rattle.sdf_answer.proofs.Theorems.{blocks_are_counted, nodes_take_theirs, plans_fit, sinks_take_all}
 use Rattle.sdf_one.specs.Runs.{IsWork, Stands}
 use Rattle.sdf_one.proofs.Answered.{source_puts, states, actor_puts}
 use Rattle.sdf_one.proofs.AtOnceWorks as work
@@ -70,7 +73,7 @@ module _ {A S T Z : Type 0} (s : Steps A S T) (n : Netlist A T) (net : Known s n
   does = st.each a d known
 
   count : length past ≡ k a
-  count = net.laws.counts n st.history a (k a)
+  count = blocks_are_counted s n st.history a (k a)
 
   one_phase : cycle_of s (nets.node n a) ≡ 1
   one_phase = work.one_phase s inputs (many a) 0 (nets.node n a) past (get_or works a d) outputs ((wiring s n).ins a)
@@ -93,7 +96,7 @@ module _ {A S T Z : Type 0} (s : Steps A S T) (n : Netlist A T) (net : Known s n
   plan = steady.plan s n net z sizes inputs many k a known works qs outputs st d one_phase
 
   fits_ports : (i : ℕ) → FitsPorts s n a i takes puts
-  fits_ports i = net.laws.fit n a i takes puts net.good known (plan i)
+  fits_ports i = plans_fit s n a i takes puts net.good known (plan i)
 
   all_taken : (c : ℕ) → c < length n.wires → (wiring s n).rates.target c ≡ a → (t : ℕ) →
       (wiring s n).rates.consumed c (k a + t) ≡ (wiring s n).rates.consumed c (k a) + t * get_or takes c 0
@@ -177,13 +180,13 @@ module _ {A S T Z : Type 0} (s : Steps A S T) (n : Netlist A T) (net : Known s n
                 few.2 (omega (arith, at.1)) h (ap (λ i. get_or ((wiring s n).ins a) i 0) (sym first) ∙ at.2)
 
     -- and what they leave stands at the counts after them
-    module _ (reach : InputsReach n inputs many) (apart : AreApart n) (y : Work A T S) (qs' : List (Held T))
-        (outputs' : List (Vec T Z))
+    module _ (grows : HistoryGrowsByFiring s) (reach : InputsReach n inputs many) (apart : AreApart n)
+        (y : Work A T S) (qs' : List (Held T)) (outputs' : List (Vec T Z))
         (fired : AreFired s inputs times ((wiring s n).ins a) ((wiring s n).outs a) takes puts (get_or works a d) y qs
         qs' outputs outputs')
         (same_queues : length qs' ≡ length qs) (same_outputs : length outputs' ≡ length outputs) where
       later : GoesOn s n net inputs k many a known reach st.history st.is m
-      later = goes_on s n net inputs k many a known reach st.history st.is times m own others below come
+      later = goes_on s n net inputs k many a known reach st.history st.is grows times m own others below come
 
       abbrev W : ℕ → List T
       W = later.0
@@ -204,7 +207,7 @@ module _ {A S T Z : Type 0} (s : Steps A S T) (n : Netlist A T) (net : Known s n
       taken_same : (b : ℕ) → b < length n.nodes → taken_before (wiring s n) st.history b (k b) ≡
           taken_before (wiring s n) W b (k b)
       taken_same b l =
-          net.laws.stays n st.history W b (k b) net.good l
+          taken_stays s n st.history W b (k b) net.good l
           (λ c h e.
           let all : (wiring s n).rates.consumed c (k ((wiring s n).rates.target c)) ≤ length (st.history c) =
           omega (arith, st.is.lengths c h, st.is.enough c h) in
@@ -374,7 +377,7 @@ module _ {A S T Z : Type 0} (s : Steps A S T) (n : Netlist A T) (net : Known s n
           fired.queues c (omega (arith, st.channels)) ∙
           (ap (λ ys. drop (at_ports ((wiring s n).ins a) (times * get_or takes c 0) c) (samples qs c)
           ++ ys) (dealt c l) ∙
-          (ap (λ j. drop j (samples qs c) ++ more c) ((net.laws.theirs n a c net.good known l).1
+          (ap (λ j. drop j (samples qs c) ++ more c) ((nodes_take_theirs s n a c net.good known l).1
           (times * get_or takes c 0)) ∙
           go (cases_eq ((wiring s n).rates.target c) a)))
         where
@@ -416,10 +419,10 @@ module _ {A S T Z : Type 0} (s : Steps A S T) (n : Netlist A T) (net : Known s n
           let at = into_sink s n net a known ext size e in
           let rise : (wiring s n).rates.consumed c (k a) ≤ (wiring s n).rates.consumed c (k a + times) =
           net.wired.sound.consumed_rises c (k a) (k a + times) (omega arith) in
-          net.laws.took n W m a ext size net.good e ∙
+          sinks_take_all s n W m a ext size net.good e ∙
           (ap (λ i. take ((wiring s n).rates.consumed c i) (W c)) own ∙
           (take_on (W c) ((wiring s n).rates.consumed c (k a)) ((wiring s n).rates.consumed c (k a + times)) rise ∙
-          (λ i. (sym (net.laws.took n W k a ext size net.good e)
+          (λ i. (sym (sinks_take_all s n W k a ext size net.good e)
           ∙ ap (flat_map (λ (b : List T). b)) (sym (taken_same a known))) i
           ++ sym (block_is c at.0 at.1 at.2) i)))
 
@@ -427,7 +430,7 @@ module _ {A S T Z : Type 0} (s : Steps A S T) (n : Netlist A T) (net : Known s n
       here =
           work.work_next s inputs (many a) times (nets.node n a) past (taken_before (wiring s n) W a (m a))
           (get_or works a d) y outputs outputs' block does one_phase fired.work
-          (net.laws.counts n W a (m a) ∙ (own ∙ ap (λ i. i + times) (sym count))) states_on joins_on same_outputs
+          (blocks_are_counted s n W a (m a) ∙ (own ∙ ap (λ i. i + times) (sym count))) states_on joins_on same_outputs
           fired.lists fired.capacities
 
       there : (b : ℕ) (e : Work A T S) → b < length n.nodes → (a ≡ b → ⊥) →

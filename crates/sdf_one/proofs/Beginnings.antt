@@ -13,7 +13,7 @@ use Rattle.sdf_actor.specs.declared.node.Node.TheVariants as node
 use Rattle.sdf_actor.specs.Steps.{Steps, total_in, total_out, sum_in, sum_out}
 use Rattle.sdf_actor.specs.Nets as nets
 use Rattle.sdf_actor.specs.Nets.{Netlist, wiring, IsNet}
-use Rattle.sdf_answer.specs.Laws.{PlansFit}
+use Rattle.sdf_answer.proofs.Theorems.{plans_fit}
 use Rattle.sdf_answer.specs.Sizes.{Rows, IsPlan, AreSizes, at_phase, phase_of, in_all, out_all}
 use Rattle.sdf_one.specs.declared.work.Work.TheVariants.{Inner}
 use Rattle.sdf_one.specs.Cycles.{AreRowsAt}
@@ -35,7 +35,7 @@ one_of_sum f (suc many) i l = go (λ less. one_of_sum f many i less) (cases_lt i
     go before (inr last) =
         let same : f i ≡ f many = ap f (let e : i ≡ many = omega arith in e) in omega (arith, same)
 
-module _ {A S T : Type 0} (s : Steps A S T) (fit : PlansFit s) (n : Netlist A T) (good : IsNet s n) (z : Rows)
+module _ {A S T : Type 0} (s : Steps A S T) (n : Netlist A T) (good : IsNet s n) (z : Rows)
     (sizes : AreSizes s n z)
     (a : ℕ) (known : a < length n.nodes) (x : A) (is : nets.node n a ≡ node.Inner x) where
   -- firing j of the first cycle is at phase j
@@ -50,7 +50,7 @@ module _ {A S T : Type 0} (s : Steps A S T) (fit : PlansFit s) (n : Netlist A T)
   pub rows_in : AreRowsAt ((wiring s n).ins a) z.takes (s.cycle x)
   rows_in j h =
       let at = first_plan j h in
-      let ports = fit n a j (at_phase z.takes j) (at_phase z.puts j) good known at in (
+      let ports = plans_fit s n a j (at_phase z.takes j) (at_phase z.puts j) good known at in (
         omega (arith, turn j h, sizes.takes_known a j known),
         λ p l. omega (arith, at.takes_all, ports.ins_are.known p l),
       )
@@ -58,7 +58,7 @@ module _ {A S T : Type 0} (s : Steps A S T) (fit : PlansFit s) (n : Netlist A T)
   pub rows_out : AreRowsAt ((wiring s n).outs a) z.puts (s.cycle x)
   rows_out j h =
       let at = first_plan j h in
-      let ports = fit n a j (at_phase z.takes j) (at_phase z.puts j) good known at in (
+      let ports = plans_fit s n a j (at_phase z.takes j) (at_phase z.puts j) good known at in (
         omega (arith, turn j h, sizes.puts_known a j known),
         λ p l. omega (arith, at.puts_all, ports.outs_are.known p l),
       )
@@ -67,12 +67,12 @@ module _ {A S T : Type 0} (s : Steps A S T) (fit : PlansFit s) (n : Netlist A T)
   some_phases = subst (λ y. 0 < nets.cycle_of s y) is (sizes.some a known)
 
   all_in : (j : ℕ) → j < s.cycle x → sum_by (λ c. get_or (at_phase z.takes j) c 0) ((wiring s n).ins a) ≡ total_in s x j
-  all_in j h = (fit n a j (at_phase z.takes j) (at_phase z.puts j) good known (first_plan j h)).taken
+  all_in j h = (plans_fit s n a j (at_phase z.takes j) (at_phase z.puts j) good known (first_plan j h)).taken
       ∙ (ap (λ y. in_all s y j) is ∙ ap (total_in s x) (mod-eq_of_lt h))
 
   all_out : (j : ℕ) → j < s.cycle x → sum_by (λ c. get_or (at_phase z.puts j) c 0) ((wiring s n).outs a) ≡
       total_out s x j
-  all_out j h = (fit n a j (at_phase z.takes j) (at_phase z.puts j) good known (first_plan j h)).put
+  all_out j h = (plans_fit s n a j (at_phase z.takes j) (at_phase z.puts j) good known (first_plan j h)).put
       ∙ (ap (λ y. out_all s y j) is ∙ ap (total_out s x) (mod-eq_of_lt h))
 
   cycle_in : sum_in s x 0 (s.cycle x) ≡

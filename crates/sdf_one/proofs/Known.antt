@@ -6,19 +6,18 @@ use Rattle.sdf_actor.specs.declared.node.Node.TheVariants.{Sink}
 use Rattle.sdf_actor.specs.Steps.{Steps}
 use Rattle.sdf_actor.specs.Histories.{IsWired}
 use Rattle.sdf_actor.specs.Nets.{Netlist, node, wiring, to_port, inputs_of, IsNet}
-use Rattle.sdf_one.specs.Runs.{FiringLaws}
+use Rattle.sdf_answer.proofs.Theorems.{nodes_take_theirs}
 
 pub record Known {A S T : Type 0} (s : Steps A S T) (n : Netlist A T) : Type 0 where
   pub good : IsNet s n
   pub wired : IsWired (wiring s n)
-  pub laws : FiringLaws s
 
 module _ {A S T : Type 0} (s : Steps A S T) (n : Netlist A T) (net : Known s n) (a : ℕ)
     (known : a < length n.nodes) where
   -- a channel that leads to a node is at one of its ports
   pub ins_all : (c : ℕ) → c < length n.wires → (wiring s n).rates.target c ≡ a →
       (i : ℕ) × (i < length ((wiring s n).ins a)) × (get_or ((wiring s n).ins a) i 0 ≡ c)
-  ins_all c l e = let at = (net.laws.theirs n a c net.good known l).0 e in
+  ins_all c l e = let at = (nodes_take_theirs s n a c net.good known l).0 e in
       (at.0, at.1, get_or_default ((wiring s n).ins a) at.0 0 c at.1 ∙ at.2)
 
   -- the one channel into a sink

@@ -1,25 +1,27 @@
-pub mod Firing
-pub mod Known
-pub mod Standing
-pub mod Works
-pub mod Ends
-pub mod Readings
-pub mod Beginnings
-pub mod Sweeping
-pub mod Parts
-pub mod Longer
-pub mod Answered
-pub mod Passing
-pub mod Steady
-pub mod AtOnce
-pub mod AtOnceWorks
-pub mod FiringAtOnce
-pub mod FiringMany
-pub mod Left
-pub mod Joined
-pub mod AtPorts
-pub mod Turns
-pub mod WholeCycles
-pub mod ManyWorks
-pub mod CycleBlocks
-pub mod Many
+mod Firing
+mod Known
+mod Standing
+mod Works
+mod Ends
+mod Readings
+mod Beginnings
+mod Sweeping
+mod Parts
+mod Longer
+mod Answered
+mod Passing
+mod Steady
+mod AtOnce
+mod AtOnceWorks
+mod FiringAtOnce
+mod FiringMany
+mod Left
+mod Joined
+mod AtPorts
+mod Turns
+mod WholeCycles
+mod ManyWorks
+mod CycleBlocks
+mod Many
+mod Idle
+pub mod Theorems

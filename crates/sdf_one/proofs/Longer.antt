@@ -10,7 +10,7 @@ use Rattle.sdf_actor.specs.declared.node.Node.TheVariants.{Source, Sink, Inner}
 use Rattle.sdf_actor.specs.Steps.{Steps}
 use Rattle.sdf_actor.specs.Histories.{taken, taken_before, spread}
 use Rattle.sdf_actor.specs.Nets.{Netlist, node, wiring, answers, SourceReaches, InputsReach, IsHistoryOf}
-use Rattle.sdf_actor.specs.Laws.{after_firing}
+use Rattle.sdf_actor.specs.Laws.{after_firing, HistoryGrowsByFiring}
 use Rattle.sdf_one.proofs.Known.{Known}
 
 -- sources that find the samples of many firings find those of fewer
@@ -39,9 +39,9 @@ module _ {A S T : Type 0} (s : Steps A S T) (n : Netlist A T) (net : Known s n) 
       (wiring s n).rates.consumed c (k a + i) ≤ (wiring s n).rates.initial c
       + (wiring s n).rates.produced c (k ((wiring s n).rates.source c))
 
-  pub goes_on : (i : ℕ) (m : ℕ → ℕ) → m a ≡ k a + i → ((b : ℕ) → (a ≡ b → ⊥) → m b ≡ k b) →
+  pub goes_on : HistoryGrowsByFiring s → (i : ℕ) (m : ℕ → ℕ) → m a ≡ k a + i → ((b : ℕ) → (a ≡ b → ⊥) → m b ≡ k b) →
       ((b : ℕ) → b < length n.nodes → m b ≤ top b) → HasCome i → GoesOn m
-  goes_on zero m own others below come = (
+  goes_on grows zero m own others below come = (
     V,
     subst (λ j. IsHistoryOf s n inputs j V) along r,
     λ c. ([], sym (append-nil (V c))),
@@ -53,7 +53,7 @@ module _ {A S T : Type 0} (s : Steps A S T) (n : Netlist A T) (net : Known s n) 
 
       along : k ≡ m
       along = λ j b. same b (cases_eq a b) j
-  goes_on (suc i) m own others below come = go (goes_on i mid mid_own (λ b ne. mid_other b ne)
+  goes_on grows (suc i) m own others below come = go (goes_on grows i mid mid_own (λ b ne. mid_other b ne)
       (λ b l. mid_below b l (cases_eq a b)) (λ c l e. let rise =
       net.wired.sound.consumed_rises c (k a + i) (k a + suc i) (omega arith) in omega (arith, come c l e)))
     where
@@ -93,7 +93,7 @@ module _ {A S T : Type 0} (s : Steps A S T) (n : Netlist A T) (net : Known s n) 
       go : GoesOn mid → GoesOn m
       go (W, is, more) = (
         after_firing s n inputs mid W a,
-        net.laws.grows n inputs mid m a W net.good known on one apart (reaches n inputs top m reach below) is,
+        grows n inputs mid m a W net.good known on one apart (reaches n inputs top m reach below) is,
         λ c. ((more c).0 ++ last c, ap (λ ys. ys ++ last c) (more c).1 ∙ append_assoc (V c) (more c).0 (last c)),
       )
         where

@@ -19,6 +19,7 @@ use Rattle.sdf_actor.specs.Steps.{state_after, PutsFit}
 use Rattle.sdf_actor.specs.Histories.{taken, taken_before, spread}
 use Rattle.sdf_actor.specs.Nets as nets
 use Rattle.sdf_actor.specs.Nets.{Netlist, wiring, cycle_of, InputsReach}
+use Rattle.sdf_actor.specs.Laws.{HistoryGrowsByFiring}
 use Rattle.sdf_one.specs.declared.cycles.Cycles.{Cycles}
 use Rattle.sdf_one.specs.declared.work.Work.{Work}
 use Rattle.sdf_one.specs.declared.work.Work.TheVariants.{Source, Sink, Inner}
@@ -29,6 +30,7 @@ use Rattle.sdf_one.specs.Cycles.{AreCycles, IsInTurn}
 use Rattle.sdf_one.specs.Firings.{made, phase_at, IsActor, IsFired}
 use Rattle.sdf_node.specs.Many.{joined}
 use Rattle.sdf_answer.specs.Blocks.{front_at, dealt}
+use Rattle.sdf_answer.proofs.Theorems.{blocks_are_counted, nodes_take_theirs}
 use Rattle.sdf_one.specs.Many.{GoesByMany, Fit, CanFireMany, AreManyFired}
 use Rattle.sdf_one.specs.Runs.{HasBlocks, IsWork, Stands}
 use Rattle.sdf_one.proofs.CycleBlocks as blocks
@@ -111,7 +113,7 @@ module _ {A S T Z : Type 0} (s : Steps A S T) (fits : (x : A) → PutsFit s x) (
       state taken' put' lengths is_work
 
   begins : k a % turns ≡ 0
-  begins = sym (inner.1 ∙ ap (phase s actor.now) (net.laws.counts n st.history a (k a)))
+  begins = sym (inner.1 ∙ ap (phase s actor.now) (blocks_are_counted s n st.history a (k a)))
 
   plan : (i : ℕ) → IsPlan s n a i (takes_at i) (puts_at i)
   plan = cycle.plan s n net z sizes y cycles a known actor.now inner.0
@@ -319,7 +321,7 @@ module _ {A S T Z : Type 0} (s : Steps A S T) (fits : (x : A) → PutsFit s x) (
 
   -- so it does at each channel
   at_channel : (c v : ℕ) → c < length n.wires → at_ports ins v c ≡ cond (eqb ((wiring s n).rates.target c) a) v 0
-  at_channel c v h = (net.laws.theirs n a c net.good known h).1 v
+  at_channel c v h = (nodes_take_theirs s n a c net.good known h).1 v
 
   none_at : (c v : ℕ) → c < length n.wires → ((wiring s n).rates.target c ≡ a → ⊥) → at_ports ins v c ≡ 0
   none_at c v h ne = at_channel c v h ∙ ap (λ t. cond t v 0) (ne_eqb ((wiring s n).rates.target c) a ne)
@@ -415,12 +417,12 @@ module _ {A S T Z : Type 0} (s : Steps A S T) (fits : (x : A) → PutsFit s x) (
 
     piece_long : length (piece i) ≡ total_out s actor.now (i % turns)
     piece_long =
-        let count : length past ≡ kk i a = net.laws.counts n at.history a (kk i a) in
+        let count : length past ≡ kk i a = blocks_are_counted s n at.history a (kk i a) in
         let put_at : piece i ≡ s.puts actor.now (phase s actor.now (length past)) (state_after s actor.now past) (f i) =
         λ e. s.puts actor.now ((phase_is i ∙ here.1) e) (here.2 e) (block_is i l e) in
         ap length put_at ∙
         (fits actor.now past (f i)
-        (λ e h. ap length (taken_at (wiring s n) at.history a (net.laws.counts n at.history a) (kk i a) e
+        (λ e h. ap length (taken_at (wiring s n) at.history a (blocks_are_counted s n at.history a) (kk i a) e
         (omega (arith, count, h))) ∙ took e (omega (arith, count, h)))
         (f_long i l ∙ ap (total_in s actor.now) here.1) ∙
         ap (total_out s actor.now) (sym here.1))
@@ -465,14 +467,15 @@ module _ {A S T Z : Type 0} (s : Steps A S T) (fits : (x : A) → PutsFit s x) (
         (λ g. omega (arith, kk_own (suc i), own, below a g)) h
     up b h (inr ne) = omega (arith, kk_other (suc i) b ne, others b ne, below b h)
 
-    next_stands : InputsReach n inputs many → Stands s n inputs many (kk (suc i)) (set works a (w (suc i)))
+    next_stands : HistoryGrowsByFiring s → InputsReach n inputs many →
+        Stands s n inputs many (kk (suc i)) (set works a (w (suc i)))
         (q (suc i)) outputs
-    next_stands reach =
+    next_stands grows reach =
         standing.fired_stands s n net z sizes inputs many (kk i) a known (set works a (w i)) (q i) outputs at w0
         (kk (suc i)) enabled (kk_own (suc i) ∙ ((let v : k a + suc i ≡ k a + i + 1 = omega arith in v)
         ∙ ap (λ v. v + 1) (sym (kk_own i)))) (λ b ne. kk_other (suc i) b ne ∙ sym (kk_other i b ne))
         (reaches n inputs many (kk (suc i)) reach (λ b h. up b h (cases_eq a b))) (subst IsActor (sym (its i w0)) tt)
-        (w (suc i)) (q (suc i))
+        grows (w (suc i)) (q (suc i))
         (subst (λ x. IsFired s ins outs (at_phase z.takes (phase_at x)) (at_phase z.puts (phase_at x)) x (w (suc i))
         (q i) (q (suc i))) (sym (its i w0)) fired_one)
         (q_long (suc i) ∙ sym (q_long i)) (set works a (w (suc i)))
@@ -513,12 +516,12 @@ module _ {A S T Z : Type 0} (s : Steps A S T) (fits : (x : A) → PutsFit s x) (
       same b d h is (inr ne) = subst (IsWork s inputs outputs (many b) (nets.node n b)
           (taken_before (wiring s n) st.history b (k b))) (sym (rest 0 b d ne)) is
 
-  chain : InputsReach n inputs many → (i : ℕ) → i ≤ firings → Stood i
-  chain reach zero h = begun
-  chain reach (suc i) h = go (chain reach i (omega arith))
+  chain : HistoryGrowsByFiring s → InputsReach n inputs many → (i : ℕ) → i ≤ firings → Stood i
+  chain grows reach zero h = begun
+  chain grows reach (suc i) h = go (chain grows reach i (omega arith))
     where
       go : Stood i → Stood (suc i)
-      go (at, long) = (next_stands i (omega arith) at reach, λ e g. each e g (cases_lt e i))
+      go (at, long) = (next_stands i (omega arith) at grows reach, λ e g. each e g (cases_lt e i))
         where
           each : (e : ℕ) → e < suc i → (e < i) ⊎ (i ≤ e) → length (piece e) ≡ total_out s actor.now (e % turns)
           each e g (inl less) = long e less
@@ -542,13 +545,13 @@ module _ {A S T Z : Type 0} (s : Steps A S T) (fits : (x : A) → PutsFit s x) (
       go (inr ne) = none_at c (times * get_or takes c 0) h ne ∙ sym (none_at c (taken_by c firings) h ne)
 
   -- and what they leave stands at the counts after them
-  pub fired_stands : InputsReach n inputs many → (after : Work A T S) (qs' : List (Held T)) →
+  pub fired_stands : HistoryGrowsByFiring s → InputsReach n inputs many → (after : Work A T S) (qs' : List (Held T)) →
       AreManyFired s times ins outs takes puts w0 after qs qs' → length qs' ≡ length qs →
       (works' : List (Work A T S)) → length works' ≡ length works → ((d : Work A T S) → get_or works' a d ≡ after) →
       ((b : ℕ) (d : Work A T S) → (a ≡ b → ⊥) → get_or works' b d ≡ get_or works b d) →
       Stands s n inputs many m works' qs' outputs
-  fired_stands reach after qs' fired same_queues works' same_works is others_are =
-      let at = chain reach firings (omega arith) in
+  fired_stands grows reach after qs' fired same_queues works' same_works is others_are =
+      let at = chain grows reach firings (omega arith) in
       stands_along s n inputs many (kk firings) m (set works a (w firings)) works' (q firings) qs' outputs
       (λ e b. count b (cases_eq a b) e) at.0
       (same_works ∙ sym (length-set works a (w firings))) (same_queues ∙ sym (q_long firings))
@@ -630,18 +633,18 @@ module _ {A S T Z : Type 0} (s : Steps A S T) (fits : (x : A) → PutsFit s x) (
   can_fire_many (Sink ext) does goes fit few roomy = absurd goes
 
   pub stands_many : (w : Work A T S) → ((d : Work A T S) → get_or works a d ≡ w) →
-      GoesByMany s z w ((wiring s n).ins a) ((wiring s n).outs a) → InputsReach n inputs many →
+      GoesByMany s z w ((wiring s n).ins a) ((wiring s n).outs a) → HistoryGrowsByFiring s → InputsReach n inputs many →
       (after : Work A T S) (qs' : List (Held T)) → AreManyFired s times ((wiring s n).ins a) ((wiring s n).outs a)
       y.takes.items y.puts.items w after qs qs' → length qs' ≡ length qs →
       (works' : List (Work A T S)) → length works' ≡ length works → ((d : Work A T S) → get_or works' a d ≡ after) →
       ((b : ℕ) (d : Work A T S) → (a ≡ b → ⊥) → get_or works' b d ≡ get_or works b d) →
       Stands s n inputs many m works' qs' outputs
-  stands_many (Inner actor j state taken put lengths) does goes reach after qs' fired =
+  stands_many (Inner actor j state taken put lengths) does goes grows reach after qs' fired =
       fired_stands s fits n net z sizes y cycles inputs many k a known works qs outputs st actor state taken put lengths
       (λ d. does d ∙ ap (λ v. Inner actor v state taken put lengths) goes.0) goes.1 goes.2 goes.3 times m
       (own ∙ ap (λ v. k a + times * cycle_of s v) (node_is actor j state taken put lengths does)) others below held
-      reach after qs'
+      grows reach after qs'
       (subst (λ v. AreManyFired s times ((wiring s n).ins a) ((wiring s n).outs a) y.takes.items y.puts.items
       (Inner actor v state taken put lengths) after qs qs') goes.0 fired)
-  stands_many (Source ext next block) does goes reach after qs' fired = absurd goes
-  stands_many (Sink ext) does goes reach after qs' fired = absurd goes
+  stands_many (Source ext next block) does goes grows reach after qs' fired = absurd goes
+  stands_many (Sink ext) does goes grows reach after qs' fired = absurd goes

@@ -12,12 +12,14 @@ use Rattle.sdf_actor.specs.Steps.{Steps}
 use Rattle.sdf_actor.specs.Histories.{taken, taken_before, spread}
 use Rattle.sdf_actor.specs.Nets as nets
 use Rattle.sdf_actor.specs.Nets.{Netlist, wire, wiring, to_port, consumed_at, answers, InputsReach, IsHistoryOf}
-use Rattle.sdf_actor.specs.Laws.{after_firing}
+use Rattle.sdf_actor.specs.Laws.{after_firing, HistoryGrowsByFiring}
 use Rattle.sdf_one.specs.declared.work.Work.{Work}
 use Rattle.sdf_answer.specs.Held.{Held}
 use Rattle.sdf_answer.specs.Blocks.{samples, room, at_ports, ArePorts, HoldBlocks, front}
 use Rattle.sdf_answer.specs.Moves.{FitsPorts, MovesOn}
 use Rattle.sdf_answer.specs.Sizes.{Rows, IsPlan, AreSizes, at_phase, phase_of, in_all, out_all}
+use Rattle.sdf_answer.proofs.Theorems.{blocks_are_counted, blocks_stand, firings_move_on, nodes_take_theirs, plans_fit}
+use Rattle.sdf_answer.proofs.Theorems.{sinks_take_all}
 use Rattle.sdf_one.specs.Firings.{made, phase_at, IsActor, ActorCanFire, IsFired}
 use Rattle.sdf_one.specs.Runs.{IsWork, Stands}
 use Rattle.sdf_one.proofs.Known.{Known, ins_all, into_sink}
@@ -44,7 +46,7 @@ module _ {A S T : Type 0} (s : Steps A S T) (n : Netlist A T) (net : Known s n) 
       ap (λ b. (wiring s n).rates.consumed c (k b)) at.2 in
       let within : (wiring s n).rates.consumed c (k a) ≤ length (V c) =
       omega (arith, r.lengths c at.1, r.enough c at.1, own) in
-      ap length (net.laws.took n V k a ext block net.good is)
+      ap length (sinks_take_all s n V k a ext block net.good is)
       ∙ (length-take-le ((wiring s n).rates.consumed c (k a)) (V c) within ∙ size)
 
   module _ {Z : Type 0} (z : Rows) (sizes : AreSizes s n z) (inputs : List (List T)) (many k : ℕ → ℕ) (a : ℕ)
@@ -56,7 +58,7 @@ module _ {A S T : Type 0} (s : Steps A S T) (n : Netlist A T) (net : Known s n) 
     work = st.each a d known
 
     count : length (taken_before (wiring s n) st.history a (k a)) ≡ k a
-    count = net.laws.counts n st.history a (k a)
+    count = blocks_are_counted s n st.history a (k a)
 
     pub at : phase_at (get_or works a d) ≡ phase_of s (nets.node n a) (k a)
     at = phase_is s inputs (many a) (nets.node n a) (taken_before (wiring s n) st.history a (k a)) (get_or works a d)
@@ -68,7 +70,7 @@ module _ {A S T : Type 0} (s : Steps A S T) (n : Netlist A T) (net : Known s n) 
 
     fits_ports : FitsPorts s n a (k a) (at_phase z.takes (phase_at (get_or works a d)))
         (at_phase z.puts (phase_at (get_or works a d)))
-    fits_ports = net.laws.fit n a (k a) (at_phase z.takes (phase_at (get_or works a d)))
+    fits_ports = plans_fit s n a (k a) (at_phase z.takes (phase_at (get_or works a d)))
         (at_phase z.puts (phase_at (get_or works a d))) net.good known plan
 
     -- what stands on a channel
@@ -149,7 +151,7 @@ module _ {A S T : Type 0} (s : Steps A S T) (n : Netlist A T) (net : Known s n) 
           made_after = ap (λ b. (wiring s n).rates.produced c (m b)) is.1 ∙ ap ((wiring s n).rates.produced c) one
 
           taken_here : at_ports ((wiring s n).ins a) size c ≡ cond (eqb ((wiring s n).rates.target c) a) size 0
-          taken_here = (net.laws.theirs n a c net.good known is.0).1 size
+          taken_here = (nodes_take_theirs s n a c net.good known is.0).1 size
 
           go : (a ≡ (wiring s n).rates.target c) ⊎ (a ≡ (wiring s n).rates.target c → ⊥) →
               length (samples qs c) - at_ports ((wiring s n).ins a) size c
@@ -205,18 +207,18 @@ module _ {A S T : Type 0} (s : Steps A S T) (n : Netlist A T) (net : Known s n) 
       }
 
       -- and what it leaves stands at the counts after it
-      module _ (y : Work A T S) (qs' : List (Held T))
+      module _ (grows : HistoryGrowsByFiring s) (y : Work A T S) (qs' : List (Held T))
           (fired : IsFired s ((wiring s n).ins a) ((wiring s n).outs a) (at_phase z.takes (phase_at (get_or works a d)))
           (at_phase z.puts (phase_at (get_or works a d))) (get_or works a d) y qs qs')
           (same_queues : length qs' ≡ length qs) where
         block : front (at_phase z.takes (phase_at (get_or works a d))) ((wiring s n).ins a) qs ≡
             taken (wiring s n) st.history a (k a)
-        block = net.laws.stand n k a st.history (at_phase z.takes (phase_at (get_or works a d)))
+        block = blocks_stand s n k a st.history (at_phase z.takes (phase_at (get_or works a d)))
             (at_phase z.puts (phase_at (get_or works a d))) (samples qs) net.good known plan st.left
 
         moved : MovesOn s n inputs k m a st.history (at_phase z.takes (phase_at (get_or works a d)))
             (at_phase z.puts (phase_at (get_or works a d))) (samples qs)
-        moved = net.laws.moves n inputs k m a st.history (at_phase z.takes (phase_at (get_or works a d)))
+        moved = firings_move_on s grows n inputs k m a st.history (at_phase z.takes (phase_at (get_or works a d)))
             (at_phase z.puts (phase_at (get_or works a d))) (samples qs) net.good known on one others reach
             st.is plan st.left
 

@@ -10,12 +10,14 @@ use Rattle.std.proofs.lemmas.List.Sums.{sum_by-set}
 use Rattle.std.proofs.lemmas.Bool.{cases_lt, cases_eq}
 use Rattle.sdf_graph.specs.Sequences.{tokens, IsRunnable}
 use Rattle.sdf_graph.specs.Rates.{IsSound}
-use Rattle.sdf_graph.specs.Laws.{ListsSumWithin}
-use Rattle.sdf_sched.specs.Laws.{StuckCountsMeanDeadlock}
+use Rattle.sdf_graph.proofs.Theorems.{lists_sum_within}
+use Rattle.sdf_sched.proofs.Theorems.{stuck_counts_mean_deadlock}
 use Rattle.sdf_actor.specs.Steps.{Steps, PutsFit}
 use Rattle.sdf_actor.specs.Histories.{taken_before}
 use Rattle.sdf_actor.specs.Nets.{node, wiring, InputsReach}
 use Rattle.sdf_actor.specs.Wires.{lists}
+use Rattle.sdf_actor.specs.Laws.{HistoryGrowsByFiring}
+use Rattle.sdf_actor.proofs.Theorems.{nets_are_wired}
 use Rattle.sdf_one.specs.declared.work.Work.{Work}
 use Rattle.sdf_one.specs.declared.run.Run.{Run}
 use Rattle.sdf_answer.specs.Held.{Held}
@@ -24,7 +26,7 @@ use Rattle.sdf_answer.specs.Sizes.{phase_of, at_phase}
 use Rattle.sdf_one.specs.Firings.{phase_at, IsActor}
 use Rattle.sdf_one.specs.AtOnce.{GoesAtOnce, CanFireAtOnceAt, AreFiredAt}
 use Rattle.sdf_one.specs.Many.{HasRows, GoesByMany, Fit, GoManyAt, CanFireManyAt, AreManyFiredAt, firings_in}
-use Rattle.sdf_one.specs.Runs.{FiringLaws, IsWork, Stands, IsInRun, FiresAlone, CanFireAt, IsFiredAt}
+use Rattle.sdf_one.specs.Runs.{IsWork, Stands, IsInRun, FiresAlone, CanFireAt, IsFiredAt}
 use Rattle.sdf_answer.specs.Answer.{periods_of}
 use Rattle.sdf_one.specs.Sweeps.{Sweeps, IsSwept, MayFire, HasRoom, Keeps, IsMoved, AreHeld}
 use Rattle.sdf_one.proofs.Readings.{some_of}
@@ -109,8 +111,8 @@ sweep_on s r r' x y z i still before moved here none b l may = go (cases_lt b i)
     go (inr past) = here (still none).1 (subst (λ b. MayFire s r b) (let e : b ≡ i = omega arith in e) back)
 
 -- what a step of a run stands on
-pub net_known : {A S T : Type 0} (s : Steps A S T) → FiringLaws s → (r : Run A T S) → IsSwept s r → Known s r.net.now
-net_known s laws r sw = record { good = sw.good; wired = laws.wired r.net.now sw.good; laws = laws }
+pub net_known : {A S T : Type 0} (s : Steps A S T) (r : Run A T S) → IsSwept s r → Known s r.net.now
+net_known s r sw = record { good = sw.good; wired = nets_are_wired s r.net.now sw.good }
 
 -- at the same ports and queues
 pub holds_along : {T : Type 0} (ins ins' sizes sizes' : List ℕ) (qs qs' : List (Held T)) → ins ≡ ins' → sizes ≡ sizes' →
@@ -322,7 +324,7 @@ module _ {A S T : Type 0} (s : Steps A S T) (r : Run A T S) (sw : IsSwept s r) (
         (reached s r sw net a may.0 1 next) (actor d) (rooms s r sw net a may.0 1 next);
   }
 
-  module _ (r' : Run A T S) (fired : IsFiredAt s r r' a) where
+  module _ (grows : HistoryGrowsByFiring s) (r' : Run A T S) (fired : IsFiredAt s r r' a) where
     filler : Work A T S
     filler = some_of r.works.items a (omega (arith, sw.stands.nodes, may.0))
 
@@ -336,7 +338,7 @@ module _ {A S T : Type 0} (s : Steps A S T) (r : Run A T S) (sw : IsSwept s r) (
         r.queues.items r.outputs.items sw.stands filler
         (after s r sw net a may.0 1 next) may.2 (own s r sw net a may.0 1 next) (others s r sw net a may.0 1 next)
         (reached s r sw net a may.0 1 next) (actor filler)
-        (get_or r'.works.items a filler) r'.queues.items (fired.fired filler) fired.alone.queues r'.works.items
+        grows (get_or r'.works.items a filler) r'.queues.items (fired.fired filler) fired.alone.queues r'.works.items
         fired.alone.works
         (λ e. get_or_default r'.works.items a e filler (omega (arith, fired.alone.works, sw.stands.nodes, may.0)))
         fired.alone.others)
@@ -379,7 +381,7 @@ module _ {A S T : Type 0} (s : Steps A S T) (r : Run A T S) (sw : IsSwept s r) (
         (rooms s r sw net a known times inside);
   }
 
-  module _ (r' : Run A T S) (fired : AreFiredAt s r r' a times) where
+  module _ (grows : HistoryGrowsByFiring s) (r' : Run A T S) (fired : AreFiredAt s r r' a times) where
     first : Work A T S
     first = some_of r.works.items a (omega (arith, sw.stands.nodes, known))
 
@@ -390,8 +392,9 @@ module _ {A S T : Type 0} (s : Steps A S T) (r : Run A T S) (sw : IsSwept s r) (
         (periods_of r.repetitions.now r.periods) (λ b. get_or r.done.items b 0) a known r.works.items r.queues.items
         r.outputs.items sw.stands first (goes first)
         times (after s r sw net a known times inside) (own s r sw net a known times inside)
-        (others s r sw net a known times inside) (within s r sw net a known times inside) (held first 0) sw.reach
-        sw.apart (get_or r'.works.items a first) r'.queues.items r'.outputs.items (fired.fired first) fired.alone.queues
+        (others s r sw net a known times inside) (within s r sw net a known times inside) (held first 0) grows
+        sw.reach sw.apart (get_or r'.works.items a first) r'.queues.items r'.outputs.items (fired.fired first)
+        fired.alone.queues
         fired.alone.outputs r'.works.items fired.alone.works
         (λ e. get_or_default r'.works.items a e first (omega (arith, fired.alone.works, sw.stands.nodes, known)))
         fired.alone.others
@@ -428,7 +431,7 @@ module _ {A S T : Type 0} (s : Steps A S T) (fits : (x : A) → PutsFit s x) (r 
         (rooms s r sw net a known all inside);
   }
 
-  module _ (r' : Run A T S) (fired : AreManyFiredAt s r r' a times) where
+  module _ (grows : HistoryGrowsByFiring s) (r' : Run A T S) (fired : AreManyFiredAt s r r' a times) where
     its : Work A T S
     its = some_of r.works.items a (omega (arith, sw.stands.nodes, known))
 
@@ -442,7 +445,7 @@ module _ {A S T : Type 0} (s : Steps A S T) (fits : (x : A) → PutsFit s x) (r 
         r.outputs.items sw.stands
         times (after s r sw net a known all inside) (own s r sw net a known all inside)
         (others s r sw net a known all inside) (within s r sw net a known all inside) go.held
-        (get_or r.works.items a its) (does its) (go.goes its) sw.reach
+        (get_or r.works.items a its) (does its) (go.goes its) grows sw.reach
         (get_or r'.works.items a its) r'.queues.items (fired.fired its) fired.alone.queues r'.works.items
         fired.alone.works
         (λ e. get_or_default r'.works.items a e its (omega (arith, fired.alone.works, sw.stands.nodes, known)))
@@ -554,9 +557,9 @@ goes_less false b all x y t rise within more = absurd (let e : false ≡ true = 
 abbrev pub in_block : {A S T : Type 0} → Run A T S → ℕ
 in_block r = sum (map (λ x. r.high * x) r.repetitions.now)
 
-sum_below : ListsSumWithin → (xs q : List ℕ) (high : ℕ) → length xs ≡ length q →
+sum_below : (xs q : List ℕ) (high : ℕ) → length xs ≡ length q →
     ((i : ℕ) → i < length xs → get_or xs i 0 ≤ high * get_or q i 0) → sum xs ≤ sum (map (λ x. high * x) q)
-sum_below law xs q high e h = law xs (map (λ x. high * x) q) (e ∙ sym (length-map q (λ x. high * x))) each
+sum_below xs q high e h = lists_sum_within xs (map (λ x. high * x) q) (e ∙ sym (length-map q (λ x. high * x))) each
   where
     each : (i : ℕ) → get_or xs i 0 ≤ get_or (map (λ x. high * x) q) i 0
     each i = go (cases_lt i (length xs))
@@ -570,22 +573,22 @@ sum_below law xs q high e h = law xs (map (λ x. high * x) q) (e ∙ sym (length
             beyond (y ∷ ys) zero p = absurd (omega arith)
             beyond (y ∷ ys) (suc j) p = beyond ys j (omega arith)
 
-pub smaller : {A S T : Type 0} (s : Steps A S T) → ListsSumWithin → (r r' : Run A T S) (goes goes' : Bool) →
+pub smaller : {A S T : Type 0} (s : Steps A S T) (r r' : Run A T S) (goes goes' : Bool) →
     IsTrue goes → IsSwept s r' → IsMoved r r' goes' →
     cond goes' 1 0 + (in_block r' - sum r'.done.items) < cond goes 1 0 + (in_block r - sum r.done.items)
-smaller s law r r' goes goes' t sw moved =
+smaller s r r' goes goes' t sw moved =
     let same : in_block r' ≡ in_block r = λ i. sum (map (λ x. moved.high i * x) (moved.keeps.repetitions i).now) in
-    let all : sum r'.done.items ≤ in_block r' = sum_below law r'.done.items r'.repetitions.now r'.high
+    let all : sum r'.done.items ≤ in_block r' = sum_below r'.done.items r'.repetitions.now r'.high
     (sw.all ∙ sym sw.paced.all) (λ i l. sw.to i (omega (arith, sw.all))) in
     let less = goes_less goes goes' (in_block r) (sum r.done.items) (sum r'.done.items) t moved.rises
     (omega arith) moved.moves in
     omega (arith, same)
 
 -- where none may fire, all have fired the block
-pub all_fired : {A S T : Type 0} (s : Steps A S T) → StuckCountsMeanDeadlock → (r : Run A T S) → IsSwept s r →
+pub all_fired : {A S T : Type 0} (s : Steps A S T) (r : Run A T S) → IsSwept s r →
     IsSound (wiring s r.net.now).rates → ((a : ℕ) → MayFire s r a → ⊥) →
     (a : ℕ) → a < length r.net.now.nodes → get_or r.done.items a 0 ≡ r.high * get_or r.repetitions.now a 0
-all_fired s law r sw sound still a l = go (cases_lt (get_or r.done.items a 0) (r.high * get_or r.repetitions.now a 0))
+all_fired s r sw sound still a l = go (cases_lt (get_or r.done.items a 0) (r.high * get_or r.repetitions.now a 0))
   where
     to : get_or r.done.items a 0 ≤ r.high * get_or r.repetitions.now a 0
     to = sw.to a l
@@ -595,7 +598,8 @@ all_fired s law r sw sound still a l = go (cases_lt (get_or r.done.items a 0) (r
         get_or r.done.items a 0 ≡ r.high * get_or r.repetitions.now a 0
     go (inl less) =
         let pass = sw.paced.passes r.high in
-        absurd (law (wiring s r.net.now).rates (periods_of r.repetitions.now r.high) (λ b. get_or r.done.items b 0)
+        absurd (stuck_counts_mean_deadlock (wiring s r.net.now).rates (periods_of r.repetitions.now r.high)
+        (λ b. get_or r.done.items b 0)
         sound still a l less pass.0 pass.1)
     go (inr all) = omega (arith, to, all)
 

@@ -11,6 +11,7 @@ use Rattle.sdf_actor.specs.Nets as nets
 use Rattle.sdf_actor.specs.Nets.{Netlist, wiring}
 use Rattle.sdf_answer.specs.Moves.{FitsPorts}
 use Rattle.sdf_answer.specs.Sizes.{Rows, IsPlan, AreSizes, at_phase, in_all, out_all}
+use Rattle.sdf_answer.proofs.Theorems.{plans_fit}
 use Rattle.sdf_one.specs.Cycles.{AreCycles, AreRowsAt, IsInTurn}
 use Rattle.sdf_one.specs.declared.cycles.Cycles.{Cycles}
 use Rattle.sdf_one.proofs.Known.{Known}
@@ -88,6 +89,28 @@ sum_scaled t g (d ∷ ds) =
     let all : t * sum_by g (d ∷ ds) ≡ t * (g d + sum_by g ds) = ap (λ v. t * v) (sum_by-cons g d ds) in
     omega (arith, sum_by-cons (λ c. t * g c) d ds, sum_scaled t g ds)
 
+-- from a firing on at which the sizes begin anew as much is moved as from the first one on
+moves_ahead : (moved size : ℕ → ℕ) (k : ℕ) → moved 0 ≡ 0 → ((i : ℕ) → moved (i + 1) ≡ moved i + size i) →
+    ((i : ℕ) → moved (k + i + 1) ≡ moved (k + i) + size i) → (i : ℕ) → moved (k + i) ≡ moved k + moved i
+moves_ahead moved size k none first later zero =
+    let at : moved (k + 0) ≡ moved k = ap moved (let v : k + 0 ≡ k = omega arith in v) in
+    omega (arith, at, none)
+moves_ahead moved size k none first later (suc i) =
+    let from : moved (k + suc i) ≡ moved (k + i + 1) = ap moved (let v : k + suc i ≡ k + i + 1 = omega arith in v) in
+    let to : moved (suc i) ≡ moved (i + 1) = ap moved (sym (add-one i)) in
+    omega (arith, from, to, moves_ahead moved size k none first later i, first i, later i)
+
+-- so many cycles move so many times what one does
+cycles_move : (moved : ℕ → ℕ) (turns one : ℕ) → moved 0 ≡ 0 → one ≡ moved turns →
+    ((t : ℕ) → moved (t * turns + turns) ≡ moved (t * turns) + moved turns) → (t : ℕ) → moved (t * turns) ≡ t * one
+cycles_move moved turns one none is ahead zero =
+    let at : moved (0 * turns) ≡ moved 0 = ap moved (zero-mul turns) in
+    omega (arith, at, none, zero-mul one)
+cycles_move moved turns one none is ahead (suc t) =
+    let more : moved (suc t * turns) ≡ moved (t * turns + turns) =
+    ap moved (let v : suc t * turns ≡ t * turns + turns = omega (arith, suc-mul t turns) in v) in
+    omega (arith, more, is, ahead t, cycles_move moved turns one none is ahead t, suc-mul t one)
+
 module _ {A S T : Type 0} (s : Steps A S T) (n : Netlist A T) (net : Known s n) (z : Rows) (sizes : AreSizes s n z)
     (y : Cycles) (cycles : AreCycles s n y) (a : ℕ) (known : a < length n.nodes) (x : A)
     (is : nets.node n a ≡ node.Inner x) where
@@ -119,7 +142,7 @@ module _ {A S T : Type 0} (s : Steps A S T) (n : Netlist A T) (net : Known s n) 
       ∙ ap (λ v. v % s.cycle x) (let v : 0 + i ≡ i = omega arith in v))
 
   pub fits_ports : (i : ℕ) → FitsPorts s n a i (takes_at i) (puts_at i)
-  fits_ports i = net.laws.fit n a i (takes_at i) (puts_at i) net.good known (plan i)
+  fits_ports i = plans_fit s n a i (takes_at i) (puts_at i) net.good known (plan i)
 
   pub in_is : (i : ℕ) → total_in s x (i % s.cycle x) ≡ sum_by (λ c. get_or (takes_at i) c 0) ins
   in_is i = sym ((fits_ports i).taken ∙ ap (λ v. in_all s v i) is)
@@ -152,43 +175,15 @@ module _ {A S T : Type 0} (s : Steps A S T) (n : Netlist A T) (net : Known s n) 
   module _ (k : ℕ) (begins : k % s.cycle x ≡ 0) where
     pub ahead_in : (c : ℕ) → c < length n.wires → (wiring s n).rates.target c ≡ a → (i : ℕ) →
         (wiring s n).rates.consumed c (k + i) ≡ (wiring s n).rates.consumed c k + (wiring s n).rates.consumed c i
-    ahead_in c l e zero =
-        let at : (wiring s n).rates.consumed c (k + 0) ≡ (wiring s n).rates.consumed c k =
-        ap ((wiring s n).rates.consumed c) (let v : k + 0 ≡ k = omega arith in v) in
-        omega (arith, at, net.wired.sound.consumed_none c)
-    ahead_in c l e (suc i) =
-        let from : (wiring s n).rates.consumed c (k + suc i) ≡ (wiring s n).rates.consumed c (k + i + 1) =
-        ap ((wiring s n).rates.consumed c) (let v : k + suc i ≡ k + i + 1 = omega arith in v) in
-        let to : (wiring s n).rates.consumed c (suc i) ≡ (wiring s n).rates.consumed c (i + 1) =
-        ap ((wiring s n).rates.consumed c) (sym (add-one i)) in
-        omega (
-          arith,
-          from,
-          to,
-          ahead_in c l e i,
-          (plan_by (k + i) i (phase_on k i begins)).taken c l e,
-          (plan i).taken c l e,
-        )
+    ahead_in c l e = moves_ahead ((wiring s n).rates.consumed c) (λ i. get_or (takes_at i) c 0) k
+        (net.wired.sound.consumed_none c) (λ i. (plan i).taken c l e)
+        (λ i. (plan_by (k + i) i (phase_on k i begins)).taken c l e)
 
     pub ahead_out : (c : ℕ) → c < length n.wires → (wiring s n).rates.source c ≡ a → (i : ℕ) →
         (wiring s n).rates.produced c (k + i) ≡ (wiring s n).rates.produced c k + (wiring s n).rates.produced c i
-    ahead_out c l e zero =
-        let at : (wiring s n).rates.produced c (k + 0) ≡ (wiring s n).rates.produced c k =
-        ap ((wiring s n).rates.produced c) (let v : k + 0 ≡ k = omega arith in v) in
-        omega (arith, at, net.wired.sound.produced_none c)
-    ahead_out c l e (suc i) =
-        let from : (wiring s n).rates.produced c (k + suc i) ≡ (wiring s n).rates.produced c (k + i + 1) =
-        ap ((wiring s n).rates.produced c) (let v : k + suc i ≡ k + i + 1 = omega arith in v) in
-        let to : (wiring s n).rates.produced c (suc i) ≡ (wiring s n).rates.produced c (i + 1) =
-        ap ((wiring s n).rates.produced c) (sym (add-one i)) in
-        omega (
-          arith,
-          from,
-          to,
-          ahead_out c l e i,
-          (plan_by (k + i) i (phase_on k i begins)).put c l e,
-          (plan i).put c l e,
-        )
+    ahead_out c l e = moves_ahead ((wiring s n).rates.produced c) (λ i. get_or (puts_at i) c 0) k
+        (net.wired.sound.produced_none c) (λ i. (plan i).put c l e)
+        (λ i. (plan_by (k + i) i (phase_on k i begins)).put c l e)
 
   pub begins : (t : ℕ) → (t * s.cycle x) % s.cycle x ≡ 0
   begins t = mul-mod_left t (s.cycle x)
@@ -196,51 +191,19 @@ module _ {A S T : Type 0} (s : Steps A S T) (n : Netlist A T) (net : Known s n) 
   -- so many cycles move so many times what one does
   pub taken_by : (c : ℕ) → c < length n.wires → (wiring s n).rates.target c ≡ a → (t : ℕ) →
       (wiring s n).rates.consumed c (t * s.cycle x) ≡ t * get_or y.takes.items c 0
-  taken_by c l e zero =
-      let at : (wiring s n).rates.consumed c (0 * s.cycle x) ≡ (wiring s n).rates.consumed c 0 =
-      ap ((wiring s n).rates.consumed c) (zero-mul (s.cycle x)) in
-      let no : 0 * get_or y.takes.items c 0 ≡ 0 = zero-mul (get_or y.takes.items c 0) in
-      omega (arith, at, no, net.wired.sound.consumed_none c)
-  taken_by c l e (suc t) =
-      let more : (wiring s n).rates.consumed c (suc t * s.cycle x) ≡
-      (wiring s n).rates.consumed c (t * s.cycle x + s.cycle x) =
-      ap ((wiring s n).rates.consumed c)
-      (let v : suc t * s.cycle x ≡ t * s.cycle x + s.cycle x = omega (arith, suc-mul t (s.cycle x)) in v) in
-      let size : get_or y.takes.items c 0 ≡ (wiring s n).rates.consumed c (s.cycle x) =
-      cycles.taken c l ∙ ap (λ b. (wiring s n).rates.consumed c (nets.cycle_of s (nets.node n b))) e ∙
-      ap (λ v. (wiring s n).rates.consumed c (nets.cycle_of s v)) is in
-      omega (
-        arith,
-        more,
-        size,
-        ahead_in (t * s.cycle x) (begins t) c l e (s.cycle x),
-        taken_by c l e t,
-        suc-mul t (get_or y.takes.items c 0),
-      )
+  taken_by c l e = cycles_move ((wiring s n).rates.consumed c) (s.cycle x) (get_or y.takes.items c 0)
+      (net.wired.sound.consumed_none c)
+      (cycles.taken c l ∙ ap (λ b. (wiring s n).rates.consumed c (nets.cycle_of s (nets.node n b))) e
+      ∙ ap (λ v. (wiring s n).rates.consumed c (nets.cycle_of s v)) is)
+      (λ t. ahead_in (t * s.cycle x) (begins t) c l e (s.cycle x))
 
   pub put_by : (c : ℕ) → c < length n.wires → (wiring s n).rates.source c ≡ a → (t : ℕ) →
       (wiring s n).rates.produced c (t * s.cycle x) ≡ t * get_or y.puts.items c 0
-  put_by c l e zero =
-      let at : (wiring s n).rates.produced c (0 * s.cycle x) ≡ (wiring s n).rates.produced c 0 =
-      ap ((wiring s n).rates.produced c) (zero-mul (s.cycle x)) in
-      let no : 0 * get_or y.puts.items c 0 ≡ 0 = zero-mul (get_or y.puts.items c 0) in
-      omega (arith, at, no, net.wired.sound.produced_none c)
-  put_by c l e (suc t) =
-      let more : (wiring s n).rates.produced c (suc t * s.cycle x) ≡
-      (wiring s n).rates.produced c (t * s.cycle x + s.cycle x) =
-      ap ((wiring s n).rates.produced c)
-      (let v : suc t * s.cycle x ≡ t * s.cycle x + s.cycle x = omega (arith, suc-mul t (s.cycle x)) in v) in
-      let size : get_or y.puts.items c 0 ≡ (wiring s n).rates.produced c (s.cycle x) =
-      cycles.put c l ∙ ap (λ b. (wiring s n).rates.produced c (nets.cycle_of s (nets.node n b))) e ∙
-      ap (λ v. (wiring s n).rates.produced c (nets.cycle_of s v)) is in
-      omega (
-        arith,
-        more,
-        size,
-        ahead_out (t * s.cycle x) (begins t) c l e (s.cycle x),
-        put_by c l e t,
-        suc-mul t (get_or y.puts.items c 0),
-      )
+  put_by c l e = cycles_move ((wiring s n).rates.produced c) (s.cycle x) (get_or y.puts.items c 0)
+      (net.wired.sound.produced_none c)
+      (cycles.put c l ∙ ap (λ b. (wiring s n).rates.produced c (nets.cycle_of s (nets.node n b))) e
+      ∙ ap (λ v. (wiring s n).rates.produced c (nets.cycle_of s v)) is)
+      (λ t. ahead_out (t * s.cycle x) (begins t) c l e (s.cycle x))
 
   -- what so many firings take at all ports
   pub sums_in : (i : ℕ) → sum_in s x 0 i ≡ sum_by (λ c. (wiring s n).rates.consumed c i) ins

@@ -5,7 +5,7 @@ use Rattle.sdf_graph.specs.Rates.{rates}
 use Rattle.sdf_sched.specs.Period.{IsPeriodOf}
 use Rattle.sdf_actor.specs.declared.sides.Lists.TheVariants.{Outputs}
 use Rattle.sdf_actor.specs.Graphs.{graph_of}
-use Rattle.sdf_actor.specs.Nets.{Netlist}
+use Rattle.sdf_actor.specs.Nets.{Netlist, IsNet}
 use Rattle.sdf_actor.specs.Sides.{list_count, period_samples}
 use Rattle.sdf_actor.specs.Steps.{Steps}
 use Rattle.sdf_actor.specs.Wires.{lists}
@@ -30,6 +30,7 @@ TakeWhatItMakes p outputs = AreEmpty outputs (list_count Outputs p.net.now.nodes
 -- each node has fired so many periods of q on these inputs, and all stands where the history ends
 pub record HasFiredPeriods {A S T : Type 0} (s : Steps A S T) (n : Netlist A T) (inputs : List (List T)) (q : List ℕ)
     (periods : ℕ) (r : Run A T S) : Type 0 where
+  pub good : IsNet s n
   pub outputs : length r.outputs.items ≡ list_count Outputs n.nodes
   pub done : (a : ℕ) → a < length n.nodes → slice_index r.done.items a ≡ periods_of q periods a
   pub stands : Stands s n inputs (periods_of q periods) (slice_index r.done.items) r.works.items r.queues.items

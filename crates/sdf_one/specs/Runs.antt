@@ -10,7 +10,6 @@ use Rattle.sdf_actor.specs.Steps.{Steps, phase, total_in, total_out, sum_in, sum
 use Rattle.sdf_actor.specs.Histories.{taken_before}
 use Rattle.sdf_actor.specs.Nets.{Netlist, wiring, IsHistoryOf}
 use Rattle.sdf_actor.specs.Nets as nets
-use Rattle.sdf_actor.specs.Laws.{NetsAreWired, HistoryGrowsByFiring, TakenStays}
 use Rattle.sdf_actor.specs.Wires.{lists}
 use Rattle.sdf_one.specs.declared.work.Work.{Work}
 use Rattle.sdf_one.specs.declared.work.Work.TheVariants.{Source, Sink, Inner}
@@ -19,20 +18,7 @@ use Rattle.sdf_answer.specs.Held.{Held}
 use Rattle.sdf_answer.specs.Blocks.{samples}
 use Rattle.sdf_answer.specs.Sizes.{at_phase}
 use Rattle.sdf_answer.specs.Lists.{list, capacity}
-use Rattle.sdf_answer.specs.Laws.{SinksTakeAll, BlocksAreCounted, NodesTakeTheirs, PlansFit, BlocksStand, FiringsMoveOn}
 use Rattle.sdf_one.specs.Firings.{phase_at, ActorCanFire, IsFired}
-
--- the laws that firings stand on
-pub record FiringLaws {A S T : Type 0} (s : Steps A S T) : Type 0 where
-  pub wired : NetsAreWired s
-  pub fit : PlansFit s
-  pub theirs : NodesTakeTheirs s
-  pub counts : BlocksAreCounted s
-  pub stand : BlocksStand s
-  pub moves : FiringsMoveOn s
-  pub took : SinksTakeAll s
-  pub grows : HistoryGrowsByFiring s
-  pub stays : TakenStays s
 
 -- an actor's two blocks have room for a firing at each phase and for a whole cycle, and what it puts at each phase has
 -- its length

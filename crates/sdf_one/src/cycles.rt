@@ -8,7 +8,6 @@ ghost use Rattle.sdf_one.specs.Cycles.{AreCycles, AreRowsAt, IsInTurn};
 
 use sdf_actor::{Actor, Net, Side};
 use sdf_answer::Sizes;
-use sdf_answer::laws::net_facts;
 use sdf_graph::{Channel, End};
 use std::alloc::{AllocError, Global};
 
@@ -36,7 +35,6 @@ fn moved(channel: &Channel, end: End, firings: u32) -> usize
 pub(crate) fn make_cycles<A: Actor>(alloc: Global, net: &Net<A>) -> Result<Cycles, AllocError>
     ensures { IfOk result (AreCycles A.steps net.now) }
 {
-    net_facts(net);
     let channels = net.graph().channels();
     let mut takes = Vec::new(alloc);
     let mut puts = Vec::new(alloc);

@@ -15,9 +15,9 @@ ghost use Rattle.sdf_one.specs.Fired.{IsPassage, TakeWhatItMakes, state_in};
 use crate::fired::{Passage, fired};
 use crate::spares::Spares;
 use crate::work::Work;
-use sdf_actor::{Actor, Begun, Net, Rest};
+use sdf_actor::{Actor, Net, Rest};
 use sdf_answer::inputs::{are_inputs, first_sample};
-use sdf_answer::laws::{begun_nets_go_on, histories_make_runs, net_facts, nets_have_periods};
+use sdf_answer::laws::nets_have_periods;
 use sdf_answer::queue::held;
 use sdf_answer::{Ran, RunFault};
 use sdf_sched::Period;
@@ -61,9 +61,6 @@ fn run<A: Actor>(
     ensures { IfOk result (λ made. HasRun A.steps passage.entry.net.now (lists passage.entry.inputs.now)
         (periods_of passage.entry.period.now.repetitions passage.entry.periods) (lists made.0.items) made.1) }
 {
-    net_facts(passage.net);
-    histories_make_runs::<A>();
-    sdf_actor::laws::nets_are_wired::<A>();
     let finished = fired(alloc, passage, filler, outputs, &mut spares.queues)?;
     let rest = Rest {
         states: states_of(alloc, &finished.works)?,
@@ -87,8 +84,6 @@ fn fill<A: Actor>(
     ensures { IfOk result (λ made. HasRun A.steps passage.entry.net.now (lists passage.entry.inputs.now)
         (periods_of passage.entry.period.now.repetitions passage.entry.periods) (lists made.0.items) made.1) }
 {
-    net_facts(passage.net);
-    histories_make_runs::<A>();
     match first_sample(passage.inputs) {
         Some(filler) => run(alloc, passage, filler, outputs, spares),
         None => {
@@ -206,7 +201,6 @@ pub fn resume_one_in<A: Actor>(
         inputs,
     } = passage;
     nets_have_periods(net);
-    begun_nets_go_on::<A, Begun<A>>();
     let begun = net.begun(alloc, rest)?;
     feed_one_in(alloc, &begun, period, periods, inputs, spares)
 }

@@ -8,7 +8,7 @@ use crate::cycles::make_cycles;
 use crate::run::Run;
 use crate::setup::make_works;
 use sdf_actor::{Actor, Net};
-use sdf_answer::laws::{histories_make_outputs, net_facts, nets_can_run, nets_have_periods};
+use sdf_answer::laws::net_facts;
 use sdf_answer::rooms::renew_queues;
 use sdf_answer::{Queue, Sizes};
 use sdf_sched::Period;
@@ -68,10 +68,6 @@ pub(crate) fn fired<'a, A: Actor>(
         inputs,
     } = passage;
     net_facts(net);
-    nets_have_periods(net);
-    nets_can_run::<A>();
-    histories_make_outputs::<A>();
-    sdf_actor::laws::nets_are_wired::<A>();
     let sizes = Sizes::new(alloc, net)?;
     let cycles = make_cycles(alloc, net)?;
     let works = make_works(alloc, net, &sizes, filler)?;

@@ -3,16 +3,16 @@
 ghost use Rattle.std.specs.Prelude.{◌≡◌, ◌+◌, ◌*◌, ◌≤◌, ◌<◌, ◌↔◌, ℕ, true, false, length, slice_index};
 ghost use Rattle.std.specs.Prelude.{IsTrue};
 ghost use Rattle.sdf_actor.specs.Nets.{wiring};
-ghost use Rattle.sdf_actor.specs.Steps.{PutsFit};
 ghost use Rattle.sdf_answer.specs.Sizes.{at_phase};
 ghost use Rattle.sdf_one.specs.AtOnce.{CanFireAtOnceAt, AreFiredAt};
 ghost use Rattle.sdf_one.specs.Many.{CanFireManyAt, AreManyFiredAt, GoManyAt, firings_in};
-ghost use Rattle.sdf_one.specs.Runs.{FiringLaws, HoldsOfWork, CanFireAt, IsFiredAt};
+ghost use Rattle.sdf_one.specs.Runs.{HoldsOfWork, CanFireAt, IsFiredAt};
 ghost use Rattle.sdf_one.specs.Sweeps.{IsSwept, MayFire, HasRoom, Keeps, IsMoved, IsLeft, AreHeld};
 
 use crate::block::{blocks_held, hold_blocks};
 use crate::cycles::Cycles;
 use crate::work::{NodePorts, Work};
+use sdf_actor::laws::history_grows_by_firing;
 use sdf_actor::{Actor, Net, Side};
 use sdf_answer::blocks::Ports;
 use sdf_answer::{Queue, Sizes};
@@ -83,20 +83,6 @@ fn ports_of<'b, A: Actor>(net: &'b Net<A>, cycles: &'b Cycles, a: usize) -> Node
     }
 }
 
-/// The laws that a firing in a run stands on.
-fn step_laws<A: Actor>()
-    ensures laws { FiringLaws A.steps }
-    ensures fits { (x : A) → PutsFit A.steps x }
-{
-    sdf_actor::laws::nets_are_wired::<A>();
-    sdf_actor::laws::taken_stays::<A>();
-    sdf_actor::laws::history_grows_by_firing::<A>();
-    sdf_answer::laws::plans_fit::<A>();
-    sdf_answer::laws::nodes_take_theirs::<A>();
-    sdf_answer::laws::firings_move_on::<A>();
-    sdf_answer::laws::histories_make_outputs::<A>();
-}
-
 impl<'a, A: Actor> Run<'a, A> {
     /// Fires an actor.
     fn fire(&mut self, a: usize)
@@ -152,7 +138,6 @@ impl<'a, A: Actor> Run<'a, A> {
         requires swept { IsSwept A.steps self.now }
         ensures { IsTrue result ↔ MayFire A.steps self.now a }
     {
-        step_laws::<A>();
         if self.left(a) == 0 {
             return false;
         }
@@ -169,7 +154,6 @@ impl<'a, A: Actor> Run<'a, A> {
             self.now.high * slice_index self.now.repetitions.now a }
         ensures held { AreHeld A.steps self.now a result }
     {
-        step_laws::<A>();
         let left = self.left(a);
         let sizes = self.sizes.on(Side::Input, self.works[a].phase());
         blocks_held(self.net.channels_in(a), sizes, &self.queues, left)
@@ -184,7 +168,6 @@ impl<'a, A: Actor> Run<'a, A> {
             self.now.high * slice_index self.now.repetitions.now a }
         ensures go { 0 < result → GoManyAt A.steps self.now a result }
     {
-        step_laws::<A>();
         let ports = ports_of(self.net, &self.cycles, a);
         if !self.works[a].goes_by_many(ports.ins.channels, ports.outs.channels, &self.sizes) {
             return 0;
@@ -202,7 +185,7 @@ impl<'a, A: Actor> Run<'a, A> {
         ensures moved { IsMoved self.old self.new true }
         ensures further { slice_index self.old.done.items a < slice_index self.new.done.items a }
     {
-        step_laws::<A>();
+        history_grows_by_firing::<A>();
         let ins = self.net.channels_in(a);
         let outs = self.net.channels_out(a);
         if self.works[a].goes_at_once(ins, outs) {
@@ -259,9 +242,6 @@ impl<'a, A: Actor> Run<'a, A> {
         ensures done { (a : ℕ) → a < length self.old.net.now.nodes →
             slice_index self.new.done.items a ≡ self.old.high * slice_index self.old.repetitions.now a }
     {
-        sdf_actor::laws::nets_are_wired::<A>();
-        sdf_graph::laws::sums_rise();
-        sdf_sched::laws::stuck_counts_mean_deadlock();
         let mut goes = true;
         while goes {
             goes = self.sweep();

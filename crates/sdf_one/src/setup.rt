@@ -111,7 +111,6 @@ fn make_work<'a, A: Actor>(
             ext: usize::from(*ext),
         }),
         Node::Inner(actor) => {
-            sdf_answer::laws::plans_fit::<A>();
             let cycle = actor.cycle();
             let state = actor.start(alloc)?;
             let ins = net.channels_in(a);

@@ -36,8 +36,8 @@ use Rattle.sdf_plan.specs.declared.fault.Fault.TheVariants.{OutOfMemory, Patienc
 use Rattle.sdf_plan.specs.declared.fault.Fault.TheVariants.{Deadlock, Table, NotHomed}
 use Rattle.sdf_plan.specs.Placements.{ArePeriodsOf, IsTableBy, IsPlaceFault}
 
--- what runs a design, the periods of a block, a worker's repeated tests over rings, how many parts of a sound one thread
--- each runs at once, the order of one period, and the table of a block
+-- what runs a design, the periods of a block, how often a worker repeats its tests over rings, how many parts of a
+-- sound run at once on one thread each, the order of one period, and the table of a block
 pub record PlanValue : Type 0 where
   pub blocking : ℕ
   pub runner : Runner

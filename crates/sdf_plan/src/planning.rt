@@ -18,13 +18,11 @@ use crate::placement::{blocking_by, table_by};
 use crate::plan::{Plan, Way};
 use sdf_answer::BlockTable;
 use sdf_file::Design;
-use sdf_graph::laws::{graphs_are_sound, one_least_period};
 use sdf_graph::{Graph, Repetitions};
 use sdf_limits::{MOST_BLOCKING, MOST_PATIENCE, MOST_WORKERS};
 use sdf_options::{Options, Policy, Runner};
 use sdf_prec::PrecFault;
 use sdf_sched::class_s::class_s;
-use sdf_sched::laws::period_or_deadlock;
 use sdf_sched::{Lean, Period, Round, Runs, SchedFault, Stuck};
 use std::alloc::{AllocError, Global};
 
@@ -219,8 +217,5 @@ pub fn plan(alloc: Global, design: &Design, options: &Options) -> Result<Plan, F
     let net = design.net();
     let _ = net.repetitions();
     let _ = net.graph().channels();
-    graphs_are_sound();
-    one_least_period();
-    period_or_deadlock();
     planned(alloc, design, options)
 }

@@ -9,18 +9,19 @@ use Rattle.sdf_graph.specs.Rates.{rates}
 use Rattle.sdf_sched.specs.Period.{Schedule, IsPeriodOf}
 use Rattle.sdf_prec.specs.Tables.{Tabled}
 use Rattle.sdf_actor.specs.Graphs.{graph_of}
-use Rattle.sdf_actor.specs.Nets.{Netlist, IsNet}
+use Rattle.sdf_actor.specs.Nets.{Netlist}
 use Rattle.sdf_actor.specs.Rests.{IsRest, AreJoined}
 use Rattle.sdf_actor.specs.Sides.{list_count, period_samples}
 use Rattle.sdf_actor.specs.Steps.{Steps}
 use Rattle.sdf_actor.specs.declared.rest.Rest.{Rest}
 use Rattle.sdf_actor.specs.declared.sides.Lists.TheVariants.{Inputs, Outputs}
 use Rattle.sdf_answer.specs.Answer.{HasInputs, periods_of, IsRunFault}
-use Rattle.sdf_answer.specs.Feeds.{HasRun, AreFull, GoesOnBy, NothingRuns}
+use Rattle.sdf_answer.specs.Feeds.{HasRun, AreFull, GoesOnBy}
 use Rattle.sdf_answer.specs.Rows.{IsTableOf}
 use Rattle.sdf_answer.specs.declared.fault.RunFault.{RunFault}
 use Rattle.sdf_answer.specs.declared.fault.RunFault.TheVariants.{OutOfMemory, InputLength, NotHomed, Patience, NoWorker}
 use Rattle.sdf_answer.specs.declared.fault.RunFault.TheVariants.{SessionFailed}
+use Rattle.sdf_one.proofs.Theorems.{no_period_runs}
 use Rattle.sdf_run.specs.declared.mode.Mode.{Mode}
 use Rattle.sdf_run.specs.Sessions.{AreBlocks, AreNone, SessionValue, MayRun, HasRounds, counted, IsLive, FeedsBlocks}
 use Rattle.sdf_run.specs.Sessions.{StandsAfter, IsSession, HasFed, IsFeedFault, after_fault, Feed, FeedsAreOneRun}
@@ -84,27 +85,26 @@ blank_are : (T : Type 0) (k : ℕ) → AreNone k (blank {T = T} k)
 blank_are T k = record { count = blank_long T k; each = blank_at T k }
 
 -- a session that was fed nothing
-module _ {A S T : Type 0} (s : Steps A S T) (nothing : NothingRuns s) (n : Netlist A T) (good : IsNet s n)
-    (p : Schedule) (j : ℕ) (t : Tabled) (mode : Mode) (rest : Rest T S)
-    (first : (inputs : List (List T)) → IsRest s n inputs (λ _. 0) rest) (some : 0 < list_count Inputs n.nodes)
-    (sized : 0 < period_samples n.nodes Inputs p.repetitions) where
+module _ {A S T : Type 0} (s : Steps A S T) (n : Netlist A T) (p : Schedule) (j : ℕ) (t : Tabled) (mode : Mode)
+    (rest : Rest T S) (first : (inputs : List (List T)) → IsRest s n inputs (λ _. 0) rest) where
   abbrev opened : SessionValue A S T
   opened = record { net = n; period = p; factor = j; table = t; mode = mode; rest = Some rest; blocks = 0; rounds = 0 }
 
   pub stands_first : (fed made : List (List T)) → AreNone (list_count Inputs n.nodes) fed →
       AreNone (list_count Outputs n.nodes) made → StandsAfter s opened 0 fed made
   stands_first fed made fed_none made_none =
-      let empty : (e : ℕ) → length (get_or fed e []) ≡ 0 = λ e. ap length (fed_none.each e) in
       let full : AreFull n p.repetitions (0 * j) fed =
-      λ e l. empty e ∙ (let z : 0 ≡ 0 * j * period_samples n.nodes Inputs p.repetitions = omega arith in z) in
+      λ e l. ap length (fed_none.each e) ∙ (let z : 0 ≡ 0 * j * period_samples n.nodes Inputs p.repetitions =
+      omega arith in z) in
       let given : HasInputs n p.repetitions (0 * j) fed = given_of n p.repetitions (0 * j) fed fed_none.count full in
       record {
         given = given;
         full = full;
         rest = rest;
         held = refl;
-        run = nothing n p.repetitions (0 * j) fed made rest good given (omega (arith, fed_none.count, some)) sized
-            (empty 0) made_none.count (λ e l. made_none.each e) (first fed);
+        run = subst (λ k. HasRun s n fed (periods_of p.repetitions k) made rest)
+            (let z : 0 ≡ 0 * j = omega arith in z) (no_period_runs s n p.repetitions fed made rest
+            made_none.count made_none.each (first fed));
       }
 
   pub session_first : IsPeriodOf (rates (graph_of s n)) p → IsTableOf (rates (graph_of s n)) p.repetitions j t →

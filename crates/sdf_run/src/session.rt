@@ -17,7 +17,6 @@ ghost use Rattle.sdf_run.specs.Sessions.{StandsAfter, HasFed, IsSession, IsFeedF
 use crate::mode::Mode;
 use sdf_actor::{Actor, Net, Rest};
 use sdf_answer::inputs::are_inputs;
-use sdf_answer::laws::{histories_make_runs, net_facts};
 use sdf_answer::{BlockTable, Ran, RunFault};
 use sdf_limits::MOST_PATIENCE;
 use sdf_node::Gate;
@@ -182,9 +181,6 @@ impl<'a, A: Actor> Session<'a, A> {
             AreNone (list_count Inputs net.now.nodes) fed → AreNone (list_count Outputs net.now.nodes) made →
             StandsAfter A.steps v 0 fed made) }
     {
-        net_facts(net);
-        histories_make_runs::<A>();
-        let _samples = net.samples_in();
         may_run(&table.table, mode)?;
         Ok(Session {
             net,
@@ -219,7 +215,6 @@ impl<'a, A: Actor> Session<'a, A> {
             (lists ran.outputs.items) ran.rounds)
             (λ fault. IsFeedFault self.old (lists inputs.now) fault × (self.new ≡ after_fault self.old fault)) }
     {
-        net_facts(self.net);
         let Some(rest) = &self.rest else {
             return Err(RunFault::SessionFailed);
         };

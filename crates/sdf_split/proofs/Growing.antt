@@ -10,7 +10,6 @@ use Rattle.sdf_actor.specs.Sides.{list_count}
 use Rattle.sdf_actor.specs.Steps.{Steps}
 use Rattle.sdf_answer.specs.Feeds.{GoesOnBy}
 use Rattle.sdf_answer.specs.Periods.{HasPeriod}
-use Rattle.sdf_fission.specs.Laws.{PartsGoOn}
 use Rattle.sdf_split.specs.Cuts.{join}
 use Rattle.sdf_split.specs.declared.part.Split.{Split}
 use Rattle.sdf_split.specs.Parts.{read_by, end_of, part_count, IsSplit, IsPart, HasParts, GoesOnInParts}
@@ -34,7 +33,7 @@ pub record Grown {A S T M : Type 0} (s : Steps A S T) (inputs : List (List T)) (
       × GoesOnBy s w.net.now w.period.now.repetitions rest (upto w j)
       (read_by w.net.now w.period.now.repetitions inputs 0 (upto w j)) outputs r
 
-module _ {A S T M : Type 0} (s : Steps A S T) (go_on : PartsGoOn s) (inputs : List (List T))
+module _ {A S T M : Type 0} (s : Steps A S T) (inputs : List (List T))
     (makes : ℕ → List (List T) → M → Type 0) (w : Split A T S) (is : IsSplit s inputs w)
     (has : HasPeriod s w.net.now w.period.now) (rest : Rest T S) where
   abbrev q : List ℕ
@@ -109,9 +108,11 @@ module _ {A S T M : Type 0} (s : Steps A S T) (go_on : PartsGoOn s) (inputs : Li
           go : (b : Rest T S) × (last ≡ Some b) × GoesOnBy s w.net.now q rest (upto w j)
               (read_by w.net.now q inputs 0 (upto w j)) before.outputs b → Goal
           go (b, known, goes) =
-              one_more s go_on w.net.now w.period.now inputs w.periods w.warm rest has is.warm_up is.given is.full
-              at to enough (omega arith) (omega (arith, within)) before.outputs own (join before.outputs own) b part.begin r
-              (subst (λ k. GoesOnBy s w.net.now q rest k (read_by w.net.now q inputs 0 k) before.outputs b) (sym here) goes)
+              one_more s w.net.now w.period.now inputs w.periods w.warm rest has is.warm_up is.given is.full
+              at to enough (omega arith) (omega (arith, within)) before.outputs own
+              (join before.outputs own) b part.begin r
+              (subst (λ k. GoesOnBy s w.net.now q rest k (read_by w.net.now q inputs 0 k) before.outputs b)
+              (sym here) goes)
               (part.late (omega (arith, is.some, some, e))) part.finished.goes
               (joined_is before.outputs own (omega (arith, same_count))) (joined_long before.outputs own)
             where
@@ -156,7 +157,7 @@ module _ {A S T M : Type 0} (s : Steps A S T) (go_on : PartsGoOn s) (inputs : Li
             outputs = g.outputs;
             goes = subst (λ x. GoesOnBy s w.net.now q rest w.periods inputs g.outputs x) same
                 (subst (λ xs. GoesOnBy s w.net.now q rest w.periods xs g.outputs b)
-                (all_read s go_on w.net.now w.period.now inputs w.periods w.warm rest has is.warm_up is.given is.full)
+                (all_read s w.net.now w.period.now inputs w.periods w.warm rest has is.warm_up is.given is.full)
                 (subst (λ k. GoesOnBy s w.net.now q rest k (read_by w.net.now q inputs 0 k) g.outputs b) end goes));
             parts = subst (λ k. HasParts s w.net.now q inputs makes rest k g.outputs made) end g.parts;
           }

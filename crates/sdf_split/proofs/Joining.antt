@@ -19,8 +19,9 @@ use Rattle.sdf_actor.specs.Steps.{Steps}
 use Rattle.sdf_answer.specs.Answer.{HasInputs}
 use Rattle.sdf_answer.specs.Feeds.{AreFull, GoesOnBy}
 use Rattle.sdf_answer.specs.Periods.{HasPeriod}
-use Rattle.sdf_fission.specs.Laws.{ArePartsOf, PartsGoOn}
+use Rattle.sdf_fission.specs.Laws.{ArePartsOf}
 use Rattle.sdf_fission.specs.WarmUps.{WarmsIn}
+use Rattle.sdf_fission.proofs.Theorems.{parts_go_on}
 use Rattle.sdf_split.specs.Parts.{read_by, end_of, IsWarmedUp}
 use Rattle.sdf_split.proofs.Cutting.{reads_join, reads_many, are_given, are_full, cut_at}
 use Rattle.sdf_split.proofs.Lists.{same_lists}
@@ -50,7 +51,7 @@ module _ (periods size : ℕ) (some : 0 < size) where
       let most : div_ceil periods size * size ≤ count * size = mul-le-mul_right size (omega arith) in
       omega (arith, (div_ceil_times periods size some).0)
 
-module _ {A S T : Type 0} (s : Steps A S T) (go_on : PartsGoOn s) (n : Netlist A T) (p : Schedule)
+module _ {A S T : Type 0} (s : Steps A S T) (n : Netlist A T) (p : Schedule)
     (inputs : List (List T)) (periods warm : ℕ) (rest : Rest T S) (has : HasPeriod s n p)
     (warms : WarmsIn s n p.repetitions warm) (given : HasInputs n p.repetitions periods inputs)
     (full : AreFull n p.repetitions periods inputs) where
@@ -92,7 +93,7 @@ module _ {A S T : Type 0} (s : Steps A S T) (go_on : PartsGoOn s) (n : Netlist A
       } in
       subst (λ k. GoesOnBy s n q rest k (front to) joined end)
       (let e : at - warm + warm + (to - at) ≡ to = omega arith in e)
-      (go_on n p (at - warm) warm (to - at) (front (at - warm)) (read_by n q inputs (at - warm) at) (front at)
+      (parts_go_on s n p (at - warm) warm (to - at) (front (at - warm)) (read_by n q inputs (at - warm) at) (front at)
       (read_by n q inputs at to) (front to) on next joined rest last end parts
       (reads_join n q inputs 0 at to (omega arith) order)
       (reads_many n q inputs 0 to ∙ sym (reads_many n q inputs 0 at)) are many)

@@ -1,16 +1,17 @@
 -- What a run from the start leaves after its warm-up.
-use Rattle.std.proofs.Common.{◌≡◌, ℕ, ◌+◌, ◌-◌, ◌≤◌, ◌<◌, List, [], ◌++◌, length, get_or, replicate, sym, subst, ap}
+use Rattle.std.proofs.Common.{◌≡◌, ℕ, ◌+◌, ◌-◌, ◌≤◌, List, [], ◌++◌, length, get_or, replicate, sym, subst, ap}
 use Rattle.std.proofs.Common.{◌∙◌, ⊎_elim, arith, zero-mul}
 use Rattle.std.proofs.lemmas.Bool.{cases_lt}
 use Rattle.std.proofs.lemmas.List.{length-replicate, get_or-replicate, get_or_past}
 use Rattle.sdf_actor.specs.declared.rest.Rest.{Rest}
 use Rattle.sdf_actor.specs.declared.sides.Lists.TheVariants.{Inputs, Outputs}
-use Rattle.sdf_actor.specs.Nets.{Netlist, IsNet}
+use Rattle.sdf_actor.specs.Nets.{Netlist}
 use Rattle.sdf_actor.specs.Rests.{IsRest}
 use Rattle.sdf_actor.specs.Sides.{list_count, period_samples}
 use Rattle.sdf_actor.specs.Steps.{Steps}
 use Rattle.sdf_answer.specs.Answer.{HasInputs, periods_of}
-use Rattle.sdf_answer.specs.Feeds.{HasRun, AreFull, GoesOnBy, NothingRuns}
+use Rattle.sdf_answer.specs.Feeds.{HasRun, AreFull, GoesOnBy}
+use Rattle.sdf_one.proofs.Theorems.{no_period_runs}
 use Rattle.sdf_split.specs.Parts.{read_by, IsWarmedUp}
 use Rattle.sdf_split.proofs.Cutting.{reads_join, are_given, are_full}
 
@@ -29,15 +30,13 @@ pub unfired : {A S T : Type 0} (s : Steps A S T) (n : Netlist A T) (q : List ℕ
     (first : Rest T S) → IsRest s n given (λ _. 0) first → IsRest s n given (periods_of q 0) first
 unfired s n q given first is = subst (λ k. IsRest s n given k first) (λ κ a. sym (zero-mul (get_or q a 0)) κ) is
 
-pub warmed : {A S T : Type 0} (s : Steps A S T) → NothingRuns s → (n : Netlist A T) (q : List ℕ)
-    (inputs : List (List T)) (periods warm from : ℕ) → HasInputs n q periods inputs → AreFull n q periods inputs →
-    warm ≤ from → from ≤ periods → IsNet s n → 0 < list_count Inputs n.nodes →
-    0 < period_samples n.nodes Inputs q → (first : Rest T S) →
-    ((given : List (List T)) → IsRest s n given (λ _. 0) first) → (on : List (List T)) (last : Rest T S) →
+pub warmed : {A S T : Type 0} (s : Steps A S T) (n : Netlist A T) (q : List ℕ) (inputs : List (List T))
+    (periods warm from : ℕ) → HasInputs n q periods inputs → AreFull n q periods inputs → warm ≤ from →
+    from ≤ periods → (first : Rest T S) → ((given : List (List T)) → IsRest s n given (λ _. 0) first) →
+    (on : List (List T)) (last : Rest T S) →
     GoesOnBy s n q first (from - (from - warm)) (read_by n q inputs (from - warm) from) on last →
     IsWarmedUp s n q inputs warm from last
-warmed {A = A} {S = S} {T = T} s nothing n q inputs periods warm from given full before within good some sized first
-    is on last goes =
+warmed {A = A} {S = S} {T = T} s n q inputs periods warm from given full before within first is on last goes =
     let f : ℕ = from - warm in
     let none : List (List T) = read_by n q inputs f f in
     let made : List (List T) = blank (list_count Outputs n.nodes) in
@@ -46,13 +45,9 @@ warmed {A = A} {S = S} {T = T} s nothing n q inputs periods warm from given full
     (are_given n q inputs periods given full f f (omega arith) (omega arith)) in
     let none_full : AreFull n q 0 none = subst (λ k. AreFull n q k none) zero
     (are_full n q inputs periods given full f f (omega arith) (omega arith)) in
-    let many : 0 < length none = omega (arith, none_given.count) in
-    let empty : length (get_or none 0 []) ≡ 0 =
-    none_full 0 many ∙ zero-mul (period_samples n.nodes Inputs q) in
     let long : length made ≡ list_count Outputs n.nodes = length-replicate (list_count Outputs n.nodes) [] in
     let begun : HasRun s n none (periods_of q 0) made first =
-    nothing n q 0 none made first good none_given many sized empty long
-    (λ e l. blank_at (list_count Outputs n.nodes) e) (is none) in
+    no_period_runs s n q none made first long (blank_at (list_count Outputs n.nodes)) (is none) in
     let runs : HasRun s n (read_by n q inputs f from) (periods_of q (0 + (from - f))) on last =
     goes.runs 0 none (read_by n q inputs f from) made on none_given none_full begun
     (reads_join n q inputs f f from (omega arith) (omega arith))

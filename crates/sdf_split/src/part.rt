@@ -11,7 +11,6 @@ ghost use Rattle.sdf_split.specs.Parts.{IsSplit, IsWarmedUp, IsFinished, IsPart,
 use crate::ends::Ends;
 use sdf_actor::{Actor, Net, Rest};
 use sdf_answer::RunFault;
-use sdf_answer::laws::{histories_make_runs, net_facts, nets_can_run};
 use sdf_one::{Passage, Spares, resume_one_in};
 use sdf_sched::Period;
 use std::alloc::Global;
@@ -99,7 +98,6 @@ fn go_on<A: Actor, E: Ends<A::Token>>(
         (read_by n q (E.inputs ends.now) stretch.from stretch.to) (lists r.0.items) r.1)
         (λ fault. fault ≡ OutOfMemory) }
 {
-    net_facts(split.net);
     let samples = split.net.samples_in();
     let spares = mem::replace(&mut memory.inputs, Vec::new(alloc));
     let inputs = ends.read(
@@ -135,9 +133,6 @@ fn warmed_up<A: Actor, E: Ends<A::Token>>(
         split.entry.warm from)
         (λ fault. fault ≡ OutOfMemory) }
 {
-    net_facts(split.net);
-    histories_make_runs::<A>();
-    let _samples = split.net.samples_in();
     let first = split.net.first_rest(alloc)?;
     let stretch = Stretch {
         from: from - split.warm,

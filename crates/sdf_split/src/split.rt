@@ -12,7 +12,6 @@ use crate::workers::{Worker, Workers, work};
 use sdf_actor::{Actor, Rest};
 use sdf_answer::RunFault;
 use sdf_answer::laws::nets_have_periods;
-use sdf_fission::laws::warm_runs_go_on;
 use std::alloc::Global;
 use std::thread;
 use std::thread::Threads;
@@ -34,7 +33,6 @@ fn taken<A: Actor, E: Ends<A::Token>>(
         (λ fault. fault ≡ OutOfMemory) }
 {
     nets_have_periods(split.net);
-    warm_runs_go_on::<A>();
     let mut all = Vec::with_capacity(alloc, workers.len())?;
     let mut last = None;
     for i in 0..workers.len() {

@@ -12,5 +12,5 @@ returns-in_err-keep-clause-known c = subst (AreSpans c.args.design.now) (sym c.i
 
 pub returns-clause-known : goal.returns-clause-known
 returns-clause-known c = subst (AreSpans c.args.design.now) (sym c.in_ok-keep.ensures)
-    (known_more c.args.design.now c.args.known.now.items c.requires.known c.one_least_period.ensures c.args.periods
+    (known_more c.args.design.now c.args.known.now.items c.requires.known c.args.periods
     c.in_ok-span.span c.args.period.now c.requires.period c.in_ok-span.ensures)

@@ -10,7 +10,7 @@ returns-clause-value c =
       arith,
       whole,
       c.moved_in_cycle-2.ensures.value,
-      cycles_and_rest c.cycles_begin_anew.ensures.anew xs c.requires.0 c.requires.1 c.args.firings,
+      cycles_and_rest xs c.requires.0 c.requires.1 c.args.firings,
     )
 
 pub returns-clause-few : goal.returns-clause-few
@@ -21,6 +21,6 @@ returns-clause-few c =
       arith,
       whole,
       c.moved_in_cycle-2.ensures.value,
-      cycles_and_rest c.cycles_begin_anew.ensures.anew xs c.requires.0 c.requires.1 c.args.firings,
-      few_moved c.cycles_begin_anew.ensures.small xs c.requires.0 c.requires.1 c.args.firings,
+      cycles_and_rest xs c.requires.0 c.requires.1 c.args.firings,
+      few_moved xs c.requires.0 c.requires.1 c.args.firings,
     )

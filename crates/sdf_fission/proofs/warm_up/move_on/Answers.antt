@@ -37,11 +37,11 @@ loop-channel-preserved c =
         | in-Stays w ↦
             subst (IsPassing g memory first new (i + 1)) (sym w.moves-is)
             (subst (λ xs. IsPassing g memory first xs (i + 1) c.loop-channel.moves) (sym w.in-Stays.ensures.is.0)
-            (passes_late c.sums_rise.ensures.all g memory first now i c.loop-channel.moves
+            (passes_late g memory first now i c.loop-channel.moves
             (subst (λ e. IsLate e memory (slice_index now)) at w.in-Stays.ensures.is.1) before))
         | in-MovesOn w ↦
             subst (IsPassing g memory first new (i + 1)) (sym w.moves-is)
-            (passes_moved c.sums_rise.ensures.all g memory first now new i c.loop-channel.moves known
+            (passes_moved g memory first now new i c.loop-channel.moves known
             (shape.from_in i known)
             (omega (arith, shape.to_in i known, c.loop-channel.invariant.since.all, c.requires.all))
             (subst (λ e. IsMovedOn e memory now new) at w.in-MovesOn.ensures.is) before)
@@ -69,7 +69,7 @@ returns-in-TooFar-clause-pass c =
     let at : item ≡ channel g i = c.channel-item.is
     ∙ (ap (λ xs. get_or xs i item) list ∙ get_or_default g.channels i item no_channel known) in
     let shape = c.channels-channel-items.ensures.shape in
-    none_is_late c.sums_rise.ensures.all g memory now i known (shape.from_in i known) (shape.to_in i known)
+    none_is_late g memory now i known (shape.from_in i known) (shape.to_in i known)
     c.loop-channel.invariant.passing.early
     (subst (λ e. AreFar e.take (cold e memory (slice_index now))) at c.in-TooFar.ensures.is.1)
 

@@ -1,6 +1,7 @@
 use Rattle.std.proofs.Common.{◌≡◌, ◌<◌, ℕ, length, slice_index, subst, sym, arith, rules, inl, inr, ◌⊎◌, ⊎_elim}
 use Rattle.std.proofs.lemmas.List.{length-map}
 use Rattle.sdf_graph.specs.Rates.{rates, channel, IsAlike}
+use Rattle.sdf_graph.proofs.Theorems.{one_least_period}
 use Rattle.sdf_actor.specs.Graphs.{graph_of, channel_of}
 use Rattle.sdf_actor.specs.Nets.{wiring}
 use Rattle.sdf_fission.specs.Warm.{HasLoop}
@@ -17,7 +18,7 @@ returns-clause-warms g c = λ q least.
     let since = c.in-Some-2.since.items in
     let own = c.repetitions.result.now in
     let many = c.periods_for.result in
-    let same : own ≡ q = c.one_least_period.ensures (rates (graph_of s n)) own q c.repetitions.ensures.least least in
+    let same : own ≡ q = one_least_period (rates (graph_of s n)) own q c.repetitions.ensures.least least in
     let alike : IsAlike (rates (graph_of s n)) (wiring s n).rates =
     subst (λ x. IsAlike (rates x) (wiring s n).rates) c.graph-graph.ensures.value c.graph-graph.ensures.rates in
     let all : AreMemories s n memory = search rules in
@@ -42,7 +43,7 @@ returns-clause-least g c = λ q fewer least warm.
     let memory = c.in-Some.memory.items in
     let since = c.in-Some-2.since.items in
     let own = c.repetitions.result.now in
-    let same : own ≡ q = c.one_least_period.ensures (rates (graph_of s n)) own q c.repetitions.ensures.least least in
+    let same : own ≡ q = one_least_period (rates (graph_of s n)) own q c.repetitions.ensures.least least in
     let alike : IsAlike (rates (graph_of s n)) (wiring s n).rates =
     subst (λ x. IsAlike (rates x) (wiring s n).rates) c.graph-graph.ensures.value c.graph-graph.ensures.rates in
     let sources : (i : ℕ) → i < length (graph_of s n).channels → (channel (graph_of s n) i).from < length n.nodes =
@@ -55,7 +56,7 @@ returns-clause-least g c = λ q fewer least warm.
     subst (λ x. AreEarly x (slice_index memory) since) c.graph-graph.ensures.value
     (subst (λ xs. AreEarly c.graph-graph.result.now (slice_index xs) since) c.deref.ensures.value own_early) in
     let within : AreWithin own fewer memory since =
-    warms_no_sooner s n alike memory all c.sums_rise.ensures.all sources own since fewer
+    warms_no_sooner s n alike memory all sources own since fewer
     c.repetitions.ensures.least.is.all early (subst (λ p. WarmsIn s n p fewer) (sym same) warm) in
     c.periods_for.ensures.least.least fewer
     (subst (λ xs. AreWithin xs fewer c.deref-2.result.now c.deref-3.result.now) (sym c.as_slice.ensures)
@@ -78,7 +79,7 @@ returns-in_default-2-clause-lasts g c =
     ⊎ NoneIsLate c.graph-graph.result.now (slice_index c.deref.result.now) MAX_FIRINGS = search rules in
     ⊎_elim
     (λ loop. inl (subst (λ x. HasLoop (rates x)) c.graph-graph.ensures.value loop))
-    (λ none. inr (stays_cold s n alike memory all c.sums_rise.ensures.all sources MAX_FIRINGS
+    (λ none. inr (stays_cold s n alike memory all sources MAX_FIRINGS
     (subst (λ x. NoneIsLate x (slice_index memory) MAX_FIRINGS) c.graph-graph.ensures.value
     (subst (λ xs. NoneIsLate c.graph-graph.result.now (slice_index xs) MAX_FIRINGS) c.deref.ensures.value none))))
     why

@@ -1,6 +1,6 @@
-use Rattle.std.proofs.Common.{◌≡◌, ◌<◌, ℕ, List, length, get_or, ap, ◌∙◌, arith, below_more}
+use Rattle.std.proofs.Common.{◌≡◌, ◌<◌, ℕ, List, length, get_or, ap, ◌∙◌, subst, arith, below_more}
 use Rattle.std.proofs.lemmas.List.{get_or_append_left, get_or_push, get_or_default, length-map}
-use Rattle.sdf_graph.specs.Rates.{Edge, Shape, sum_to, rate_at, channel, no_channel}
+use Rattle.sdf_graph.specs.Rates.{Edge, Shape, IsShape, IsAlike, rates, sum_to, rate_at, channel, no_channel}
 use Rattle.sdf_actor.specs.Graphs.{graph_of, channel_of}
 use Rattle.sdf_actor.specs.Nets.{node, wiring, cycle_of}
 use Rattle.sdf_one.proofs.Readings.{vec_long}
@@ -24,16 +24,22 @@ edge g c =
           c.loop-channel.channel-index c.channel-item.is c.loop-channel-test.true list,
     )
 
+shape : (g : Rattle.sdf_one.proofs.cycles.make_cycles.Given.Over) (c : After-channel-item g) →
+    IsShape (graph_of g.A.Actor.steps c.args.net.now)
+shape g c = subst IsShape c.graph.ensures.value c.channels-channels.ensures.shape
+
 pub moved-requires-clause-put : goal.moved-requires-clause-put
 moved-requires-clause-put g c =
     let e = edge g (goal.at.moved-requires-clause-put g c).After-channel-item in
-    let cycle = c.net_facts.ensures.graph.put c.loop-channel.channel-index e.0 in
+    let cycle = (shape g (goal.at.moved-requires-clause-put g c).After-channel-item).put
+    c.loop-channel.channel-index e.0 in
     omega (arith, cycle.all, cycle.some, ap (λ x. length x.put) e.1)
 
 pub moved-requires-clause-take : goal.moved-requires-clause-take
 moved-requires-clause-take g c =
     let e = edge g (goal.at.moved-requires-clause-take g c).After-channel-item in
-    let cycle = c.net_facts.ensures.graph.take c.loop-channel.channel-index e.0 in
+    let cycle = (shape g (goal.at.moved-requires-clause-take g c).After-channel-item).take
+    c.loop-channel.channel-index e.0 in
     omega (arith, cycle.all, cycle.some, ap (λ x. length x.take) e.1)
 
 pub node-requires-in-loop-channel-after_bounds : goal.node-requires-in-loop-channel-after_bounds
@@ -41,20 +47,23 @@ node-requires-in-loop-channel-after_bounds g c κs within =
     let e = edge g (goal.at.node-requires-in-loop-channel-after_bounds g c).After-channel-item in
     omega (
       arith,
-      c.net_facts.ensures.graph.from_in c.loop-channel.channel-index e.0,
+      (shape g (goal.at.node-requires-in-loop-channel-after_bounds g c).After-channel-item).from_in
+          c.loop-channel.channel-index e.0,
       ap (λ x. x.from) (c.channel.view_is ∙ e.1),
     )
 
 pub moved-requires-in-loop-channel-clause-put : goal.moved-requires-in-loop-channel-clause-put
 moved-requires-in-loop-channel-clause-put g c =
     let e = edge g (goal.at.moved-requires-in-loop-channel-clause-put g c).After-channel-item in
-    let cycle = c.net_facts.ensures.graph.put c.loop-channel.channel-index e.0 in
+    let cycle = (shape g (goal.at.moved-requires-in-loop-channel-clause-put g c).After-channel-item).put
+    c.loop-channel.channel-index e.0 in
     omega (arith, cycle.all, cycle.some, ap (λ x. length x.put) e.1)
 
 pub moved-requires-in-loop-channel-clause-take : goal.moved-requires-in-loop-channel-clause-take
 moved-requires-in-loop-channel-clause-take g c =
     let e = edge g (goal.at.moved-requires-in-loop-channel-clause-take g c).After-channel-item in
-    let cycle = c.net_facts.ensures.graph.take c.loop-channel.channel-index e.0 in
+    let cycle = (shape g (goal.at.moved-requires-in-loop-channel-clause-take g c).After-channel-item).take
+    c.loop-channel.channel-index e.0 in
     omega (arith, cycle.all, cycle.some, ap (λ x. length x.take) e.1)
 
 pub loop-channel-preserved : goal.loop-channel-preserved
@@ -99,7 +108,7 @@ returns g c =
     let n = c.args.net.now in
     let graph : Shape = graph_of s n in
     let inv = c.loop-channel.invariant in
-    let alike = c.net_facts.ensures.alike in
+    let alike = subst (λ x. IsAlike (rates x) (wiring s n).rates) c.graph.ensures.value c.graph.ensures.rates in
     let list : c.channels-channels.result.now ≡ graph.channels =
     c.channels-channels.ensures.list ∙ ap (λ (x : Shape). x.channels) c.graph.ensures.value in
     let wires : length graph.channels ≡ length n.wires = length-map n.wires (channel_of s n.nodes) in

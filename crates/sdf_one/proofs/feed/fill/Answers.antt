@@ -1,17 +1,26 @@
-use Rattle.std.proofs.Common.{◌∙◌, arith}
-use Rattle.std.proofs.lemmas.List.{length-map}
+use Rattle.std.proofs.Common.{◌≡◌, [], length, subst, sym, ◌∙◌, ⊎_elim, arith}
+use Rattle.std.proofs.lemmas.Bool.{cases_lt}
+use Rattle.std.proofs.lemmas.List.{get_or_past, length-map}
 use Rattle.sdf_actor.specs.Wires.{lists}
+use Rattle.sdf_answer.specs.Answer.{periods_of}
+use Rattle.sdf_answer.specs.Feeds.{HasRun}
+use Rattle.sdf_one.proofs.Idle.{no_period_runs, no_periods}
 use Rattle.sdf_one.proofs.feed.fill.Goals as goal
 
 pub returns-in_ok-first_rest-in-None : goal.returns-in_ok-first_rest-in-None
 returns-in_ok-first_rest-in-None g c =
+    let s = g.A.Actor.steps in
+    let n = c.args.passage.net.now in
+    let q = c.args.passage.period.now.repetitions in
+    let inputs = lists c.args.passage.inputs.now in
+    let made = lists c.args.outputs.items in
+    let rest = c.in_ok-first_rest-in-None.field-0 in
     let many_out = length-map c.args.outputs.items (λ v. v.items) in
-    c.histories_make_runs.ensures.nothing c.args.passage.net.now c.args.passage.period.now.repetitions
-    c.args.passage.periods
-    (lists c.args.passage.inputs.now) (lists c.args.outputs.items) c.in_ok-first_rest-in-None.field-0
-    c.net_facts.ensures.net c.requires.passage.inputs (omega
-    (arith, c.requires.passage.inputs.count, c.net_facts.ensures.accepted.1.lists.input)) c.requires.some
-    (rw c.in-None.is at c.first_sample.ensures)
-    (many_out ∙ c.requires.outputs.0) (λ e l. (c.requires.outputs.1 e
-    (omega (arith, many_out, c.requires.outputs.0))).0)
-    (c.in_ok-first_rest-in-None.ensures (lists c.args.passage.inputs.now))
+    let none : c.args.passage.periods ≡ 0 = no_periods n q c.args.passage.periods inputs c.requires.passage.inputs
+    c.requires.some (rw c.in-None.is at c.first_sample.ensures) in
+    subst (λ p. HasRun s n inputs (periods_of q p) made rest) (sym none)
+    (no_period_runs s n q inputs made rest (many_out ∙ c.requires.outputs.0)
+    (λ e. ⊎_elim
+    (λ l. (c.requires.outputs.1 e (omega (arith, l, many_out, c.requires.outputs.0))).0)
+    (λ past. get_or_past made e [] past) (cases_lt e (length made)))
+    (c.in_ok-first_rest-in-None.ensures inputs))

@@ -4,6 +4,7 @@ use Rattle.sdf_graph.specs.Rates.{rates}
 use Rattle.sdf_sched.specs.Period.{IsPeriodOf}
 use Rattle.sdf_actor.specs.Wires.{lists}
 use Rattle.sdf_answer.specs.Answer.{periods_of}
+use Rattle.sdf_answer.proofs.Theorems.{begun_runs_fail, begun_runs_go_on, periods_may_leave}
 use Rattle.sdf_one.proofs.feed.resume_one_in.Goals as goal
 
 pub begun-requires-clause-rest : goal.begun-requires-clause-rest
@@ -11,7 +12,7 @@ begun-requires-clause-rest g c κs within =
     let q = c.args.passage.period.now.repetitions in (
       c.requires.rest.0,
       periods_of q c.requires.rest.1,
-      c.begun_nets_go_on.ensures.whole c.args.passage.net.now c.args.passage.period.now c.requires.rest.1
+      periods_may_leave g.A.Actor.steps c.args.passage.net.now c.args.passage.period.now c.requires.rest.1
           (c.nets_have_periods.ensures c.args.passage.period.now c.requires.period),
       c.requires.rest.2,
     )
@@ -36,9 +37,9 @@ returns g c =
     let begins = c.in_ok-begun.ensures.begins in
     matched _ _ _ _
     (λ fed made. (
-      c.begun_nets_go_on.ensures.runs n m p many later (lists fed.0.outputs.items)
+      begun_runs_go_on g.A.Actor.steps _ n m p many later (lists fed.0.outputs.items)
           c.args.rest.now fed.1 (c.nets_have_periods.ensures p c.requires.period) begins made.0 made.1,
       made.2,
     ))
-    (λ fault. c.begun_nets_go_on.ensures.faults n c.args.rest.now m p.repetitions many later fault begins)
+    (λ fault. begun_runs_fail g.A.Actor.steps _ n c.args.rest.now m p.repetitions many later fault begins)
     c.feed_one_in.result c.feed_one_in.ensures

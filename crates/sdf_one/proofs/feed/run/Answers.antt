@@ -2,7 +2,9 @@ use Rattle.std.proofs.Common.{map, get_or, ap, ◌∙◌}
 use Rattle.std.proofs.lemmas.List.{length-map}
 use Rattle.sdf_actor.specs.declared.rest.Rest.{Rest}
 use Rattle.sdf_actor.specs.Wires.{lists}
+use Rattle.sdf_actor.proofs.Theorems.{nets_are_wired}
 use Rattle.sdf_answer.specs.Answer.{periods_of}
+use Rattle.sdf_answer.proofs.Theorems.{sinks_make_runs}
 use Rattle.sdf_one.specs.Fired.{state_in}
 use Rattle.sdf_one.proofs.Ends.{all_taken}
 use Rattle.sdf_one.proofs.Left.{leaves}
@@ -17,11 +19,11 @@ returns g c =
     let has = c.in_ok-finished.ensures in
     let rest : Rest g.row.A-Token.Denot g.row.A-State.Denot =
     record { states = c.in_ok-states_of.field-0; held = c.in_ok-held.field-0 } in
-    c.histories_make_runs.ensures.runs n (lists c.args.passage.inputs.now) q c.args.passage.periods
+    sinks_make_runs s n (lists c.args.passage.inputs.now) q c.args.passage.periods
     (λ a. get_or made.done.items a 0)
     has.stands.history (lists made.outputs.items) rest
-    c.net_facts.ensures.net has.stands.is has.done (length-map made.outputs.items (λ v. v.items) ∙ has.outputs)
-    (all_taken s n (c.nets_are_wired.ensures.wired n c.net_facts.ensures.net) (lists c.args.passage.inputs.now)
+    has.good has.stands.is has.done (length-map made.outputs.items (λ v. v.items) ∙ has.outputs)
+    (all_taken s n (nets_are_wired s n has.good) (lists c.args.passage.inputs.now)
     (periods_of q c.args.passage.periods) (λ a. get_or made.done.items a 0)
     made.works.items made.queues.items made.outputs.items has.stands)
     (leaves s n (lists c.args.passage.inputs.now) (periods_of q c.args.passage.periods)

@@ -6,7 +6,9 @@ use Rattle.sdf_actor.specs.Sides.{period_samples}
 use Rattle.sdf_answer.specs.Periods.{CanRun}
 use Rattle.sdf_actor.specs.Nets.{wiring}
 use Rattle.sdf_actor.specs.Wires.{lists}
+use Rattle.sdf_actor.proofs.Theorems.{nets_are_wired}
 use Rattle.sdf_answer.specs.Answer.{periods_of}
+use Rattle.sdf_answer.proofs.Theorems.{histories_begin, nets_can_run, nets_have_periods}
 use Rattle.sdf_answer.specs.Blocks.{room}
 use Rattle.sdf_one.specs.Runs.{Stands}
 use Rattle.sdf_one.specs.Sweeps.{Sweeps}
@@ -22,9 +24,11 @@ can g c =
     subst (λ q. CanRun g.A.Actor.steps c.args.passage.net.now q c.args.passage.periods
     (lists c.args.passage.inputs.now))
     (sym c.repetitions-repetitions.ensures)
-    (c.nets_can_run.ensures c.args.passage.net.now c.args.passage.period.now c.args.passage.periods
+    (nets_can_run g.A.Actor.steps c.args.passage.net.now c.args.passage.period.now c.args.passage.periods
     (lists c.args.passage.inputs.now)
-    (c.nets_have_periods.ensures c.args.passage.period.now c.requires.passage.period) c.requires.passage.inputs)
+    (nets_have_periods g.A.Actor.steps c.args.passage.net.now c.net_facts.ensures.net c.net_facts.ensures.graph
+    c.net_facts.ensures.alike c.net_facts.ensures.accepted c.args.passage.period.now c.requires.passage.period)
+    c.requires.passage.inputs)
 
 rooms : (g : Rattle.sdf_one.proofs.fired.fired.Given.Over) (c : After-run-1 g) (d : ℕ) →
     d < length c.args.passage.net.now.wires →
@@ -62,11 +66,11 @@ begun g c =
       paced = step;
       short = c.requires.short;
       under = omega arith;
-      stands = begun_stands s n (c.nets_are_wired.ensures.wired n c.net_facts.ensures.net)
+      stands = begun_stands s n (nets_are_wired s n c.net_facts.ensures.net)
           (lists c.args.passage.inputs.now)
           (periods_of q c.args.passage.periods) (λ a. get_or c.in_ok-done.done.items a 0)
           c.in_ok-works.works.items c.in_ok-queues.queues.items c.args.outputs.items (none g c)
-          (c.histories_make_outputs.ensures.begin n (lists c.args.passage.inputs.now)
+          (histories_begin s n (lists c.args.passage.inputs.now)
           (λ a. get_or c.in_ok-done.done.items a 0)
           c.net_facts.ensures.net (λ a l. none g c a))
           (omega (arith, c.in_ok-queues.ensures.0)) (omega (arith, c.in_ok-works.ensures.0))
@@ -117,4 +121,9 @@ returns g c =
     (subst (λ r. Stands s made.net.now (lists made.inputs.now) (periods_of r made.periods)
     (λ a. get_or made.done.items a 0) made.works.items made.queues.items made.outputs.items) repetitions
     c.fire_all.ensures.swept.stands))) in
-    record { outputs = keeps.outputs ∙ c.requires.outputs.0; done = same; stands = stands }
+    record {
+      good = c.net_facts.ensures.net;
+      outputs = keeps.outputs ∙ c.requires.outputs.0;
+      done = same;
+      stands = stands;
+    }

@@ -13,7 +13,7 @@ make_blocks-requires-clause-rows g c =
     subst (λ cs. AreRowsAt cs c.args.sizes.now.takes c.cycle-cycle.result) (sym c.channels_in-ins.ensures)
     (subst (λ m. AreRowsAt ((wiring g.A.Actor.steps c.args.net.now).ins c.args.a) c.args.sizes.now.takes m)
     (sym c.cycle-cycle.ensures)
-    (rows_in g.A.Actor.steps c.plans_fit.ensures c.args.net.now c.requires.net c.args.sizes.now c.requires.sizes
+    (rows_in g.A.Actor.steps c.args.net.now c.requires.net c.args.sizes.now c.requires.sizes
     c.args.a c.requires.known c.in-Inner.actor (sym c.node.ensures ∙ c.in-Inner.is)))
 
 pub make_blocks-requires-in-Inner-clause-rows : goal.make_blocks-requires-in-Inner-clause-rows
@@ -21,19 +21,18 @@ make_blocks-requires-in-Inner-clause-rows g c =
     subst (λ cs. AreRowsAt cs c.args.sizes.now.puts c.cycle-cycle.result) (sym c.channels_out-outs.ensures)
     (subst (λ m. AreRowsAt ((wiring g.A.Actor.steps c.args.net.now).outs c.args.a) c.args.sizes.now.puts m)
     (sym c.cycle-cycle.ensures)
-    (rows_out g.A.Actor.steps c.plans_fit.ensures c.args.net.now c.requires.net c.args.sizes.now c.requires.sizes
+    (rows_out g.A.Actor.steps c.args.net.now c.requires.net c.args.sizes.now c.requires.sizes
     c.args.a c.requires.known c.in-Inner.actor (sym c.node.ensures ∙ c.in-Inner.is)))
 
 pub returns-in_ok-put-in-Inner : goal.returns-in_ok-put-in-Inner
 returns-in_ok-put-in-Inner g c =
     let s = g.A.Actor.steps in
     let x = c.in-Inner.actor in
-    let fit = c.plans_fit.ensures in
     let is : node c.args.net.now c.args.a ≡ Inner c.in-Inner.actor = sym c.node.ensures ∙ c.in-Inner.is in
-    begun s fit c.args.net.now c.requires.net c.args.sizes.now c.requires.sizes c.args.a c.requires.known x is
+    begun s c.args.net.now c.requires.net c.args.sizes.now c.requires.sizes c.args.a c.requires.known x is
     _ c.in_ok-state-in-Inner.state c.in_ok-taken-in-Inner.taken c.in_ok-put-in-Inner.put c.in_ok-put-in-Inner.lengths
     refl c.in_ok-state-in-Inner.ensures
-    (blocks s fit c.args.net.now c.requires.net c.args.sizes.now c.requires.sizes c.args.a c.requires.known x is
+    (blocks s c.args.net.now c.requires.net c.args.sizes.now c.requires.sizes c.args.a c.requires.known x is
     c.in_ok-taken-in-Inner.taken c.in_ok-put-in-Inner.put c.in_ok-put-in-Inner.lengths c.cycle-cycle.result
     c.cycle-cycle.ensures c.in_ok-put-in-Inner.ensures.0
     (subst (λ cs. sum_to (λ j. sum_by (λ e. get_or (at_phase c.args.sizes.now.takes j) e 0) cs) c.cycle-cycle.result ≤

@@ -16,6 +16,5 @@ returns-clause-decides c passed =
     c.net-net.ensures.value c.repetitions.ensures.least in
     let shape = subst (λ n. IsShape (graph_of kit_steps n)) c.net-net.ensures.value
     (subst IsShape c.graph.ensures.value c.channels.ensures.shape) in
-    decides_of c.one_least_period.ensures c.args.design.now c.args.options.now c.planned.result passed c.planned.ensures
-    (live_or_not c.one_least_period.ensures c.args.design.now c.repetitions.result.now least
-    (c.graphs_are_sound.ensures (graph_of kit_steps c.args.design.now.net) shape) c.period_or_deadlock.ensures)
+    decides_of c.args.design.now c.args.options.now c.planned.result passed c.planned.ensures
+    (live_or_not c.args.design.now c.repetitions.result.now least shape)

@@ -19,7 +19,7 @@ loop-i-init g c =
       filled = c.in_ok-all.ensures.len;
       left = λ k d low l. c.requires.made k d l;
       grown = subst (λ xs. Grown s inputs makes w rest 0 xs None) (sym c.in_ok-all.ensures.items)
-          (begun s c.warm_runs_go_on.ensures.parts inputs makes w c.requires.split
+          (begun s inputs makes w c.requires.split
           (c.nets_have_periods.ensures w.period.now c.requires.split.period) rest None);
     }
 
@@ -61,7 +61,7 @@ loop-i-preserved g c =
           (sym (get_or-set_other was i k new d (λ same. omega (arith, same))))
           (c.loop-i.invariant.left k d (omega arith) (omega (arith, l, length-set was i new)));
       grown = subst (λ xs. Grown s inputs makes w rest (i + 1) xs (Some m.rest)) (sym c.push_reserved.ensures.items)
-          (grown s c.warm_runs_go_on.ensures.parts inputs makes w c.requires.split
+          (grown s inputs makes w c.requires.split
           (c.nets_have_periods.ensures w.period.now c.requires.split.period) rest i
           (omega (arith, c.loop-i-test.true, c.loop-i.auto.workers, c.requires.all))
           c.loop-i.all.items c.loop-i.last c.loop-i.invariant.grown m.made m.rest part);
@@ -82,6 +82,6 @@ returns g c =
     let makes = g.E.Ends.makes c.args.ends.now in
     let all : c.loop-i.i ≡ part_count w =
     omega (arith, c.loop-i-test.false, c.loop-i.auto.i-end, c.loop-i.auto.workers, c.requires.all) in
-    all_parts s c.warm_runs_go_on.ensures.parts inputs makes w c.requires.split
+    all_parts s inputs makes w c.requires.split
     (c.nets_have_periods.ensures w.period.now c.requires.split.period) c.args.rest.now c.loop-i.i all
     c.loop-i.all.items c.loop-i.last c.unwrap.result c.unwrap.ensures c.loop-i.invariant.grown

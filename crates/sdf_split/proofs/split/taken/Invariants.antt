@@ -9,6 +9,7 @@ invariant-loop-i g l = record {
   room : vec_capacity l.all ≡ length l.initial.workers;
   filled : vec_len l.all ≡ l.i;
   left : (k : ℕ) (d : Worker _ _ _) → l.i ≤ k → k < length l.workers →
-      IsMade g.A.Actor.steps (g.E.Ends.inputs l.ends) (g.E.Ends.makes l.ends) l.split l.rest k (get_or l.workers k d).made;
+      IsMade g.A.Actor.steps (g.E.Ends.inputs l.ends) (g.E.Ends.makes l.ends) l.split l.rest k
+      (get_or l.workers k d).made;
   grown : Grown g.A.Actor.steps (g.E.Ends.inputs l.ends) (g.E.Ends.makes l.ends) l.split l.rest l.i l.all.items l.last;
 }

@@ -3,18 +3,12 @@ use Rattle.std.specs.List.{sum_by}
 use Rattle.std.proofs.Math.Nat.{mul-le-mul_right}
 use Rattle.std.proofs.lemmas.List.{get_or_default}
 use Rattle.sdf_one.specs.Many.{Fit}
-use Rattle.sdf_one.proofs.Known.{Known}
 use Rattle.sdf_one.proofs.Sweeping.{net_known, rows_at, blocks_at, ins_at, outs_at, go_at}
 use Rattle.sdf_one.proofs.run.Run.cycles_in_blocks.Goals as goal
-use Rattle.sdf_one.proofs.run.Run.cycles_in_blocks.Goals.{After-step_laws}
 
 -- what holds of many holds of fewer
 fewer : (few many size held : ℕ) → few ≤ many → many * size ≤ held → few * size ≤ held
 fewer few many size held up all = let less : few * size ≤ many * size = mul-le-mul_right size up in omega arith
-
-known : (g : Rattle.sdf_one.proofs.run.Run.cycles_in_blocks.Given.Over) (c : After-step_laws g) →
-    Known g.A.Actor.steps c.args.self.now.net.now
-known g c = net_known g.A.Actor.steps c.step_laws.ensures.laws c.args.self.now c.requires.swept
 
 pub goes_by_many-requires-after_bounds : goal.goes_by_many-requires-after_bounds
 goes_by_many-requires-after_bounds g c =
@@ -22,7 +16,7 @@ goes_by_many-requires-after_bounds g c =
     let ports = c.ports_of-ports.result in
     let are = c.ports_of-ports.ensures in λ κs within.
     rows_at g.A.Actor.steps r c.requires.swept
-    (known g (goal.at.goes_by_many-requires-after_bounds g c).After-step_laws) c.args.a
+    (net_known g.A.Actor.steps c.args.self.now c.requires.swept) c.args.a
     c.requires.known c.index.result.now c.index.ensures ports.ins.channels.now ports.outs.channels.now
     ports.ins.sizes.now ports.outs.sizes.now r.queues.items are.ins are.outs are.takes are.puts refl
 
@@ -31,7 +25,7 @@ blocks_held-most-requires g c =
     let r = c.args.self.now in
     let ports = c.ports_of-ports.result in
     let are = c.ports_of-ports.ensures in
-    ins_at g.A.Actor.steps r c.requires.swept (known g (goal.at.blocks_held-most-requires g c).After-step_laws) c.args.a
+    ins_at g.A.Actor.steps r c.requires.swept (net_known g.A.Actor.steps c.args.self.now c.requires.swept) c.args.a
     c.requires.known c.index.result.now c.index.ensures ports.ins.channels.now ports.outs.channels.now
     ports.ins.sizes.now ports.outs.sizes.now c.deref.result.now are.ins are.outs are.takes are.puts
     c.deref.ensures.value
@@ -41,7 +35,7 @@ fits-requires-clause-ins g c = λ κs within.
     let ports = c.ports_of-ports.result in
     let are = c.ports_of-ports.ensures in
     let at = ins_at g.A.Actor.steps c.args.self.now c.requires.swept
-    (known g (goal.at.fits-requires-clause-ins g c).After-step_laws) c.args.a
+    (net_known g.A.Actor.steps c.args.self.now c.requires.swept) c.args.a
     c.requires.known c.index.result.now c.index.ensures ports.ins.channels.now ports.outs.channels.now
     ports.ins.sizes.now ports.outs.sizes.now c.args.self.now.queues.items are.ins are.outs are.takes are.puts refl in
     record { known = λ n l. omega (arith, at.known n l, at.sized); sized = refl; once = at.once }
@@ -51,7 +45,7 @@ fits-requires-clause-outs g c = λ κs within.
     let ports = c.ports_of-ports.result in
     let are = c.ports_of-ports.ensures in
     let at = outs_at g.A.Actor.steps c.args.self.now c.requires.swept
-    (known g (goal.at.fits-requires-clause-outs g c).After-step_laws) c.args.a
+    (net_known g.A.Actor.steps c.args.self.now c.requires.swept) c.args.a
     c.requires.known c.index.result.now c.index.ensures ports.ins.channels.now ports.outs.channels.now
     ports.ins.sizes.now ports.outs.sizes.now c.args.self.now.queues.items are.ins are.outs are.takes are.puts refl in
     record { known = λ n l. omega (arith, at.known n l, at.sized); sized = refl; once = at.once }
@@ -62,7 +56,7 @@ fits-requires-clause-blocks g c = λ κs within.
     let ports = c.ports_of-ports.result in
     let are = c.ports_of-ports.ensures in
     blocks_at g.A.Actor.steps r c.requires.swept
-    (known g (goal.at.fits-requires-clause-blocks g c).After-step_laws) c.args.a
+    (net_known g.A.Actor.steps c.args.self.now c.requires.swept) c.args.a
     c.requires.known c.index-2.result.now c.index-2.ensures ports.ins.channels.now ports.outs.channels.now
     ports.ins.sizes.now ports.outs.sizes.now r.queues.items are.ins are.outs are.takes are.puts refl
 
@@ -75,7 +69,7 @@ returns-clause-go g c = λ some.
     let same : c.index-2.result.now ≡ c.index.result.now = c.index-2.ensures
     ∙ (get_or_default r.works.items c.args.a c.index-2.result.now c.index.result.now
     (omega (arith, sw.stands.nodes, c.requires.known)) ∙ sym c.index.ensures) in
-    go_at g.A.Actor.steps r sw (known g (goal.at.returns-clause-go g c).After-step_laws) c.args.a
+    go_at g.A.Actor.steps r sw (net_known g.A.Actor.steps c.args.self.now c.requires.swept) c.args.a
     c.requires.known c.index.result.now c.index.ensures ports.ins.channels.now ports.outs.channels.now
     ports.ins.sizes.now ports.outs.sizes.now c.deref.result.now are.ins are.outs are.takes are.puts
     c.deref.ensures.value c.fits.result (c.goes_by_many.ensures c.if-not-goes_by_many.false)

@@ -1,10 +1,22 @@
-use Rattle.std.proofs.Common.{◌≡◌, ◌+◌, ◌*◌, ◌∙◌, Some, None, refl, sym, ap, subst}
+use Rattle.std.proofs.Common.{◌≡◌, ◌+◌, ◌*◌, ◌∙◌, Some, None, refl, sym, ap, subst, arith}
 use Rattle.sdf_actor.specs.Sides.{list_count, period_samples}
 use Rattle.sdf_actor.specs.Wires.{lists}
 use Rattle.sdf_actor.specs.declared.sides.Lists.TheVariants.{Inputs}
+use Rattle.sdf_one.proofs.Theorems.{samples_have_lists}
 use Rattle.sdf_run.specs.Sessions.{SessionValue, FeedsBlocks, IsFeedFault, HasFed, after_fault, counted}
 use Rattle.sdf_run.proofs.Feeding.{rest_of, blocks_same, feed_fault, has_fed, stands_still}
 use Rattle.sdf_run.proofs.session.Session.feed.Goals as goal
+
+pub blocks_in-requires-clause-many : goal.blocks_in-requires-clause-many
+blocks_in-requires-clause-many g c =
+    let n = c.self.inside.net.now in
+    let q = c.self.inside.table.now.period.repetitions in
+    let each = c.samples_in.ensures.value q c.self.invariant.period.least in
+    omega (
+      arith,
+      c.inputs.ensures,
+      samples_have_lists n.nodes q (omega (arith, c.samples_in.ensures.some, each)),
+    )
 
 pub returns-in_default-blocks_in : goal.returns-in_default-blocks_in
 returns-in_default-blocks_in g c =

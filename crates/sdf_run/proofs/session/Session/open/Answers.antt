@@ -1,32 +1,17 @@
-use Rattle.std.proofs.Common.{refl, arith}
+use Rattle.std.proofs.Common.{refl}
 use Rattle.sdf_run.proofs.Feeding.{stands_first, session_first}
 use Rattle.sdf_run.proofs.session.Session.open.Goals as goal
 
 pub invariant_of-result : goal.invariant_of-result
 invariant_of-result g c =
-    let n = c.args.net.now in
-    session_first g.A.Actor.steps c.histories_make_runs.ensures.nothing n c.net_facts.ensures.net
-    c.args.table.now.period
-    c.args.table.now.factor c.args.table.now.table c.args.mode c.in_ok-first_rest.field-0 c.in_ok-first_rest.ensures
-    (omega (arith, c.net_facts.ensures.accepted.1.lists.input))
-    (omega (
-      arith,
-      c.samples_in-samples.ensures.some,
-      c.samples_in-samples.ensures.value c.args.table.now.period.repetitions c.requires.fits.period.least,
-    ))
-    c.requires.fits.period c.requires.fits.table c.in_ok-may_run.ensures
+    session_first g.A.Actor.steps c.args.net.now c.args.table.now.period c.args.table.now.factor c.args.table.now.table
+    c.args.mode c.in_ok-first_rest.field-0 c.in_ok-first_rest.ensures c.requires.fits.period c.requires.fits.table
+    c.in_ok-may_run.ensures
 
 pub returns-clause-value : goal.returns-clause-value
 returns-clause-value g c = ((c.in_ok-first_rest.field-0, refl), refl)
 
 pub returns-clause-stands : goal.returns-clause-stands
 returns-clause-stands g c =
-    let n = c.args.net.now in
-    stands_first g.A.Actor.steps c.histories_make_runs.ensures.nothing n c.net_facts.ensures.net c.args.table.now.period
-    c.args.table.now.factor c.args.table.now.table c.args.mode c.in_ok-first_rest.field-0 c.in_ok-first_rest.ensures
-    (omega (arith, c.net_facts.ensures.accepted.1.lists.input))
-    (omega (
-      arith,
-      c.samples_in-samples.ensures.some,
-      c.samples_in-samples.ensures.value c.args.table.now.period.repetitions c.requires.fits.period.least,
-    ))
+    stands_first g.A.Actor.steps c.args.net.now c.args.table.now.period c.args.table.now.factor c.args.table.now.table
+    c.args.mode c.in_ok-first_rest.field-0 c.in_ok-first_rest.ensures

@@ -1,0 +1,18 @@
+-- What proofs of other crates cite of this one: the laws of nets that forget, by their lemmas, for actors of any steps.
+use Rattle.sdf_actor.specs.Steps.{Steps}
+use Rattle.sdf_fission.specs.Laws.{RestsForget, WarmRunsLeave, WarmRunsGoOn, PartsGoOn}
+use Rattle.sdf_fission.proofs.Forgetting.{rests_forget as all_forget}
+use Rattle.sdf_fission.proofs.Parts.{parts}
+use Rattle.sdf_fission.proofs.Running.{leave, go_on}
+
+pub rests_forget : {A S T : Type 0} (s : Steps A S T) → RestsForget s
+rests_forget = all_forget
+
+pub warm_runs_leave : {A S T : Type 0} (s : Steps A S T) → WarmRunsLeave s
+warm_runs_leave = leave
+
+pub warm_runs_go_on : {A S T : Type 0} (s : Steps A S T) → WarmRunsGoOn s
+warm_runs_go_on = go_on
+
+pub parts_go_on : {A S T : Type 0} (s : Steps A S T) → PartsGoOn s
+parts_go_on = parts
