@@ -1,8 +1,9 @@
 //! Runs of several files into a folder.
 
-use crate::commands::{Around, OPEN, Row, is_told, told_around};
-use crate::files::{HALVES, are_told, has_bytes, put, told, with_files};
+use crate::commands::{Around, OPEN, Row, Served, is_told, told_around};
+use crate::files::{HALVES, PLAIN, are_told, folder, has_bytes, put, served, told, with_files};
 use crate::shelf::{HEADER, SOUND};
+use std::alloc::{AllocError, Global};
 use std::fs;
 use std::io::ErrorKind;
 use std::test::Fail;
@@ -22,8 +23,8 @@ const MUTE: Around<'static> = Around {
     ..OPEN
 };
 
-/// Batches over files in memory. Refuses a program that stops at a file that fails, one that keeps what that has written,
-/// the least or the last of the exit statuses, and two files that are written in one place.
+/// Batches over files in memory. Refuses a program that stops at a file that fails, one that keeps what that has
+/// written, the least or the last of the exit statuses, and two files that are written in one place.
 const BATCHES: &[Row] = &[
     (
         "a file",
@@ -38,7 +39,7 @@ const BATCHES: &[Row] = &[
     (
         "the greatest status between others",
         "run plain.toml --into made in.wav none.wav one.toml",
-        "5\nin.wav: done\nnone.wav: 47 Read\none.toml: 34 NotRiff\n--\n--\n",
+        "5\nin.wav: done\nnone.wav: 47 Read\none.toml: 34 NotRiff\n--\n--\n<5 -5>",
     ),
     (
         "the words in another order, with options",
@@ -71,6 +72,16 @@ const BATCHES: &[Row] = &[
         "2\n--\nerror: two files IN have the name in.wav\n--\n",
     ),
     (
+        "a file of the name of a part",
+        "run plain.toml --into made in.wav in.wav.part",
+        "2\n--\nerror: IN in.wav.part and another IN differ only by .part\n--\n",
+    ),
+    (
+        "the part behind it",
+        "run plain.toml --into made in.wav.part other/in.wav",
+        "2\n--\nerror: IN in.wav and another IN differ only by .part\n--\n",
+    ),
+    (
         "standard input",
         "run plain.toml --into made -",
         "2\n--\nerror: IN - has no name for a file in FOLDER\n--\n",
@@ -93,7 +104,7 @@ const SAID: &[Row] = &[
         "a file that ends well, and one that does not",
         "run plain.toml --into made in.wav one.toml",
         "4\nin.wav: done\none.toml: 34 NotRiff\n--\noutput 0: 2 frames, peak -76.3 dB, 0 samples at full scale\n  \
-         \"one.toml\": has \"form\" at byte 0, wants \"RIFF\"\n--\n",
+         \"one.toml\": has \"form\" at byte 0, wants \"RIFF\"\n--\n<5 -5>",
     ),
     (
         "files that are not there, each by itself",
@@ -158,4 +169,142 @@ fn files_in_a_folder(rt: HostRuntime) -> Result<(), Fail> {
     }
     are_told(&rt, &above, ITSELF)?;
     has_bytes(&rt, &above, "in.wav", SOUND, line)
+}
+
+/// Returns a sound of `frames` frames of `sample`.
+fn sound_of(alloc: Global, sample: u8, frames: u32) -> Result<Vec<u8>, AllocError> {
+    let size = frames.saturating_mul(2);
+    let mut sound = Vec::new(alloc);
+    sound.extend_from_slice(&HEADER[..4])?;
+    sound.extend_from_slice(&size.saturating_add(36).to_le_bytes())?;
+    sound.extend_from_slice(&HEADER[8..40])?;
+    sound.extend_from_slice(&size.to_le_bytes())?;
+    for _ in 0..frames {
+        sound.extend_from_slice(&[sample, 0])?;
+    }
+    Ok(sound)
+}
+
+/// Returns the sound of file `number` of `count`. Each has its own sample, and is shorter than those before it.
+fn sound_at(alloc: Global, number: u8, count: u8) -> Result<Vec<u8>, AllocError> {
+    let behind = u32::from(count.saturating_sub(number));
+    sound_of(alloc, number, behind.saturating_mul(3_000))
+}
+
+/// Files of a batch, which are numbered, and the one of them that is only a header.
+#[derive(Clone, Copy)]
+struct Takes<'a> {
+    above: &'a str,
+    count: u8,
+    cut: Option<u8>,
+}
+
+/// Returns the bytes of file `number`.
+fn take_of(alloc: Global, takes: Takes<'_>, number: u8) -> Result<Vec<u8>, AllocError> {
+    if takes.cut == Some(number) {
+        return Vec::from_slice(alloc, HEADER);
+    }
+    sound_at(alloc, number, takes.count)
+}
+
+/// Puts the files of a batch into their folder.
+fn put_takes(rt: &HostRuntime, takes: Takes<'_>) -> Result<(), Fail> {
+    for number in 0..takes.count {
+        let name = format!(in rt.alloc(); "{number}.wav")?;
+        let bytes = take_of(rt.alloc(), takes, number)?;
+        put(rt, takes.above, name.as_str(), &bytes)?;
+    }
+    Ok(())
+}
+
+/// Returns the words that run a batch, with the option `option`.
+fn words_for(alloc: Global, takes: Takes<'_>, option: &str) -> Result<String, AllocError> {
+    let mut words = String::from_str(alloc, "run @/plain.toml --into @/out")?;
+    for number in 0..takes.count {
+        write!(words, " @/{number}.wav")?;
+    }
+    words.push_str(option)?;
+    Ok(words)
+}
+
+/// Returns the status and the lines that a batch is to have.
+fn lines_of(alloc: Global, takes: Takes<'_>) -> Result<String, AllocError> {
+    let mut lines = String::from_str(alloc, if takes.cut.is_some() { "4\n" } else { "0\n" })?;
+    for number in 0..takes.count {
+        let ended = if takes.cut == Some(number) {
+            "43 Truncated"
+        } else {
+            "done"
+        };
+        writeln!(lines, "{}/{number}.wav: {ended}", takes.above)?;
+    }
+    Ok(lines)
+}
+
+/// Returns the status and the lines of a batch.
+fn lines_told<T: Threads + AllocGlobal + Clock + Clone + Drop + Sync>(
+    rt: &HostRuntime,
+    threads: &T,
+    takes: Takes<'_>,
+    words: &str,
+) -> Result<String, Fail> {
+    let Served { status, out, .. } = served(rt, threads, takes.above, words)?;
+    let out = String::from_utf8(out)?;
+    Ok(format!(in rt.alloc(); "{status}\n{out}")?)
+}
+
+/// Fails if a file of a batch is not written as it was read, or if one that is cut or a part is there.
+fn are_written(rt: &HostRuntime, takes: Takes<'_>, words: &str) -> Result<(), Fail> {
+    let into = format!(in rt.alloc(); "{}/out", takes.above)?;
+    let mut there = 0;
+    for number in 0..takes.count {
+        if takes.cut != Some(number) {
+            let name = format!(in rt.alloc(); "{number}.wav")?;
+            let bytes = take_of(rt.alloc(), takes, number)?;
+            has_bytes(rt, &into, name.as_str(), &bytes, words)?;
+            there += 1;
+        }
+    }
+    let mut names = 0;
+    for _ in fs::read_dir(rt, into.as_str())? {
+        names += 1;
+    }
+    if names == there {
+        return Ok(());
+    }
+    Err(Fail::new(format_args!("{words}: {names} files in place of {there}")))
+}
+
+/// Runs a batch in a folder of its own, and compares its status, its lines and the files that it leaves.
+fn is_run<T: Threads + AllocGlobal + Clock + Clone + Drop + Sync>(
+    rt: &HostRuntime,
+    threads: &T,
+    name: &str,
+    count: u8,
+    cut: Option<u8>,
+    option: &str,
+) -> Result<(), Fail> {
+    let above = folder(rt, name)?;
+    let takes = Takes {
+        above: above.as_str(),
+        count,
+        cut,
+    };
+    let into = format!(in rt.alloc(); "{}/out", takes.above)?;
+    let _ = fs::remove_dir_all(rt, into.as_str());
+    put(rt, takes.above, "plain.toml", PLAIN.as_bytes())?;
+    put_takes(rt, takes)?;
+    let words = words_for(rt.alloc(), takes, option)?;
+    let wanted = lines_of(rt.alloc(), takes)?;
+    says(lines_told(rt, threads, takes, &words), wanted.as_str())?;
+    are_written(rt, takes, &words)
+}
+
+/// Refuses outputs of two files that are mixed up, lines in the order in which files are done, files past those that
+/// are run at once and are not run, and a file that fails and takes another with it.
+#[test]
+fn files_at_once(rt: HostRuntime) -> Result<(), Fail> {
+    is_run(&rt, &rt, "many", 20, None, "")?;
+    is_run(&rt, &rt, "few", 5, Some(1), "")?;
+    is_run(&rt, &rt, "in-turn", 3, Some(0), " --parallel 2")
 }

@@ -1,11 +1,10 @@
 //! Commands over files in memory, and what is told of them.
 
-use crate::shelf::{HEADER, NEW_SOUND, SOUND, Shelf};
+use crate::shelf::{HEADER, NEW_SOUND, SOUND, Shelf, places};
 use sdf_files::files::MOST_BYTES;
 use sdf_files::storage::Storage;
 use sdf_files::world::World;
 use sdf_program::program::serve;
-use std::cell::RefCell;
 use std::io::{self, Error, ErrorKind, Write};
 use std::test::Fail;
 use std::thread::Threads;
@@ -91,8 +90,8 @@ fn text_of(bytes: &[u8]) -> &str {
     }
 }
 
-/// What a line of words leaves: its exit status, and what stands on standard output, on standard error and in the file
-/// that is written.
+/// What a line of words leaves: its exit status, and what stands on standard output, on standard error and in the files
+/// in memory that are written, one behind the other.
 #[derive(Drop)]
 pub(crate) struct Served {
     pub(crate) status: u8,
@@ -112,9 +111,9 @@ pub(crate) fn serve_line<T: Threads + AllocGlobal + Clock + Clone + Drop + Sync>
     for word in line.split(' ') {
         words.push(word)?;
     }
-    let files = RefCell::new(Vec::new(alloc));
+    let places = places(alloc)?;
     let world = World {
-        storage: &Shelf { written: &files },
+        storage: &Shelf { places: &places },
         threads: rt,
         most: around.most,
         terminal: around.terminal,
@@ -128,11 +127,15 @@ pub(crate) fn serve_line<T: Threads + AllocGlobal + Clock + Clone + Drop + Sync>
         written: Vec::new(alloc),
     };
     let status = status_of(&world, around.stdin, &mut out, &mut err, &words)?;
+    let mut file = Vec::new(alloc);
+    for place in places {
+        file.append(&mut place.into_inner())?;
+    }
     Ok(Served {
         status,
         out: out.written,
         err: err.written,
-        file: files.into_inner(),
+        file,
     })
 }
 

@@ -1,6 +1,6 @@
 //! Commands over real files.
 
-use crate::commands::{Stream, is_told, status_of};
+use crate::commands::{Served, Stream, is_told, status_of};
 use crate::shelf::SOUND;
 use sdf_files::files::{MOST_BYTES, load, read_all};
 use sdf_files::storage::Disk;
@@ -78,13 +78,16 @@ pub(crate) fn stand(rt: &(impl Files + AllocGlobal), folder: &str, line: &str) -
     has_bytes(rt, folder, "in.wav", SOUND, line)
 }
 
-/// The exit status of a line of words over real files, in which `@` is the folder, and what stands on standard error.
-pub(crate) fn told<R: Files, T: Threads + AllocGlobal + Clock + Clone + Drop + Sync>(
+/// What a line of words leaves over real files, in which `@` is the folder.
+pub(crate) fn served<R: Files + Sync, T: Threads + AllocGlobal + Clock + Clone + Drop + Sync>(
     rt: &R,
     threads: &T,
     folder: &str,
     line: &str,
-) -> Result<String, Fail> {
+) -> Result<Served, Fail>
+where
+    R::File: Send,
+{
     let alloc = threads.alloc();
     let mut paths = Vec::new(alloc);
     for word in line.split(' ') {
@@ -109,19 +112,41 @@ pub(crate) fn told<R: Files, T: Threads + AllocGlobal + Clock + Clone + Drop + S
         written: Vec::new(alloc),
     };
     let status = status_of(&world, b"", &mut out, &mut err, &words)?;
-    let err = String::from_utf8(err.written)?;
-    Ok(format!(in alloc; "{status} {err}")?)
+    Ok(Served {
+        status,
+        out: out.written,
+        err: err.written,
+        file: Vec::new(alloc),
+    })
+}
+
+/// The exit status of a line of words over real files, in which `@` is the folder, and what stands on standard error.
+pub(crate) fn told<R: Files + Sync, T: Threads + AllocGlobal + Clock + Clone + Drop + Sync>(
+    rt: &R,
+    threads: &T,
+    folder: &str,
+    line: &str,
+) -> Result<String, Fail>
+where
+    R::File: Send,
+{
+    let Served { status, err, .. } = served(rt, threads, folder, line)?;
+    let err = String::from_utf8(err)?;
+    Ok(format!(in threads.alloc(); "{status} {err}")?)
 }
 
 /// The name of a row, a line of words, and what is told of it.
 pub(crate) type Row = (&'static str, &'static str, &'static str);
 
 /// Compares what each row prints in a folder with what it wants.
-pub(crate) fn are_told(
-    rt: &(impl Files + Threads + AllocGlobal + Clock + Clone + Drop + Sync),
+pub(crate) fn are_told<R: Files + Threads + AllocGlobal + Clock + Clone + Drop + Sync>(
+    rt: &R,
     folder: &str,
     rows: &[Row],
-) -> Result<(), Fail> {
+) -> Result<(), Fail>
+where
+    R::File: Send,
+{
     for (name, line, wanted) in rows {
         is_told(name, told(rt, rt, folder, line), wanted)?;
     }

@@ -3,10 +3,10 @@
 use crate::costs::COMMENTED;
 use crate::files::{FILTERED, PLAIN, TAPS};
 use sdf_files::storage::Storage;
-use std::alloc::Global;
-use std::cell::RefCell;
+use std::alloc::{AllocError, Global};
 use std::io::{self, Error, ErrorKind, Write};
 use std::path::{Path, PathBuf};
+use std::sync::Mutex;
 
 /// The samples 5 and -5, 44,100 a second.
 pub(crate) const SOUND: &[u8] =
@@ -237,25 +237,62 @@ fn bytes_of(path: &str) -> Option<&'static [u8]> {
     None
 }
 
-/// Files in memory, and what was written. Only out.wav can be made, and what lies in the folder `made`, one file behind
-/// the other. Removing a file removes its content, and only a part can be renamed. The file `-` is no sound, and `./-`
-/// is one.
+/// Files that have a place of their own, since they are written at once.
+const PARTS: [&str; 3] = [
+    "made/in.wav.part",
+    "made/cut.wav.part",
+    "made/one.toml.part",
+];
+
+/// The place of a file that can be made.
+fn place_of(path: &str) -> Option<usize> {
+    for (place, part) in PARTS.iter().enumerate() {
+        if path == *part {
+            return Some(place);
+        }
+    }
+    if path == "out.wav" || path.starts_with("made/") {
+        Some(PARTS.len())
+    } else {
+        None
+    }
+}
+
+/// The contents of places in which nothing is written.
+pub(crate) fn places(alloc: Global) -> Result<Vec<Mutex<Vec<u8>>>, AllocError> {
+    let mut places = Vec::new(alloc);
+    for _ in 0..=PARTS.len() {
+        places.push(Mutex::new(Vec::new(alloc)))?;
+    }
+    Ok(places)
+}
+
+/// Files in memory, and what was written, which threads share. Only out.wav can be made, and what lies in the folder
+/// `made`: parts of sounds each in its place, and all else in one place, one file behind the other. Removing a file
+/// removes the content of its place, and only a part can be renamed. The file `-` is no sound, and `./-` is one.
 #[derive(Clone, Copy)]
 pub(crate) struct Shelf<'a> {
-    pub(crate) written: &'a RefCell<Vec<u8>>,
+    pub(crate) places: &'a [Mutex<Vec<u8>>],
+}
+
+impl<'a> Shelf<'a> {
+    /// The content of a file that can be made.
+    fn place(&self, path: &str) -> Option<&'a Mutex<Vec<u8>>> {
+        self.places.get(place_of(path)?)
+    }
 }
 
 /// The file that is written.
 #[derive(Clone, Copy)]
 pub(crate) struct Slot<'a> {
-    written: &'a RefCell<Vec<u8>>,
+    written: &'a Mutex<Vec<u8>>,
 }
 
 impl Write for Slot<'_> {
     fn write(&mut self, bytes: &[u8]) -> io::Result<usize> {
-        match self.written.try_borrow_mut() {
-            Ok(mut written) => written.write(bytes),
-            Err(_) => Err(Error::from(ErrorKind::ResourceBusy)),
+        match self.written.try_lock() {
+            Some(mut written) => written.write(bytes),
+            None => Err(Error::from(ErrorKind::ResourceBusy)),
         }
     }
 
@@ -277,12 +314,9 @@ impl<'a> Storage for Shelf<'a> {
     }
 
     fn create(&self, path: &str) -> io::Result<Slot<'a>> {
-        if path == "out.wav" || path.starts_with("made/") {
-            Ok(Slot {
-                written: self.written,
-            })
-        } else {
-            Err(Error::from(ErrorKind::PermissionDenied))
+        match self.place(path) {
+            Some(written) => Ok(Slot { written }),
+            None => Err(Error::from(ErrorKind::PermissionDenied)),
         }
     }
 
@@ -301,10 +335,13 @@ impl<'a> Storage for Shelf<'a> {
         }
     }
 
-    fn remove(&self, _path: &str) -> io::Result<()> {
-        match self.written.try_borrow_mut() {
-            Ok(mut written) => Ok(written.clear()),
-            Err(_) => Err(Error::from(ErrorKind::ResourceBusy)),
+    fn remove(&self, path: &str) -> io::Result<()> {
+        let Some(written) = self.place(path) else {
+            return Err(Error::from(ErrorKind::NotFound));
+        };
+        match written.try_lock() {
+            Some(mut written) => Ok(written.clear()),
+            None => Err(Error::from(ErrorKind::ResourceBusy)),
         }
     }
 

@@ -2,12 +2,11 @@
 
 use crate::commands::{Around, OPEN, is_told, told_around};
 use crate::files::{FILTERED, TAPS};
-use crate::shelf::{PADDED, SOUND, Shelf};
+use crate::shelf::{PADDED, SOUND, Shelf, places};
 use sdf_files::files::MOST_BYTES;
 use sdf_files::world::World;
 use sdf_options::WordFault;
 use sdf_program::program::serve;
-use std::cell::RefCell;
 use std::io::ErrorKind;
 use std::test::Fail;
 use std::thread::Threads;
@@ -261,9 +260,9 @@ fn fits<T: Threads + AllocGlobal + Clock + Clone + Drop + Sync>(
 /// How the program ends whose words were refused for want of memory.
 fn unread<T: Threads + AllocGlobal + Clock + Clone + Drop + Sync>(rt: &T) -> Result<String, Fail> {
     let alloc = rt.alloc();
-    let written = RefCell::new(Vec::new(alloc));
+    let places = places(alloc)?;
     let world = World {
-        storage: &Shelf { written: &written },
+        storage: &Shelf { places: &places },
         threads: rt,
         most: MOST_BYTES,
         terminal: false,

@@ -11,6 +11,7 @@ use sdf_file::{Design, design_files, read_design};
 use sdf_plan::Fault;
 use std::alloc::{AllocError, Global};
 use std::io::{self, ErrorKind, Read, Write};
+use std::mem;
 use std::path::Path;
 
 /// The most bytes of a graph file or a coefficient file.
@@ -145,10 +146,16 @@ impl Sources {
         }
     }
 
-    /// Forgets what is known of a sound and of files that the system refused, before the next sound.
-    pub fn forget_sound(&mut self, alloc: Global) {
-        self.trace = InputTrace::new(alloc);
-        self.refused = Vec::new(alloc);
+    /// Exchanges what is known of a sound, and the files that the system refused, with `other`.
+    pub fn swap_sound(&mut self, other: &mut Sources)
+        ensures trace { (self.new.trace ≡ other.old.trace) × (other.new.trace ≡ self.old.trace) }
+        ensures refused { (self.new.refused ≡ other.old.refused) × (other.new.refused ≡ self.old.refused) }
+        ensures path { (self.new.path ≡ self.old.path) × (other.new.path ≡ other.old.path) }
+        ensures graph { (self.new.graph ≡ self.old.graph) × (other.new.graph ≡ other.old.graph) }
+        ensures files { (self.new.files ≡ self.old.files) × (other.new.files ≡ other.old.files) }
+    {
+        mem::swap(&mut self.trace, &mut other.trace);
+        mem::swap(&mut self.refused, &mut other.refused);
     }
 }
 

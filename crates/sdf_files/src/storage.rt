@@ -6,13 +6,13 @@ use std::io::{self, Read, Write};
 use std::path::PathBuf;
 use std::rt::Files;
 
-/// Files by their paths.
-pub trait Storage {
+/// Files by their paths, which threads share.
+pub trait Storage: Sync {
     /// What a file is read by.
-    type Source: Read + Drop;
+    type Source: Read + Send + Drop;
 
     /// What a file is written by.
-    type Sink: Write + Drop;
+    type Sink: Write + Send + Drop;
 
     fn open(&self, path: &str) -> io::Result<Self::Source>;
 
@@ -37,7 +37,10 @@ pub struct Disk<'a, R> {
     pub rt: &'a R,
 }
 
-impl<R: Files> Storage for Disk<'_, R> {
+impl<R: Files + Sync> Storage for Disk<'_, R>
+where
+    R::File: Send,
+{
     type Source = R::File;
 
     type Sink = R::File;

@@ -1,24 +1,24 @@
 //! The command that makes sounds of several others.
 
-ghost use Rattle.std.specs.Prelude.{◌≡◌, IfSome, MatchResult};
+ghost use Rattle.std.specs.Prelude.{◌≡◌, ◌≤◌, ◌<◌, IfSome, MatchResult, length};
 ghost use Rattle.sdf_plan.specs.Plans.{Suits};
 ghost use Rattle.sdf_plan.specs.Statuses.{status_of};
 ghost use Rattle.sdf_words.specs.Limits.{IsCrew};
 
-use crate::running::{Planned, Running, plan_of, run_planned};
+use crate::items::{Item, items_of, settle};
+use crate::running::{Planned, Running, plan_of, run_planned, workers_of};
 use sdf_commands::making::make_folder;
 use sdf_commands::telling::why;
-use sdf_files::files::{Loaded, Sources, device_fault, put};
+use sdf_files::files::{Loaded, Sources, put};
 use sdf_files::overwriting::{Paths, keep_what_is_read};
 use sdf_files::storage::Storage;
 use sdf_files::world::{STANDARD, World};
 use sdf_options::printable::printable;
 use sdf_plan::{Fault, Plan, fault_text, status};
-use sdf_words::{Batch, Run, mistake};
+use sdf_words::{Batch, Crew, Run};
 use std::alloc::{AllocError, Global};
 use std::io::Write;
-use std::path::Path;
-use std::thread::Threads;
+use std::thread::{self, Threads};
 use std::time::Clock;
 
 /// A batch that is asked for, of a design that was read.
@@ -64,78 +64,6 @@ struct Course<'a> {
     plan: &'a Plan,
 }
 
-/// A file that is read, where its sound is written while it is made, and where that stands once it is whole.
-#[derive(Drop)]
-struct Item<'a> {
-    input: &'a str,
-    part: String,
-    output: String,
-}
-
-/// Returns the name that a file is written by, if it has one.
-fn name_of(input: &str) -> Option<&str> {
-    if input == STANDARD {
-        return None;
-    }
-    Path::new(input).file_name()
-}
-
-/// The mistake of a file that has no name.
-fn unnamed(alloc: Global, input: &str) -> Result<Fault, AllocError> {
-    let shown = printable(alloc, input)?;
-    let text = format!(in alloc; "IN {} has no name for a file in FOLDER", shown.as_str())?;
-    Ok(Fault::from(mistake(alloc, text.as_str())))
-}
-
-/// The mistake of two files of one name.
-fn named_twice(alloc: Global, name: &str) -> Result<Fault, AllocError> {
-    let shown = printable(alloc, name)?;
-    let text = format!(in alloc; "two files IN have the name {}", shown.as_str())?;
-    Ok(Fault::from(mistake(alloc, text.as_str())))
-}
-
-/// Returns whether a file is written here.
-fn is_taken(items: &[Item<'_>], output: &str) -> bool {
-    for item in items {
-        if item.output.as_str() == output {
-            return true;
-        }
-    }
-    false
-}
-
-/// Adds a file that is read, unless it has no name or that of an earlier one.
-fn push_item<'a>(
-    alloc: Global,
-    items: &mut Vec<Item<'a>>,
-    folder: &str,
-    input: &'a str,
-) -> Result<(), Fault> {
-    let Some(name) = name_of(input) else {
-        return Err(unnamed(alloc, input)?);
-    };
-    let output = format!(in alloc; "{folder}/{name}")?;
-    if is_taken(items, output.as_str()) {
-        return Err(named_twice(alloc, name)?);
-    }
-    let part = format!(in alloc; "{folder}/{name}.part")?;
-    items.push(Item {
-        input,
-        part,
-        output,
-    })?;
-    Ok(())
-}
-
-/// Returns the files of a batch.
-fn items_of<'a>(alloc: Global, batch: &Batch<'a>) -> Result<Vec<Item<'a>>, Fault> {
-    let mut items = Vec::new(alloc);
-    for input in &batch.inputs {
-        push_item(alloc, &mut items, batch.folder, *input)?;
-    }
-    Ok(items)
-}
-
 /// Refuses a file to write that the run which writes it reads.
 fn keep_inputs<S: Storage>(
     alloc: Global,
@@ -154,31 +82,13 @@ fn keep_inputs<S: Storage>(
     Ok(())
 }
 
-/// Puts a sound that is whole in its place.
-fn place<S: Storage>(storage: &S, item: &Item<'_>) -> Result<(), Fault> {
-    match storage.rename(item.part.as_str(), item.output.as_str()) {
-        Ok(()) => Ok(()),
-        Err(error) => Err(device_fault(&error, Fault::Write)),
-    }
-}
-
-/// Puts a sound that is whole in its place, and removes one that is not, or that has no place.
-fn settle<S: Storage>(storage: &S, item: &Item<'_>, ended: Result<(), Fault>) -> Result<(), Fault> {
-    let settled = match ended {
-        Ok(()) => place(storage, item),
-        Err(fault) => Err(fault),
-    };
-    if settled.is_err() {
-        let _ = storage.remove(item.part.as_str());
-    }
-    settled
-}
-
-/// What became of a file: what was said of its run, and how that ended.
+/// What became of the file `input`: what was said of its run, how that ended, and what is known of the sound.
 #[derive(Drop)]
-struct Outcome {
+struct Outcome<'a> {
+    input: &'a str,
     said: Vec<u8>,
     ended: Result<(), Fault>,
+    heard: Sources,
 }
 
 /// Returns the first line of a text.
@@ -197,7 +107,7 @@ fn bare(line: &str) -> &str {
     }
 }
 
-impl Outcome {
+impl Outcome<'_> {
     /// Returns what became of the file, on one line.
     fn text(&self, alloc: Global) -> Result<String, AllocError> {
         match &self.ended {
@@ -209,9 +119,9 @@ impl Outcome {
         }
     }
 
-    /// Prints the line of the file `input`.
-    fn show<O: Write>(&self, alloc: Global, out: &mut O, input: &str) -> Result<(), Fault> {
-        let shown = printable(alloc, input)?;
+    /// Prints the line of the file.
+    fn show<O: Write>(&self, alloc: Global, out: &mut O) -> Result<(), Fault> {
+        let shown = printable(alloc, self.input)?;
         let text = self.text(alloc)?;
         let line = format!(in alloc; "{}: {}\n", shown.as_str(), text.as_str())?;
         put(out, line.as_bytes())
@@ -237,17 +147,18 @@ impl Outcome {
         }
     }
 
-    /// Prints what became of the file `input`, says more if that is asked for, and gives the exit status of the run.
+    /// Prints what became of the file, says more if that is asked for, and gives the exit status of the run. What is
+    /// known of the sound is left in `sources`.
     fn tell<O: Write, E: Write>(
-        &self,
+        &mut self,
         alloc: Global,
         out: &mut O,
         err: &mut E,
         batching: Batching<'_>,
-        input: &str,
-        sources: &Sources,
+        sources: &mut Sources,
     ) -> Result<u8, Fault> {
-        self.show(alloc, out, input)?;
+        sources.swap_sound(&mut self.heard);
+        self.show(alloc, out)?;
         if batching.is_said {
             self.say(alloc, err, batching, sources);
         }
@@ -256,63 +167,102 @@ impl Outcome {
 }
 
 /// Runs a plan on a file.
-fn run_item<S: Storage, T: Threads + AllocGlobal + Clock + Sync>(
+fn run_item<'a, S: Storage, T: Threads + AllocGlobal + Clock + Sync>(
     world: &World<S, T>,
-    planned: Planned<'_>,
-    item: &Item<'_>,
-    sources: &mut Sources,
-) -> Outcome
-    requires { Suits planned.running.loaded.now.design.net planned.plan.now }
+    course: Course<'_>,
+    item: &Item<'a>,
+) -> Outcome<'a>
+    requires { Suits course.batching.loaded.now.design.net course.plan.now }
 {
     let alloc = world.threads.alloc();
-    sources.forget_sound(alloc);
+    let Course { batching, plan } = course;
+    let planned = Planned {
+        running: running_of(batching, item.input, item.part.as_str()),
+        plan,
+    };
     let mut nothing: &[u8] = b"";
     let mut unwritten = Vec::new(alloc);
     let mut said = Vec::new(alloc);
+    let mut heard = Sources::new(alloc);
     let ended = run_planned(
         world,
         &mut nothing,
         &mut unwritten,
         &mut said,
         planned,
-        sources,
+        &mut heard,
     );
     Outcome {
+        input: item.input,
         said,
         ended: settle(world.storage, item, ended),
+        heard,
     }
 }
 
-/// Runs a plan on a file, prints what became of it, and gives the exit status of that run.
-fn serve_item<S: Storage, T: Threads + AllocGlobal + Clock + Sync, O: Write, E: Write>(
+/// Runs a plan on files at once, each in a thread of its own. Returns what became of them, in order.
+fn run_items<'a, S: Storage, T: Threads + AllocGlobal + Clock + Sync>(
+    world: &World<S, T>,
+    course: Course<'_>,
+    items: &[Item<'a>],
+) -> Result<Vec<Outcome<'a>>, AllocError>
+    requires { Suits course.batching.loaded.now.design.net course.plan.now }
+{
+    thread::map_indices(
+        world.threads,
+        world.threads.alloc(),
+        items.len(),
+        &|i: usize| -> Outcome
+            requires { (i < length items.now) × Suits course.batching.loaded.now.design.net course.plan.now }
+        { run_item(world, course, &items[i]) },
+    )
+}
+
+/// Prints what became of files, in order, and gives the greatest exit status of their runs.
+fn tell_all<O: Write, E: Write>(
+    alloc: Global,
+    out: &mut O,
+    err: &mut E,
+    batching: Batching<'_>,
+    outcomes: &mut [Outcome<'_>],
+    sources: &mut Sources,
+) -> Result<u8, Fault> {
+    let mut worst = 0;
+    for outcome in outcomes {
+        worst = worst.max(outcome.tell(alloc, out, err, batching, sources)?);
+    }
+    Ok(worst)
+}
+
+/// Runs a plan on files at once, prints what became of them, and gives the greatest exit status of their runs.
+fn serve_group<S: Storage, T: Threads + AllocGlobal + Clock + Sync, O: Write, E: Write>(
     world: &World<S, T>,
     out: &mut O,
     err: &mut E,
     course: Course<'_>,
-    item: &Item<'_>,
+    items: &[Item<'_>],
     sources: &mut Sources,
 ) -> Result<u8, Fault>
     requires { Suits course.batching.loaded.now.design.net course.plan.now }
 {
-    let Course { batching, plan } = course;
-    let planned = Planned {
-        running: running_of(batching, item.input, item.part.as_str()),
-        plan,
-    };
-    let outcome = run_item(world, planned, item, sources);
-    let status = outcome.tell(
-        world.threads.alloc(),
-        out,
-        err,
-        batching,
-        item.input,
-        sources,
-    );
-    drop(outcome);
-    status
+    let alloc = world.threads.alloc();
+    let mut outcomes = run_items(world, course, items)?;
+    let worst = tell_all(alloc, out, err, course.batching, &mut outcomes, sources);
+    drop(outcomes);
+    worst
 }
 
-/// Runs a plan on files, one after the other, and gives the greatest exit status of these runs.
+/// Returns how many files are run at once: one if the processors serve within it, else one for each processor.
+fn files_at_once<T: Threads>(threads: &T, batch: &Batch<'_>) -> usize
+    ensures { 1 ≤ result }
+{
+    match batch.parallel {
+        Some(_) => 1,
+        None => workers_of(threads, Crew::Processors),
+    }
+}
+
+/// Runs a plan on files, as many at once as there are processors, and gives the greatest exit status of these runs.
 fn serve_items<S: Storage, T: Threads + AllocGlobal + Clock + Sync, O: Write, E: Write>(
     world: &World<S, T>,
     out: &mut O,
@@ -328,8 +278,8 @@ fn serve_items<S: Storage, T: Threads + AllocGlobal + Clock + Sync, O: Write, E:
     keep_inputs(alloc, world.storage, batching, &items)?;
     make_folder(alloc, world.storage, batching.asked.folder)?;
     let mut worst = 0;
-    for item in &items {
-        worst = worst.max(serve_item(world, out, err, course, item, sources)?);
+    for group in items.chunks(files_at_once(world.threads, batching.asked)) {
+        worst = worst.max(serve_group(world, out, err, course, group, sources)?);
     }
     Ok(worst)
 }

@@ -5,10 +5,11 @@
 //! `sdf_json` do, on `sdf_file` and `sdf_plan`, which read and plan a design, on `sdf_process`, which runs it, and on
 //! `sdf_profile`, which measures a run. What the project is for is the contract of `sdf_process::process`; what reads
 //! and writes a WAV file's bytes is a device of `sdf_wav`. Begin at `program::serve`, then `running`, `batch` and
-//! `profiling`, which have the commands that run a net.
+//! `profiling`, which have the commands that run a net. `items` says where the files of a batch are written.
 #![tactic(auto)]
 
 mod batch;
+mod items;
 mod profiling;
 pub mod program;
 mod running;

@@ -248,7 +248,7 @@ pub(crate) fn run_planned<
 }
 
 /// How many workers are asked for.
-fn workers_of<T: Threads>(threads: &T, crew: Crew) -> usize
+pub(crate) fn workers_of<T: Threads>(threads: &T, crew: Crew) -> usize
     requires { IsCrew crew }
     ensures some { 1 ≤ result }
     ensures few { result ≤ MOST_WORKERS }

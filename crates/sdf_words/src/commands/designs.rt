@@ -221,9 +221,9 @@ folder by `sdfw run GRAPH --into FOLDER IN..`, of which `sdfw run --into FOLDER 
 pub(super) const BATCH: &[Row] = &[Row {
     name: "run",
     help: "Processes WAV files, each into a file of its name in a folder",
-    more: "Processes WAV files, one after the other, each into a file of its name in FOLDER. A line for each on
-standard output says what became of it. The exit status is the greatest that a run of one of them alone
-would have.",
+    more: "Processes WAV files, each into a file of its name in FOLDER: as many at once as there are processors, or
+one after the other with `--parallel`. A line for each on standard output says what became of it, in
+the order of the files. The exit status is the greatest that a run of one of them alone would have.",
     schedules: true,
     arguments: &[
         GRAPH, INPUTS, INTO, RUNNER, PATIENCE, PARALLEL, OPEN_ENDED, LEVELS, NO_WHY,
