@@ -141,4 +141,3 @@ module _ (t : Opened) (is : IsOpened t)
             kept = kept ∙ sym (drop-nil (samples_run s 0));
           },
         )
-

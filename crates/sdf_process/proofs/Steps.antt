@@ -6,7 +6,6 @@ use Rattle.std.proofs.Math.Nat.{mul-mod_left}
 use Rattle.std.proofs.Common.{ap, ◌∙◌, subst, arith}
 use Rattle.std.proofs.lemmas.List.{drop-drop, length-append, length-drop}
 use Rattle.sdf_actor.specs.Wires.{lists as items_of}
-use Rattle.sdf_actor.specs.declared.rest.Rest.{Rest}
 use Rattle.sdf_wav.specs.Canonical.{sample_bytes}
 use Rattle.sdf_wav.specs.PiecesIn.{Reading, sound_read}
 use Rattle.sdf_plan.specs.declared.fault.Fault.{Fault}
@@ -157,7 +156,7 @@ module _ (b : Start) (g : Progress) (blocks : ℕ) (t : Stream) (y : Portion) {n
         let longer : samples_run b (g.blocks + blocks) ≤ length g'.samples =
         omega (arith, step.next.there, length-append g.samples more) in
         let makes : Makes b.net b.period b.blocking (sound_read (reading_in b) g'.samples) g.blocks blocks y.frames
-            g.bytes (items_of f'.made.items) (left_by v) =
+        g.bytes (items_of f'.made.items) (left_by v) =
         subst (λ (l : List (List ℤ)). Makes b.net b.period b.blocking (sound_read (reading_in b) g'.samples) g.blocks
         blocks y.frames g.bytes l (left_by v)) (sym is) (record {
           stands = stands_on b.net b.period b.blocking (reading_in b) g.samples more (g.blocks + blocks)

@@ -25,7 +25,7 @@ use Rattle.sdf_process.specs.declared.streaming.Opened.{Opened}
 use Rattle.sdf_process.specs.declared.streaming.Stream.{Stream}
 use Rattle.sdf_process.specs.Output.{exchange_of, in_turn, periods_for, IsExchange}
 use Rattle.sdf_process.specs.Sources.{reading_of, source_behind, Takes}
-use Rattle.sdf_process.specs.Streams.{AreWhole, CanRun, Follows, GoesBy, StandsWhole, Streams, left_by}
+use Rattle.sdf_process.specs.Streams.{AreWhole, Follows, GoesBy, StandsWhole, Streams, left_by}
 
 -- What a run was begun with: its net, a period and how many of these make a block; the source of its sound, how many
 -- frames that has and how many are made of it; the bytes in the reader and in the writer, and how often each has

@@ -15,9 +15,12 @@ loop-stream-init g c =
     c.rate-rate.ensures.above_0 c.channels-channels.ensures.value c.channels-channels.ensures.few
 
 pub go_on-requires-clause-on : goal.go_on-requires-clause-on
-go_on-requires-clause-on g c κs within = ((start_of c.args.opened c.args.begun (g.R.Reader.remaining c.args.reader.now)
-    (g.W.Writer.contents c.args.writer.now) (g.R.Reader.failures c.args.reader.now)
-    (g.W.Writer.failures c.args.writer.now)), c.loop-stream.invariant)
+go_on-requires-clause-on g c κs within = (
+  (start_of c.args.opened c.args.begun (g.R.Reader.remaining c.args.reader.now)
+      (g.W.Writer.contents c.args.writer.now) (g.R.Reader.failures c.args.reader.now)
+      (g.W.Writer.failures c.args.writer.now)),
+  c.loop-stream.invariant,
+)
 
 pub returns-in_err-go_on : goal.returns-in_err-go_on
 returns-in_err-go_on g c =
@@ -36,10 +39,14 @@ loop-stream-preserved g c = c.in_ok-go_on.ensures.goes (start_of c.args.opened c
     c.loop-stream.invariant
 
 pub finish-requires-clause-on : goal.finish-requires-clause-on
-finish-requires-clause-on g c κs within = ((start_of c.args.opened c.args.begun (g.R.Reader.remaining c.args.reader.now)
-    (g.W.Writer.contents c.args.writer.now) (g.R.Reader.failures c.args.reader.now)
-    (g.W.Writer.failures c.args.writer.now)), g.R.Reader.remaining c.loop-stream.reader,
-    g.R.Reader.failures c.loop-stream.reader, c.loop-stream.invariant)
+finish-requires-clause-on g c κs within = (
+  (start_of c.args.opened c.args.begun (g.R.Reader.remaining c.args.reader.now)
+      (g.W.Writer.contents c.args.writer.now) (g.R.Reader.failures c.args.reader.now)
+      (g.W.Writer.failures c.args.writer.now)),
+  g.R.Reader.remaining c.loop-stream.reader,
+  g.R.Reader.failures c.loop-stream.reader,
+  c.loop-stream.invariant,
+)
 
 pub returns : goal.returns
 returns g c = c.finish.ensures (start_of c.args.opened c.args.begun (g.R.Reader.remaining c.args.reader.now)

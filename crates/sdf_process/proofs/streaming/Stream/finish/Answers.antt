@@ -74,8 +74,12 @@ overflow_mul-portion g c =
     let less : c.div_ceil-blocks.result * (b.blocking * x.made) < o.missing + b.blocking * x.made =
     omega (arith, times.1, c.missing-frames.ensures, size, same_k) in
     let blocks = c.div_ceil-blocks.result in
-    Fits-of_lt (omega (arith, last_short b under.ready.can p w.flows end blocks covers less, under.ready.blocking,
-    ap (λ z. blocks * z) under.ready.blocking))
+    Fits-of_lt (omega (
+      arith,
+      last_short b under.ready.can p w.flows end blocks covers less,
+      under.ready.blocking,
+      ap (λ z. blocks * z) under.ready.blocking,
+    ))
 
 pub overflow_cast-portion-2 : goal.overflow_cast-portion-2
 overflow_cast-portion-2 g c =
@@ -99,8 +103,12 @@ overflow_cast-portion-2 g c =
     let less : c.div_ceil-blocks.result * (b.blocking * x.made) < o.missing + b.blocking * x.made =
     omega (arith, times.1, c.missing-frames.ensures, size, same_k) in
     let blocks = c.div_ceil-blocks.result in
-    Fits-of_lt (omega (arith, last_short b under.ready.can p w.flows end blocks covers less, under.ready.blocking,
-    ap (λ z. blocks * z) under.ready.blocking))
+    Fits-of_lt (omega (
+      arith,
+      last_short b under.ready.can p w.flows end blocks covers less,
+      under.ready.blocking,
+      ap (λ z. blocks * z) under.ready.blocking,
+    ))
 
 pub invariant_of-portion : goal.invariant_of-portion
 invariant_of-portion g c =

@@ -51,8 +51,13 @@ behind-requires g c =
     let sound = sound_made c.in_ok-input.input c.new-2.result t.rate t.channels c.replace-kept.result.items c.new-2.ensures
     c.in_ok-input.was under.ready.some_rate (omega (arith, under.ready.channels, under.ready.can.one))
     under.ready.few_channels whole in
-    omega (arith, div-mul-le_self c.len.result k, c.len.ensures, ap length (c.samples.ensures.value
-    ∙ (ap (λ (y : Sound). y.samples) sound ∙ same)))
+    omega (
+      arith,
+      div-mul-le_self c.len.result k,
+      c.len.ensures,
+      ap length (c.samples.ensures.value
+          ∙ (ap (λ (y : Sound). y.samples) sound ∙ same)),
+    )
 
 pub returns-in_err-self-clause-goes : goal.returns-in_err-self-clause-goes
 returns-in_err-self-clause-goes g c = λ b on.
@@ -66,10 +71,13 @@ overflow_mul-periods g c =
     let under = c.requires.on.1.1 in
     let t = c.args.self.now in
     let f = c.from.result in
-    Fits-of_lt (omega (arith, periods_small t.blocking t.exchange.taken t.exchange.made f t.channels c.len.result
-    (omega (arith, under.ready.blocking, under.ready.can.some)) under.ready.limits.some_taken
-    under.ready.limits.few_made c.from.ensures (omega (arith, under.ready.channels, under.ready.can.one))
-    (omega (arith, c.len.ensures, kept_few b p t under))))
+    Fits-of_lt (omega (
+      arith,
+      periods_small t.blocking t.exchange.taken t.exchange.made f t.channels c.len.result
+          (omega (arith, under.ready.blocking, under.ready.can.some)) under.ready.limits.some_taken
+          under.ready.limits.few_made c.from.ensures (omega (arith, under.ready.channels, under.ready.can.one))
+          (omega (arith, c.len.ensures, kept_few b p t under)),
+    ))
 
 pub overflow_cast-portion : goal.overflow_cast-portion
 overflow_cast-portion g c =
@@ -78,10 +86,13 @@ overflow_cast-portion g c =
     let under = c.requires.on.1.1 in
     let t = c.args.self.now in
     let f = c.from.result in
-    Fits-of_lt (omega (arith, periods_small t.blocking t.exchange.taken t.exchange.made f t.channels c.len.result
-    (omega (arith, under.ready.blocking, under.ready.can.some)) under.ready.limits.some_taken
-    under.ready.limits.few_made c.from.ensures (omega (arith, under.ready.channels, under.ready.can.one))
-    (omega (arith, c.len.ensures, kept_few b p t under))))
+    Fits-of_lt (omega (
+      arith,
+      periods_small t.blocking t.exchange.taken t.exchange.made f t.channels c.len.result
+          (omega (arith, under.ready.blocking, under.ready.can.some)) under.ready.limits.some_taken
+          under.ready.limits.few_made c.from.ensures (omega (arith, under.ready.channels, under.ready.can.one))
+          (omega (arith, c.len.ensures, kept_few b p t under)),
+    ))
 
 pub overflow_mul-portion : goal.overflow_mul-portion
 overflow_mul-portion g c =
@@ -90,10 +101,13 @@ overflow_mul-portion g c =
     let under = c.requires.on.1.1 in
     let t = c.args.self.now in
     let f = c.from.result in
-    Fits-of_lt (omega (arith, frames_small t.blocking t.exchange.taken t.exchange.made f t.channels c.len.result
-    (omega (arith, under.ready.blocking, under.ready.can.some)) under.ready.limits.some_taken
-    under.ready.limits.few_made c.from.ensures (omega (arith, under.ready.channels, under.ready.can.one))
-    (omega (arith, c.len.ensures, kept_few b p t under))))
+    Fits-of_lt (omega (
+      arith,
+      frames_small t.blocking t.exchange.taken t.exchange.made f t.channels c.len.result
+          (omega (arith, under.ready.blocking, under.ready.can.some)) under.ready.limits.some_taken
+          under.ready.limits.few_made c.from.ensures (omega (arith, under.ready.channels, under.ready.can.one))
+          (omega (arith, c.len.ensures, kept_few b p t under)),
+    ))
 
 pub invariant_of-portion : goal.invariant_of-portion
 invariant_of-portion g c =
@@ -145,12 +159,16 @@ run_beside-requires-clause-step g c κs within =
     let block : k ≡ b.blocking * x.taken * (reading_in b).channels =
     ap (λ z. z * t.exchange.taken * f) under.ready.blocking ∙ (ap (λ (y : Exchange). b.blocking * y.taken * f)
     under.ready.exchange ∙ ap (λ z. b.blocking * x.taken * z) (c.from.ensures ∙ under.ready.channels)) in
-    let some : blocks * k ≤ length t.flow.kept.items = omega (arith, div-mul-le_self c.len.result k, c.len.ensures) in
-    (b, p, blocks, step_by b p t under blocks k block some c.give_back.new.self _ _ c.in_ok-self.field-0.items
-    c.give_back.ensures.0 (c.give_back.ensures.1 b.net b.period b.blocking under.ready.goes) refl refl refl refl refl
-    (c.in_ok-self.ensures ∙ ap (drop (blocks * k)) (c.samples.ensures.value
-    ∙ (ap (λ (y : Sound). y.samples) sound ∙ same))) refl (ap (λ z. blocks * z) under.ready.blocking) refl
-    (ap (λ (y : Sound). y.channels) sound) (ap (λ (y : Sound). y.samples) sound ∙ same))
+    let some : blocks * k ≤ length t.flow.kept.items = omega (arith, div-mul-le_self c.len.result k, c.len.ensures) in (
+      b,
+      p,
+      blocks,
+      step_by b p t under blocks k block some c.give_back.new.self _ _ c.in_ok-self.field-0.items
+          c.give_back.ensures.0 (c.give_back.ensures.1 b.net b.period b.blocking under.ready.goes) refl refl refl refl refl
+          (c.in_ok-self.ensures ∙ ap (drop (blocks * k)) (c.samples.ensures.value
+          ∙ (ap (λ (y : Sound). y.samples) sound ∙ same))) refl (ap (λ z. blocks * z) under.ready.blocking) refl
+          (ap (λ (y : Sound). y.channels) sound) (ap (λ (y : Sound). y.samples) sound ∙ same),
+    )
 
 pub returns-then-self-clause-goes : goal.returns-then-self-clause-goes
 returns-then-self-clause-goes g c = λ b on.
@@ -193,12 +211,16 @@ run_in_turn-requires-clause-step g c κs within =
     let block : k ≡ b.blocking * x.taken * (reading_in b).channels =
     ap (λ z. z * t.exchange.taken * f) under.ready.blocking ∙ (ap (λ (y : Exchange). b.blocking * y.taken * f)
     under.ready.exchange ∙ ap (λ z. b.blocking * x.taken * z) (c.from.ensures ∙ under.ready.channels)) in
-    let some : blocks * k ≤ length t.flow.kept.items = omega (arith, div-mul-le_self c.len.result k, c.len.ensures) in
-    (b, p, blocks, step_by b p t under blocks k block some c.give_back.new.self _ _ c.in_ok-self.field-0.items
-    c.give_back.ensures.0 (c.give_back.ensures.1 b.net b.period b.blocking under.ready.goes) refl refl refl refl refl
-    (c.in_ok-self.ensures ∙ ap (drop (blocks * k)) (c.samples.ensures.value
-    ∙ (ap (λ (y : Sound). y.samples) sound ∙ same))) refl (ap (λ z. blocks * z) under.ready.blocking) refl
-    (ap (λ (y : Sound). y.channels) sound) (ap (λ (y : Sound). y.samples) sound ∙ same))
+    let some : blocks * k ≤ length t.flow.kept.items = omega (arith, div-mul-le_self c.len.result k, c.len.ensures) in (
+      b,
+      p,
+      blocks,
+      step_by b p t under blocks k block some c.give_back.new.self _ _ c.in_ok-self.field-0.items
+          c.give_back.ensures.0 (c.give_back.ensures.1 b.net b.period b.blocking under.ready.goes) refl refl refl refl refl
+          (c.in_ok-self.ensures ∙ ap (drop (blocks * k)) (c.samples.ensures.value
+          ∙ (ap (λ (y : Sound). y.samples) sound ∙ same))) refl (ap (λ z. blocks * z) under.ready.blocking) refl
+          (ap (λ (y : Sound). y.channels) sound) (ap (λ (y : Sound). y.samples) sound ∙ same),
+    )
 
 pub run_in_turn-requires-clause-waits : goal.run_in_turn-requires-clause-waits
 run_in_turn-requires-clause-waits g c κs within = c.requires.on.1.1.ready.waits c.if-self.false
