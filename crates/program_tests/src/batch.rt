@@ -3,6 +3,7 @@
 use crate::commands::{Around, OPEN, Row, Served, is_told, told_around};
 use crate::files::{HALVES, PLAIN, are_told, folder, has_bytes, put, served, told, with_files};
 use crate::shelf::{HEADER, SOUND};
+use sdf_files::storage::Disk;
 use std::alloc::{AllocError, Global};
 use std::fs;
 use std::io::ErrorKind;
@@ -160,7 +161,7 @@ fn files_in_a_folder(rt: HostRuntime) -> Result<(), Fail> {
     fs::create_dir(&rt, into.as_str())?;
     put(&rt, &into, "cut.wav", b"old")?;
     let line = "run @/graph.toml --into @/out @/in.wav @/cut.wav";
-    says(told(&rt, &rt, &above, line), "4 ")?;
+    says(told(&Disk { rt: &rt }, &rt, &above, line), "4 ")?;
     has_bytes(&rt, &into, "in.wav", HALVES, line)?;
     has_bytes(&rt, &into, "cut.wav", b"old", line)?;
     let part = format!(in rt.alloc(); "{}/cut.wav.part", into.as_str())?;
@@ -248,7 +249,7 @@ fn lines_told<T: Threads + AllocGlobal + Clock + Clone + Drop + Sync>(
     takes: Takes<'_>,
     words: &str,
 ) -> Result<String, Fail> {
-    let Served { status, out, .. } = served(rt, threads, takes.above, words)?;
+    let Served { status, out, .. } = served(&Disk { rt }, threads, takes.above, words)?;
     let out = String::from_utf8(out)?;
     Ok(format!(in rt.alloc(); "{status}\n{out}")?)
 }

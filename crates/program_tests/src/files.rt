@@ -3,7 +3,7 @@
 use crate::commands::{Served, Stream, is_told, status_of};
 use crate::shelf::SOUND;
 use sdf_files::files::{MOST_BYTES, load, read_all};
-use sdf_files::storage::Disk;
+use sdf_files::storage::{Disk, Storage};
 use sdf_files::world::World;
 use sdf_plan::fault_text;
 use std::alloc::Global;
@@ -79,15 +79,12 @@ pub(crate) fn stand(rt: &(impl Files + AllocGlobal), folder: &str, line: &str) -
 }
 
 /// What a line of words leaves over real files, in which `@` is the folder.
-pub(crate) fn served<R: Files + Sync, T: Threads + AllocGlobal + Clock + Clone + Drop + Sync>(
-    rt: &R,
+pub(crate) fn served<S: Storage, T: Threads + AllocGlobal + Clock + Clone + Drop + Sync>(
+    storage: &S,
     threads: &T,
     folder: &str,
     line: &str,
-) -> Result<Served, Fail>
-where
-    R::File: Send,
-{
+) -> Result<Served, Fail> {
     let alloc = threads.alloc();
     let mut paths = Vec::new(alloc);
     for word in line.split(' ') {
@@ -98,7 +95,7 @@ where
         words.push(path.as_str())?;
     }
     let world = World {
-        storage: &Disk { rt },
+        storage,
         threads,
         most: MOST_BYTES,
         terminal: false,
@@ -121,16 +118,13 @@ where
 }
 
 /// The exit status of a line of words over real files, in which `@` is the folder, and what stands on standard error.
-pub(crate) fn told<R: Files + Sync, T: Threads + AllocGlobal + Clock + Clone + Drop + Sync>(
-    rt: &R,
+pub(crate) fn told<S: Storage, T: Threads + AllocGlobal + Clock + Clone + Drop + Sync>(
+    storage: &S,
     threads: &T,
     folder: &str,
     line: &str,
-) -> Result<String, Fail>
-where
-    R::File: Send,
-{
-    let Served { status, err, .. } = served(rt, threads, folder, line)?;
+) -> Result<String, Fail> {
+    let Served { status, err, .. } = served(storage, threads, folder, line)?;
     let err = String::from_utf8(err)?;
     Ok(format!(in threads.alloc(); "{status} {err}")?)
 }
@@ -139,16 +133,9 @@ where
 pub(crate) type Row = (&'static str, &'static str, &'static str);
 
 /// Compares what each row prints in a folder with what it wants.
-pub(crate) fn are_told<R: Files + Threads + AllocGlobal + Clock + Clone + Drop + Sync>(
-    rt: &R,
-    folder: &str,
-    rows: &[Row],
-) -> Result<(), Fail>
-where
-    R::File: Send,
-{
+pub(crate) fn are_told(rt: &HostRuntime, folder: &str, rows: &[Row]) -> Result<(), Fail> {
     for (name, line, wanted) in rows {
-        is_told(name, told(rt, rt, folder, line), wanted)?;
+        is_told(name, told(&Disk { rt }, rt, folder, line), wanted)?;
     }
     Ok(())
 }
@@ -164,7 +151,7 @@ fn makes_out_from_in(rt: HostRuntime) -> Result<(), Fail> {
     let line = "run @/graph.toml @/in.wav @/out.wav";
     let old = b"an old file that is longer than what is written over it";
     put(&rt, &folder, "out.wav", old)?;
-    says(told(&rt, &rt, &folder, line), "0 ")?;
+    says(told(&Disk { rt: &rt }, &rt, &folder, line), "0 ")?;
     has_bytes(&rt, &folder, "in.wav", SOUND, line)?;
     has_bytes(&rt, &folder, "out.wav", HALVES, line)
 }

@@ -2,6 +2,7 @@
 
 use crate::commands::is_told;
 use crate::files::{HALVES, has_bytes, put, stand, told, with_files};
+use sdf_files::storage::Disk;
 use std::fs;
 use std::io::ErrorKind;
 use std::os::unix::fs::symlink;
@@ -74,7 +75,7 @@ fn what_is_read_is_not_written(rt: HostRuntime) -> Result<(), Fail> {
     put_link(&rt, &folder, "one.toml", "taps-link.toml")?;
     put_link(&rt, &folder, ".", "folder-link")?;
     for (line, wanted) in READ {
-        is_told(line, told(&rt, &rt, &folder, line), wanted)?;
+        is_told(line, told(&Disk { rt: &rt }, &rt, &folder, line), wanted)?;
         stand(&rt, &folder, line)?;
     }
     Ok(())
@@ -102,7 +103,7 @@ fn other_files_are_written(rt: HostRuntime) -> Result<(), Fail> {
     put(&rt, &folder, "old.wav", b"old")?;
     put_link(&rt, &folder, "old.wav", "old-link.wav")?;
     for (line, file) in OTHERS {
-        is_told(line, told(&rt, &rt, &folder, line), "0 ")?;
+        is_told(line, told(&Disk { rt: &rt }, &rt, &folder, line), "0 ")?;
         has_bytes(&rt, &folder, file, HALVES, line)?;
         stand(&rt, &folder, line)?;
     }

@@ -1,6 +1,7 @@
 //! Opens that are refused, for want of memory or for another cause.
 
 use crate::files::{told, with_files};
+use sdf_files::storage::Disk;
 use std::alloc::Allocator;
 use std::fs::{File, Metadata, OpenOptions};
 use std::io::{self, Error, ErrorKind};
@@ -111,7 +112,7 @@ fn refused_opens(rt: HostRuntime) -> Result<(), Fail> {
         row_says(
             ending,
             told(
-                &refusing,
+                &Disk { rt: &refusing },
                 &rt,
                 &folder,
                 "run @/graph.toml @/in.wav @/out.wav",
