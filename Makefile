@@ -71,6 +71,7 @@ documents: build
 # minute).
 examples: build
 	scripts/examples
+	scripts/pipes
 
 # Every proof from nothing, the must-fail edits, the tests, and each program as two compilers build it.
 test:
