@@ -168,7 +168,7 @@ fn files_in_a_folder(rt: HostRuntime) -> Result<(), Fail> {
     if fs::metadata(&rt, part.as_str()).is_ok() {
         return Err(Fail::new(format_args!("a part of cut.wav is left")));
     }
-    are_told(&rt, &above, ITSELF)?;
+    are_told(&Disk { rt: &rt }, &rt, &above, ITSELF)?;
     has_bytes(&rt, &above, "in.wav", SOUND, line)
 }
 

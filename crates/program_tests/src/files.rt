@@ -133,9 +133,14 @@ pub(crate) fn told<S: Storage, T: Threads + AllocGlobal + Clock + Clone + Drop +
 pub(crate) type Row = (&'static str, &'static str, &'static str);
 
 /// Compares what each row prints in a folder with what it wants.
-pub(crate) fn are_told(rt: &HostRuntime, folder: &str, rows: &[Row]) -> Result<(), Fail> {
+pub(crate) fn are_told<S: Storage, T: Threads + AllocGlobal + Clock + Clone + Drop + Sync>(
+    storage: &S,
+    threads: &T,
+    folder: &str,
+    rows: &[Row],
+) -> Result<(), Fail> {
     for (name, line, wanted) in rows {
-        is_told(name, told(&Disk { rt }, rt, folder, line), wanted)?;
+        is_told(name, told(storage, threads, folder, line), wanted)?;
     }
     Ok(())
 }
@@ -187,7 +192,7 @@ fn files_that_are_not_there(rt: HostRuntime) -> Result<(), Fail> {
     put(&rt, &folder, "plain.toml", PLAIN.as_bytes())?;
     put(&rt, &folder, "in.wav", SOUND)?;
     put(&rt, &folder, "old.wav", b"old")?;
-    are_told(&rt, &folder, LACKING)?;
+    are_told(&Disk { rt: &rt }, &rt, &folder, LACKING)?;
     has_bytes(&rt, &folder, "old.wav", b"old", "all")
 }
 
@@ -203,10 +208,10 @@ fn folders_are_made(rt: HostRuntime) -> Result<(), Fail> {
     let above = folder(&rt, "making")?;
     let path = format!(in rt.alloc(); "{}/new", above.as_str())?;
     let _ = fs::remove_dir_all(&rt, path.as_str());
-    are_told(&rt, &path, MADE)?;
+    are_told(&Disk { rt: &rt }, &rt, &path, MADE)?;
     fs::remove_dir_all(&rt, path.as_str())?;
     fs::create_dir(&rt, path.as_str())?;
-    are_told(&rt, &path, MADE)
+    are_told(&Disk { rt: &rt }, &rt, &path, MADE)
 }
 
 /// A file that gives so many bytes, and past them wants memory.
