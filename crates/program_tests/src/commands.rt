@@ -90,8 +90,8 @@ fn text_of(bytes: &[u8]) -> &str {
     }
 }
 
-/// What a line of words leaves: its exit status, and what stands on standard output, on standard error and in the files
-/// in memory that are written, one behind the other.
+/// The result of a command: its exit status, what it prints on standard output and standard error, and the files that it
+/// writes in memory, one after the other.
 #[derive(Drop)]
 pub(crate) struct Served {
     pub(crate) status: u8,

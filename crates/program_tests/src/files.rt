@@ -78,7 +78,7 @@ pub(crate) fn stand(rt: &(impl Files + AllocGlobal), folder: &str, line: &str) -
     has_bytes(rt, folder, "in.wav", SOUND, line)
 }
 
-/// What a line of words leaves over real files, in which `@` is the folder.
+/// Runs the command `line` on real files, with `folder` in place of `@`, and returns its result.
 pub(crate) fn served<S: Storage, T: Threads + AllocGlobal + Clock + Clone + Drop + Sync>(
     storage: &S,
     threads: &T,
@@ -117,7 +117,7 @@ pub(crate) fn served<S: Storage, T: Threads + AllocGlobal + Clock + Clone + Drop
     })
 }
 
-/// The exit status of a line of words over real files, in which `@` is the folder, and what stands on standard error.
+/// Runs the command `line` as `served` does, and returns its exit status and what it prints on standard error.
 pub(crate) fn told<S: Storage, T: Threads + AllocGlobal + Clock + Clone + Drop + Sync>(
     storage: &S,
     threads: &T,

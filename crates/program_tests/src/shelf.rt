@@ -267,9 +267,9 @@ pub(crate) fn places(alloc: Global) -> Result<Vec<Mutex<Vec<u8>>>, AllocError> {
     Ok(places)
 }
 
-/// Files in memory, and what was written, which threads share. Only out.wav can be made, and what lies in the folder
-/// `made`: parts of sounds each in its place, and all else in one place, one file behind the other. Removing a file
-/// removes the content of its place, and only a part can be renamed. The file `-` is no sound, and `./-` is one.
+/// Files in memory that threads share. Only out.wav and files in the folder `made` can be written: each part of a sound
+/// in a place of its own, and all other files in one place, one after the other. Removing a file clears its place. Only
+/// parts can be renamed. `-` names no sound, but `./-` does.
 #[derive(Clone, Copy)]
 pub(crate) struct Shelf<'a> {
     pub(crate) places: &'a [Mutex<Vec<u8>>],
