@@ -90,8 +90,8 @@ fn text_of(bytes: &[u8]) -> &str {
     }
 }
 
-/// The result of a command: its exit status, what it prints on standard output and standard error, and the files that it
-/// writes in memory, one after the other.
+/// The result of a command: its exit status, what it prints on standard output and on standard error, and the files
+/// that it writes in memory, one after the other.
 #[derive(Drop)]
 pub(crate) struct Served {
     pub(crate) status: u8,
