@@ -242,6 +242,11 @@ const RUNS: &[Row] = &[
         "run long.toml in.wav out.wav --runner rows --blocking 64 --workers 2",
         "3\n--\nsdfw: 13 BlockTooLong\n--\n",
     ),
+    (
+        "a long block why",
+        "run long.toml in.wav out.wav --runner rows --blocking 64 --workers 2 --why",
+        "3\n--\nsdfw: 13 BlockTooLong\n  a period has 2047 firings, so --blocking can be at most 32\n--\n",
+    ),
 ];
 
 #[test]

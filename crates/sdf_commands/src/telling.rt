@@ -9,7 +9,7 @@ use sdf_options::Options;
 use sdf_plan::{Fault, Stalled};
 use sdf_prec::PrecFault;
 use sdf_why::{
-    Halt, channels_text, device_text, file_text, home_text, rate_text, stall_text, toml_text,
+    Halt, block_text, channels_text, device_text, file_text, home_text, rate_text, stall_text, toml_text,
 };
 use sdf_words::{Task, Words};
 use std::alloc::{AllocError, Global};
@@ -112,6 +112,7 @@ pub fn why(
         Fault::Table(PrecFault::BadHome { actor }) => {
             home_text(alloc, options.workers, *actor, given.graph)
         }
+        Fault::Table(PrecFault::BlockTooLong) => block_text(alloc, given),
         _ => sound_text(alloc, fault, &sources.trace, given),
     }
 }

@@ -8,6 +8,7 @@ pub mod Documents
 pub mod Nets
 pub mod Cycles
 pub mod Sounds
+pub mod Blocks
 pub mod Channels
 pub mod More
 pub mod Told

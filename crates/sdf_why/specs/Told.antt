@@ -1,5 +1,5 @@
 -- What is told of a fault, by the files of the design.
-use Rattle.std.specs.Prelude.{◌≡◌, ℕ, ◌-◌, List, [], ◌++◌, codes, Some, None}
+use Rattle.std.specs.Prelude.{◌≡◌, ℕ, ◌-◌, List, [], ◌++◌, codes, Some, None, sum}
 use Rattle.toml.specs.Data.{Data}
 use Rattle.sdf_graph.specs.Rates.{rates}
 use Rattle.sdf_graph.specs.Periods.{IsLeastPeriod}
@@ -23,6 +23,7 @@ use Rattle.sdf_why.specs.Nets.{net_told}
 use Rattle.sdf_why.specs.More.{IsMore}
 use Rattle.sdf_why.specs.Cycles.{IsCycleText}
 use Rattle.sdf_why.specs.Sounds.{channels_told, rate_line}
+use Rattle.sdf_why.specs.Blocks.{block_line}
 
 -- of a net that is refused, by its tables
 unfoldable pub net_text : NetFault → List ℕ → List ℕ
@@ -85,3 +86,10 @@ IsRateOf d header text = (q : List ℕ) → IsLeastPeriod (rates (graph_of kit_s
 
 abbrev pub IsRateText : List ℕ → Files → Header → List ℕ → Type 0
 IsRateText graph files header text = IsDesignText graph files (λ document d. IsRateOf d header text) text
+
+-- the longest block of a design
+abbrev pub IsBlockOf : DesignValue → List ℕ → Type 0
+IsBlockOf d text = (q : List ℕ) → IsLeastPeriod (rates (graph_of kit_steps d.net)) q → text ≡ block_line (sum q)
+
+abbrev pub IsBlockText : List ℕ → Files → List ℕ → Type 0
+IsBlockText graph files text = IsDesignText graph files (λ document d. IsBlockOf d text) text

@@ -14,9 +14,10 @@ ghost use Rattle.sdf_why.specs.Sounds.{channels_told};
 ghost use Rattle.sdf_why.specs.Cycles.{IsCycleText};
 ghost use Rattle.sdf_why.specs.Told.{net_text, IsNetText, IsFileText, processor_line, home_is, home_text, Says};
 ghost use Rattle.sdf_why.specs.Told.{SaysNone};
-ghost use Rattle.sdf_why.specs.Told.{IsStallText, IsChannelsText, IsRateOf, IsRateText};
+ghost use Rattle.sdf_why.specs.Told.{IsStallText, IsChannelsText, IsRateOf, IsRateText, IsBlockOf, IsBlockText};
 
 use crate::actors::push_actor_table;
+use crate::block::push_block;
 use crate::cycle::{Halt, cycle_text};
 use crate::document::{document_text, push_counted};
 use crate::more::more_text;
@@ -258,4 +259,24 @@ pub fn rate_text(alloc: Global, header: Header, sources: Sources<'_>) -> Result<
         return Ok(String::new(alloc));
     };
     rate_of(alloc, header, &basis.design)
+}
+
+/// The longest block of a design.
+fn block_of(alloc: Global, design: &Design) -> Result<String, AllocError>
+    ensures { IfOk result (λ text. IsBlockOf design.now (string_bytes text)) }
+{
+    let mut text = String::new(alloc);
+    push_block(&mut text, design.net().repetitions().period())?;
+    Ok(text)
+}
+
+/// What is told of a block that is too long for a table.
+pub fn block_text(alloc: Global, sources: Sources<'_>) -> Result<String, AllocError>
+    ensures { IfOk result (λ text. IsBlockText sources.entry.graph.now (files_view sources.entry.files.now)
+        (string_bytes text)) }
+{
+    let Some(basis) = read(alloc, sources)? else {
+        return Ok(String::new(alloc));
+    };
+    block_of(alloc, &basis.design)
 }

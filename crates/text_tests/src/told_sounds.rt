@@ -1,7 +1,7 @@
 //! Deadlocks, sounds that a design does not take, and files of which something was said.
 
 use sdf_why::{
-    Halt, Header, Sources, channels_text, device_text, home_text, rate_text, stall_text, toml_text,
+    Halt, Header, Sources, block_text, channels_text, device_text, home_text, rate_text, stall_text, toml_text,
 };
 use std::alloc::{AllocError, Global};
 use std::test::Fail;
@@ -121,6 +121,10 @@ fn sounds_are_told(rt: HostRuntime) -> Result<(), Fail> {
     says(
         told(rate_text(alloc, header, sources(DESIGN))),
         "  44101 * 2 / 3 = 29400 and 2/3\n",
+    )?;
+    says(
+        told(block_text(alloc, sources(DESIGN))),
+        "  a period has 8 firings, so --blocking can be at most 8192\n",
     )?;
     says(
         told(home_text(alloc, 2, 4, DESIGN.as_bytes())),
