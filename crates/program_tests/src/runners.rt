@@ -1,6 +1,6 @@
 //! Which runner a command uses, seen in what is written of a sound that ends too soon: one thread has written the
-//! header alone when it finds that out, rows and rings all whole pieces of 4,096 frames, and a parallel run those of
-//! 131,072 frames for each worker.
+//! header alone when it finds that out, rows and rings all whole pieces of 4,096 frames, and a parallel run all but the
+//! last of its whole pieces of 65,536 frames for each worker, since it runs that one while it reads on.
 
 use crate::commands::{Around, OPEN, serve_line};
 use std::alloc::{AllocError, Global};
@@ -98,10 +98,16 @@ const ROWS: &[Row] = &[
         "4 44 true sdfw: 43 Truncated\n",
     ),
     (
-        "in parallel, a frame more than a piece",
+        "in parallel, a frame more than a piece, which is run while more is read",
+        131_073,
+        "run heavy.toml - - --parallel 2",
+        "4 44 true sdfw: 43 Truncated\n",
+    ),
+    (
+        "in parallel, a frame more than two pieces",
         262_145,
         "run heavy.toml - - --parallel 2",
-        "4 524332 true sdfw: 43 Truncated\n",
+        "4 262188 true sdfw: 43 Truncated\n",
     ),
     (
         "in parallel, one worker alone",

@@ -1,12 +1,9 @@
 -- A session of a run goes on: what it stands after, and what of that is written.
-use Rattle.std.proofs.Common.{◌≡◌, inr, Result, Ok, Err, ℕ, ◌+◌, ◌*◌, ◌/◌, ◌≤◌, ◌<◌, ℤ, zero, suc, List, [], length}
-use Rattle.std.proofs.Common.{map, get_or, Option, Some, None, refl, sym, ap, ◌∙◌, subst, arith}
-use Rattle.std.specs.Prelude.{IsErrAnd}
-use Rattle.std.specs.Io.KnownBytes.{Keeps}
+use Rattle.std.proofs.Common.{◌≡◌, ℕ, ◌+◌, ◌*◌, ◌/◌, ◌≤◌, ◌<◌, ℤ, zero, suc, List, [], ◌∷◌, length}
+use Rattle.std.proofs.Common.{map, get_or, Some, None, refl, sym, ap, ◌∙◌, subst, arith}
 use Rattle.std.specs.List.{range_with_len}
 use Rattle.std.proofs.Math.Nat.{mul-div_left, mul-le-mul_left}
 use Rattle.std.proofs.lemmas.List.FromFn.{length-map-range_with_len}
-use Rattle.sdf_actor.specs.declared.rest.Rest.{Rest}
 use Rattle.sdf_actor.specs.declared.sides.Lists.TheVariants.{Inputs, Outputs}
 use Rattle.sdf_actor.specs.Laws.{PortsHaveChannels}
 use Rattle.sdf_actor.specs.Nets.{Netlist}
@@ -27,18 +24,15 @@ use Rattle.sdf_run.specs.declared.mode.Mode.TheVariants.{Rings, Rows}
 use Rattle.sdf_sched.specs.Period.{Schedule}
 use Rattle.sdf_split.specs.Cuts.{join}
 use Rattle.sdf_split.proofs.Lists.{joined_is, joined_long}
-use Rattle.sdf_wav.specs.Canonical.{sample_bytes}
-use Rattle.sdf_wav.specs.PiecesOut.{Owed}
 use Rattle.sdf_wav.specs.Sound.{Sound}
 use Rattle.sdf_process.specs.declared.exchange.Exchange.{Exchange}
 use Rattle.sdf_process.specs.declared.portion.Portion.{Portion}
-use Rattle.sdf_plan.specs.declared.fault.Fault.{Fault}
 use Rattle.sdf_plan.specs.declared.fault.Fault.TheVariants.{OutOfMemory}
 use Rattle.sdf_plan.specs.Faults.{of_run}
 use Rattle.sdf_process.specs.Output.{channel_samples, exchange_of, interleaved, lists_from, lists_to}
-use Rattle.sdf_process.specs.Stages.{PutsFrames, SamplesJoin}
-use Rattle.sdf_process.specs.Streams.{CanPut, FeedsBy, Follows, PutsBlocks, StandsAt}
-use Rattle.sdf_process.proofs.Pieced.{blank, blank_at, blank_long, blocks_put}
+use Rattle.sdf_process.specs.Stages.{SamplesJoin}
+use Rattle.sdf_process.specs.Streams.{CanRun, FeedsBy, Follows, Makes, StandsAt}
+use Rattle.sdf_process.proofs.Pieced.{blank, blank_at, blank_long, blocks_made, one_list}
 use Rattle.sdf_process.proofs.Played.{from_at, lists_full, lists_joined, lists_long}
 use Rattle.sdf_process.proofs.Rendering.{are_inputs}
 use Rattle.sdf_process.proofs.Sizes.{positive}
@@ -117,7 +111,7 @@ session_stands n p j v by s blocks frames bytes at =
 -- ---- a session that is fed
 
 module _ (n : Netlist Kit ℤ) (p : Schedule) (j : ℕ) (v : SessionValue Kit (List ℤ) ℤ) (by : FeedsBy n p j v)
-    (o : Owed) (y : Portion) (can_put : CanPut n p j o y) (blocks : ℕ) (periods : y.periods ≡ blocks * j)
+    (y : Portion) (can : CanRun n p j y) (blocks : ℕ) (periods : y.periods ≡ blocks * j)
     (inputs : List (List ℤ))
     (given : inputs ≡ lists_from 0 y.periods y.exchange y.input.now) where
   abbrev x : Exchange
@@ -128,12 +122,12 @@ module _ (n : Netlist Kit ℤ) (p : Schedule) (j : ℕ) (v : SessionValue Kit (L
 
   few_blocks : blocks ≤ 4294967295
   few_blocks =
-      let more : blocks * 1 ≤ blocks * j = mul-le-mul_left blocks (let z : 1 ≤ j = omega (arith, can_put.some) in z) in
+      let more : blocks * 1 ≤ blocks * j = mul-le-mul_left blocks (let z : 1 ≤ j = omega (arith, can.some) in z) in
       omega (arith, more, periods, y.fits)
 
   inputs_are : inputs ≡ lists_from 0 (blocks * j) x y.input.now
   inputs_are = given ∙ (ap (λ (k : ℕ). lists_from 0 k y.exchange y.input.now) periods
-      ∙ ap (λ (e : Exchange). lists_from 0 (blocks * j) e y.input.now) can_put.exchange)
+      ∙ ap (λ (e : Exchange). lists_from 0 (blocks * j) e y.input.now) can.exchange)
 
   blocks_fed : FeedsBlocks v blocks inputs
   blocks_fed = subst (FeedsBlocks v blocks)
@@ -141,25 +135,20 @@ module _ (n : Netlist Kit ℤ) (p : Schedule) (j : ℕ) (v : SessionValue Kit (L
       (blocks_given v blocks x y.input.now exchange_is few_blocks)
 
   -- memory alone may be refused
-  pub put_refused : (s : Sound) (few frames : ℕ) (bytes : List ℕ) (held : Option (List ℕ)) (w : ℕ)
-      (now : Option (Rest ℤ (List ℤ))) (e : RunFault) (r : Result (Unit {0}) Fault) → IsFeedFault v inputs e →
-      Keeps held held →
-      IsErrAnd r (λ f. f ≡ of_run e) → PutsBlocks n p j s few blocks frames bytes held held w w now r
-  put_refused s few frames bytes held w now e (Err f) why keeps is =
-      inr (is ∙ feed_refused v blocks inputs by.live blocks_fed e why, keeps, refl)
-  put_refused s few frames bytes held w now e (Ok z) why keeps is = absurd is
+  pub fed_refused : (e : RunFault) → IsFeedFault v inputs e → of_run e ≡ OutOfMemory
+  fed_refused e why = feed_refused v blocks inputs by.live blocks_fed e why
 
   module _ (w : SessionValue Kit (List ℤ) ℤ) (on : List (List ℤ)) (rounds : ℕ)
       (found : (b : ℕ) × HasFed kit_steps v w b inputs on rounds) where
     some_inputs : 0 < list_count Inputs v.net.nodes
     some_inputs = subst (λ (m : Netlist Kit ℤ). 0 < list_count Inputs m.nodes) (sym by.net)
-        (omega (arith, can_put.has.accepted.1.lists.input))
+        (omega (arith, can.has.accepted.1.lists.input))
 
     some_samples : 0 < v.factor * period_samples v.net.nodes Inputs v.period.repetitions
     some_samples =
         positive v.factor (period_samples v.net.nodes Inputs v.period.repetitions)
-        (subst (λ (k : ℕ). 0 < k) (sym by.factor) can_put.some)
-        (subst (λ (z : Exchange). 0 < z.taken) (can_put.exchange ∙ exchange_is) y.limits.some_taken)
+        (subst (λ (k : ℕ). 0 < k) (sym by.factor) can.some)
+        (subst (λ (z : Exchange). 0 < z.taken) (can.exchange ∙ exchange_is) y.limits.some_taken)
 
     fed : HasFed kit_steps v w blocks inputs on rounds
     fed = subst (λ (b : ℕ). HasFed kit_steps v w b inputs on rounds)
@@ -167,16 +156,15 @@ module _ (n : Netlist Kit ℤ) (p : Schedule) (j : ℕ) (v : SessionValue Kit (L
         (v.factor * period_samples v.net.nodes Inputs v.period.repetitions) found.0 blocks
         inputs some_inputs some_samples found.1.whole blocks_fed) found.1
 
-    -- what was fed is written
-    pub put_done : SamplesJoin → NetsCanRun kit_steps → PortsHaveChannels kit_steps →
+    -- frames of what was fed
+    pub fed_made : SamplesJoin → NetsCanRun kit_steps → PortsHaveChannels kit_steps →
         (s : Sound) (few : ℕ) (bytes : List ℕ) → Follows n p j s few blocks bytes v.rest y →
-        (frames : ℕ) (lists : List (List ℤ)) → lists ≡ on →
-        (before after : Option (List ℕ)) (m m' : ℕ) (r : Result (Unit {0}) Fault) →
-        PutsFrames before after m m' (sample_bytes (interleaved frames lists)) r →
-        PutsBlocks n p j s few blocks frames bytes before after m m' w.rest r
-    put_done joins can ports s few bytes follows frames lists is before after m m' r puts =
-        blocks_put joins can ports n p can_put.has j s few blocks bytes v.rest follows.stands on count after_both.rest
-        run_both w.rest after_both.held frames lists is before after m m' r puts
+        (frames : ℕ) (list : List ℤ) → list ≡ interleaved frames on →
+        Makes n p j s few blocks frames bytes (list ∷ []) w.rest
+    fed_made joins ports_can ports s few bytes follows frames list is =
+        let one = one_list x.outputs frames on list is count in
+        blocks_made joins ports_can ports n p can.has j s few blocks bytes v.rest follows.stands on count after_both.rest
+        run_both w.rest after_both.held frames (list ∷ []) one.0 one.1
       where
         count : length on ≡ list_count Outputs n.nodes
         count = fed.count ∙ ap (λ (m : Netlist Kit ℤ). list_count Outputs m.nodes) by.net
@@ -189,7 +177,7 @@ module _ (n : Netlist Kit ℤ) (p : Schedule) (j : ℕ) (v : SessionValue Kit (L
             ∙ (let z : few * j + blocks * j ≡ (few + blocks) * j = omega arith in z)
 
         next : lists_from (few * j) y.periods x s ≡ inputs
-        next = follows.lists ∙ (ap (λ (e : Exchange). lists_from 0 y.periods e y.input.now) (sym can_put.exchange)
+        next = follows.lists ∙ (ap (λ (e : Exchange). lists_from 0 y.periods e y.input.now) (sym can.exchange)
             ∙ sym given)
 
         after_both : StandsAfter kit_steps w (few + blocks) (lists_to ((few + blocks) * j) x s)

@@ -22,16 +22,14 @@ use Rattle.sdf_split.specs.Cuts.{cut, join}
 use Rattle.sdf_split.specs.Parts.{GoesOnInParts, HasParts, read_by}
 use Rattle.sdf_split.specs.Parts.{none as no_part, more as one_part}
 use Rattle.sdf_split.proofs.Lists.{joined_is, joined_long}
-use Rattle.sdf_wav.specs.PiecesOut.{Owed}
 use Rattle.sdf_wav.specs.Sound.{Sound}
 use Rattle.sdf_process.specs.declared.exchange.Exchange.{Exchange}
 use Rattle.sdf_process.specs.Output.{exchange_of, channel_samples_from, in_turn, interleaved, lists_from, lists_to}
 use Rattle.sdf_process.specs.Output.{sample}
+use Rattle.sdf_process.specs.Streams.{AreWhole}
 use Rattle.sdf_process.proofs.Played.{AllLong, frames_on_join, from_at, lists_full, lists_joined, made_long}
 use Rattle.sdf_process.proofs.InTurn.{in_turn_more}
-use Rattle.sdf_process.proofs.Lists.{length-lists}
 use Rattle.sdf_process.proofs.Pieced.{outputs_of}
-use Rattle.sdf_process.proofs.Pieces.{fewer_missing}
 use Rattle.sdf_process.proofs.Rendering.{are_inputs}
 use Rattle.sdf_process.proofs.Sounds.{length-interleaved}
 
@@ -194,40 +192,31 @@ module _ (can : NetsCanRun kit_steps) (ports : PortsHaveChannels kit_steps) (n :
         count = joined_long before own ∙ prev.count;
       })
 
-  -- so are those of a run in parts, and there is room for them
-  pub record IsInParts {Z : Type 0} (ps : List (Vec ℤ Z)) (last : Rest ℤ (List ℤ)) (o : Owed) : Type 0 where
+  -- so are those of a run in parts
+  pub record IsInParts {Z : Type 0} (ms : List (Vec ℤ Z)) (last : Rest ℤ (List ℤ)) : Type 0 where
     pub outputs : List (List ℤ)
     pub goes : GoesOnBy kit_steps n q rest many (lists_from 0 many x input) outputs last
-    pub frames : in_turn (items_of ps) ≡ interleaved (many * x.made) outputs
-    pub whole : (i : ℕ) → i < length ps → (k : ℕ) × (length (get_or (items_of ps) i []) ≡ k * o.channels)
-    pub missing : length (in_turn (items_of ps)) ≤ o.missing * o.channels
-    pub size : length (in_turn (items_of ps)) ≡ many * x.made * o.channels
+    pub frames : in_turn (items_of ms) ≡ interleaved (many * x.made) outputs
+    pub whole : AreWhole x.outputs (many * x.made) (items_of ms)
 
-  pub in_parts : {Z : Type 0} (y : Exchange) → y ≡ x → (ms ps : List (Vec ℤ Z)) → ps ≡ ms →
-      (last : Rest ℤ (List ℤ)) →
+  pub in_parts : {Z : Type 0} (y : Exchange) → y ≡ x → (ms : List (Vec ℤ Z)) (last : Rest ℤ (List ℤ)) →
       GoesOnInParts kit_steps n q (lists_from 0 many y input)
-      (λ periods outputs m. m.items ≡ interleaved (periods * y.made) outputs) rest many ms last →
-      (o : Owed) → o.channels ≡ x.outputs → many * x.made ≤ o.missing → IsInParts ps last o
-  in_parts {Z} y same ms ps are last goes o channels room =
+      (λ periods outputs m. m.items ≡ interleaved (periods * y.made) outputs) rest many ms last → IsInParts ms last
+  in_parts {Z} y same ms last goes =
       let own = subst (λ (z : Exchange). GoesOnInParts kit_steps n q (lists_from 0 many z input)
       (λ periods outputs (m : Vec ℤ Z). m.items ≡ interleaved (periods * z.made) outputs) rest many ms
       last) same goes in
       let parts = subst (λ (l : List (List ℤ)). HasParts kit_steps n q l
       (λ periods outputs (m : Vec ℤ Z). m.items ≡ interleaved (periods * x.made) outputs) rest many own.outputs ms)
       (sym given) own.parts in
-      let f = subst (λ (l : List (Vec ℤ Z)). AreFramed x.outputs (many * x.made) own.outputs (items_of l)) (sym are)
-      (framed many own.outputs ms (omega arith) parts) in
-      let long : length (in_turn (items_of ps)) ≡ many * x.made * x.outputs =
-      ap length f.frames ∙ (length-interleaved (many * x.made) own.outputs
-      ∙ ap (λ (z : ℕ). many * x.made * z) f.count) in
+      let f = framed many own.outputs ms (omega arith) parts in
       record {
         outputs = own.outputs;
         goes = own.goes;
         frames = f.frames;
-        whole = λ i l.
-            let one = f.whole i (omega (arith, l, length-lists ps)) in
-            (one.0, one.1 ∙ ap (λ (z : ℕ). one.0 * z) (sym channels));
-        missing = fewer_missing (many * x.made) x.outputs o.missing (length (in_turn (items_of ps))) o.channels long
-            channels room;
-        size = long ∙ ap (λ (z : ℕ). many * x.made * z) (sym channels);
+        whole = record {
+          each = f.whole;
+          all = ap length f.frames ∙ (length-interleaved (many * x.made) own.outputs
+              ∙ ap (λ (z : ℕ). many * x.made * z) f.count);
+        };
       }

@@ -21,6 +21,10 @@ pub mod Readings
 pub mod Taken
 pub mod Fed
 pub mod Streamed
-pub mod Flow
+pub mod Came
 pub mod Flowing
+pub mod Ahead
+pub mod Starting
+pub mod Steps
+pub mod Ending
 pub mod Ways

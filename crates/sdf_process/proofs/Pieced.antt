@@ -1,5 +1,5 @@
 -- What a run that goes on makes of the next blocks of a sound, behind what it made before.
-use Rattle.std.proofs.Common.{◌≡◌, inl, inr, Result, Ok, Err, ℕ, zero, suc, ◌+◌, ◌*◌, ◌≤◌, ◌<◌, ℤ, List, [], ◌∷◌, ◌++◌}
+use Rattle.std.proofs.Common.{◌≡◌, ℕ, zero, suc, ◌+◌, ◌*◌, ◌<◌, ℤ, List, [], ◌∷◌, ◌++◌}
 use Rattle.std.proofs.Common.{length, get_or, Option, Some, refl, sym, ap, ◌∙◌, subst, arith}
 use Rattle.sdf_actor.specs.declared.rest.Rest.{Rest}
 use Rattle.sdf_actor.specs.declared.sides.Lists.TheVariants.{Inputs, Outputs}
@@ -17,18 +17,18 @@ use Rattle.sdf_sched.specs.Period.{Schedule}
 use Rattle.sdf_split.specs.Cuts.{join}
 use Rattle.sdf_split.proofs.Lists.{joined_is, joined_long}
 use Rattle.sdf_wav.specs.Canonical.{sample_bytes}
-use Rattle.sdf_wav.specs.PiecesOut.{Owed}
 use Rattle.sdf_wav.specs.Sound.{Sound}
-use Rattle.sdf_plan.specs.declared.fault.Fault.{Fault}
 use Rattle.sdf_process.specs.declared.exchange.Exchange.{Exchange}
 use Rattle.sdf_process.specs.declared.playing.Player.{Player}
 use Rattle.sdf_process.specs.declared.portion.Portion.{Portion}
-use Rattle.sdf_process.specs.Output.{exchange_of, interleaved, lists_from, lists_to}
-use Rattle.sdf_process.specs.Stages.{PutsFrames, SamplesJoin}
-use Rattle.sdf_process.specs.Streams.{Follows, PlaysBy, PutsBlocks, StandsAt, StandsWhole}
+use Rattle.sdf_process.specs.Output.{exchange_of, in_turn, interleaved, lists_from, lists_to}
+use Rattle.sdf_process.specs.Stages.{SamplesJoin}
+use Rattle.sdf_process.specs.Streams.{AreWhole, Follows, Makes, PlaysBy, StandsAt, StandsWhole, StaysPlayer}
+use Rattle.sdf_process.proofs.InTurn.{in_turn_more}
 use Rattle.sdf_process.proofs.Played.{frames_on_join, lists_full, lists_joined, made_long}
 use Rattle.sdf_process.proofs.Refusals.{some_same}
 use Rattle.sdf_process.proofs.Rendering.{are_inputs, list_length}
+use Rattle.sdf_process.proofs.Sounds.{length-interleaved}
 use Rattle.sdf_process.proofs.Texts.{bytes_append}
 
 -- what a run made
@@ -104,23 +104,31 @@ module _ (joins : SamplesJoin) (can : NetsCanRun kit_steps) (ports : PortsHaveCh
             (outputs_of n (lists_to (few * j) x s) (firings p.repetitions (few * j)) at.made at.rest at.run)) same)));
       }
 
-  -- what is written of it
-  pub blocks_put : (frames : ℕ) (lists : List (List ℤ)) → lists ≡ on →
-      (before after : Option (List ℕ)) (m m' : ℕ) (r : Result (Unit {0}) Fault) →
-      PutsFrames before after m m' (sample_bytes (interleaved frames lists)) r →
-      PutsBlocks n p j s few blocks frames bytes before after m m' now r
-  blocks_put frames lists same before after m m' r puts =
-      go r (subst (λ (l : List (List ℤ)). PutsFrames before after m m'
-      (sample_bytes (interleaved frames l)) r) same puts)
-    where
-      go : (r : Result (Unit {0}) Fault) → PutsFrames before after m m' (sample_bytes (interleaved frames on)) r →
-          PutsBlocks n p j s few blocks frames bytes before after m m' now r
-      go (Ok y) (written, fine) = (sample_bytes (interleaved frames on), stands_on_by frames, written, fine)
-      go (Err f) (inl (is, front, failed)) = inl (
-        is,
-        (sample_bytes (interleaved frames on), stands_on_by frames, front, failed),
-      )
-      go (Err f) (inr (is, kept, fine)) = inr (is, kept, fine)
+  -- frames of what was made on
+  pub blocks_made : (frames : ℕ) (lists : List (List ℤ)) → in_turn lists ≡ interleaved frames on →
+      AreWhole x.outputs frames lists → Makes n p j s few blocks frames bytes lists now
+  blocks_made frames lists same whole = record {
+    stands = subst (λ (l : List ℤ). StandsAt n p j s (few + blocks) (few * j * x.made + frames)
+        (bytes ++ sample_bytes l) now) (sym same) (stands_on_by frames);
+    whole = whole;
+  }
+
+-- frames in one list
+pub one_list : (outputs frames : ℕ) (on : List (List ℤ)) (list : List ℤ) → list ≡ interleaved frames on →
+    length on ≡ outputs →
+    (in_turn (list ∷ []) ≡ interleaved frames on) × AreWhole outputs frames (list ∷ [])
+one_list outputs frames on list is count =
+    let all : in_turn (list ∷ []) ≡ list = in_turn_more [] list in
+    let long : length list ≡ frames * outputs =
+    ap length is ∙ (length-interleaved frames on ∙ ap (λ (k : ℕ). frames * k) count) in (
+      all ∙ is,
+      record { each = each long; all = ap length all ∙ long },
+    )
+  where
+    each : length list ≡ frames * outputs → (i : ℕ) → i < 1 →
+        (k : ℕ) × (length (get_or (list ∷ []) i []) ≡ k * outputs)
+    each long zero l = (frames, long)
+    each long (suc i) l = absurd (omega (arith, l))
 
 -- ---- a player goes on
 
@@ -133,6 +141,16 @@ module _ (n : Netlist Kit ℤ) (p : Schedule) (j : ℕ) (v : Player) (by : Plays
   pub from_player : P v.net.now v.period.now → P n p
   from_player h = subst (P n) by.period (subst (λ (m : Netlist Kit ℤ). P m v.period.now) by.net h)
 
+-- and it plays on by the same net
+pub plays_still : (n : Netlist Kit ℤ) (p : Schedule) (j : ℕ) (v w : Player) → PlaysBy n p j v → StaysPlayer v w →
+    PlaysBy n p j w
+plays_still n p j v w by (net, period, cut) = record {
+  player = record { period = rw (net, period) by.player.period; cut = rw (net, period, cut) by.player.cut };
+  net = ap (λ (z : _). z.now) net ∙ by.net;
+  period = ap (λ (z : _). z.now) period ∙ by.period;
+  single = by.single;
+}
+
 -- what it holds is what the run before left
 pub held_is : (n : Netlist Kit ℤ) (p : Schedule) (j : ℕ) (s : Sound) (few frames : ℕ) (bytes : List ℕ)
     (rest : Rest ℤ (List ℤ)) (at : StandsAt n p j s few frames bytes (Some rest)) →
@@ -141,13 +159,6 @@ pub held_is : (n : Netlist Kit ℤ) (p : Schedule) (j : ℕ) (s : Sound) (few fr
 held_is n p j s few frames bytes rest at =
     subst (HasRun kit_steps n (lists_to (few * j) (exchange_of n p.repetitions) s)
     (firings p.repetitions (few * j)) at.made) (sym (some_same rest at.rest at.held)) at.run
-
--- there is room for all that its periods make
-pub all_made : (n : Netlist Kit ℤ) (p : Schedule) (y : Portion) (o : Owed) → y.exchange ≡ exchange_of n p.repetitions →
-    y.frames ≡ y.periods * y.exchange.made → y.frames ≤ o.missing →
-    y.periods * (exchange_of n p.repetitions).made ≤ o.missing
-all_made n p y o is all room =
-    subst (λ (x : Exchange). y.periods * x.made ≤ o.missing) is (subst (λ (k : ℕ). k ≤ o.missing) all room)
 
 -- it goes on by what the portion's own exchange reads
 pub portion_as : (n : Netlist Kit ℤ) (p : Schedule) (y : Portion) → y.exchange ≡ exchange_of n p.repetitions →

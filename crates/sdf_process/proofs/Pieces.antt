@@ -1,5 +1,5 @@
 -- Frames that are written some at a time.
-use Rattle.std.proofs.Common.{◌≡◌, inl, ℕ, zero, suc, ◌+◌, ◌-◌, ◌*◌, ◌/◌, ◌%◌, ◌≤◌, ℤ, List, [], ◌++◌}
+use Rattle.std.proofs.Common.{◌≡◌, ℕ, zero, suc, ◌+◌, ◌-◌, ◌*◌, ◌/◌, ◌%◌, ◌≤◌, ℤ, List, [], ◌++◌}
 use Rattle.std.proofs.Common.{Option, Some, None, append-nil, Result, Ok, Err, sym, ap, ◌∙◌, subst, arith}
 use Rattle.std.proofs.Common.{append_assoc}
 use Rattle.std.specs.Prelude.{IsErrAnd}
@@ -14,8 +14,8 @@ use Rattle.sdf_wav.specs.declared.fault.WavFault.{WavFault}
 use Rattle.sdf_wav.specs.declared.fault.WavFault.TheVariants as wav
 use Rattle.sdf_plan.specs.declared.fault.Fault.{Fault}
 use Rattle.sdf_plan.specs.Faults.{of_wav}
-use Rattle.sdf_process.specs.Output.{frame, interleaved, interleaved_from}
-use Rattle.sdf_process.specs.Stages.{PutsFrames, PutsHeader, SamplesJoin}
+use Rattle.sdf_process.specs.Output.{frame, interleaved_from}
+use Rattle.sdf_process.specs.Stages.{PutsHeader, SamplesJoin}
 use Rattle.sdf_process.proofs.Outcomes.{front_join}
 use Rattle.sdf_process.proofs.Texts.{bytes_append}
 
@@ -38,15 +38,6 @@ frames_joined xs a (suc n) m =
     ∙ (ap (λ (l : List ℤ). frame xs a ++ (interleaved_from (a + 1) n xs ++ l)) next
     ∙ (ap (λ (l : List ℤ). frame xs a ++ l) (frames_joined xs (a + 1) n m)
     ∙ (sym (flat_map-cons (frame xs) a (range_with_len (a + 1) (n + m))) ∙ end))))
-
--- so are the first ones and those behind
-pub frames_on : (xs : List (List ℤ)) (at end : ℕ) → at ≤ end →
-    interleaved at xs ++ interleaved_from at (end - at) xs ≡ interleaved end xs
-frames_on xs at end less =
-    let here : at ≡ 0 + at = omega arith in
-    let all : at + (end - at) ≡ end = omega arith in
-    ap (λ (k : ℕ). interleaved at xs ++ interleaved_from k (end - at) xs) here
-    ∙ (frames_joined xs 0 at (end - at) ∙ ap (λ (k : ℕ). interleaved k xs) all)
 
 module _ (joins : SamplesJoin) (a b c : Option (List ℕ)) (w w1 w2 : ℕ) (xs here rest all : List ℤ)
     (split : xs ++ (here ++ rest) ≡ all) (before : Appends a b (sample_bytes xs)) (counted : w1 ≡ w) where
@@ -74,25 +65,6 @@ module _ (joins : SamplesJoin) (a b c : Option (List ℕ)) (w w1 w2 : ℕ) (xs h
   put_stopped wav.OutOfMemory (Err f) puts failed is = absurd puts
   put_stopped wav.Read (Err f) puts failed is = absurd puts
   put_stopped e (Ok x) puts failed is = absurd is
-
-module _ (joins : SamplesJoin) (a b c : Option (List ℕ)) (w w1 w2 : ℕ) (xs : List (List ℤ)) (frames at end : ℕ)
-    (less : at ≤ end) (within : end ≤ frames)
-    (before : Appends a b (sample_bytes (interleaved at xs))) (counted : w1 ≡ w) where
-  -- or among the next frames
-  pub put_failed : {X : Type 0} (e : WavFault) (r : Result X Fault) →
-      Puts {X = Unit {0}} b c (sample_bytes (interleaved_from at (end - at) xs)) (Err e) →
-      w2 ≡ failures_after {X = Unit {0}} (Err e) w1 →
-      IsErrAnd r (λ f. f ≡ of_wav e) → PutsFrames a c w w2 (sample_bytes (interleaved frames xs)) r
-  put_failed {X} e (Err f) puts failed is =
-      let first = interleaved at xs in
-      let here = interleaved_from at (end - at) xs in
-      let rest = interleaved_from end (frames - end) xs in
-      let split : first ++ (here ++ rest) ≡ interleaved frames xs =
-      sym (append_assoc first here rest)
-      ∙ (ap (λ (l : List ℤ). l ++ rest) (frames_on xs at end less) ∙ frames_on xs end frames within) in
-      inl (put_stopped joins a b c w w1 w2 first here rest (interleaved frames xs) split before counted
-      {X = X} e (Err f) puts failed is)
-  put_failed e (Ok x) puts failed is = absurd is
 
 -- whole frames of n channels
 pub whole_frames : (n k samples channels : ℕ) → samples ≡ n * k → channels ≡ k → samples % channels ≡ 0

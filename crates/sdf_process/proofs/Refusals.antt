@@ -1,7 +1,7 @@
 -- The first stages of a run: what is known where one of them fails, and once all are done.
 use Rattle.std.proofs.Common.{append_assoc, ◌≡◌, ◌≢◌, inl, inr, ℕ, ℤ, List, [], ◌++◌, Option, Some, None, Result, Ok}
 use Rattle.std.proofs.Common.{Err, MatchResult, refl, sym, ap, ◌∙◌, subst}
-use Rattle.std.specs.Prelude.{IsErrAnd}
+use Rattle.std.specs.Prelude.{IfErr, IfOk, IsErrAnd}
 use Rattle.std.specs.Io.KnownBytes.{Appends}
 use Rattle.sdf_actor.specs.Nets.{Netlist}
 use Rattle.sdf_kit.specs.declared.kit.Kit.{Kit}
@@ -26,6 +26,25 @@ use Rattle.sdf_process.specs.Run.{Announces, announced_size, HasOutputFault, Han
 use Rattle.sdf_process.specs.Run.{IsUnsized, ReadsAnnounced, ReadsInto, Refuses, Runs, WritesFile, WritesSome}
 use Rattle.sdf_process.specs.Stages.{WavLaws}
 use Rattle.sdf_process.proofs.Outcomes.{IsOfOutput, fault_of_announced, keeps_same, kept, refuses_outside}
+
+-- what is said of the fault of a call that failed, said of that call's own
+pub if_err : {X : Type 0} (r : Result X Fault) (f g : Fault) → f ≡ g → IsErrAnd r (λ e. e ≡ f) → IfErr r (λ e. e ≡ g)
+if_err (Err e) f g same is = is ∙ same
+if_err (Ok x) f g same is = absurd is
+
+-- what is said of an answer, in other words where it is Ok
+pub ok_by : {X : Type 0} (r : Result X Fault) (P Q : X → Type 0) → ((x : X) → P x → Q x) → IfOk r P → IfOk r Q
+ok_by (Ok x) P Q go h = go x h
+ok_by (Err e) P Q go h = tt
+
+-- what is said of an answer, if it is known
+pub at_ok : {X : Type 0} (r : Result X Fault) (x : X) (P : X → Type 0) (E : Fault → Type 0) → r ≡ Ok x →
+    MatchResult r P E → P x
+at_ok {X} r x P E is h = subst (λ (z : Result X Fault). MatchResult z P E) is h
+
+pub at_err : {X : Type 0} (r : Result X Fault) (f : Fault) (P : X → Type 0) (E : Fault → Type 0) → r ≡ Err f →
+    MatchResult r P E → E f
+at_err {X} r f P E is h = subst (λ (z : Result X Fault). MatchResult z P E) is h
 
 -- the fault of a call that failed
 pub fails_by : {X : Type 0} (r : Result X Fault) (f : Fault) (P : X → Type 0) (Q : Fault → Type 0) →

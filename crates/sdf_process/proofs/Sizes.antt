@@ -1,7 +1,6 @@
 -- Tests of sizes by a division, in place of a product that could wrap.
 use Rattle.std.proofs.Common.{◌≡◌, ℕ, ◌+◌, ◌-◌, ◌*◌, ◌/◌, ◌≤◌, ◌<◌, nat_lt, sym, ap, ◌∙◌, inl, inr, ◌⊎◌, arith}
 use Rattle.std.proofs.Math.Nat.{mul_assoc, mul-div_left, mul-le-mul_left, mul-le-mul_right, div-mul-le_self}
-use Rattle.std.proofs.Math.Nat.{lt-div-mul-add}
 use Rattle.std.proofs.lemmas.Nat.{div_below, le-div}
 use Rattle.std.proofs.lemmas.Bool.{cases_lt, lt-ltb, le-ltb}
 use Rattle.sdf_limits.specs.declared.TheConstants.{MOST_PERIOD, MOST_RATE}
@@ -47,13 +46,6 @@ cancel a b k some less = omega (arith, le-div a (b * k) k some less, mul-div_lef
 pub periods_fit : (periods taken frames : ℕ) → 0 < taken → periods * taken ≤ frames →
     periods ≤ (frames + (taken - 1)) / taken
 periods_fit periods taken frames some less = le-div periods (frames + (taken - 1)) taken some (omega (arith, less))
-
--- and no more than so many, where the frames do not fill another one
-pub periods_end : (periods taken frames : ℕ) → 0 < taken → frames < periods * taken →
-    (frames + (taken - 1)) / taken ≤ periods
-periods_end periods taken frames some less =
-    let past : (periods + 1) * taken ≡ periods * taken + taken = omega arith in
-    omega (arith, div_below (frames + (taken - 1)) taken (periods + 1) some (omega (arith, less, past, some)))
 
 pub below_by : (a b k : ℕ) → a * k < b * k → a < b
 below_by a b k less = go (cases_lt a b)
@@ -125,19 +117,3 @@ module _ (j taken made f channels len : ℕ) (some_j : 0 < j) (some_taken : 0 < 
   frames_small =
       let less : blocks * j * made ≤ 4294967295 * made = mul-le-mul_right made periods_small in
       omega (arith, less, few_made)
-
-  pub periods_there : blocks * j * taken * channels ≤ len
-  periods_there =
-      let here : blocks * j * taken * channels ≡ blocks * j * taken * f =
-      ap (λ (k : ℕ). blocks * j * taken * k) (sym same) in
-      let all : blocks * j * taken * f ≡ blocks * (j * taken * f) = omega arith in
-      omega (arith, here, all, blocks_there)
-
-  pub rest_short : len - blocks * (j * taken * f) < j * taken * f
-  rest_short = let past : len < blocks * (j * taken * f) + j * taken * f = lt-div-mul-add block_some in
-      omega (arith, past, block_some)
-
-  pub no_block : blocks ≡ 0 → len < j * taken * f
-  no_block none = let past : len < blocks * (j * taken * f) + j * taken * f = lt-div-mul-add block_some in
-      let zero : blocks * (j * taken * f) ≡ 0 = ap (λ (k : ℕ). k * (j * taken * f)) none ∙
-      (let z : 0 * (j * taken * f) ≡ 0 = omega arith in z) in omega (arith, past, zero)

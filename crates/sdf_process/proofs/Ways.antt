@@ -21,7 +21,7 @@ use Rattle.sdf_process.specs.Sources.{reading_of, Takes, TakesAll}
 use Rattle.sdf_process.specs.Stages.{PutsOutput}
 use Rattle.sdf_process.specs.Streams.{FeedsBy, StandsAt, Streams}
 use Rattle.sdf_process.specs.Tasks.{IsBegun, IsShared}
-use Rattle.sdf_process.proofs.Flow.{allowed_lower, whole_size}
+use Rattle.sdf_process.proofs.Came.{allowed_lower, whole_size}
 use Rattle.sdf_process.proofs.Opened.{frames_known}
 use Rattle.sdf_process.proofs.Taken.{heard_puts, taken_whole, unheard_sound, whole_streams}
 
@@ -41,12 +41,10 @@ few_blocks j firings some short =
 
 -- the blocks of a session have few periods
 pub session_fits : (t : Shared) → IsShared t → HasPeriod kit_steps t.net.now t.table.now.period →
-    t.table.now.factor ≤ 4294967295
-session_fits t shared has = omega (
-  arith,
-  few_blocks t.table.now.factor (sum t.table.now.period.repetitions)
-      (some_firings t.net.now t.table.now.period has) shared.table.table.short,
-)
+    t.table.now.factor ≤ MOST_BLOCK
+session_fits t shared has =
+    few_blocks t.table.now.factor (sum t.table.now.period.repetitions)
+    (some_firings t.net.now t.table.now.period has) shared.table.table.short
 
 -- and it is not spent, if it stands after nothing
 pub session_goes : (n : Netlist Kit ℤ) (p : Schedule) (j : ℕ) (v : SessionValue Kit (List ℤ) ℤ) →

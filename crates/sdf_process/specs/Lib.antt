@@ -4,4 +4,5 @@ pub mod Stages
 pub mod Sources
 pub mod Tasks
 pub mod Streams
+pub mod Flows
 pub mod Laws

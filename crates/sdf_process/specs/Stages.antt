@@ -1,7 +1,7 @@
 -- The stages of a run: what each of them says of the devices.
 use Rattle.std.specs.Prelude.{◌≡◌, ◌≢◌, ◌⊎◌, ℕ, ◌+◌, ◌*◌, ◌%◌, ◌^◌, ◌<◌, ◌≤◌, ℤ, List, [], ◌++◌, length, Option, Some}
 use Rattle.std.specs.Prelude.{None, Result, Ok, Err, false}
-use Rattle.std.specs.Io.KnownBytes.{Appends, Keeps}
+use Rattle.std.specs.Io.KnownBytes.{Appends}
 use Rattle.sdf_actor.specs.Nets.{Netlist}
 use Rattle.sdf_answer.specs.Answer.{AreOutputs, periods_of as firings}
 use Rattle.sdf_kit.specs.declared.kit.Kit.{Kit}
@@ -29,13 +29,6 @@ use Rattle.sdf_process.specs.Run.{Announces, AreFrames, IsAllowed, IsRun}
 abbrev pub PutsHeader : {X : Type 0} → Option (List ℕ) → Option (List ℕ) → ℕ → ℕ → List ℕ → Result X Fault → Type 0
 PutsHeader before after w w' bytes (Ok x) = Appends before after bytes × (w' ≡ w)
 PutsHeader before after w w' bytes (Err f) = (f ≡ Write) × AppendsFront before after bytes × (w' ≡ one_more w)
-
--- the same, where memory may be refused before
-abbrev pub PutsFrames : {X : Type 0} → Option (List ℕ) → Option (List ℕ) → ℕ → ℕ → List ℕ → Result X Fault → Type 0
-PutsFrames before after w w' bytes (Ok x) = Appends before after bytes × (w' ≡ w)
-PutsFrames before after w w' bytes (Err f) =
-    ((f ≡ Write) × AppendsFront before after bytes × (w' ≡ one_more w))
-    ⊎ ((f ≡ OutOfMemory) × Keeps before after × (w' ≡ w))
 
 -- The frames of a net on a sound were written: all of them, or a front of those of some periods where the writer
 -- failed, or those of some periods where memory was refused.

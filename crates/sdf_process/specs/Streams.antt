@@ -1,7 +1,8 @@
 -- A run that takes its input and writes its output as it goes.
-use Rattle.std.specs.Prelude.{◌≡◌, ◌⊎◌, ℕ, ◌+◌, ◌-◌, ◌*◌, ◌<◌, ◌≤◌, ℤ, List, [], ◌++◌, length, drop, Option, Some}
-use Rattle.std.specs.Prelude.{Result, Ok, Err, false}
-use Rattle.std.specs.Io.KnownBytes.{Appends, Keeps}
+use Rattle.std.specs.Prelude.{◌≡◌, ◌⊎◌, ℕ, ◌+◌, ◌*◌, ◌<◌, ◌≤◌, ℤ, List, [], ◌++◌, length, slice_index_or, Option, Some}
+use Rattle.std.specs.Prelude.{Result, Ok, Err}
+use Rattle.std.specs.Io.KnownBytes.{Appends}
+use Rattle.sdf_limits.specs.declared.TheConstants.{MOST_BLOCK}
 use Rattle.sdf_graph.specs.Rates.{rates}
 use Rattle.sdf_actor.specs.Graphs.{graph_of}
 use Rattle.sdf_actor.specs.Nets.{Netlist}
@@ -19,20 +20,17 @@ use Rattle.sdf_sched.specs.Period.{Schedule, IsPeriodOf}
 use Rattle.sdf_wav.specs.Canonical.{sample_bytes}
 use Rattle.sdf_wav.specs.Device.{AppendsFront, one_more}
 use Rattle.sdf_wav.specs.PiecesIn.{Reading, sound_read}
-use Rattle.sdf_wav.specs.PiecesOut.{Owed}
 use Rattle.sdf_wav.specs.Sound.{Sound, frames_of}
 use Rattle.sdf_wav.specs.declared.wav.TheConstants.{MOST_CHANNELS}
-use Rattle.sdf_process.specs.declared.exchange.Exchange.{Exchange}
 use Rattle.sdf_plan.specs.declared.fault.Fault.{Fault}
-use Rattle.sdf_plan.specs.declared.fault.Fault.TheVariants.{OutOfMemory, Write}
+use Rattle.sdf_plan.specs.declared.fault.Fault.TheVariants.{Write}
 use Rattle.sdf_process.specs.declared.playing.Player.{Player}
 use Rattle.sdf_process.specs.declared.portion.Portion.{Portion}
 use Rattle.sdf_process.specs.declared.source.Source.{Source}
 use Rattle.sdf_process.specs.declared.streaming.Opened.{Opened}
-use Rattle.sdf_process.specs.declared.streaming.Runner.{Runner}
-use Rattle.sdf_process.specs.declared.streaming.Runner.TheVariants as runner
-use Rattle.sdf_process.specs.declared.streaming.Stream.{Stream}
-use Rattle.sdf_process.specs.Output.{exchange_of, interleaved, lists_from, lists_to, periods_of, IsExchange}
+use Rattle.sdf_process.specs.declared.runner.Runner.{Runner}
+use Rattle.sdf_process.specs.declared.runner.Runner.TheVariants as runner
+use Rattle.sdf_process.specs.Output.{exchange_of, in_turn, interleaved, lists_from, lists_to, periods_of}
 use Rattle.sdf_process.specs.Run.{AreFrames}
 use Rattle.sdf_process.specs.Sources.{reading_of, Takes, TakesAll}
 use Rattle.sdf_process.specs.Stages.{PutsOutput}
@@ -79,7 +77,7 @@ abbrev pub left_by : Runner → Option (Rest ℤ (List ℤ))
 left_by (runner.Session v) = v.rest
 left_by (runner.Player v) = Some v.rest
 
--- a player writes all frames that it makes
+-- of a player all frames are written that it makes
 abbrev pub WritesOf : Runner → ℕ → ℕ → Type 0
 WritesOf (runner.Session v) made frames = Unit {0}
 WritesOf (runner.Player v) made frames = frames ≡ made
@@ -96,15 +94,23 @@ abbrev pub IsFollowed : Netlist Kit ℤ → Schedule → ℕ → Option (Rest �
 IsFollowed n p j left y =
     (s : Sound) × (few : ℕ) × (blocks : ℕ) × (bytes : List ℕ) × Follows n p j s few blocks bytes left y
 
--- the frames of a portion can be written behind those before
-pub record CanPut (n : Netlist Kit ℤ) (p : Schedule) (j : ℕ) (o : Owed) (y : Portion) : Type 0 where
+-- a net can be run on the portion
+pub record CanRun (n : Netlist Kit ℤ) (p : Schedule) (j : ℕ) (y : Portion) : Type 0 where
   pub has : HasPeriod kit_steps n p
   pub some : 0 < j
   pub exchange : y.exchange ≡ exchange_of n p.repetitions
-  pub unspent : o.spent ≡ false
-  pub channels : o.channels ≡ y.exchange.outputs
-  pub missing : y.frames ≤ o.missing
-  pub few : 2 * (y.frames * y.exchange.outputs) ≤ 4294967259
+
+-- lists of whole frames of some channels, and how many frames there are in all
+pub record AreWhole (channels frames : ℕ) (made : List (List ℤ)) : Type 0 where
+  pub each : (i : ℕ) → i < length made → (k : ℕ) × (length (slice_index_or made i []) ≡ k * channels)
+  pub all : length (in_turn made) ≡ frames * channels
+
+-- The next blocks were run behind those before, and these are the first frames of what they made.
+pub record Makes (n : Netlist Kit ℤ) (p : Schedule) (j : ℕ) (s : Sound) (few blocks frames : ℕ) (bytes : List ℕ)
+    (made : List (List ℤ)) (left : Option (Rest ℤ (List ℤ))) : Type 0 where
+  pub stands : StandsAt n p j s (few + blocks) (few * j * (exchange_of n p.repetitions).made + frames)
+      (bytes ++ sample_bytes (in_turn made)) left
+  pub whole : AreWhole (exchange_of n p.repetitions).outputs frames made
 
 -- a player can play the portion
 pub record CanPlay (v : Player) (y : Portion) : Type 0 where
@@ -125,79 +131,45 @@ pub record IsOpened (t : Opened) : Type 0 where
   pub goes : GoesBy t.net.now t.period.now t.blocking t.runner
   pub stands : (s : Sound) → StandsAt t.net.now t.period.now t.blocking s 0 0 [] (left_by t.runner)
   pub some : 0 < t.blocking
-  pub fits : t.blocking ≤ 4294967295
+  pub fits : t.blocking ≤ MOST_BLOCK
   pub piece : 0 < t.frames
 
--- A run that can go on: it goes by net n, and its output is begun.
-pub record IsReady (n : Netlist Kit ℤ) (p : Schedule) (t : Stream) : Type 0 where
-  pub goes : GoesBy n p t.blocking t.runner
-  pub has : HasPeriod kit_steps n p
-  pub some : 0 < t.blocking
-  pub fits : t.blocking ≤ 4294967295
-  pub some_rate : 1 ≤ t.rate
-  pub one_channel : 1 ≤ t.channels
-  pub few_channels : t.channels ≤ MOST_CHANNELS
-  pub exchange : t.exchange ≡ exchange_of n p.repetitions
-  pub limits : IsExchange t.exchange
-  pub some_inputs : 0 < t.exchange.inputs
-  pub unspent : t.output.spent ≡ false
-  pub channels : t.output.channels ≡ t.exchange.outputs
-  pub few : 2 * (t.output.missing * t.exchange.outputs) ≤ 4294967259
+-- ---- a runner that runs the next portion
 
--- So many more blocks were fed, and so many frames of what they made were written behind all before: all of them, or a
--- front where the writer failed, or none where memory was refused.
-abbrev pub PutsBlocks : Netlist Kit ℤ → Schedule → ℕ → Sound → ℕ → ℕ → ℕ → List ℕ → Option (List ℕ) → Option (List ℕ) →
-    ℕ → ℕ → Option (Rest ℤ (List ℤ)) → Result (Unit {0}) Fault → Type 0
-PutsBlocks n p j s few blocks frames bytes before after w w' v (Ok x) =
-    (more : List ℕ) × StandsAt n p j s (few + blocks) (few * j * (exchange_of n p.repetitions).made + frames)
-    (bytes ++ more) v × Appends before after more × (w' ≡ w)
-PutsBlocks n p j s few blocks frames bytes before after w w' v (Err f) =
-    ((f ≡ Write) × ((more : List ℕ) × StandsAt n p j s (few + blocks)
-    (few * j * (exchange_of n p.repetitions).made + frames) (bytes ++ more) v × AppendsFront before after more
-    × (w' ≡ one_more w)))
-    ⊎ ((f ≡ OutOfMemory) × Keeps before after × (w' ≡ w))
+-- it can: the portion follows what it ran
+pub record CanRunNext (v : Runner) (y : Portion) : Type 0 where
+  pub net : Netlist Kit ℤ
+  pub period : Schedule
+  pub blocking : ℕ
+  pub goes : GoesBy net period blocking v
+  pub can : CanRun net period blocking y
+  pub follows : IsFollowed net period blocking (left_by v) y
+  pub all : WritesOf v (y.periods * y.exchange.made) y.frames
 
--- ---- a player that plays the next portion
+-- and then, whatever sound it ran, it made these frames of its next blocks
+abbrev pub RunsNext : Runner → Runner → Portion → List (List ℤ) → Type 0
+RunsNext v now y made = (n : Netlist Kit ℤ) (p : Schedule) (j : ℕ) (s : Sound) (few blocks : ℕ) (bytes : List ℕ) →
+    GoesBy n p j v → CanRun n p j y → Follows n p j s few blocks bytes (left_by v) y →
+    Makes n p j s few blocks y.frames bytes made (left_by now) × GoesBy n p j now
 
--- it can: the portion follows what it played
-abbrev pub CanPutNext : Player → Owed → Portion → Type 0
-CanPutNext v o y = (j : ℕ) × CanPut v.net.now v.period.now j o y
-    × IsFollowed v.net.now v.period.now j (Some v.rest) y
+-- nothing of it changes but its memory
+abbrev pub StaysRunner : Runner → Runner → Type 0
+StaysRunner v w = (left_by w ≡ left_by v) × ((n : Netlist Kit ℤ) (p : Schedule) (j : ℕ) → GoesBy n p j v → GoesBy n p j w)
 
--- and then, whatever sound it played, its next blocks were put
-abbrev pub PutsNext : Player → Player → Portion → Option (List ℕ) → Option (List ℕ) → ℕ → ℕ →
-    Result (Unit {0}) Fault → Type 0
-PutsNext v now y before after w w' result = (j : ℕ) (s : Sound) (few blocks : ℕ) (bytes : List ℕ) →
+-- the same of a session
+abbrev pub FeedsNext : SessionValue Kit (List ℤ) ℤ → SessionValue Kit (List ℤ) ℤ → Portion → List (List ℤ) → Type 0
+FeedsNext v now y made = (n : Netlist Kit ℤ) (p : Schedule) (j : ℕ) (s : Sound) (few blocks : ℕ) (bytes : List ℕ) →
+    FeedsBy n p j v → CanRun n p j y → Follows n p j s few blocks bytes v.rest y →
+    Makes n p j s few blocks y.frames bytes made now.rest × FeedsBy n p j now
+
+-- the same of a player
+abbrev pub CanPlayNext : Player → Portion → Type 0
+CanPlayNext v y = (j : ℕ) × CanRun v.net.now v.period.now j y × IsFollowed v.net.now v.period.now j (Some v.rest) y
+
+abbrev pub PlaysNext : Player → Player → Portion → List (List ℤ) → Type 0
+PlaysNext v now y made = (j : ℕ) (s : Sound) (few blocks : ℕ) (bytes : List ℕ) →
     Follows v.net.now v.period.now j s few blocks bytes (Some v.rest) y →
-    PutsBlocks v.net.now v.period.now j s few blocks y.frames bytes before after w w' (Some now.rest) result
-
--- samples in which so many periods stand, and the others behind them
-abbrev pub AreBehind : Exchange → Reading → List ℤ → ℕ → List ℤ → Type 0
-AreBehind x c samples periods kept = (periods * x.taken * c.channels ≤ length samples)
-    × (kept ≡ drop (periods * x.taken * c.channels) samples)
-
--- these samples are kept behind the first blocks of a content, which were run
-pub record IsKept (n : Netlist Kit ℤ) (p : Schedule) (t : Stream) (c : Reading) (samples : List ℤ) (few : ℕ)
-    (bytes : List ℕ) (kept : List ℤ) : Type 0 where
-  pub channels : c.channels ≡ t.channels
-  pub stands : StandsWhole n p t.blocking (sound_read c samples) few bytes (left_by t.runner)
-  pub behind : AreBehind (exchange_of n p.repetitions) c samples (few * t.blocking) kept
-
--- All whole blocks of what is kept were fed, and what they made was written; what is kept now is no block.
-abbrev pub PutsWhole : Netlist Kit ℤ → Schedule → ℕ → Reading → List ℤ → ℕ → List ℕ → Option (List ℕ) →
-    Option (List ℕ) → ℕ → ℕ → Owed → Owed → Option (Rest ℤ (List ℤ)) → Result (List ℤ) Fault → Type 0
-PutsWhole n p j c samples few bytes before after w w' o o' v (Ok kept) =
-    (blocks : ℕ) × (more : List ℕ) × StandsWhole n p j (sound_read c samples) (few + blocks) (bytes ++ more) v
-    × Appends before after more × (w' ≡ w)
-    × AreBehind (exchange_of n p.repetitions) c samples ((few + blocks) * j) kept
-    × (length kept < j * (exchange_of n p.repetitions).taken * c.channels)
-    × (o' ≡ record o { missing = o.missing - blocks * j * (exchange_of n p.repetitions).made })
-PutsWhole n p j c samples few bytes before after w w' o o' v (Err f) =
-    ((f ≡ Write) × ((blocks : ℕ) × (more : List ℕ)
-    × StandsWhole n p j (sound_read c samples) (few + blocks) (bytes ++ more) v × AppendsFront before after more
-    × (w' ≡ one_more w)
-    × ((few + blocks) * j * (exchange_of n p.repetitions).taken * c.channels ≤ length samples)))
-    ⊎ ((f ≡ OutOfMemory) × Keeps before after × (w' ≡ w))
+    Makes v.net.now v.period.now j s few blocks y.frames bytes made (Some now.rest)
 
 -- So far a run came that reads and writes as it goes: these samples were read, and these are the bytes of the frames of
 -- so many periods of them.

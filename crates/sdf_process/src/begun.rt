@@ -11,8 +11,9 @@ ghost use Rattle.sdf_process.specs.Tasks.{IsBegun, IsScore, IsShared, IsTask};
 
 use crate::exchange::{Exchange, Extent};
 use crate::playing::{Player, Score};
+use crate::runner::Runner;
 use crate::source::Source;
-use crate::streaming::{Opened, Runner, run_stream};
+use crate::streaming::{Opened, run_stream};
 use crate::task::Task;
 use sdf_actor::Net;
 use sdf_answer::BlockTable;

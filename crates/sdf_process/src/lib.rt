@@ -10,12 +10,14 @@
 
 mod begun;
 mod exchange;
+mod flow;
 mod hearing;
 pub mod laws;
 mod playing;
 mod portion;
 pub mod process;
 mod putting;
+mod runner;
 mod running;
 mod samples;
 mod source;

@@ -1,7 +1,7 @@
 //! A net that plays a sound some periods at a time, on one thread or in parts at once. It holds what the periods before
 //! left, and their memory, which it uses again.
 
-ghost use Rattle.std.specs.Prelude.{◌≡◌, ◌-◌, ◌*◌, ◌≤◌, ◌<◌, [], IfOk, IfSome, IfNone, MatchResult, Some};
+ghost use Rattle.std.specs.Prelude.{◌≡◌, ◌*◌, ◌≤◌, ◌<◌, [], IfErr, IfOk, IfSome, IfNone, MatchResult, Some};
 ghost use Rattle.sdf_actor.specs.Wires.{lists as items_of};
 ghost use Rattle.sdf_answer.specs.Feeds.{GoesOnBy};
 ghost use Rattle.sdf_fission.specs.WarmUps.{IsLasting, WarmsIn};
@@ -10,12 +10,12 @@ ghost use Rattle.sdf_plan.specs.declared.fault.Fault.TheVariants.{OutOfMemory};
 ghost use Rattle.sdf_wav.specs.Sound.{Sound};
 ghost use Rattle.sdf_process.specs.declared.playing.Cut.{Cut};
 ghost use Rattle.sdf_process.specs.Output.{exchange_of, lists_from, IsExchange};
-ghost use Rattle.sdf_process.specs.Streams.{CanPlay, CanPutNext, PutsNext, StandsAt, StaysPlayer};
+ghost use Rattle.sdf_process.specs.Streams.{CanPlay, CanPlayNext, PlaysNext, StandsAt, StaysPlayer};
 ghost use Rattle.sdf_process.specs.Tasks.{IsCut, IsPlayer, IsScore};
 
 use crate::exchange::Exchange;
 use crate::portion::Portion;
-use crate::putting::{put_frames, put_in_turn};
+use crate::samples::make_frames;
 use sdf_actor::{Net, Rest};
 use sdf_fission::warm_up::warm_up;
 use sdf_kit::{Kept, Kit};
@@ -24,8 +24,8 @@ use sdf_run::laws::net_facts;
 use sdf_run::{Passage, Spares, resume_one_in};
 use sdf_sched::Period;
 use sdf_split::{Split, Workers, part_size, resume_split};
-use sdf_wav::{ContentOut, Writer};
 use std::alloc::{AllocError, Global};
+use std::mem;
 use std::thread::Threads;
 
 /// The most frames that a piece reads or makes on one thread, unless a period has more.
@@ -33,7 +33,7 @@ const PIECE: usize = 32_768;
 
 /// The most frames that a part of a piece reads or makes, unless a period or eight warm-ups have more. Longer parts
 /// have less warm-up, and threads are started less often.
-const PART: usize = 131_072;
+const PART: usize = 65_536;
 
 /// A net, one of its periods, and the most parts of a sound that are run at once.
 #[derive(Clone, Copy)]
@@ -63,6 +63,8 @@ pub(crate) struct Player<'a> {
     inputs: Vec<Vec<i32>>,
     /// The memory of runs on one thread.
     spares: Spares<i32>,
+    /// The memory of their frames.
+    frames: Vec<Vec<i16>>,
     /// The workers that run parts.
     workers: Workers<Vec<i16>, i32, Kept>,
 }
@@ -123,8 +125,14 @@ impl<'a> Player<'a> {
             rest,
             inputs: Vec::new(alloc),
             spares: Spares::none(alloc),
+            frames: Vec::new(alloc),
             workers: Workers::none(alloc),
         })
+    }
+
+    /// Returns whether it runs parts at once.
+    pub(crate) fn is_cut(&self) -> bool {
+        self.cut.is_some()
     }
 
     /// Returns how many frames it is best fed at a time.
@@ -158,48 +166,40 @@ impl<'a> Player<'a> {
         Ok(ran.outputs)
     }
 
-    /// Plays a portion on one thread, and writes the frames that it makes.
-    fn put_whole<W: Writer>(
-        &mut self,
-        alloc: Global,
-        writer: &mut W,
-        output: &mut ContentOut,
-        portion: Portion<'_>,
-    ) -> Result<(), Fault>
+    /// Runs a portion on one thread, and makes frames of what it makes.
+    fn run_whole(&mut self, alloc: Global, portion: Portion<'_>) -> Result<Vec<Vec<i16>>, Fault>
         requires player { IsPlayer self.old }
-        requires can { CanPutNext self.old output.old portion }
-        requires all { portion.frames ≡ portion.periods * portion.exchange.made }
-        ensures puts { PutsNext self.old self.new portion.entry (W.contents writer.old) (W.contents writer.new)
-            (W.failures writer.old) (W.failures writer.new) result }
-        ensures owed { IfOk result (λ x. output.new ≡
-            record output.old { missing = output.old.missing - portion.entry.frames }) }
+        requires can { CanPlayNext self.old portion }
+        ensures plays { IfOk result (λ v. PlaysNext self.old self.new portion.entry (items_of v.items)) }
+        ensures refused { IfErr result (λ f. f ≡ OutOfMemory) }
         ensures stays { StaysPlayer self.old self.new }
     {
+        let mut made = mem::replace(&mut self.frames, Vec::new(alloc));
+        let spare = made.pop().unwrap_or(Vec::new(alloc));
+        made.clear();
         let lists = self.play(alloc, portion)?;
-        put_frames(alloc, writer, output, &lists, portion.frames)?;
+        let frames = make_frames(&lists, portion.frames, spare)?;
         self.spares.give_back(lists);
-        Ok(())
+        made.push(frames)?;
+        Ok(made)
     }
 
-    /// Plays a portion in parts at once, and writes the frames that these make.
-    fn put_parts<T: Threads + AllocGlobal + Sync, W: Writer>(
+    /// Runs a portion in parts at once, each of which makes its own frames.
+    fn run_parts<T: Threads + AllocGlobal + Sync>(
         &mut self,
         rt: &T,
-        writer: &mut W,
-        output: &mut ContentOut,
         portion: Portion<'_>,
         cut: Cut,
-    ) -> Result<(), Fault>
+    ) -> Result<Vec<Vec<i16>>, Fault>
         requires player { IsPlayer self.old }
-        requires can { CanPutNext self.old output.old portion }
+        requires can { CanPlayNext self.old portion }
         requires all { portion.frames ≡ portion.periods * portion.exchange.made }
         requires warm { WarmsIn kit_steps self.old.net.now self.old.period.now.repetitions cut.warm }
-        ensures puts { PutsNext self.old self.new portion.entry (W.contents writer.old) (W.contents writer.new)
-            (W.failures writer.old) (W.failures writer.new) result }
-        ensures owed { IfOk result (λ x. output.new ≡
-            record output.old { missing = output.old.missing - portion.entry.frames }) }
+        ensures plays { IfOk result (λ v. PlaysNext self.old self.new portion.entry (items_of v.items)) }
+        ensures refused { IfErr result (λ f. f ≡ OutOfMemory) }
         ensures stays { StaysPlayer self.old self.new }
     {
+        let alloc = rt.alloc();
         let split = Split {
             net: self.net,
             period: self.period,
@@ -207,40 +207,38 @@ impl<'a> Player<'a> {
             warm: cut.warm,
             size: part_size(portion.periods, cut.parts.max(1), cut.warm),
         };
-        let (parts, last) = resume_split(
-            rt,
-            rt.alloc(),
-            &portion,
-            split,
-            &self.rest,
-            &mut self.workers,
-        )?;
+        let workers = &mut self.workers;
+        let (parts, last) = resume_split(rt, alloc, &portion, split, &self.rest, workers)?;
         self.rest = last;
-        put_in_turn(writer, output, &parts)?;
-        self.workers.give_back(parts);
-        Ok(())
+        Ok(parts)
     }
 
-    /// Plays a portion, and writes the frames that it makes.
-    pub(crate) fn put<T: Threads + AllocGlobal + Sync, W: Writer>(
+    /// Runs a portion, and makes frames of what it makes.
+    pub(crate) fn run<T: Threads + AllocGlobal + Sync>(
         &mut self,
         rt: &T,
-        writer: &mut W,
-        output: &mut ContentOut,
         portion: Portion<'_>,
-    ) -> Result<(), Fault>
+    ) -> Result<Vec<Vec<i16>>, Fault>
         requires player { IsPlayer self.old }
-        requires can { CanPutNext self.old output.old portion }
+        requires can { CanPlayNext self.old portion }
         requires all { portion.frames ≡ portion.periods * portion.exchange.made }
-        ensures puts { PutsNext self.old self.new portion.entry (W.contents writer.old) (W.contents writer.new)
-            (W.failures writer.old) (W.failures writer.new) result }
-        ensures owed { IfOk result (λ x. output.new ≡
-            record output.old { missing = output.old.missing - portion.entry.frames }) }
+        ensures plays { IfOk result (λ v. PlaysNext self.old self.new portion.entry (items_of v.items)) }
+        ensures refused { IfErr result (λ f. f ≡ OutOfMemory) }
         ensures stays { StaysPlayer self.old self.new }
     {
         match self.cut {
-            Some(cut) => self.put_parts(rt, writer, output, portion, cut),
-            None => self.put_whole(rt.alloc(), writer, output, portion),
+            Some(cut) => self.run_parts(rt, portion, cut),
+            None => self.run_whole(rt.alloc(), portion),
+        }
+    }
+
+    /// Takes back the memory of frames that were written.
+    pub(crate) fn give_back(&mut self, frames: Vec<Vec<i16>>)
+        ensures { StaysPlayer self.old self.new × (self.new.rest ≡ self.old.rest) }
+    {
+        match self.cut {
+            Some(_) => self.workers.give_back(frames),
+            None => self.frames = frames,
         }
     }
 }

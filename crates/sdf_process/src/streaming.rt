@@ -1,96 +1,30 @@
 //! A run that takes its input and writes its output as it goes. It holds what a piece of the input and a block need.
 
-ghost use Rattle.std.specs.Prelude.{◌≡◌, ◌-◌, ◌*◌, ◌%◌, ◌≤◌, ◌<◌, ℕ, ℤ, List, length, drop, Ok, Err, MatchResult};
-ghost use Rattle.std.specs.Prelude.{IfOk, Some};
-ghost use Rattle.sdf_actor.specs.Nets.{Netlist};
-ghost use Rattle.sdf_kit.specs.declared.kit.Kit.{Kit as KitValue};
-ghost use Rattle.sdf_sched.specs.Period.{Schedule};
-ghost use Rattle.sdf_wav.specs.PiecesIn.{Reading, sound_read};
-ghost use Rattle.sdf_wav.specs.Sound.{Sound};
-ghost use Rattle.sdf_process.specs.Streams.{CanPut, FeedsBy, Follows, GoesBy, IsFollowed, IsKept, IsOpened, IsReady};
-ghost use Rattle.sdf_process.specs.Streams.{PutsBlocks, PutsWhole, Streams, WritesOf, left_by};
+ghost use Rattle.std.specs.Prelude.{◌≡◌, ◌-◌, ◌≤◌, min, ℕ, List, [], length, drop, Option, Err, true, IfErr, IfOk};
+ghost use Rattle.std.specs.Prelude.{MatchResult};
+ghost use Rattle.std.specs.Thread.{IsSync};
+ghost use Rattle.sdf_actor.specs.Wires.{lists as items_of};
+ghost use Rattle.sdf_plan.specs.declared.fault.Fault.TheVariants.{OutOfMemory};
+ghost use Rattle.sdf_process.specs.Flows.{CanFlow, GoesOn, IsAhead, IsStep, Progress, Start, StreamsFrom, TurnsAll};
+ghost use Rattle.sdf_process.specs.Streams.{CanRunNext, IsOpened, RunsNext, Streams};
 ghost use Rattle.sdf_process.specs.Tasks.{IsBegun};
 
 use crate::begun::Begun;
 use crate::exchange::Exchange;
-use crate::playing::Player;
+use crate::flow::Flow;
 use crate::portion::Portion;
-use crate::putting::put_frames;
+use crate::putting::put_in_turn;
+use crate::runner::Runner;
 use sdf_actor::Net;
 use sdf_kit::Kit;
 use sdf_plan::Fault;
+use sdf_run::Gate;
 use sdf_run::laws::{nets_have_periods, runs_go_on};
-use sdf_run::{Gate, Session};
 use sdf_sched::Period;
-use sdf_wav::{ContentOut, Reader, Wav, Writer};
+use sdf_wav::{Reader, Wav, Writer};
 use std::alloc::{AllocError, Global};
-use std::thread::Threads;
-
-/// What a run goes on by.
-#[derive(Drop)]
-pub(crate) enum Runner<'a> {
-    /// Workers that follow a table of blocks, over rows or rings.
-    Session(Session<'a, Kit>),
-    /// One thread, or parts at once.
-    Player(Player<'a>),
-}
-
-/// Feeds a portion of whole blocks to a session, and writes the first frames of what it makes.
-fn put_fed<T: Threads + AllocGlobal + Sync, W: Writer, G: Gate>(
-    rt: &T,
-    writer: &mut W,
-    gate: &G,
-    session: &mut Session<'_, Kit>,
-    output: &mut ContentOut,
-    portion: Portion<'_>,
-) -> Result<(), Fault>
-    requires can { (n : Netlist KitValue ℤ) × (p : Schedule) × (j : ℕ)
-        × FeedsBy n p j session.old × CanPut n p j output.old portion
-        × IsFollowed n p j session.old.rest portion }
-    ensures puts { (n : Netlist KitValue ℤ) (p : Schedule) (j : ℕ) (s : Sound) (few blocks : ℕ) (bytes : List ℕ) →
-        FeedsBy n p j session.old → CanPut n p j output.old portion.entry →
-        Follows n p j s few blocks bytes session.old.rest portion.entry →
-        PutsBlocks n p j s few blocks portion.entry.frames bytes (W.contents writer.old) (W.contents writer.new)
-        (W.failures writer.old) (W.failures writer.new) session.new.rest result }
-    ensures goes { (n : Netlist KitValue ℤ) (p : Schedule) (j : ℕ) → FeedsBy n p j session.old →
-        IfOk result (λ x. FeedsBy n p j session.new) }
-    ensures owed { IfOk result (λ x. output.new ≡
-        record output.old { missing = output.old.missing - portion.entry.frames }) }
-{
-    let inputs = portion.lists(rt.alloc(), &mut [])?;
-    let ran = session.feed(rt, &inputs, gate)?;
-    put_frames(rt.alloc(), writer, output, &ran.outputs, portion.frames)
-}
-
-impl<'a> Runner<'a> {
-    /// Runs the periods of a portion, and writes the first frames of what they make.
-    fn put<T: Threads + AllocGlobal + Sync, W: Writer, G: Gate>(
-        &mut self,
-        rt: &T,
-        writer: &mut W,
-        gate: &G,
-        output: &mut ContentOut,
-        portion: Portion<'_>,
-    ) -> Result<(), Fault>
-        requires can { (n : Netlist KitValue ℤ) × (p : Schedule) × (j : ℕ) × GoesBy n p j self.old
-            × CanPut n p j output.old portion × IsFollowed n p j (left_by self.old) portion }
-        requires all { WritesOf self.old (portion.periods * portion.exchange.made) portion.frames }
-        ensures puts { (n : Netlist KitValue ℤ) (p : Schedule) (j : ℕ) (s : Sound) (few blocks : ℕ) (bytes : List ℕ) →
-            GoesBy n p j self.old → CanPut n p j output.old portion.entry →
-            Follows n p j s few blocks bytes (left_by self.old) portion.entry →
-            PutsBlocks n p j s few blocks portion.entry.frames bytes (W.contents writer.old) (W.contents writer.new)
-            (W.failures writer.old) (W.failures writer.new) (left_by self.new) result }
-        ensures goes { (n : Netlist KitValue ℤ) (p : Schedule) (j : ℕ) → GoesBy n p j self.old →
-            IfOk result (λ x. GoesBy n p j self.new) }
-        ensures owed { IfOk result (λ x. output.new ≡
-            record output.old { missing = output.old.missing - portion.entry.frames }) }
-    {
-        match self {
-            Runner::Session(session) => put_fed(rt, writer, gate, session, output, portion),
-            Runner::Player(player) => player.put(rt, writer, output, portion),
-        }
-    }
-}
+use std::mem;
+use std::thread::{Threads, join_mut};
 
 /// The samples behind the first ones.
 fn behind(alloc: Global, samples: &[i16], from: usize) -> Result<Vec<i16>, AllocError>
@@ -116,9 +50,9 @@ pub(crate) struct Opened<'a> {
 
 /// A run that goes on block by block.
 #[derive(Drop)]
-struct Stream<'a> {
+pub(crate) struct Stream<'a> {
     runner: Runner<'a>,
-    output: ContentOut,
+    flow: Flow,
     exchange: Exchange,
     /// Periods in a block.
     blocking: u32,
@@ -126,45 +60,94 @@ struct Stream<'a> {
     rate: u32,
     /// Samples in a frame of it.
     channels: u16,
+    /// Whether frames are written and taken while others are run.
+    at_once: bool,
 }
 
 impl<'a> Stream<'a> {
-    /// Feeds the whole blocks of the samples that are kept, writes what they make, and keeps the others.
-    fn put_whole<T: Threads + AllocGlobal + Sync, W: Writer, G: Gate>(
+    /// Runs a portion, and then writes what it makes and takes the next frames.
+    fn run_in_turn<T: Threads + AllocGlobal + Sync, R: Reader, W: Writer, G: Gate>(
         &mut self,
         rt: &T,
+        reader: &mut R,
         writer: &mut W,
         gate: &G,
-        kept: Vec<i16>,
-    ) -> Result<Vec<i16>, Fault>
-        requires ready { (n : Netlist KitValue ℤ) × (p : Schedule) × IsReady n p self.old
-            × ((c : Reading) × (samples : List ℤ) × (few : ℕ) × (bytes : List ℕ)
-            × IsKept n p self.old c samples few bytes kept.items) }
-        requires whole { length kept.items % self.old.channels ≡ 0 }
-        requires few { length kept.items ≤ 4294967295 }
-        requires missing { (periods : ℕ) →
-            periods * self.old.exchange.taken * self.old.channels ≤ length kept.items →
-            periods * self.old.exchange.made ≤ self.old.output.missing }
-        ensures puts { (n : Netlist KitValue ℤ) (p : Schedule) (c : Reading) (samples : List ℤ) (few : ℕ)
-            (bytes : List ℕ) → IsReady n p self.old → IsKept n p self.old c samples few bytes kept.items →
+        portion: Portion<'_>,
+    ) -> Result<(), Fault>
+        requires step { (b : Start) × (g : Progress) × (blocks : ℕ) × IsStep b g blocks self.old portion
+            (R.remaining reader.old) (W.contents writer.old) (R.failures reader.old) (W.failures writer.old) }
+        requires waits { items_of self.old.flow.made.items ≡ [] }
+        ensures goes { (b : Start) (g : Progress) (blocks : ℕ) → IsStep b g blocks self.old portion.entry
+            (R.remaining reader.old) (W.contents writer.old) (R.failures reader.old) (W.failures writer.old) →
             MatchResult result
-            (λ rest. PutsWhole n p self.old.blocking c samples few bytes (W.contents writer.old) (W.contents writer.new)
-            (W.failures writer.old) (W.failures writer.new) self.old.output self.new.output (left_by self.new.runner)
-            (Ok rest.items))
-            (λ f. PutsWhole n p self.old.blocking c samples few bytes (W.contents writer.old) (W.contents writer.new)
-            (W.failures writer.old) (W.failures writer.new) self.old.output self.new.output
-            (left_by self.new.runner) (Err f)) }
-        ensures ready { (n : Netlist KitValue ℤ) (p : Schedule) → IsReady n p self.old →
-            IfOk result (λ x. IsReady n p self.new × (self.new.blocking ≡ self.old.blocking)
-            × (self.new.channels ≡ self.old.channels)) }
+            (λ x. GoesOn b self.new (R.remaining reader.new) (W.contents writer.new) (R.failures reader.new)
+            (W.failures writer.new))
+            (λ f. StreamsFrom b (R.remaining reader.new) (W.contents writer.new) (R.failures reader.new)
+            (W.failures writer.new) (Err f)) }
+        ensures left { IfOk result (λ x. self.new.flow.left ≡
+            self.old.flow.left - min self.old.flow.most self.old.flow.left) }
+    {
+        self.flow.made = self.runner.run(rt, gate, portion)?;
+        self.flow.turn(rt.alloc(), reader, writer)
+    }
+
+    /// Runs a portion while the frames before are written and the next ones are taken.
+    fn run_beside<T: Threads + AllocGlobal + Sync, R: Reader, W: Writer, G: Gate>(
+        &mut self,
+        rt: &T,
+        reader: &mut R,
+        writer: &mut W,
+        gate: &G,
+        portion: Portion<'_>,
+    ) -> Result<(), Fault>
+        requires step { (b : Start) × (g : Progress) × (blocks : ℕ) × IsStep b g blocks self.old portion
+            (R.remaining reader.old) (W.contents writer.old) (R.failures reader.old) (W.failures writer.old) }
+        requires waits { self.old.at_once ≡ true }
+        ensures goes { (b : Start) (g : Progress) (blocks : ℕ) → IsStep b g blocks self.old portion.entry
+            (R.remaining reader.old) (W.contents writer.old) (R.failures reader.old) (W.failures writer.old) →
+            MatchResult result
+            (λ x. GoesOn b self.new (R.remaining reader.new) (W.contents writer.new) (R.failures reader.new)
+            (W.failures writer.new))
+            (λ f. StreamsFrom b (R.remaining reader.new) (W.contents writer.new) (R.failures reader.new)
+            (W.failures writer.new) (Err f)) }
+        ensures left { IfOk result (λ x. self.new.flow.left ≡
+            self.old.flow.left - min self.old.flow.most self.old.flow.left) }
+    {
+        let (runner, flow) = (&mut self.runner, &mut self.flow);
+        let (ran, turned) = run_while_turning(rt, runner, flow, reader, writer, gate, portion);
+        turned?;
+        self.flow.made = ran?;
+        Ok(())
+    }
+
+    /// Runs the whole blocks of the samples that are kept, writes what was made, and takes the next frames.
+    fn go_on<T: Threads + AllocGlobal + Sync, R: Reader, W: Writer, G: Gate>(
+        &mut self,
+        rt: &T,
+        reader: &mut R,
+        writer: &mut W,
+        gate: &G,
+    ) -> Result<(), Fault>
+        requires on { (b : Start) × GoesOn b self.old (R.remaining reader.old) (W.contents writer.old)
+            (R.failures reader.old) (W.failures writer.old) }
+        ensures goes { (b : Start) → GoesOn b self.old (R.remaining reader.old) (W.contents writer.old)
+            (R.failures reader.old) (W.failures writer.old) →
+            MatchResult result
+            (λ x. GoesOn b self.new (R.remaining reader.new) (W.contents writer.new) (R.failures reader.new)
+            (W.failures writer.new))
+            (λ f. StreamsFrom b (R.remaining reader.new) (W.contents writer.new) (R.failures reader.new)
+            (W.failures writer.new) (Err f)) }
+        ensures left { IfOk result (λ x. self.new.flow.left ≡
+            self.old.flow.left - min self.old.flow.most self.old.flow.left) }
     {
         let block = self.blocking as usize * self.exchange.taken * usize::from(self.channels);
-        let blocks = kept.len() / block;
+        let blocks = self.flow.kept.len() / block;
         if blocks == 0 {
-            return Ok(kept);
+            return self.flow.turn(rt.alloc(), reader, writer);
         }
+        let kept = mem::replace(&mut self.flow.kept, Vec::new(rt.alloc()));
         let input = Wav::new(self.rate, self.channels, kept)?;
-        let rest = behind(rt.alloc(), input.samples(), blocks * block)?;
+        self.flow.kept = behind(rt.alloc(), input.samples(), blocks * block)?;
         let periods = blocks * self.blocking as usize;
         let portion = Portion {
             exchange: self.exchange,
@@ -172,50 +155,90 @@ impl<'a> Stream<'a> {
             periods: periods as u32,
             frames: periods * self.exchange.made,
         };
-        self.runner
-            .put(rt, writer, gate, &mut self.output, portion)?;
-        Ok(rest)
+        let spare = mem::replace(&mut self.flow.spare, Vec::new(rt.alloc()));
+        self.runner.give_back(spare);
+        if self.at_once {
+            self.run_beside(rt, reader, writer, gate, portion)
+        } else {
+            self.run_in_turn(rt, reader, writer, gate, portion)
+        }
     }
 
-    /// Feeds a last block of the samples that are kept, where frames are missing yet, and writes these.
-    fn put_rest<T: Threads + AllocGlobal + Sync, W: Writer, G: Gate>(
+    /// Writes what was made, runs the samples that are kept, filled up with zeros to whole blocks, and writes the frames
+    /// that are missing.
+    fn finish<T: Threads + AllocGlobal + Sync, W: Writer, G: Gate>(
         &mut self,
         rt: &T,
         writer: &mut W,
         gate: &G,
-        kept: Vec<i16>,
     ) -> Result<(), Fault>
-        requires ready { (n : Netlist KitValue ℤ) × (p : Schedule) × IsReady n p self.old
-            × ((c : Reading) × (samples : List ℤ) × (few : ℕ) × (bytes : List ℕ)
-            × IsKept n p self.old c samples few bytes kept.items) }
-        requires whole { length kept.items % self.old.channels ≡ 0 }
-        requires all { 0 < self.old.output.missing →
-            WritesOf self.old.runner (self.old.blocking * self.old.exchange.made) self.old.output.missing }
-        ensures none { self.old.output.missing ≡ 0 → (result ≡ Ok tt) × (writer.new ≡ writer.old) }
-        ensures puts { 0 < self.old.output.missing →
-            (n : Netlist KitValue ℤ) (p : Schedule) (c : Reading) (samples : List ℤ) (few : ℕ) (bytes : List ℕ) →
-            IsReady n p self.old → IsKept n p self.old c samples few bytes kept.items →
-            PutsBlocks n p self.old.blocking (sound_read c samples) few 1 self.old.output.missing bytes
-            (W.contents writer.old) (W.contents writer.new) (W.failures writer.old) (W.failures writer.new)
-            (left_by self.new.runner) result }
+        requires on { (b : Start) × (now : Option (List ℕ)) × (r : ℕ)
+            × GoesOn b self.old now (W.contents writer.old) r (W.failures writer.old) }
+        requires all { self.old.flow.left ≡ 0 }
+        ensures { (b : Start) (now : Option (List ℕ)) (r : ℕ) →
+            GoesOn b self.old now (W.contents writer.old) r (W.failures writer.old) →
+            StreamsFrom b now (W.contents writer.new) r (W.failures writer.new) result }
     {
-        let frames = self.output.missing() as usize;
+        let alloc = rt.alloc();
+        self.flow.write(alloc, writer)?;
+        let frames = self.flow.output.missing() as usize;
         if frames == 0 {
             return Ok(());
         }
+        let blocks = frames.div_ceil(self.blocking as usize * self.exchange.made);
+        let kept = mem::replace(&mut self.flow.kept, Vec::new(alloc));
         let input = Wav::new(self.rate, self.channels, kept)?;
         let portion = Portion {
             exchange: self.exchange,
             input: &input,
-            periods: self.blocking,
+            periods: (blocks * self.blocking as usize) as u32,
             frames,
         };
-        self.runner.put(rt, writer, gate, &mut self.output, portion)
+        let made = self.runner.run(rt, gate, portion)?;
+        put_in_turn(writer, &mut self.flow.output, &made)
     }
 }
 
-/// Runs a net on the frames of a source: takes some frames, feeds all whole blocks that there are, writes what they
-/// make, and so on. The last block is filled up with zeros.
+/// Runs a portion in a thread of its own, while the frames before are written and the next ones are taken in this one.
+fn run_while_turning<T: Threads + AllocGlobal + Sync, R: Reader, W: Writer, G: Gate>(
+    rt: &T,
+    runner: &mut Runner<'_>,
+    flow: &mut Flow,
+    reader: &mut R,
+    writer: &mut W,
+    gate: &G,
+    portion: Portion<'_>,
+) -> (Result<Vec<Vec<i16>>, Fault>, Result<(), Fault>)
+    requires next { CanRunNext runner.old portion }
+    requires ahead { (b : Start) × (g : Progress) × CanFlow b × IsAhead b g flow.old (R.remaining reader.old)
+        (W.contents writer.old) (R.failures reader.old) (W.failures writer.old) }
+    ensures runs { IfOk result.0 (λ v. RunsNext runner.old runner.new portion.entry (items_of v.items)) }
+    ensures refused { IfErr result.0 (λ f. f ≡ OutOfMemory) }
+    ensures turns { TurnsAll flow.old flow.new (R.remaining reader.old) (W.contents writer.old) (R.failures reader.old)
+        (W.failures writer.old) (R.remaining reader.new) (W.contents writer.new) (R.failures reader.new)
+        (W.failures writer.new) result.1 }
+{
+    let alloc = rt.alloc();
+    join_mut(
+        rt,
+        &mut || -> Result<Vec<Vec<i16>>, Fault>
+            requires { IsSync T.row × CanRunNext runner.now portion }
+            ensures { IfOk result (λ v. RunsNext runner.entry.now runner.exit.now portion.entry (items_of v.items))
+                × IfErr result (λ f. f ≡ OutOfMemory) }
+        { runner.run(rt, gate, portion) },
+        &mut || -> Result<(), Fault>
+            requires { (b : Start) × (g : Progress) × CanFlow b × IsAhead b g flow.now (R.remaining reader.now)
+                (W.contents writer.now) (R.failures reader.now) (W.failures writer.now) }
+            ensures { TurnsAll flow.entry.now flow.exit.now (R.remaining reader.entry.now)
+                (W.contents writer.entry.now) (R.failures reader.entry.now) (W.failures writer.entry.now)
+                (R.remaining reader.exit.now) (W.contents writer.exit.now) (R.failures reader.exit.now)
+                (W.failures writer.exit.now) result }
+        { flow.turn(alloc, reader, writer) },
+    )
+}
+
+/// Runs a net on the frames of a source: takes some frames, runs all whole blocks that there are, writes what they make,
+/// and so on. The last block is filled up with zeros. A run in parts at once writes and takes frames meanwhile.
 pub(crate) fn run_stream<T: Threads + AllocGlobal + Sync, R: Reader, W: Writer, G: Gate>(
     rt: &T,
     reader: &mut R,
@@ -231,7 +254,7 @@ pub(crate) fn run_stream<T: Threads + AllocGlobal + Sync, R: Reader, W: Writer, 
         (R.failures reader.old) (R.failures reader.new) (W.failures writer.old) (W.failures writer.new) result }
 {
     let Begun {
-        mut source,
+        source,
         frames,
         output,
         ..
@@ -240,22 +263,27 @@ pub(crate) fn run_stream<T: Threads + AllocGlobal + Sync, R: Reader, W: Writer, 
     nets_have_periods(opened.net);
     let exchange = Exchange::of_net(opened.net);
     let (rate, channels) = (source.rate(), source.channels());
-    let most = opened.frames;
+    let at_once = opened.runner.is_cut();
+    let flow = Flow {
+        source,
+        left: frames,
+        most: opened.frames,
+        kept: Vec::new(rt.alloc()),
+        made: Vec::new(rt.alloc()),
+        spare: Vec::new(rt.alloc()),
+        output,
+    };
     let mut stream = Stream {
         runner: opened.runner,
-        output,
+        flow,
         exchange,
         blocking: opened.blocking,
         rate,
         channels,
+        at_once,
     };
-    let mut kept = Vec::new(rt.alloc());
-    let mut left = frames;
-    while left > 0 {
-        let many = most.min(left);
-        let samples = source.take(rt.alloc(), reader, many, kept)?;
-        kept = stream.put_whole(rt, writer, gate, samples)?;
-        left -= many;
+    while stream.flow.left > 0 {
+        stream.go_on(rt, reader, writer, gate)?;
     }
-    stream.put_rest(rt, writer, gate, kept)
+    stream.finish(rt, writer, gate)
 }

@@ -2,7 +2,7 @@ use Rattle.std.proofs.Common.{◌<◌, Result, ap, refl, subst, rules}
 use Rattle.sdf_plan.specs.declared.fault.Fault.{Fault}
 use Rattle.sdf_process.specs.declared.exchange.Exchange.{Exchange}
 use Rattle.sdf_process.specs.Streams.{Streams}
-use Rattle.sdf_process.proofs.Flow.{unopened}
+use Rattle.sdf_process.proofs.Came.{unopened}
 use Rattle.sdf_process.proofs.Pieces.{run_fails}
 use Rattle.sdf_process.proofs.begun.play.Goals as goal
 

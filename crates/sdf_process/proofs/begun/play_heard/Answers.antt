@@ -1,7 +1,7 @@
 use Rattle.std.proofs.Common.{Result, refl, rules}
 use Rattle.sdf_plan.specs.declared.fault.Fault.{Fault}
 use Rattle.sdf_process.specs.Streams.{Streams}
-use Rattle.sdf_process.proofs.Flow.{untaken}
+use Rattle.sdf_process.proofs.Came.{untaken}
 use Rattle.sdf_process.proofs.Pieces.{run_fails}
 use Rattle.sdf_process.proofs.Ways.{heard_begun, heard_streams}
 use Rattle.sdf_process.proofs.begun.play_heard.Goals as goal

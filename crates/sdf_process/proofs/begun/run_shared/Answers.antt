@@ -1,7 +1,7 @@
 use Rattle.std.proofs.Common.{Result, refl, arith, rules}
 use Rattle.sdf_plan.specs.declared.fault.Fault.{Fault}
 use Rattle.sdf_process.specs.Streams.{Streams}
-use Rattle.sdf_process.proofs.Flow.{unopened}
+use Rattle.sdf_process.proofs.Came.{unopened}
 use Rattle.sdf_process.proofs.Pieces.{run_fails}
 use Rattle.sdf_process.proofs.Ways.{session_fits, session_goes}
 use Rattle.sdf_process.proofs.begun.run_shared.Goals as goal

@@ -6,7 +6,7 @@ use Rattle.sdf_process.specs.Output.{announced_by, announced_fault, exchange_of,
 use Rattle.sdf_process.specs.Run.{IsRun}
 use Rattle.sdf_process.specs.Stages.{RunsOn}
 use Rattle.sdf_process.proofs.Finished.{answered}
-use Rattle.sdf_process.proofs.Flow.{allowed_lower}
+use Rattle.sdf_process.proofs.Came.{allowed_lower}
 use Rattle.sdf_process.proofs.Opened.{content_failed_behind, refused_behind, header_failed_behind, heard_behind}
 use Rattle.sdf_process.proofs.Pieces.{run_fails}
 use Rattle.sdf_process.proofs.Taken.{heard_puts, unheard_sound}

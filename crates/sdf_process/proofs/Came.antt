@@ -1,7 +1,6 @@
 -- What a run knows that takes and writes as it goes, before its first piece and between two.
 use Rattle.std.proofs.Common.{◌≡◌, ◌≢◌, ◌⊎◌, inl, inr, Err, ℕ, ◌-◌, ◌*◌, ◌/◌, ◌%◌, ◌≤◌, ◌<◌, ℤ, List, []}
 use Rattle.std.proofs.Common.{length, map, take, Option, Some, None, refl, sym, ap, ◌∙◌, subst, arith}
-use Rattle.std.specs.Io.KnownBytes.{Appends}
 use Rattle.std.proofs.Math.Nat.{div-mul-le_self, mod-eq-sub-div-mul}
 use Rattle.std.proofs.lemmas.Bool.{cases_lt, lt-ltb}
 use Rattle.std.proofs.lemmas.Nat.{le-div}
@@ -12,27 +11,18 @@ use Rattle.sdf_answer.specs.Laws.{RunsGoOn}
 use Rattle.sdf_answer.specs.Periods.{HasPeriod}
 use Rattle.sdf_kit.specs.declared.kit.Kit.{Kit}
 use Rattle.sdf_kit.specs.Kit.{kit_steps}
-use Rattle.sdf_actor.specs.Graphs.{graph_of}
-use Rattle.sdf_graph.specs.Periods.{IsLeastPeriod}
-use Rattle.sdf_graph.specs.Rates.{rates}
-use Rattle.sdf_sched.specs.Period.{Schedule, IsPeriodOf}
+use Rattle.sdf_sched.specs.Period.{Schedule}
 use Rattle.sdf_wav.specs.Canonical.{sample_bytes}
 use Rattle.sdf_wav.specs.PiecesIn.{Reading, IsReading, IsWithin, sound_read}
-use Rattle.sdf_wav.specs.PiecesOut.{Owed}
 use Rattle.sdf_wav.specs.Sound.{Sound}
-use Rattle.sdf_wav.specs.declared.wav.TheConstants.{MOST_CHANNELS}
-use Rattle.sdf_process.specs.declared.begun.Begun.{Begun}
 use Rattle.sdf_process.specs.declared.exchange.Announced.{Announced}
 use Rattle.sdf_process.specs.declared.exchange.Exchange.{Exchange}
 use Rattle.sdf_plan.specs.declared.fault.Fault.{Fault}
 use Rattle.sdf_plan.specs.declared.fault.Fault.TheVariants.{ChannelsMissing, OutOfMemory}
 use Rattle.sdf_process.specs.declared.source.Source.{Source}
-use Rattle.sdf_process.specs.declared.streaming.Opened.{Opened}
-use Rattle.sdf_process.specs.Output.{announced_fault, exchange_of, interleaved, lists_to, periods_for, IsExchange}
-use Rattle.sdf_process.specs.Sources.{reading_of, source_behind, Takes, TakesAll}
-use Rattle.sdf_process.specs.Streams.{AreBehind, IsOpened, IsReady, IsStream, StandsAt, StandsWhole, Streams}
-use Rattle.sdf_process.specs.Tasks.{IsBegun}
-use Rattle.sdf_process.proofs.Opened.{frames_known}
+use Rattle.sdf_process.specs.Output.{announced_fault, exchange_of, interleaved, lists_to}
+use Rattle.sdf_process.specs.Sources.{TakesAll}
+use Rattle.sdf_process.specs.Streams.{IsStream, StandsAt, StandsWhole, Streams}
 use Rattle.sdf_process.proofs.Pieced.{outputs_of}
 use Rattle.sdf_process.proofs.Pieces.{appends_none}
 use Rattle.sdf_process.proofs.Rendering.{are_inputs, begin, interleaved_cut}
@@ -70,40 +60,7 @@ module _ (runs : RunsGoOn kit_steps) (n : Netlist Kit ℤ) (p : Schedule) (has :
         (omega arith) refl);
   }
 
--- ---- the state between two pieces
-
-pub record Flows (n : Netlist Kit ℤ) (p : Schedule) (j : ℕ) (first : Source) (frames all unread : ℕ)
-    (old now before after : Option (List ℕ)) (r r' w w' : ℕ) (kept : List ℤ) (source : Source) (o : Owed)
-    (v : Option (Rest ℤ (List ℤ))) : Type 0 where
-  pub samples : List ℤ
-  pub few : ℕ
-  pub bytes : List ℕ
-  pub takes : Takes first samples old now
-  pub source_is : source ≡ source_behind first samples
-  pub count : length samples ≡ (frames - unread) * (reading_of first).channels
-  pub stands : StandsWhole n p j (sound_read (reading_of first) samples) few bytes v
-  pub behind : AreBehind (exchange_of n p.repetitions) (reading_of first) samples (few * j) kept
-  pub less : length kept < j * (exchange_of n p.repetitions).taken * (reading_of first).channels
-  pub written : Appends before after bytes
-  pub missing : o.missing ≡ all - few * j * (exchange_of n p.repetitions).made
-  pub reader : r' ≡ r
-  pub writer : w' ≡ w
-
--- what is known of a content and of its output before they are begun
-pub record CanFlow (n : Netlist Kit ℤ) (p : Schedule) (j : ℕ) (c : Reading) (frames all : ℕ) : Type 0 where
-  pub runs : RunsGoOn kit_steps
-  pub has : HasPeriod kit_steps n p
-  pub unread : c.gone ≡ 0
-  pub one : 0 < c.channels
-  pub lower : (exchange_of n p.repetitions).inputs ≤ c.channels
-  pub size : 2 * (frames * c.channels) ≡ c.size
-  pub known : c.size ≢ 0xFFFFFFFF
-  pub fits : c.size ≤ 0xFFFFFFFF
-  pub some : 0 < j
-  pub few : j ≤ 4294967295
-  pub taken : 0 < (exchange_of n p.repetitions).taken
-  pub made : 0 < (exchange_of n p.repetitions).made
-  pub all_is : all ≡ periods_for (exchange_of n p.repetitions) frames * (exchange_of n p.repetitions).made
+-- ---- what is announced
 
 -- the output of what is announced reads channels that are there
 pub allowed_lower : (x : Exchange) (a : Announced) → announced_fault x a ≡ None → x.inputs ≤ a.channels
@@ -129,72 +86,6 @@ whole_size c frames is known same = go is.within
         let double : frames * (2 * c.channels) ≡ 2 * (frames * c.channels) = omega arith in
         omega (arith, part, left, here, double, whole)
     go (inr (endless, there)) = absurd (known endless)
-
-module _ (t : Opened) (is : IsOpened t)
-    (has : (p : Schedule) → IsPeriodOf (rates (graph_of kit_steps t.net.now)) p → HasPeriod kit_steps t.net.now p)
-    (b : Begun) (begun : IsBegun t.net.now t.period.now.repetitions b)
-    (x : Exchange) (x_is : (q : List ℕ) → IsLeastPeriod (rates (graph_of kit_steps t.net.now)) q →
-    x ≡ exchange_of t.net.now q) (limits : IsExchange x) where
-  abbrev n : Netlist Kit ℤ
-  n = t.net.now
-
-  abbrev p : Schedule
-  p = t.period.now
-
-  abbrev c : Reading
-  c = reading_of b.source
-
-  there : x ≡ exchange_of n p.repetitions
-  there = x_is p.repetitions is.period.least
-
-  pub can_flow : RunsGoOn kit_steps → CanFlow n p t.blocking c b.frames b.output.missing
-  can_flow runs =
-      let here = frames_known c.size c.channels b.frames begun.unheard.known in
-      record {
-        runs = runs;
-        has = has p is.period;
-        unread = begun.unheard.unread;
-        one = begun.unheard.sound.one_channel;
-        lower = allowed_lower (exchange_of n p.repetitions)
-            (record { rate = c.rate; channels = c.channels; frames = b.frames }) begun.extent.is_allowed;
-        size = whole_size c b.frames begun.unheard.sound here.0 here.1;
-        known = here.0;
-        fits = begun.unheard.sound.size_fits;
-        some = is.some;
-        few = is.fits;
-        taken = subst (λ (y : Exchange). 0 < y.taken) there limits.some_taken;
-        made = subst (λ (y : Exchange). 0 < y.made) there limits.some_made;
-        all_is = ap (λ (y : Owed). y.missing) begun.owed
-            ∙ ap (λ (k : ℕ). k * (exchange_of n p.repetitions).made) begun.extent.periods;
-      }
-
-  -- a run that is begun can go on
-  pub ready_first : (m e : ℕ) → 1 ≤ m → 1 ≤ e → e ≤ MOST_CHANNELS → IsReady n p (record {
-    runner = t.runner;
-    output = b.output;
-    exchange = x;
-    blocking = t.blocking;
-    rate = m;
-    channels = e;
-  })
-  ready_first m e some_rate one few = record {
-    goes = is.goes;
-    has = has p is.period;
-    some = is.some;
-    fits = is.fits;
-    some_rate = some_rate;
-    one_channel = one;
-    few_channels = few;
-    exchange = there;
-    limits = limits;
-    some_inputs = subst (λ (y : Exchange). 0 < y.inputs) (sym there)
-        (omega (arith, (has p is.period).accepted.1.lists.input));
-    unspent = ap (λ (y : Owed). y.spent) begun.owed;
-    channels = ap (λ (y : Owed). y.channels) begun.owed ∙ sym (ap (λ (y : Exchange). y.outputs) there);
-    few = subst (λ (y : Exchange). 2 * (b.output.missing * y.outputs) ≤ 4294967259) (sym there)
-        (subst (λ (m : ℕ). 2 * (m * (exchange_of n p.repetitions).outputs) ≤ 4294967259)
-        (sym (ap (λ (y : Owed). y.missing) begun.owed)) begun.extent.few_bytes);
-  }
 
 -- nothing was taken, or no run was opened
 pub untaken : (n : Netlist Kit ℤ) (q : List ℕ) (first : Source) (old new held : Option (List ℕ)) (r r' w : ℕ)

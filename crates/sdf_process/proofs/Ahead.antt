@@ -1,0 +1,213 @@
+-- A run that is ahead of its output: the frames that are made and not written yet.
+use Rattle.std.proofs.Common.{◌≡◌, inl, Err, ℕ, zero, suc, ◌+◌, ◌-◌, ◌*◌, ◌≤◌, ◌<◌, ℤ, List, [], ◌++◌, length, get_or, Option, Vec}
+use Rattle.std.proofs.Common.{append-nil, false, refl, sym, ap, ◌∙◌, subst, arith}
+use Rattle.std.specs.Io.KnownBytes.{Appends}
+use Rattle.std.proofs.Math.Nat.{mul-le-mul_right}
+use Rattle.sdf_actor.specs.Wires.{lists as items_of}
+use Rattle.sdf_actor.specs.declared.rest.Rest.{Rest}
+use Rattle.sdf_wav.specs.Canonical.{sample_bytes}
+use Rattle.sdf_wav.specs.Device.{AppendsFront, one_more}
+use Rattle.sdf_wav.specs.PiecesIn.{Reading, sound_read}
+use Rattle.sdf_wav.specs.PiecesOut.{Owed}
+use Rattle.sdf_plan.specs.declared.fault.Fault.{Fault}
+use Rattle.sdf_plan.specs.declared.fault.Fault.TheVariants.{Write}
+use Rattle.sdf_process.specs.declared.exchange.Exchange.{Exchange}
+use Rattle.sdf_process.specs.declared.flow.Flow.{Flow}
+use Rattle.sdf_process.specs.Flows.{CameTo, CanFlow, Flows, IsAhead, Progress, Start, StreamsFrom, blocks_on, exchange_in}
+use Rattle.sdf_process.specs.Flows.{reading_in, samples_run}
+use Rattle.sdf_process.specs.Output.{in_turn, periods_for}
+use Rattle.sdf_process.specs.Streams.{AreWhole, Makes, StandsAt}
+use Rattle.sdf_process.proofs.Came.{came_to}
+use Rattle.sdf_process.proofs.Flowing.{within_size}
+use Rattle.sdf_process.proofs.Lists.{length-lists}
+use Rattle.sdf_process.proofs.Outcomes.{appends_join, front_join, keeps_same}
+use Rattle.sdf_process.proofs.Pieces.{appends_none}
+use Rattle.sdf_process.proofs.Sizes.{cancel, less_twice, periods_fit}
+
+-- no list has no frames
+pub no_frames : (channels frames : ℕ) → frames ≡ 0 → AreWhole channels frames []
+no_frames channels frames none = record {
+  each = λ i l. absurd (omega (arith, l));
+  all = (let z : 0 ≡ 0 * channels = omega arith in z) ∙ ap (λ (k : ℕ). k * channels) (sym none);
+}
+
+-- nothing is ahead
+pub none_ahead : (b : Start) (g : Progress) (f : Flow) {now after : Option (List ℕ)} {r w : ℕ} →
+    items_of f.made.items ≡ [] → Flows b g f.left f.source f.output now after r w → IsAhead b g f now after r w
+none_ahead b g f none flows = record {
+  before = g;
+  flows = flows;
+  more = 0;
+  is = ap (λ (k : ℕ). record { samples = g.samples; blocks = k; bytes = g.bytes; left = g.left })
+      (let z : g.blocks ≡ g.blocks + 0 = omega arith in z)
+      ∙ ap (λ (y : List ℕ). record { samples = g.samples; blocks = g.blocks + 0; bytes = y; left = g.left })
+      (sym (append-nil g.bytes) ∙ ap (λ (l : List (List ℤ)). g.bytes ++ sample_bytes (in_turn l)) (sym none));
+  came = flows.came;
+  whole = subst (AreWhole (exchange_in b).outputs (0 * b.blocking * (exchange_in b).made)) (sym none)
+      (no_frames (exchange_in b).outputs (0 * b.blocking * (exchange_in b).made)
+      (let z : 0 * b.blocking * (exchange_in b).made ≡ 0 = omega arith in z));
+}
+
+module _ (b : Start) (can : CanFlow b) (g : Progress) (f : Flow) {now after : Option (List ℕ)} {r w : ℕ}
+    (ahead : IsAhead b g f now after r w) where
+  abbrev c : Reading
+  c = reading_in b
+
+  abbrev x : Exchange
+  x = exchange_in b
+
+  abbrev here : Flows b ahead.before f.left f.source f.output now after r w
+  here = ahead.flows
+
+  abbrev made : List (List ℤ)
+  made = items_of f.made.items
+
+  abbrev bytes : List ℕ
+  bytes = sample_bytes (in_turn made)
+
+  abbrev on : Progress
+  on = blocks_on ahead.before ahead.more bytes g.left
+
+  came_on : CameTo b on
+  came_on = subst (CameTo b) ahead.is ahead.came
+
+  -- there is room for them
+  room : ahead.more * b.blocking * x.made ≤ f.output.missing
+  room =
+      let read : (b.frames - f.left) * c.channels ≤ b.frames * c.channels =
+      mul-le-mul_right c.channels (let z : b.frames - f.left ≤ b.frames = omega arith in z) in
+      let fit : (ahead.before.blocks + ahead.more) * b.blocking * x.taken ≤ b.frames =
+      cancel ((ahead.before.blocks + ahead.more) * b.blocking * x.taken) b.frames c.channels can.one
+      (omega (arith, came_on.there, here.count, read)) in
+      let less : (ahead.before.blocks + ahead.more) * b.blocking * x.made ≤ periods_for x b.frames * x.made =
+      mul-le-mul_right x.made
+      (periods_fit ((ahead.before.blocks + ahead.more) * b.blocking) x.taken b.frames can.taken fit) in
+      let parts : (ahead.before.blocks + ahead.more) * b.blocking * x.made ≡
+      ahead.before.blocks * b.blocking * x.made + ahead.more * b.blocking * x.made = omega arith in
+      omega (arith, less, parts, ap (λ (y : Owed). y.missing) here.owed, can.owed)
+
+  channels_are : f.output.channels ≡ x.outputs
+  channels_are = ap (λ (y : Owed). y.channels) here.owed
+
+  -- they can be written
+  room_samples : length (in_turn made) ≤ f.output.missing * f.output.channels
+  room_samples = subst (λ (k : ℕ). length (in_turn made) ≤ f.output.missing * k) (sym channels_are)
+      (subst (λ (k : ℕ). k ≤ f.output.missing * x.outputs) (sym ahead.whole.all) (mul-le-mul_right x.outputs room))
+
+  each_whole : (i : ℕ) → i < length made → (k : ℕ) × (length (get_or made i []) ≡ k * f.output.channels)
+  each_whole i l =
+      let own = ahead.whole.each i l in
+      (own.0, own.1 ∙ ap (λ (k : ℕ). own.0 * k) (sym channels_are))
+
+  all_frames : length (in_turn made) ≡ ahead.more * b.blocking * x.made * f.output.channels
+  all_frames = ahead.whole.all ∙ ap (λ (k : ℕ). ahead.more * b.blocking * x.made * k) (sym channels_are)
+
+  pub each_of : (ps : _) → ps ≡ f.made.items → (i : ℕ) → i < length ps →
+      (k : ℕ) × (length (get_or (items_of ps) i []) ≡ k * f.output.channels)
+  each_of ps is i l = rw is (each_whole i (omega (arith, l, ap length is, length-lists f.made.items)))
+
+  pub room_of : (ps : _) → ps ≡ f.made.items → length (in_turn (items_of ps)) ≤ f.output.missing * f.output.channels
+  room_of ps is = rw is room_samples
+
+  pub frames_of : (ps : _) → ps ≡ f.made.items →
+      length (in_turn (items_of ps)) ≡ ahead.more * b.blocking * x.made * f.output.channels
+  frames_of ps is = rw is all_frames
+
+  -- they are written
+  pub wrote : (last : Option (List ℕ)) (w2 : ℕ) (o : Owed) → Appends after last bytes → w2 ≡ w →
+      o ≡ record f.output { missing = f.output.missing - ahead.more * b.blocking * x.made } →
+      Flows b g f.left f.source o now last r w2
+  wrote last w2 o puts fine owed = subst (λ (z : Progress). Flows b z f.left f.source o now last r w2) (sym ahead.is)
+      (record {
+        came = came_on;
+        takes = here.takes;
+        source_is = here.source_is;
+        within = here.within;
+        count = here.count;
+        written = appends_join b.written after last ahead.before.bytes bytes here.written puts;
+        owed = owed ∙ ap (λ (y : Owed). record y { missing = y.missing - ahead.more * b.blocking * x.made }) here.owed
+            ∙ ap (λ (k : ℕ). record { channels = x.outputs; missing = k; spent = false })
+            (less_twice b.owed (ahead.before.blocks * b.blocking * x.made) (ahead.more * b.blocking * x.made)
+            ((ahead.before.blocks + ahead.more) * b.blocking * x.made) (omega arith));
+        reader = here.reader;
+        writer = fine ∙ here.writer;
+      })
+
+  -- they are not
+  pub writing_failed : (last : Option (List ℕ)) (w2 : ℕ) (e : Fault) → e ≡ Write → AppendsFront after last bytes →
+      w2 ≡ one_more w → StreamsFrom b now last r w2 (Err e)
+  writing_failed last w2 e is front failed = (
+    ahead.before.samples,
+    (ahead.before.blocks + ahead.more) * b.blocking,
+    ahead.before.bytes ++ bytes,
+    now,
+    came_to can.runs b.net b.period can.has b.blocking c ahead.before.samples (ahead.before.blocks + ahead.more)
+        (ahead.before.bytes ++ bytes) g.left (within_size b can ahead.before here) can.one came_on.there came_on.stands,
+    here.takes,
+    inl (
+      is,
+      refl,
+      front_join b.written after last ahead.before.bytes bytes here.written front,
+      here.reader,
+      failed ∙ ap one_more here.writer,
+    ),
+  )
+
+  -- if there are none, all is written
+  pub none_left : made ≡ [] → Flows b g f.left f.source f.output now after r w
+  none_left none =
+      let no : ahead.more * b.blocking * x.made * x.outputs ≡ 0 =
+      sym ahead.whole.all ∙ ap (λ (l : List (List ℤ)). length (in_turn l)) none in
+      let zero_more : ahead.more * b.blocking * x.made ≡ 0 =
+      nothing (ahead.more * b.blocking * x.made) x.outputs can.outputs no in
+      wrote after w f.output (subst (λ (l : List (List ℤ)). Appends after after (sample_bytes (in_turn l))) (sym none)
+      (appends_none after after (keeps_same after))) refl
+      (ap (λ (k : ℕ). record f.output { missing = k })
+      (let z : f.output.missing ≡ f.output.missing - ahead.more * b.blocking * x.made = omega (arith, zero_more) in z))
+    where
+      nothing : (k m : ℕ) → 0 < m → k * m ≡ 0 → k ≡ 0
+      nothing zero m some is = refl
+      nothing (suc k) m some is =
+          let more : 1 * m ≤ suc k * m = mul-le-mul_right m (let z : 1 ≤ suc k = omega arith in z) in
+          absurd (omega (arith, is, more, some))
+
+-- the next blocks are made ahead of what is written
+pub made_ahead : (b : Start) (g : Progress) (f : Flow) {now after : Option (List ℕ)} {r w : ℕ} (blocks frames : ℕ)
+    (left : Option (Rest ℤ (List ℤ))) → Flows b g f.left f.source f.output now after r w →
+    Makes b.net b.period b.blocking (sound_read (reading_in b) g.samples) g.blocks blocks frames g.bytes
+    (items_of f.made.items) left → frames ≡ blocks * b.blocking * (exchange_in b).made →
+    samples_run b (g.blocks + blocks) ≤ length g.samples →
+    IsAhead b (blocks_on g blocks (sample_bytes (in_turn (items_of f.made.items))) left) f now after r w
+made_ahead b g f blocks frames left flows makes all there = record {
+  before = g;
+  flows = flows;
+  more = blocks;
+  is = refl;
+  came = record {
+    stands = subst (λ (k : ℕ). StandsAt b.net b.period b.blocking (sound_read (reading_in b) g.samples)
+        (g.blocks + blocks) k (g.bytes ++ sample_bytes (in_turn (items_of f.made.items))) left)
+        (ap (λ (k : ℕ). g.blocks * b.blocking * (exchange_in b).made + k) all
+        ∙ (let z : g.blocks * b.blocking * (exchange_in b).made + blocks * b.blocking * (exchange_in b).made ≡
+        (g.blocks + blocks) * b.blocking * (exchange_in b).made = omega arith in z))
+        makes.stands;
+    there = there;
+  };
+  whole = subst (λ (k : ℕ). AreWhole (exchange_in b).outputs k (items_of f.made.items)) all makes.whole;
+}
+
+-- frames in whole lists can be written, if so many are owed
+pub can_write : {Z : Type 0} (o : Owed) (channels frames : ℕ) (made ps : List (Vec ℤ Z)) → o.channels ≡ channels → ps ≡ made →
+    AreWhole channels frames (items_of made) → frames ≤ o.missing →
+    ((i : ℕ) → i < length ps → (k : ℕ) × (length (get_or (items_of ps) i []) ≡ k * o.channels))
+    × (length (in_turn (items_of ps)) ≤ o.missing * o.channels)
+can_write {Z} o channels frames made ps same is whole fewer = (
+  λ i l. rw is (each i (omega (arith, l, ap length is, length-lists made))),
+  rw is less,
+)
+  where
+    each : (i : ℕ) → i < length (items_of made) → (k : ℕ) × (length (get_or (items_of made) i []) ≡ k * o.channels)
+    each i l = let own = whole.each i l in (own.0, own.1 ∙ ap (λ (k : ℕ). own.0 * k) (sym same))
+
+    less : length (in_turn (items_of made)) ≤ o.missing * o.channels
+    less = subst (λ (k : ℕ). length (in_turn (items_of made)) ≤ o.missing * k) (sym same)
+        (subst (λ (k : ℕ). k ≤ o.missing * channels) (sym whole.all) (mul-le-mul_right channels fewer))

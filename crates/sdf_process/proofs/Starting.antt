@@ -1,0 +1,143 @@
+-- A run before it takes its first frame.
+use Rattle.std.proofs.Common.{◌≡◌, ℕ, ◌-◌, ◌*◌, ◌≤◌, ◌<◌, ℤ, List, [], false}
+use Rattle.std.proofs.Common.{Option, refl, sym, ap, ◌∙◌, subst, arith}
+use Rattle.std.proofs.Math.Seq.{drop-nil}
+use Rattle.sdf_actor.specs.Nets.{Netlist}
+use Rattle.sdf_actor.specs.Wires.{lists as items_of}
+use Rattle.sdf_answer.specs.Laws.{RunsGoOn}
+use Rattle.sdf_answer.specs.Periods.{HasPeriod}
+use Rattle.sdf_kit.specs.declared.kit.Kit.{Kit}
+use Rattle.sdf_kit.specs.Kit.{kit_steps}
+use Rattle.sdf_actor.specs.Graphs.{graph_of}
+use Rattle.sdf_graph.specs.Periods.{IsLeastPeriod}
+use Rattle.sdf_graph.specs.Rates.{rates}
+use Rattle.sdf_sched.specs.Period.{Schedule, IsPeriodOf}
+use Rattle.sdf_wav.specs.PiecesIn.{Reading, sound_read}
+use Rattle.sdf_wav.specs.PiecesOut.{Owed}
+use Rattle.sdf_wav.specs.declared.wav.TheConstants.{MOST_CHANNELS}
+use Rattle.sdf_process.specs.declared.begun.Begun.{Begun}
+use Rattle.sdf_process.specs.declared.exchange.Exchange.{Exchange}
+use Rattle.sdf_process.specs.declared.streaming.Opened.{Opened}
+use Rattle.sdf_process.specs.declared.streaming.Stream.{Stream}
+use Rattle.sdf_process.specs.Flows.{CameTo, CanFlow, Flows, GoesOn, Progress, Start, samples_run, start_of}
+use Rattle.sdf_process.specs.Output.{exchange_of, IsExchange}
+use Rattle.sdf_process.specs.Sources.{reading_of}
+use Rattle.sdf_process.specs.Streams.{GoesBy, IsOpened, StandsAt, left_by}
+use Rattle.sdf_process.specs.Tasks.{IsBegun}
+use Rattle.sdf_process.proofs.Ahead.{none_ahead}
+use Rattle.sdf_process.proofs.Opened.{frames_known}
+use Rattle.sdf_process.proofs.Pieces.{appends_none}
+use Rattle.sdf_process.proofs.Outcomes.{keeps_same}
+use Rattle.sdf_process.proofs.Taken.{behind_none, takes_none}
+use Rattle.sdf_process.proofs.Came.{allowed_lower, whole_size}
+
+module _ (t : Opened) (is : IsOpened t)
+    (has : (p : Schedule) → IsPeriodOf (rates (graph_of kit_steps t.net.now)) p → HasPeriod kit_steps t.net.now p)
+    (b : Begun) (begun : IsBegun t.net.now t.period.now.repetitions b)
+    (x : Exchange) (x_is : (q : List ℕ) → IsLeastPeriod (rates (graph_of kit_steps t.net.now)) q →
+    x ≡ exchange_of t.net.now q) (limits : IsExchange x) where
+  abbrev n : Netlist Kit ℤ
+  n = t.net.now
+
+  abbrev p : Schedule
+  p = t.period.now
+
+  abbrev c : Reading
+  c = reading_of b.source
+
+  there : x ≡ exchange_of n p.repetitions
+  there = x_is p.repetitions is.period.least
+
+  module _ (runs : RunsGoOn kit_steps) (old before : Option (List ℕ)) (r w : ℕ) where
+    abbrev s : Start
+    s = start_of t b old before r w
+
+    few_bytes : 2 * (b.output.missing * (exchange_of n p.repetitions).outputs) ≤ 4294967259
+    few_bytes = subst (λ (m : ℕ). 2 * (m * (exchange_of n p.repetitions).outputs) ≤ 4294967259)
+        (sym (ap (λ (y : Owed). y.missing) begun.owed)) begun.extent.few_bytes
+
+    pub can_flow : CanFlow s
+    can_flow =
+        let here = frames_known c.size c.channels b.frames begun.unheard.known in
+        record {
+          runs = runs;
+          has = has p is.period;
+          unread = begun.unheard.unread;
+          unspoilt = begun.unheard.unspoilt;
+          one = begun.unheard.sound.one_channel;
+          lower = allowed_lower (exchange_of n p.repetitions)
+              (record { rate = c.rate; channels = c.channels; frames = b.frames }) begun.extent.is_allowed;
+          size = whole_size c b.frames begun.unheard.sound here.0 here.1;
+          known = here.0;
+          fits = begun.unheard.sound.size_fits;
+          some = is.some;
+          few = is.fits;
+          taken = subst (λ (y : Exchange). 0 < y.taken) there limits.some_taken;
+          made = subst (λ (y : Exchange). 0 < y.made) there limits.some_made;
+          outputs = omega (arith, (has p is.period).accepted.1.lists.output);
+          owed = ap (λ (y : Owed). y.missing) begun.owed
+              ∙ ap (λ (k : ℕ). k * (exchange_of n p.repetitions).made) begun.extent.periods;
+          short = few_bytes;
+        }
+
+    -- nothing was taken
+    abbrev none_yet : Progress
+    none_yet = record { samples = []; blocks = 0; bytes = []; left = left_by t.runner }
+
+    came_first : CameTo s none_yet
+    came_first =
+        let none : 0 ≡ 0 * t.blocking * (exchange_of n p.repetitions).made = omega arith in
+        record {
+          stands = subst (λ (k : ℕ). StandsAt n p t.blocking (sound_read c []) 0 k [] (left_by t.runner)) none
+              (is.stands (sound_read c []));
+          there = omega arith;
+        }
+
+    flows_first : Flows s none_yet b.frames b.source b.output old before r w
+    flows_first = record {
+      came = came_first;
+      takes = takes_none b.source old;
+      source_is = behind_none b.source;
+      within = omega arith;
+      count = (let z : 0 ≡ 0 * c.channels = omega arith in z) ∙ ap (λ (k : ℕ). k * c.channels)
+          (let y : 0 ≡ b.frames - b.frames = omega arith in y);
+      written = appends_none before before (keeps_same before);
+      owed = begun.owed ∙ ap (λ (k : ℕ). record {
+        channels = (exchange_of n p.repetitions).outputs;
+        missing = k;
+        spent = false;
+      }) (sym (ap (λ (y : Owed). y.missing) begun.owed)
+          ∙ (let z : b.output.missing ≡ b.output.missing - 0 * t.blocking * (exchange_of n p.repetitions).made =
+          omega arith in z));
+      reader = refl;
+      writer = refl;
+    }
+
+    -- a run that is begun can go on
+    pub goes_first : (v : Stream) → v.runner ≡ t.runner → v.flow.source ≡ b.source → v.flow.left ≡ b.frames →
+        v.flow.most ≡ t.frames → v.flow.kept.items ≡ [] → v.flow.made.items ≡ [] → v.flow.output ≡ b.output →
+        v.exchange ≡ x → v.blocking ≡ t.blocking → 1 ≤ v.rate → v.channels ≡ c.channels → v.channels ≤ MOST_CHANNELS →
+        GoesOn s v old before r w
+    goes_first v runner source left most kept made output exchange blocking rate channels few =
+        let none : items_of v.flow.made.items ≡ [] = ap items_of made in
+        let flows : Flows s none_yet v.flow.left v.flow.source v.flow.output old before r w =
+        rw (left, source, output) flows_first in (
+          none_yet,
+          record {
+            ready = record {
+              can = can_flow;
+              goes = subst (GoesBy n p t.blocking) (sym runner) is.goes;
+              blocking = blocking;
+              channels = channels;
+              few_channels = few;
+              some_rate = rate;
+              exchange = exchange ∙ there;
+              limits = subst IsExchange (sym exchange) limits;
+              piece = subst (λ (k : ℕ). 0 < k) (sym most) is.piece;
+              waits = λ one. none;
+            };
+            ahead = none_ahead s none_yet v.flow none flows;
+            left = ap left_by runner;
+            kept = kept ∙ sym (drop-nil (samples_run s 0));
+          },
+        )

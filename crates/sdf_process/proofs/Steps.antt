@@ -1,0 +1,283 @@
+-- A step of a run: its next blocks are run, what is made is written, and the next frames are taken.
+use Rattle.std.proofs.Common.{◌≡◌, Result, Ok, Err, ℕ, ◌+◌, ◌-◌, ◌*◌, ◌%◌, ◌≤◌, ◌<◌, ℤ, List, [], ◌++◌, length, drop}
+use Rattle.std.proofs.Common.{Option, false, true, refl, sym}
+use Rattle.std.specs.Prelude.{IfOk, MatchResult}
+use Rattle.std.proofs.Math.Nat.{mul-mod_left}
+use Rattle.std.proofs.Common.{ap, ◌∙◌, subst, arith}
+use Rattle.std.proofs.lemmas.List.{drop-drop, length-append, length-drop}
+use Rattle.sdf_actor.specs.Wires.{lists as items_of}
+use Rattle.sdf_wav.specs.Canonical.{sample_bytes}
+use Rattle.sdf_wav.specs.PiecesIn.{Reading, sound_read}
+use Rattle.sdf_plan.specs.declared.fault.Fault.{Fault}
+use Rattle.sdf_process.specs.declared.exchange.Exchange.{Exchange}
+use Rattle.sdf_process.specs.declared.flow.Flow.{Flow}
+use Rattle.sdf_process.specs.declared.portion.Portion.{Portion}
+use Rattle.sdf_process.specs.declared.runner.Runner.{Runner}
+use Rattle.sdf_process.specs.declared.streaming.Stream.{Stream}
+use Rattle.sdf_process.specs.Flows.{Flows, GoesOn, IsAhead, IsReady, IsStep, IsUnderWay, Progress, Start, Turns}
+use Rattle.sdf_process.specs.Flows.{blocks_on}
+use Rattle.sdf_process.specs.Flows.{exchange_in, reading_in, samples_on, samples_run}
+use Rattle.sdf_process.specs.Output.{in_turn}
+use Rattle.sdf_process.specs.Streams.{CanRun, CanRunNext, GoesBy, Makes, RunsNext, left_by}
+use Rattle.sdf_process.proofs.Ahead.{made_ahead, none_ahead, none_left}
+use Rattle.sdf_process.proofs.Flowing.{within_size}
+use Rattle.sdf_process.proofs.Sizes.{minus}
+use Rattle.sdf_process.proofs.Streamed.{kept_follows, kept_on, stands_on, writes_whole}
+
+-- what is said of an answer, in other words where it is Ok
+pub answered : {X : Type 0} (r : Result X Fault) (P Q : X → Type 0) (E : Fault → Type 0) → ((x : X) → P x → Q x) →
+    MatchResult r P E → MatchResult r Q E
+answered (Ok x) P Q E go h = go x h
+answered (Err e) P Q E go h = h
+
+pub where_ok : {X : Type 0} (r : Result X Fault) (P Q : X → Type 0) (E : Fault → Type 0) → ((x : X) → P x → Q x) →
+    MatchResult r P E → IfOk r Q
+where_ok (Ok x) P Q E go h = go x h
+where_ok (Err e) P Q E go h = tt
+
+-- a run that is ready is so with another runner of its net, and another flow
+pub ready_on : (b : Start) (t : Stream) → IsReady b t → (v : Runner) (f : Flow) → GoesBy b.net b.period b.blocking v →
+    f.most ≡ t.flow.most → (t.at_once ≡ false → items_of f.made.items ≡ []) → IsReady b (record {
+      runner = v;
+      flow = f;
+      exchange = t.exchange;
+      blocking = t.blocking;
+      rate = t.rate;
+      channels = t.channels;
+      at_once = t.at_once;
+    })
+ready_on b t ready v f goes most waits = record {
+  can = ready.can;
+  goes = goes;
+  blocking = ready.blocking;
+  channels = ready.channels;
+  few_channels = ready.few_channels;
+  some_rate = ready.some_rate;
+  exchange = ready.exchange;
+  limits = ready.limits;
+  piece = subst (λ (k : ℕ). 0 < k) (sym most) ready.piece;
+  waits = waits;
+}
+
+-- a flow is as far ahead as another that differs in what it keeps alone
+pub ahead_as : (b : Start) (g : Progress) (f f' : Flow) {now after : Option (List ℕ)} {r w : ℕ} → f'.left ≡ f.left →
+    f'.source ≡ f.source → f'.output ≡ f.output → f'.made ≡ f.made → IsAhead b g f now after r w →
+    IsAhead b g f' now after r w
+ahead_as b g f f' left source output made ahead = record {
+  before = ahead.before;
+  flows = rw (left, source, output) ahead.flows;
+  more = ahead.more;
+  is = rw made ahead.is;
+  came = ahead.came;
+  whole = rw made ahead.whole;
+}
+
+module _ (b : Start) (g : Progress) (blocks : ℕ) (t : Stream) (y : Portion) {now after : Option (List ℕ)} {r w : ℕ}
+    (step : IsStep b g blocks t y now after r w) where
+  can_run : CanRun b.net b.period b.blocking y
+  can_run = record { has = step.ready.can.has; some = step.ready.can.some; exchange = step.next.exchange }
+
+  -- its runner can run the portion
+  pub can_next : CanRunNext t.runner y
+  can_next = record {
+    net = b.net;
+    period = b.period;
+    blocking = b.blocking;
+    goes = step.ready.goes;
+    can = can_run;
+    follows = (sound_read (reading_in b) g.samples, g.blocks, blocks, g.bytes, step.next.follows);
+    all = writes_whole t.runner (y.periods * y.exchange.made) y.frames step.next.frames;
+  }
+
+  all_frames : y.frames ≡ blocks * b.blocking * (exchange_in b).made
+  all_frames = step.next.frames ∙ (ap (λ (k : ℕ). k * y.exchange.made) step.next.follows.periods
+      ∙ ap (λ (x : _). blocks * b.blocking * x.made) step.next.exchange)
+
+  module _ (v : Runner) (made : List (List ℤ)) (runs : RunsNext t.runner v y made) where
+    ran : Makes b.net b.period b.blocking (sound_read (reading_in b) g.samples) g.blocks blocks y.frames g.bytes made
+        (left_by v) × GoesBy b.net b.period b.blocking v
+    ran = runs b.net b.period b.blocking (sound_read (reading_in b) g.samples) g.blocks blocks g.bytes step.ready.goes
+        can_run step.next.follows
+
+    abbrev on : Progress
+    on = blocks_on g blocks (sample_bytes (in_turn made)) (left_by v)
+
+    -- its frames are ahead of those that are written, if all before are written
+    pub ahead_on : items_of t.flow.made.items ≡ [] → (f : Flow) → items_of f.made.items ≡ made →
+        f.left ≡ t.flow.left → f.source ≡ t.flow.source → f.output ≡ t.flow.output → IsAhead b on f now after r w
+    ahead_on none f is left source output =
+        let flows : Flows b g f.left f.source f.output now after r w =
+        rw (left, source, output) (none_left b step.ready.can g t.flow step.ahead none) in
+        subst (λ (l : List (List ℤ)). IsAhead b (blocks_on g blocks (sample_bytes (in_turn l)) (left_by v)) f now after r
+        w) is
+        (made_ahead b g f blocks y.frames (left_by v)
+        flows
+        (subst (λ (l : List (List ℤ)). Makes b.net b.period b.blocking (sound_read (reading_in b) g.samples) g.blocks
+        blocks y.frames g.bytes l (left_by v)) (sym is) ran.0) all_frames step.next.there)
+
+    -- they are written, and more is taken
+    pub in_turn_on : (f f' : Flow) {now' after' : Option (List ℕ)} {r' w' : ℕ} → f.kept ≡ t.flow.kept →
+        f.most ≡ t.flow.most → Turns b on f f' now' after' r' w' → GoesOn b (record {
+          runner = v;
+          flow = f';
+          exchange = t.exchange;
+          blocking = t.blocking;
+          rate = t.rate;
+          channels = t.channels;
+          at_once = t.at_once;
+        }) now' after' r' w'
+    in_turn_on f f' kept most turns = (
+      samples_on on turns.more,
+      record {
+        ready = ready_on b t step.ready v f' ran.1 (turns.most ∙ most) (λ one. turns.none);
+        ahead = none_ahead b (samples_on on turns.more) f' turns.none turns.flows;
+        left = refl;
+        kept = turns.kept ∙ (ap (λ (z : _). z.items ++ turns.more) kept
+            ∙ kept_on (samples_run b (g.blocks + blocks)) g.samples turns.more t.flow.kept.items step.next.there
+            step.kept);
+      },
+    )
+
+    -- the frames before were written meanwhile, and more was taken
+    pub beside_on : t.at_once ≡ true → (f f' : Flow) {now' after' : Option (List ℕ)} {r' w' : ℕ} →
+        Turns b g t.flow f now' after' r' w' → items_of f'.made.items ≡ made → f'.left ≡ f.left →
+        f'.source ≡ f.source → f'.output ≡ f.output → f'.kept ≡ f.kept → f'.most ≡ f.most → GoesOn b (record {
+          runner = v;
+          flow = f';
+          exchange = t.exchange;
+          blocking = t.blocking;
+          rate = t.rate;
+          channels = t.channels;
+          at_once = t.at_once;
+        }) now' after' r' w'
+    beside_on at_once f f' {now'} {after'} {r'} {w'} turns is left source output kept most =
+        let g' = samples_on g turns.more in
+        let more = turns.more in
+        let longer : samples_run b (g.blocks + blocks) ≤ length g'.samples =
+        omega (arith, step.next.there, length-append g.samples more) in
+        let makes : Makes b.net b.period b.blocking (sound_read (reading_in b) g'.samples) g.blocks blocks y.frames
+        g.bytes (items_of f'.made.items) (left_by v) =
+        subst (λ (l : List (List ℤ)). Makes b.net b.period b.blocking (sound_read (reading_in b) g'.samples) g.blocks
+        blocks y.frames g.bytes l (left_by v)) (sym is) (record {
+          stands = stands_on b.net b.period b.blocking (reading_in b) g.samples more (g.blocks + blocks)
+              (g.blocks * b.blocking * (exchange_in b).made + y.frames) (g.bytes ++ sample_bytes (in_turn made))
+              (left_by v) step.ready.can.lower step.next.there ran.0.stands;
+          whole = ran.0.whole;
+        }) in
+        let flows : Flows b g' f'.left f'.source f'.output now' after' r' w' =
+        rw (left, source, output) turns.flows in (
+          blocks_on g' blocks (sample_bytes (in_turn (items_of f'.made.items))) (left_by v),
+          record {
+            ready = ready_on b t step.ready v f' ran.1 (most ∙ turns.most)
+                (λ no. absurd (let z : true ≡ false = sym at_once ∙ no in cc));
+            ahead = made_ahead b g' f' blocks y.frames (left_by v) flows makes all_frames longer;
+            left = refl;
+            kept = ap (λ (z : _). z.items) kept ∙ (turns.kept
+                ∙ kept_on (samples_run b (g.blocks + blocks)) g.samples more t.flow.kept.items step.next.there
+                step.kept);
+          },
+        )
+
+-- ---- what is kept
+
+module _ (b : Start) (g : Progress) (t : Stream) {now after : Option (List ℕ)} {r w : ℕ}
+    (under : IsUnderWay b g t now after r w) where
+  abbrev c : Reading
+  c = reading_in b
+
+  abbrev x : Exchange
+  x = exchange_in b
+
+  samples_are : length g.samples ≡ (b.frames - t.flow.left) * c.channels
+  samples_are = ap (λ (z : Progress). length z.samples) under.ahead.is ∙ under.ahead.flows.count
+
+  kept_long : length t.flow.kept.items ≡ length g.samples - samples_run b g.blocks
+  kept_long = ap length under.kept ∙ length-drop (samples_run b g.blocks) g.samples
+
+  pub kept_whole : length t.flow.kept.items % t.channels ≡ 0
+  kept_whole =
+      let read : ℕ = b.frames - t.flow.left in
+      let run : ℕ = g.blocks * b.blocking * x.taken in
+      let factored : read * c.channels - run * c.channels ≡ (read - run) * c.channels = minus read run c.channels in
+      subst (λ (k : ℕ). length t.flow.kept.items % k ≡ 0) (sym under.ready.channels)
+      (ap (λ (k : ℕ). k % c.channels) (kept_long ∙ (ap (λ (k : ℕ). k - run * c.channels) samples_are ∙ factored))
+      ∙ mul-mod_left (read - run) c.channels)
+
+  pub kept_few : length t.flow.kept.items ≤ 4294967295
+  kept_few =
+      let size : 2 * length g.samples ≤ c.size =
+      subst (λ (l : List ℤ). 2 * length l ≤ c.size) (sym (ap (λ (z : Progress). z.samples) under.ahead.is))
+      (within_size b under.ready.can under.ahead.before under.ahead.flows) in
+      omega (arith, kept_long, size, under.ready.can.fits)
+
+  -- the frames that were made are written, and more is taken
+  pub turned_on : (f : Flow) {now' after' : Option (List ℕ)} {r' w' : ℕ} →
+      Turns b g t.flow f now' after' r' w' → GoesOn b (record {
+        runner = t.runner;
+        flow = f;
+        exchange = t.exchange;
+        blocking = t.blocking;
+        rate = t.rate;
+        channels = t.channels;
+        at_once = t.at_once;
+      }) now' after' r' w'
+  turned_on f turns = (
+    samples_on g turns.more,
+    record {
+      ready = ready_on b t under.ready t.runner f under.ready.goes turns.most (λ one. turns.none);
+      ahead = none_ahead b (samples_on g turns.more) f turns.none turns.flows;
+      left = under.left;
+      kept = turns.kept ∙ kept_on (samples_run b g.blocks) g.samples turns.more t.flow.kept.items under.ahead.came.there
+          under.kept;
+    },
+  )
+
+  -- whole blocks of it
+  module _ (blocks k : ℕ) (block : k ≡ b.blocking * x.taken * c.channels)
+      (some : blocks * k ≤ length t.flow.kept.items) where
+    past : samples_run b g.blocks + blocks * k ≡ samples_run b (g.blocks + blocks)
+    past = ap (λ (z : ℕ). samples_run b g.blocks + blocks * z) block
+        ∙ (let z : samples_run b g.blocks + blocks * (b.blocking * x.taken * c.channels) ≡
+        samples_run b (g.blocks + blocks) = omega arith in z)
+
+    there_more : samples_run b (g.blocks + blocks) ≤ length g.samples
+    there_more = omega (arith, past, some, kept_long, under.ahead.came.there)
+
+    pub step_by : (v : Runner) (f : Flow) (y : Portion) (rest : List ℤ) → left_by v ≡ left_by t.runner →
+        GoesBy b.net b.period b.blocking v → f.left ≡ t.flow.left → f.source ≡ t.flow.source →
+        f.output ≡ t.flow.output → f.made ≡ t.flow.made → f.most ≡ t.flow.most →
+        f.kept.items ≡ drop (blocks * k) t.flow.kept.items → y.exchange ≡ t.exchange →
+        y.periods ≡ blocks * b.blocking → y.frames ≡ y.periods * y.exchange.made →
+        y.input.now.channels ≡ t.channels → y.input.now.samples ≡ t.flow.kept.items → IsStep b g blocks (record {
+          runner = v;
+          flow = f;
+          exchange = t.exchange;
+          blocking = t.blocking;
+          rate = t.rate;
+          channels = t.channels;
+          at_once = t.at_once;
+        }) y now after r w
+    step_by v f y rest same goes left source output made most kept exchange periods frames channels samples = record {
+      ready = ready_on b t under.ready v f goes most
+          (λ one. ap (λ (z : _). items_of z.items) made ∙ under.ready.waits one);
+      ahead = ahead_as b g t.flow f left source output made under.ahead;
+      next = record {
+        follows = kept_follows b g (left_by v) under.ahead.came (same ∙ under.left) y blocks periods
+            (channels ∙ under.ready.channels) (samples ∙ under.kept);
+        exchange = exchange ∙ under.ready.exchange;
+        frames = frames;
+        there = there_more;
+      };
+      kept = kept ∙ (ap (drop (blocks * k)) under.kept
+          ∙ (drop-drop (blocks * k) (samples_run b g.blocks) g.samples ∙ ap (λ (z : ℕ). drop z g.samples) past));
+    }
+
+-- inputs are read
+pub some_inputs : (b : Start) (t : Stream) → IsReady b t → 0 < t.exchange.inputs
+some_inputs b t ready = subst (λ (y : Exchange). 0 < y.inputs) (sym ready.exchange)
+    (omega (arith, ready.can.has.accepted.1.lists.input))
+
+-- the net can be run on a portion
+pub can_run_on : (b : Start) (t : Stream) → IsReady b t → (y : Portion) → y.exchange ≡ t.exchange →
+    CanRun b.net b.period b.blocking y
+can_run_on b t ready y same = record { has = ready.can.has; some = ready.can.some; exchange = same ∙ ready.exchange }

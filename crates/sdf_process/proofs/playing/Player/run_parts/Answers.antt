@@ -1,0 +1,55 @@
+use Rattle.std.proofs.Common.{◌≡◌, ◌*◌, ◌∙◌, ap, refl, sym, subst, Some, arith, rules}
+use Rattle.sdf_actor.specs.Wires.{lists as items_of}
+use Rattle.sdf_answer.specs.Answer.{HasInputs}
+use Rattle.sdf_answer.specs.Feeds.{AreFull}
+use Rattle.sdf_kit.specs.Kit.{kit_steps}
+use Rattle.sdf_actor.proofs.Theorems.{ports_have_channels}
+use Rattle.sdf_answer.proofs.Theorems.{nets_can_run}
+use Rattle.sdf_process.specs.declared.exchange.Exchange.{Exchange}
+use Rattle.sdf_process.specs.Output.{exchange_of, interleaved, lists_from}
+use Rattle.sdf_process.specs.Streams.{AreWhole}
+use Rattle.sdf_process.proofs.InParts.{in_parts}
+use Rattle.sdf_process.proofs.Pieced.{blocks_made, held_is, plays_on}
+use Rattle.sdf_process.proofs.Played.{piece_full, piece_given}
+use Rattle.sdf_wav.proofs.Theorems.{puts_join}
+use Rattle.sdf_process.proofs.playing.Player.run_parts.Goals as goal
+
+pub resume_split-requires-clause-split : goal.resume_split-requires-clause-split
+resume_split-requires-clause-split g c κs within =
+    let v = c.args.self.now in
+    let n = v.net.now in
+    let p = v.period.now in
+    let y = c.args.portion in
+    let can = c.requires.can.1 in
+    record {
+      period = c.requires.player.period;
+      given = subst (λ (x : Exchange). HasInputs n p.repetitions y.periods (lists_from 0 y.periods x y.input.now))
+          (sym can.exchange) (piece_given n p.repetitions y.input.now 0 y.periods);
+      full = subst (λ (x : Exchange). AreFull n p.repetitions y.periods (lists_from 0 y.periods x y.input.now))
+          (sym can.exchange) (piece_full n p.repetitions y.input.now 0 y.periods);
+      warm_up = c.requires.warm;
+      short = omega (arith, y.fits);
+      some = c.part_size.ensures.is.some;
+      long = search rules;
+    }
+
+pub returns-clause-plays : goal.returns-clause-plays
+returns-clause-plays g c = λ j s few blocks bytes follows.
+    let v = c.args.self.now in
+    let n = v.net.now in
+    let p = v.period.now in
+    let y = c.args.portion in
+    let can = c.requires.can.1 in
+    let q = p.repetitions in
+    let made : y.frames ≡ y.periods * (exchange_of n q).made =
+    c.requires.all ∙ ap (λ (x : Exchange). y.periods * x.made) can.exchange in
+    let h = in_parts (nets_can_run kit_steps) (ports_have_channels kit_steps) n p can.has s (few * j) y.periods
+    follows.stands.made v.rest (held_is n p j s few (few * j * (exchange_of n q).made) bytes v.rest follows.stands)
+    y.input.now follows.lists y.exchange can.exchange c.in_ok-parts.parts.items c.in_ok-parts.last
+    c.in_ok-parts.ensures in
+    blocks_made puts_join (nets_can_run kit_steps) (ports_have_channels kit_steps) n p can.has j s few blocks
+    bytes (Some v.rest) follows.stands h.outputs h.goes.count c.in_ok-parts.last
+    (plays_on n p j s few blocks bytes v.rest c.in_ok-parts.last y follows h.outputs h.goes)
+    (Some c.in_ok-parts.last) refl y.frames (items_of c.in_ok-parts.parts.items)
+    (h.frames ∙ ap (λ k. interleaved k h.outputs) (sym made))
+    (subst (λ k. AreWhole (exchange_of n q).outputs k (items_of c.in_ok-parts.parts.items)) (sym made) h.whole)

@@ -1,0 +1,215 @@
+-- How far a run came that takes its input and writes its output as it goes.
+use Rattle.std.specs.Prelude.{◌≡◌, ◌≢◌, ℕ, ◌+◌, ◌-◌, ◌*◌, ◌<◌, ◌≤◌, min, ℤ, List, [], ◌++◌, length, drop, Option, None}
+use Rattle.std.specs.Prelude.{Result, Err, MatchResult, false}
+use Rattle.std.specs.Io.KnownBytes.{Appends}
+use Rattle.sdf_limits.specs.declared.TheConstants.{MOST_BLOCK}
+use Rattle.sdf_actor.specs.Nets.{Netlist}
+use Rattle.sdf_actor.specs.Wires.{lists as items_of}
+use Rattle.sdf_actor.specs.declared.rest.Rest.{Rest}
+use Rattle.sdf_answer.specs.Laws.{RunsGoOn}
+use Rattle.sdf_answer.specs.Periods.{HasPeriod}
+use Rattle.sdf_kit.specs.declared.kit.Kit.{Kit}
+use Rattle.sdf_kit.specs.Kit.{kit_steps}
+use Rattle.sdf_sched.specs.Period.{Schedule}
+use Rattle.sdf_wav.specs.Canonical.{sample_bytes}
+use Rattle.sdf_wav.specs.PiecesIn.{Reading, sound_read}
+use Rattle.sdf_wav.specs.PiecesOut.{Owed}
+use Rattle.sdf_wav.specs.declared.wav.TheConstants.{MOST_CHANNELS}
+use Rattle.sdf_plan.specs.declared.fault.Fault.{Fault}
+use Rattle.sdf_process.specs.declared.begun.Begun.{Begun}
+use Rattle.sdf_process.specs.declared.exchange.Exchange.{Exchange}
+use Rattle.sdf_process.specs.declared.flow.Flow.{Flow}
+use Rattle.sdf_process.specs.declared.portion.Portion.{Portion}
+use Rattle.sdf_process.specs.declared.source.Source.{Source}
+use Rattle.sdf_process.specs.declared.streaming.Opened.{Opened}
+use Rattle.sdf_process.specs.declared.streaming.Stream.{Stream}
+use Rattle.sdf_process.specs.Output.{exchange_of, in_turn, periods_for, IsExchange}
+use Rattle.sdf_process.specs.Sources.{reading_of, source_behind, Takes}
+use Rattle.sdf_process.specs.Streams.{AreWhole, Follows, GoesBy, StandsWhole, Streams, left_by}
+
+-- What a run was begun with: its net, a period and how many of these make a block; the source of its sound, how many
+-- frames that has and how many are made of it; the bytes in the reader and in the writer, and how often each has
+-- failed.
+pub record Start : Type 0 where
+  pub net : Netlist Kit ℤ
+  pub period : Schedule
+  pub blocking : ℕ
+  pub source : Source
+  pub frames : ℕ
+  pub owed : ℕ
+  pub read : Option (List ℕ)
+  pub written : Option (List ℕ)
+  pub reader : ℕ
+  pub writer : ℕ
+
+abbrev pub start_of : Opened → Begun → Option (List ℕ) → Option (List ℕ) → ℕ → ℕ → Start
+start_of t b read written r w = record {
+  net = t.net.now;
+  period = t.period.now;
+  blocking = t.blocking;
+  source = b.source;
+  frames = b.frames;
+  owed = b.output.missing;
+  read = read;
+  written = written;
+  reader = r;
+  writer = w;
+}
+
+abbrev pub reading_in : Start → Reading
+reading_in b = reading_of b.source
+
+abbrev pub exchange_in : Start → Exchange
+exchange_in b = exchange_of b.net b.period.repetitions
+
+-- the answer of a run that was begun so, and leaves the devices so
+abbrev pub StreamsFrom : Start → Option (List ℕ) → Option (List ℕ) → ℕ → ℕ → Result (Unit {0}) Fault → Type 0
+StreamsFrom b now after r w result =
+    Streams b.net b.period.repetitions b.source b.read now b.written after b.reader r b.writer w result
+
+-- what is known of the sound and of the output before any frame is taken
+pub record CanFlow (b : Start) : Type 0 where
+  pub runs : RunsGoOn kit_steps
+  pub has : HasPeriod kit_steps b.net b.period
+  pub unread : (reading_in b).gone ≡ 0
+  pub unspoilt : (reading_in b).fault ≡ None
+  pub one : 0 < (reading_in b).channels
+  pub lower : (exchange_in b).inputs ≤ (reading_in b).channels
+  pub size : 2 * (b.frames * (reading_in b).channels) ≡ (reading_in b).size
+  pub known : (reading_in b).size ≢ 0xFFFFFFFF
+  pub fits : (reading_in b).size ≤ 0xFFFFFFFF
+  pub some : 0 < b.blocking
+  pub few : b.blocking ≤ MOST_BLOCK
+  pub taken : 0 < (exchange_in b).taken
+  pub made : 0 < (exchange_in b).made
+  pub outputs : 0 < (exchange_in b).outputs
+  pub owed : b.owed ≡ periods_for (exchange_in b) b.frames * (exchange_in b).made
+  pub short : 2 * (b.owed * (exchange_in b).outputs) ≤ 4294967259
+
+-- How far it came: the samples that were taken, the blocks of them that were run, the bytes of the frames that these
+-- make, and what they leave.
+pub record Progress : Type 0 where
+  pub samples : List ℤ
+  pub blocks : ℕ
+  pub bytes : List ℕ
+  pub left : Option (Rest ℤ (List ℤ))
+
+-- how many samples the blocks take that were run
+abbrev pub samples_run : Start → ℕ → ℕ
+samples_run b blocks = blocks * b.blocking * (exchange_in b).taken * (reading_in b).channels
+
+-- it came as far as this
+pub record CameTo (b : Start) (g : Progress) : Type 0 where
+  pub stands : StandsWhole b.net b.period b.blocking (sound_read (reading_in b) g.samples) g.blocks g.bytes g.left
+  pub there : samples_run b g.blocks ≤ length g.samples
+
+-- All frames are written that were made so far. So many frames are still to be taken, and this is what is owed.
+pub record Flows (b : Start) (g : Progress) (unread : ℕ) (source : Source) (o : Owed) (now after : Option (List ℕ))
+    (r w : ℕ) : Type 0 where
+  pub came : CameTo b g
+  pub takes : Takes b.source g.samples b.read now
+  pub source_is : source ≡ source_behind b.source g.samples
+  pub within : unread ≤ b.frames
+  pub count : length g.samples ≡ (b.frames - unread) * (reading_in b).channels
+  pub written : Appends b.written after g.bytes
+  pub owed : o ≡ record {
+    channels = (exchange_in b).outputs;
+    missing = b.owed - g.blocks * b.blocking * (exchange_in b).made;
+    spent = false;
+  }
+  pub reader : r ≡ b.reader
+  pub writer : w ≡ b.writer
+
+-- some blocks behind those of which all is written
+abbrev pub blocks_on : Progress → ℕ → List ℕ → Option (Rest ℤ (List ℤ)) → Progress
+blocks_on g more bytes left =
+    record { samples = g.samples; blocks = g.blocks + more; bytes = g.bytes ++ bytes; left = left }
+
+-- The frames of some blocks were written, and those of the blocks behind them are made.
+pub record IsAhead (b : Start) (g : Progress) (f : Flow) (now after : Option (List ℕ)) (r w : ℕ) : Type 0 where
+  pub before : Progress
+  pub flows : Flows b before f.left f.source f.output now after r w
+  pub more : ℕ
+  pub is : g ≡ blocks_on before more (sample_bytes (in_turn (items_of f.made.items))) g.left
+  pub came : CameTo b g
+  pub whole : AreWhole (exchange_in b).outputs (more * b.blocking * (exchange_in b).made) (items_of f.made.items)
+
+-- these samples more were taken
+abbrev pub samples_on : Progress → List ℤ → Progress
+samples_on g more = record { samples = g.samples ++ more; blocks = g.blocks; bytes = g.bytes; left = g.left }
+
+-- all frames that were made are written
+pub record Writes (b : Start) (g : Progress) (f f' : Flow) (now after : Option (List ℕ)) (r w : ℕ) : Type 0 where
+  pub flows : Flows b g f'.left f'.source f'.output now after r w
+  pub none : items_of f'.made.items ≡ []
+  pub kept : f'.kept ≡ f.kept
+  pub left : f'.left ≡ f.left
+  pub most : f'.most ≡ f.most
+
+-- the next frames are taken: of those that are left as many as may be taken at a time
+pub record TakesNext (b : Start) (g : Progress) (f f' : Flow) (now after : Option (List ℕ)) (r w : ℕ) : Type 0 where
+  pub more : List ℤ
+  pub flows : Flows b (samples_on g more) f'.left f'.source f'.output now after r w
+  pub kept : f'.kept.items ≡ f.kept.items ++ more
+  pub made : f'.made ≡ f.made
+  pub left : f'.left ≡ f.left - min f.most f.left
+  pub most : f'.most ≡ f.most
+
+-- the one, and then the other
+pub record Turns (b : Start) (g : Progress) (f f' : Flow) (now after : Option (List ℕ)) (r w : ℕ) : Type 0 where
+  pub more : List ℤ
+  pub flows : Flows b (samples_on g more) f'.left f'.source f'.output now after r w
+  pub kept : f'.kept.items ≡ f.kept.items ++ more
+  pub none : items_of f'.made.items ≡ []
+  pub left : f'.left ≡ f.left - min f.most f.left
+  pub most : f'.most ≡ f.most
+
+-- so it is, whatever run came so far; or the run ends by a fault
+pub record TurnsAll (f f' : Flow) (now after : Option (List ℕ)) (r w : ℕ) (now' after' : Option (List ℕ)) (r' w' : ℕ)
+    (result : Result (Unit {0}) Fault) : Type 0 where
+  pub turns : (b : Start) (g : Progress) → CanFlow b → IsAhead b g f now after r w →
+      MatchResult result (λ x. Turns b g f f' now' after' r' w') (λ e. StreamsFrom b now' after' r' w' (Err e))
+
+-- ---- the whole state of a run
+
+-- it can go on
+pub record IsReady (b : Start) (t : Stream) : Type 0 where
+  pub can : CanFlow b
+  pub goes : GoesBy b.net b.period b.blocking t.runner
+  pub blocking : t.blocking ≡ b.blocking
+  pub channels : t.channels ≡ (reading_in b).channels
+  pub few_channels : t.channels ≤ MOST_CHANNELS
+  pub some_rate : 1 ≤ t.rate
+  pub exchange : t.exchange ≡ exchange_in b
+  pub limits : IsExchange t.exchange
+  pub piece : 0 < t.flow.most
+  -- frames wait to be written only while others are run
+  pub waits : t.at_once ≡ false → items_of t.flow.made.items ≡ []
+
+-- it came as far as this, and keeps the samples behind it
+pub record IsUnderWay (b : Start) (g : Progress) (t : Stream) (now after : Option (List ℕ)) (r w : ℕ) : Type 0 where
+  pub ready : IsReady b t
+  pub ahead : IsAhead b g t.flow now after r w
+  pub left : left_by t.runner ≡ g.left
+  pub kept : t.flow.kept.items ≡ drop (samples_run b g.blocks) g.samples
+
+abbrev pub GoesOn : Start → Stream → Option (List ℕ) → Option (List ℕ) → ℕ → ℕ → Type 0
+GoesOn b t now after r w = (g : Progress) × IsUnderWay b g t now after r w
+
+-- ---- its next blocks
+
+-- the portion is all of the next blocks
+pub record IsNext (b : Start) (g : Progress) (blocks : ℕ) (t : Stream) (y : Portion) : Type 0 where
+  pub follows : Follows b.net b.period b.blocking (sound_read (reading_in b) g.samples) g.blocks blocks g.bytes
+      (left_by t.runner) y
+  pub exchange : y.exchange ≡ exchange_in b
+  pub frames : y.frames ≡ y.periods * y.exchange.made
+  pub there : samples_run b (g.blocks + blocks) ≤ length g.samples
+
+-- a run whose kept samples stand behind the portion
+pub record IsStep (b : Start) (g : Progress) (blocks : ℕ) (t : Stream) (y : Portion) (now after : Option (List ℕ))
+    (r w : ℕ) : Type 0 where
+  pub ready : IsReady b t
+  pub ahead : IsAhead b g t.flow now after r w
+  pub next : IsNext b g blocks t y
+  pub kept : t.flow.kept.items ≡ drop (samples_run b (g.blocks + blocks)) g.samples

@@ -1,0 +1,81 @@
+//! What goes into a run and comes out of it: the frames of a source, and those that are made of them.
+
+ghost use Rattle.std.specs.Prelude.{ℕ, List, MatchResult, Option, Err};
+ghost use Rattle.sdf_process.specs.Flows.{CanFlow, Flows, IsAhead, Progress, Start, StreamsFrom, TakesNext, TurnsAll, Writes};
+
+use crate::putting::put_in_turn;
+use crate::source::Source;
+use sdf_plan::Fault;
+use sdf_wav::{ContentOut, Reader, Writer};
+use std::alloc::Global;
+use std::mem;
+
+/// What goes into a run and comes out of it.
+#[derive(Drop)]
+pub(crate) struct Flow {
+    pub(crate) source: Source,
+    /// Frames that are still to be taken.
+    pub(crate) left: usize,
+    /// The most frames that are taken at a time.
+    pub(crate) most: usize,
+    /// Samples that were taken and not run yet.
+    pub(crate) kept: Vec<i16>,
+    /// Frames that were made and not written yet, one list of them behind the other.
+    pub(crate) made: Vec<Vec<i16>>,
+    /// The memory of frames that were written.
+    pub(crate) spare: Vec<Vec<i16>>,
+    pub(crate) output: ContentOut,
+}
+
+impl Flow {
+    /// Writes the frames that were made.
+    pub(crate) fn write<W: Writer>(&mut self, alloc: Global, writer: &mut W) -> Result<(), Fault>
+        requires { (b : Start) × (g : Progress) × (now : Option (List ℕ)) × (r : ℕ) × CanFlow b
+            × IsAhead b g self.old now (W.contents writer.old) r (W.failures writer.old) }
+        ensures { (b : Start) (g : Progress) (now : Option (List ℕ)) (r : ℕ) → CanFlow b →
+            IsAhead b g self.old now (W.contents writer.old) r (W.failures writer.old) →
+            MatchResult result
+            (λ x. Writes b g self.old self.new now (W.contents writer.new) r (W.failures writer.new))
+            (λ f. StreamsFrom b now (W.contents writer.new) r (W.failures writer.new) (Err f)) }
+    {
+        put_in_turn(writer, &mut self.output, &self.made)?;
+        self.spare = mem::replace(&mut self.made, Vec::new(alloc));
+        Ok(())
+    }
+
+    /// Takes the next frames.
+    fn take<R: Reader>(&mut self, alloc: Global, reader: &mut R) -> Result<(), Fault>
+        requires { (b : Start) × (g : Progress) × (after : Option (List ℕ)) × (w : ℕ) × CanFlow b
+            × Flows b g self.old.left self.old.source self.old.output (R.remaining reader.old) after
+            (R.failures reader.old) w }
+        ensures { (b : Start) (g : Progress) (after : Option (List ℕ)) (w : ℕ) → CanFlow b →
+            Flows b g self.old.left self.old.source self.old.output (R.remaining reader.old) after
+            (R.failures reader.old) w →
+            MatchResult result
+            (λ x. TakesNext b g self.old self.new (R.remaining reader.new) after (R.failures reader.new) w)
+            (λ f. StreamsFrom b (R.remaining reader.new) after (R.failures reader.new) w (Err f)) }
+    {
+        let many = self.most.min(self.left);
+        let kept = mem::replace(&mut self.kept, Vec::new(alloc));
+        self.kept = self.source.take(alloc, reader, many, kept)?;
+        self.left -= many;
+        Ok(())
+    }
+
+    /// Writes the frames that were made, and takes the next ones.
+    pub(crate) fn turn<R: Reader, W: Writer>(
+        &mut self,
+        alloc: Global,
+        reader: &mut R,
+        writer: &mut W,
+    ) -> Result<(), Fault>
+        requires { (b : Start) × (g : Progress) × CanFlow b × IsAhead b g self.old (R.remaining reader.old)
+            (W.contents writer.old) (R.failures reader.old) (W.failures writer.old) }
+        ensures { TurnsAll self.old self.new (R.remaining reader.old) (W.contents writer.old) (R.failures reader.old)
+            (W.failures writer.old) (R.remaining reader.new) (W.contents writer.new) (R.failures reader.new)
+            (W.failures writer.new) result }
+    {
+        self.write(alloc, writer)?;
+        self.take(alloc, reader)
+    }
+}

@@ -1,0 +1,84 @@
+//! What a run goes on by. It makes frames of portions of a sound, and leaves it to others to write them.
+
+ghost use Rattle.std.specs.Prelude.{◌≡◌, ℕ, ℤ, IfOk, IfErr};
+ghost use Rattle.sdf_actor.specs.Nets.{Netlist};
+ghost use Rattle.sdf_actor.specs.Wires.{lists as items_of};
+ghost use Rattle.sdf_kit.specs.declared.kit.Kit.{Kit as KitValue};
+ghost use Rattle.sdf_plan.specs.declared.fault.Fault.TheVariants.{OutOfMemory};
+ghost use Rattle.sdf_sched.specs.Period.{Schedule};
+ghost use Rattle.sdf_process.specs.Streams.{CanRun, CanRunNext, FeedsBy, FeedsNext, IsFollowed, RunsNext, StaysRunner};
+
+use crate::playing::Player;
+use crate::portion::Portion;
+use crate::samples::make_frames;
+use sdf_kit::Kit;
+use sdf_plan::Fault;
+use sdf_run::{Gate, Session};
+use std::thread::Threads;
+
+/// What a run goes on by.
+#[derive(Drop)]
+pub(crate) enum Runner<'a> {
+    /// Workers that follow a table of blocks, over rows or rings.
+    Session(Session<'a, Kit>),
+    /// One thread, or parts at once.
+    Player(Player<'a>),
+}
+
+impl<'a> Runner<'a> {
+    /// Returns whether it runs parts at once.
+    pub(crate) fn is_cut(&self) -> bool {
+        match self {
+            Runner::Session(_) => false,
+            Runner::Player(player) => player.is_cut(),
+        }
+    }
+
+    /// Runs the periods of a portion, and makes the first frames of what they make: whole frames in one list or several.
+    pub(crate) fn run<T: Threads + AllocGlobal + Sync, G: Gate>(
+        &mut self,
+        rt: &T,
+        gate: &G,
+        portion: Portion<'_>,
+    ) -> Result<Vec<Vec<i16>>, Fault>
+        requires next { CanRunNext self.old portion }
+        ensures runs { IfOk result (λ v. RunsNext self.old self.new portion.entry (items_of v.items)) }
+        ensures refused { IfErr result (λ f. f ≡ OutOfMemory) }
+    {
+        match self {
+            Runner::Session(session) => run_fed(rt, gate, session, portion),
+            Runner::Player(player) => player.run(rt, portion),
+        }
+    }
+
+    /// Takes back the memory of frames that were written.
+    pub(crate) fn give_back(&mut self, frames: Vec<Vec<i16>>)
+        ensures { StaysRunner self.old self.new }
+    {
+        match self {
+            Runner::Session(_) => {}
+            Runner::Player(player) => player.give_back(frames),
+        }
+    }
+}
+
+/// Feeds a portion of whole blocks to a session, and makes the first frames of what it makes.
+fn run_fed<T: Threads + AllocGlobal + Sync, G: Gate>(
+    rt: &T,
+    gate: &G,
+    session: &mut Session<'_, Kit>,
+    portion: Portion<'_>,
+) -> Result<Vec<Vec<i16>>, Fault>
+    requires can { (n : Netlist KitValue ℤ) × (p : Schedule) × (j : ℕ)
+        × FeedsBy n p j session.old × CanRun n p j portion × IsFollowed n p j session.old.rest portion }
+    ensures runs { IfOk result (λ v. FeedsNext session.old session.new portion.entry (items_of v.items)) }
+    ensures refused { IfErr result (λ f. f ≡ OutOfMemory) }
+{
+    let alloc = rt.alloc();
+    let inputs = portion.lists(alloc, &mut [])?;
+    let ran = session.feed(rt, &inputs, gate)?;
+    let frames = make_frames(&ran.outputs, portion.frames, Vec::new(alloc))?;
+    let mut made = Vec::new(alloc);
+    made.push(frames)?;
+    Ok(made)
+}
