@@ -184,22 +184,24 @@ impl<'a> Player<'a> {
         Ok(made)
     }
 
-    /// Runs a portion in parts at once, each of which makes its own frames.
-    fn run_parts<T: Threads + AllocGlobal + Sync>(
+    /// Runs a portion in parts at once, each of which makes its own frames, and `meanwhile` beside them.
+    fn run_parts<T: Threads + AllocGlobal + Sync, G: FnMut() -> B, B>(
         &mut self,
         rt: &T,
         portion: Portion<'_>,
         cut: Cut,
-    ) -> Result<Vec<Vec<i16>>, Fault>
+        meanwhile: &mut G,
+    ) -> (Result<Vec<Vec<i16>>, Fault>, B)
         requires player { IsPlayer self.old }
         requires can { CanPlayNext self.old portion }
         requires all { portion.frames ≡ portion.periods * portion.exchange.made }
         requires warm { WarmsIn kit_steps self.old.net.now self.old.period.now.repetitions cut.warm }
-        ensures plays { IfOk result (λ v. PlaysNext self.old self.new portion.entry (items_of v.items)) }
-        ensures refused { IfErr result (λ f. f ≡ OutOfMemory) }
+        requires meanwhile { G.pre meanwhile.old }
+        ensures plays { IfOk result.0 (λ v. PlaysNext self.old self.new portion.entry (items_of v.items)) }
+        ensures refused { IfErr result.0 (λ f. f ≡ OutOfMemory) }
         ensures stays { StaysPlayer self.old self.new }
+        ensures meanwhile { G.step meanwhile.old result.1 meanwhile.new }
     {
-        let alloc = rt.alloc();
         let split = Split {
             net: self.net,
             period: self.period,
@@ -208,27 +210,35 @@ impl<'a> Player<'a> {
             size: part_size(portion.periods, cut.parts.max(1), cut.warm),
         };
         let workers = &mut self.workers;
-        let (parts, last) = resume_split(rt, alloc, &portion, split, &self.rest, workers)?;
-        self.rest = last;
-        Ok(parts)
+        let (ran, done) = resume_split(rt, &portion, split, &self.rest, workers, meanwhile);
+        match ran {
+            Ok((parts, last)) => {
+                self.rest = last;
+                (Ok(parts), done)
+            }
+            Err(fault) => (Err(fault.into()), done),
+        }
     }
 
-    /// Runs a portion, and makes frames of what it makes.
-    pub(crate) fn run<T: Threads + AllocGlobal + Sync>(
+    /// Runs a portion, and makes frames of what it makes. `meanwhile` is run beside parts, or behind a run on one thread.
+    pub(crate) fn run<T: Threads + AllocGlobal + Sync, G: FnMut() -> B, B>(
         &mut self,
         rt: &T,
         portion: Portion<'_>,
-    ) -> Result<Vec<Vec<i16>>, Fault>
+        meanwhile: &mut G,
+    ) -> (Result<Vec<Vec<i16>>, Fault>, B)
         requires player { IsPlayer self.old }
         requires can { CanPlayNext self.old portion }
         requires all { portion.frames ≡ portion.periods * portion.exchange.made }
-        ensures plays { IfOk result (λ v. PlaysNext self.old self.new portion.entry (items_of v.items)) }
-        ensures refused { IfErr result (λ f. f ≡ OutOfMemory) }
+        requires meanwhile { G.pre meanwhile.old }
+        ensures plays { IfOk result.0 (λ v. PlaysNext self.old self.new portion.entry (items_of v.items)) }
+        ensures refused { IfErr result.0 (λ f. f ≡ OutOfMemory) }
         ensures stays { StaysPlayer self.old self.new }
+        ensures meanwhile { G.step meanwhile.old result.1 meanwhile.new }
     {
         match self.cut {
-            Some(cut) => self.run_parts(rt, portion, cut),
-            None => self.run_whole(rt.alloc(), portion),
+            Some(cut) => self.run_parts(rt, portion, cut, meanwhile),
+            None => (self.run_whole(rt.alloc(), portion), meanwhile()),
         }
     }
 

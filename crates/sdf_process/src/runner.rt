@@ -35,6 +35,27 @@ impl<'a> Runner<'a> {
     }
 
     /// Runs the periods of a portion, and makes the first frames of what they make: whole frames in one list or several.
+    /// `meanwhile` is run beside parts, or behind any other run.
+    pub(crate) fn run_beside<T: Threads + AllocGlobal + Sync, G: Gate, M: FnMut() -> B, B>(
+        &mut self,
+        rt: &T,
+        gate: &G,
+        portion: Portion<'_>,
+        meanwhile: &mut M,
+    ) -> (Result<Vec<Vec<i16>>, Fault>, B)
+        requires next { CanRunNext self.old portion }
+        requires meanwhile { M.pre meanwhile.old }
+        ensures runs { IfOk result.0 (λ v. RunsNext self.old self.new portion.entry (items_of v.items)) }
+        ensures refused { IfErr result.0 (λ f. f ≡ OutOfMemory) }
+        ensures meanwhile { M.step meanwhile.old result.1 meanwhile.new }
+    {
+        match self {
+            Runner::Session(session) => (run_fed(rt, gate, session, portion), meanwhile()),
+            Runner::Player(player) => player.run(rt, portion, meanwhile),
+        }
+    }
+
+    /// Runs the periods of a portion, with nothing beside it.
     pub(crate) fn run<T: Threads + AllocGlobal + Sync, G: Gate>(
         &mut self,
         rt: &T,
@@ -45,10 +66,8 @@ impl<'a> Runner<'a> {
         ensures runs { IfOk result (λ v. RunsNext self.old self.new portion.entry (items_of v.items)) }
         ensures refused { IfErr result (λ f. f ≡ OutOfMemory) }
     {
-        match self {
-            Runner::Session(session) => run_fed(rt, gate, session, portion),
-            Runner::Player(player) => player.run(rt, portion),
-        }
+        let (ran, _) = self.run_beside(rt, gate, portion, &mut || {});
+        ran
     }
 
     /// Takes back the memory of frames that were written.

@@ -2,7 +2,6 @@
 
 ghost use Rattle.std.specs.Prelude.{◌≡◌, ◌-◌, ◌≤◌, min, ℕ, List, [], length, drop, Option, Err, true, IfErr, IfOk};
 ghost use Rattle.std.specs.Prelude.{MatchResult};
-ghost use Rattle.std.specs.Thread.{IsSync};
 ghost use Rattle.sdf_actor.specs.Wires.{lists as items_of};
 ghost use Rattle.sdf_plan.specs.declared.fault.Fault.TheVariants.{OutOfMemory};
 ghost use Rattle.sdf_process.specs.Flows.{CanFlow, GoesOn, IsAhead, IsStep, Progress, Start, StreamsFrom, TurnsAll};
@@ -24,7 +23,7 @@ use sdf_sched::Period;
 use sdf_wav::{Reader, Wav, Writer};
 use std::alloc::{AllocError, Global};
 use std::mem;
-use std::thread::{Threads, join_mut};
+use std::thread::Threads;
 
 /// The samples behind the first ones.
 fn behind(alloc: Global, samples: &[i16], from: usize) -> Result<Vec<i16>, AllocError>
@@ -199,7 +198,7 @@ impl<'a> Stream<'a> {
     }
 }
 
-/// Runs a portion in a thread of its own, while the frames before are written and the next ones are taken in this one.
+/// Runs a portion, while the frames before are written and the next ones are taken.
 fn run_while_turning<T: Threads + AllocGlobal + Sync, R: Reader, W: Writer, G: Gate>(
     rt: &T,
     runner: &mut Runner<'_>,
@@ -219,22 +218,13 @@ fn run_while_turning<T: Threads + AllocGlobal + Sync, R: Reader, W: Writer, G: G
         (W.failures writer.new) result.1 }
 {
     let alloc = rt.alloc();
-    join_mut(
-        rt,
-        &mut || -> Result<Vec<Vec<i16>>, Fault>
-            requires { IsSync T.row × CanRunNext runner.now portion }
-            ensures { IfOk result (λ v. RunsNext runner.entry.now runner.exit.now portion.entry (items_of v.items))
-                × IfErr result (λ f. f ≡ OutOfMemory) }
-        { runner.run(rt, gate, portion) },
-        &mut || -> Result<(), Fault>
-            requires { (b : Start) × (g : Progress) × CanFlow b × IsAhead b g flow.now (R.remaining reader.now)
-                (W.contents writer.now) (R.failures reader.now) (W.failures writer.now) }
-            ensures { TurnsAll flow.entry.now flow.exit.now (R.remaining reader.entry.now)
-                (W.contents writer.entry.now) (R.failures reader.entry.now) (W.failures writer.entry.now)
-                (R.remaining reader.exit.now) (W.contents writer.exit.now) (R.failures reader.exit.now)
-                (W.failures writer.exit.now) result }
-        { flow.turn(alloc, reader, writer) },
-    )
+    runner.run_beside(rt, gate, portion, &mut || -> Result<(), Fault>
+        requires { (b : Start) × (g : Progress) × CanFlow b × IsAhead b g flow.now (R.remaining reader.now)
+            (W.contents writer.now) (R.failures reader.now) (W.failures writer.now) }
+        ensures { TurnsAll flow.entry.now flow.exit.now (R.remaining reader.entry.now) (W.contents writer.entry.now)
+            (R.failures reader.entry.now) (W.failures writer.entry.now) (R.remaining reader.exit.now)
+            (W.contents writer.exit.now) (R.failures reader.exit.now) (W.failures writer.exit.now) result }
+    { flow.turn(alloc, reader, writer) })
 }
 
 /// Runs a net on the frames of a source: takes some frames, runs all whole blocks that there are, writes what they make,

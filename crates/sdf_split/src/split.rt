@@ -6,6 +6,7 @@ ghost use Rattle.sdf_answer.specs.Answer.{periods_of};
 ghost use Rattle.sdf_answer.specs.declared.fault.RunFault.TheVariants.{OutOfMemory};
 ghost use Rattle.sdf_split.specs.Parts.{IsSplit, AreMade, IsMade, part_count, GoesOnInParts};
 
+use crate::beside::for_each_beside;
 use crate::ends::Ends;
 use crate::part::{Made, Split};
 use crate::workers::{Worker, Workers, work};
@@ -13,7 +14,6 @@ use sdf_actor::{Actor, Rest};
 use sdf_answer::RunFault;
 use sdf_answer::laws::nets_have_periods;
 use std::alloc::Global;
-use std::thread;
 use std::thread::Threads;
 
 /// Takes out what all parts made, in order, and the state in which the last one leaves the net.
@@ -43,29 +43,30 @@ fn taken<A: Actor, E: Ends<A::Token>>(
     Ok((all, last.unwrap()))
 }
 
-/// Runs all parts at once, a worker each, and takes out what they made.
-fn run_parts<R: Threads + Sync, A: Actor, E: Ends<A::Token>>(
+/// Runs all parts at once, a worker each, and `meanwhile` beside them. Takes out what the parts made.
+fn run_parts<R: Threads + AllocGlobal + Sync, A: Actor, E: Ends<A::Token>, G: FnMut() -> B, B>(
     rt: &R,
-    alloc: Global,
     ends: &E,
     split: Split<'_, A>,
     rest: &Rest<A::Token, A::State>,
     workers: &mut [Worker<E::Made, A::Token, A::State>],
-) -> Result<(Vec<E::Made>, Rest<A::Token, A::State>), RunFault>
+    meanwhile: &mut G,
+) -> (Result<(Vec<E::Made>, Rest<A::Token, A::State>), RunFault>, B)
     requires split { IsSplit A.steps (E.inputs ends.now) split }
     requires rest { (first : List (List A.Token)) × (few : ℕ)
         × IsRest A.steps split.net.now first (periods_of split.period.now.repetitions few) rest.now }
     requires all { length workers.old ≡ part_count split }
-    ensures { MatchResult result
+    requires meanwhile { G.pre meanwhile.old }
+    ensures ran { MatchResult result.0
         (λ r. GoesOnInParts A.steps split.entry.net.now split.entry.period.now.repetitions (E.inputs ends.now)
         (E.makes ends.now) rest.now split.entry.periods r.0.items r.1)
         (λ fault. fault ≡ OutOfMemory) }
+    ensures meanwhile { G.step meanwhile.old result.1 meanwhile.new }
 {
-    let count = workers.len().max(1);
-    thread::for_each_mut(
+    let alloc = rt.alloc();
+    let done = for_each_beside(
         rt,
         workers,
-        count,
         &|i: usize, worker: &mut Worker<E::Made, A::Token, A::State>|
             requires { IsSplit A.steps (E.inputs ends.now) split
                 × ((first : List (List A.Token)) × (few : ℕ)
@@ -74,30 +75,40 @@ fn run_parts<R: Threads + Sync, A: Actor, E: Ends<A::Token>>(
             ensures { IsMade A.steps (E.inputs ends.entry.now) (E.makes ends.entry.now) split.entry rest.entry.now i
                 worker.exit.now.made }
         { work(alloc, ends, split, rest, i, worker) },
+        meanwhile,
     );
-    taken(alloc, ends, split, rest, workers)
+    (taken(alloc, ends, split, rest, workers), done)
 }
 
 /// Goes on from a rest as `resume_one` does, in parts that are run at once. Each part except the first is run after a
 /// warm-up on the periods before it. Returns what the outputs of the parts became, in order, and what the run leaves.
 /// The memory of `workers` is used again.
-pub fn resume_split<R: Threads + Sync, A: Actor, E: Ends<A::Token>>(
+///
+/// Each part has a thread of its own. `meanwhile` is run once in this one, also if memory is refused.
+pub fn resume_split<R: Threads + AllocGlobal + Sync, A: Actor, E: Ends<A::Token>, G: FnMut() -> B, B>(
     rt: &R,
-    alloc: Global,
     ends: &E,
     split: Split<'_, A>,
     rest: &Rest<A::Token, A::State>,
     workers: &mut Workers<E::Made, A::Token, A::State>,
-) -> Result<(Vec<E::Made>, Rest<A::Token, A::State>), RunFault>
+    meanwhile: &mut G,
+) -> (Result<(Vec<E::Made>, Rest<A::Token, A::State>), RunFault>, B)
     requires split { IsSplit A.steps (E.inputs ends.now) split }
     requires rest { (first : List (List A.Token)) × (few : ℕ)
         × IsRest A.steps split.net.now first (periods_of split.period.now.repetitions few) rest.now }
-    ensures { MatchResult result
+    requires meanwhile { G.pre meanwhile.old }
+    ensures ran { MatchResult result.0
         (λ r. GoesOnInParts A.steps split.entry.net.now split.entry.period.now.repetitions (E.inputs ends.now)
         (E.makes ends.now) rest.now split.entry.periods r.0.items r.1)
         (λ fault. fault ≡ OutOfMemory) }
+    ensures meanwhile { G.step meanwhile.old result.1 meanwhile.new }
 {
     let count = split.periods.div_ceil(split.size).max(1) as usize;
-    workers.take_on(alloc, count)?;
-    run_parts(rt, alloc, ends, split, rest, &mut workers.all[..count])
+    match workers.take_on(rt.alloc(), count) {
+        Ok(()) => {
+            let all = &mut workers.all[..count];
+            run_parts(rt, ends, split, rest, all, meanwhile)
+        }
+        Err(refused) => (Err(refused.into()), meanwhile()),
+    }
 }
