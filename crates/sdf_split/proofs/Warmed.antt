@@ -4,10 +4,10 @@ use Rattle.std.proofs.Common.{◌∙◌, ⊎_elim, arith, zero-mul}
 use Rattle.std.proofs.lemmas.Bool.{cases_lt}
 use Rattle.std.proofs.lemmas.List.{length-replicate, get_or-replicate, get_or_past}
 use Rattle.sdf_actor.specs.declared.rest.Rest.{Rest}
-use Rattle.sdf_actor.specs.declared.sides.Lists.TheVariants.{Inputs, Outputs}
+use Rattle.sdf_actor.specs.declared.sides.Lists.TheVariants.{Outputs}
 use Rattle.sdf_actor.specs.Nets.{Netlist}
 use Rattle.sdf_actor.specs.Rests.{IsRest}
-use Rattle.sdf_actor.specs.Sides.{list_count, period_samples}
+use Rattle.sdf_actor.specs.Sides.{list_count}
 use Rattle.sdf_actor.specs.Steps.{Steps}
 use Rattle.sdf_answer.specs.Answer.{HasInputs, periods_of}
 use Rattle.sdf_answer.specs.Feeds.{HasRun, AreFull, GoesOnBy}

@@ -46,13 +46,13 @@ fn call_at<T, F: Fn(usize, &mut T)>(f: &F, i: usize, s: &mut [T])
 
 /// Does so with elements whose first number is `i`.
 #[cycle(places)]
-fn from_place<
-    R: Threads + Sync,
-    T: Send,
-    F: Fn(usize, &mut T) + Sync,
-    G: FnMut() -> B,
-    B,
->(rt: &R, f: &F, i: usize, s: &mut [T], meanwhile: &mut G) -> B
+fn from_place<R: Threads + Sync, T: Send, F: Fn(usize, &mut T) + Sync, G: FnMut() -> B, B>(
+    rt: &R,
+    f: &F,
+    i: usize,
+    s: &mut [T],
+    meanwhile: &mut G,
+) -> B
     requires room { i + length s.old < 2 ^ 64 }
     requires accepts { AcceptsFrom F.Fn f.now i s.old }
     requires meanwhile { G.pre meanwhile.old }
@@ -68,13 +68,14 @@ fn from_place<
 
 /// Does so with one element of number `i`, and with the others.
 #[cycle(places)]
-fn first_beside<
-    R: Threads + Sync,
-    T: Send,
-    F: Fn(usize, &mut T) + Sync,
-    G: FnMut() -> B,
-    B,
->(rt: &R, f: &F, i: usize, first: &mut [T], others: &mut [T], meanwhile: &mut G) -> B
+fn first_beside<R: Threads + Sync, T: Send, F: Fn(usize, &mut T) + Sync, G: FnMut() -> B, B>(
+    rt: &R,
+    f: &F,
+    i: usize,
+    first: &mut [T],
+    others: &mut [T],
+    meanwhile: &mut G,
+) -> B
     requires one { length first.old ≡ 1 }
     requires room { i + 1 + length others.old < 2 ^ 64 }
     requires first { AcceptsFrom F.Fn f.now i first.old }

@@ -51,7 +51,10 @@ fn run_parts<R: Threads + AllocGlobal + Sync, A: Actor, E: Ends<A::Token>, G: Fn
     rest: &Rest<A::Token, A::State>,
     workers: &mut [Worker<E::Made, A::Token, A::State>],
     meanwhile: &mut G,
-) -> (Result<(Vec<E::Made>, Rest<A::Token, A::State>), RunFault>, B)
+) -> (
+    Result<(Vec<E::Made>, Rest<A::Token, A::State>), RunFault>,
+    B,
+)
     requires split { IsSplit A.steps (E.inputs ends.now) split }
     requires rest { (first : List (List A.Token)) × (few : ℕ)
         × IsRest A.steps split.net.now first (periods_of split.period.now.repetitions few) rest.now }
@@ -85,14 +88,23 @@ fn run_parts<R: Threads + AllocGlobal + Sync, A: Actor, E: Ends<A::Token>, G: Fn
 /// The memory of `workers` is used again.
 ///
 /// Each part has a thread of its own. `meanwhile` is run once in this one, also if memory is refused.
-pub fn resume_split<R: Threads + AllocGlobal + Sync, A: Actor, E: Ends<A::Token>, G: FnMut() -> B, B>(
+pub fn resume_split<
+    R: Threads + AllocGlobal + Sync,
+    A: Actor,
+    E: Ends<A::Token>,
+    G: FnMut() -> B,
+    B,
+>(
     rt: &R,
     ends: &E,
     split: Split<'_, A>,
     rest: &Rest<A::Token, A::State>,
     workers: &mut Workers<E::Made, A::Token, A::State>,
     meanwhile: &mut G,
-) -> (Result<(Vec<E::Made>, Rest<A::Token, A::State>), RunFault>, B)
+) -> (
+    Result<(Vec<E::Made>, Rest<A::Token, A::State>), RunFault>,
+    B,
+)
     requires split { IsSplit A.steps (E.inputs ends.now) split }
     requires rest { (first : List (List A.Token)) × (few : ℕ)
         × IsRest A.steps split.net.now first (periods_of split.period.now.repetitions few) rest.now }

@@ -1,4 +1,4 @@
-use Rattle.std.proofs.Common.{◌≡◌, ◌++◌, length, sym, subst, arith}
+use Rattle.std.proofs.Common.{◌++◌, sym, subst, arith}
 use Rattle.sdf_split.specs.Beside.{ChangesFrom}
 use Rattle.sdf_split.proofs.Places.{changes_on}
 use Rattle.sdf_split.proofs.beside.+places.Goals as goal

@@ -3,8 +3,8 @@ use Rattle.std.proofs.iter.Serving.{serving}
 use Rattle.sdf_split.specs.Parts.{IsMade}
 use Rattle.sdf_split.proofs.split.run_parts.Goals as goal
 
-pub for_each_mut-requires-clause-accepts : goal.for_each_mut-requires-clause-accepts
-for_each_mut-requires-clause-accepts g c κs within = λ i p l is. (
+pub for_each_beside-done-requires-clause-accepts : goal.for_each_beside-done-requires-clause-accepts
+for_each_beside-done-requires-clause-accepts g c κs within = λ i p l is. (
   (c.requires.split, c.requires.rest, subst (λ k. i < k) c.requires.all l),
   (
     search rules,
@@ -19,6 +19,6 @@ for_each_mut-requires-clause-accepts g c κs within = λ i p l is. (
 
 pub taken-requires-clause-made : goal.taken-requires-clause-made
 taken-requires-clause-made g c κs within = λ i d l.
-    let at = c.for_each_mut.ensures i d (omega (arith, l, c.for_each_mut.auto.s)) in
+    let at = c.for_each_beside-done.ensures.each i d (omega (arith, l, c.for_each_beside-done.auto.s)) in
     subst (λ u. IsMade g.A.Actor.steps (g.E.Ends.inputs c.args.ends.now) (g.E.Ends.makes c.args.ends.now) c.args.split
     c.args.rest.now i u.made) at.1.left at.1.call
