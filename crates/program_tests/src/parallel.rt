@@ -29,7 +29,7 @@ const PARALLEL: &[Row] = &[
     (
         "kept parallel 3 why",
         "run kept.toml in.wav out.wav --parallel 3 --why",
-        "0\n--\n3 workers, each on its own part of the sound after 5 periods (5 samples) of warm-up\n\
+        "0\n--\none thread: the sound is shorter than two parts\n\
          output 0: 2 frames, peak -76.3 dB, 0 samples at full scale\n--\n<5 -5>",
     ),
     (

@@ -142,10 +142,15 @@ impl Levels {
         }
         let frame = (self.channels() as u64).max(1) * 2;
         Some(Passed {
-            frames: self.outputs[0].frames,
+            frames: self.frames(),
             all: self.number(40) / frame,
             rate: self.number(24),
         })
+    }
+
+    /// Returns how many frames are written.
+    pub fn frames(&self) -> u64 {
+        self.outputs[0].frames
     }
 
     /// What is said of the outputs, a line for each.

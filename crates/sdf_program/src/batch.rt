@@ -6,7 +6,7 @@ ghost use Rattle.sdf_plan.specs.Statuses.{status_of};
 ghost use Rattle.sdf_words.specs.Limits.{IsCrew};
 
 use crate::items::{Item, items_of, settle};
-use crate::running::{Planned, Running, plan_of, run_planned, workers_of};
+use crate::running::{Planned, Prepared, Running, plan_of, run_planned, workers_of};
 use sdf_commands::making::make_folder;
 use sdf_commands::telling::why;
 use sdf_files::files::{Loaded, Sources, put};
@@ -14,7 +14,7 @@ use sdf_files::overwriting::{Paths, keep_what_is_read};
 use sdf_files::storage::Storage;
 use sdf_files::world::{STANDARD, World};
 use sdf_options::printable::printable;
-use sdf_plan::{Fault, Plan, fault_text, status};
+use sdf_plan::{Fault, fault_text, status};
 use sdf_words::{Batch, Crew, Run};
 use std::alloc::{AllocError, Global};
 use std::io::Write;
@@ -61,7 +61,7 @@ fn running_of<'a>(batching: Batching<'a>, input: &'a str, output: &'a str) -> Ru
 #[derive(Clone, Copy)]
 struct Course<'a> {
     batching: Batching<'a>,
-    plan: &'a Plan,
+    prepared: &'a Prepared,
 }
 
 /// Refuses a file to write that the run which writes it reads.
@@ -172,13 +172,14 @@ fn run_item<'a, S: Storage, T: Threads + AllocGlobal + Clock + Sync>(
     course: Course<'_>,
     item: &Item<'a>,
 ) -> Outcome<'a>
-    requires { Suits course.batching.loaded.now.design.net course.plan.now }
+    requires { Suits course.batching.loaded.now.design.net course.prepared.now.plan }
 {
     let alloc = world.threads.alloc();
-    let Course { batching, plan } = course;
+    let Course { batching, prepared } = course;
     let planned = Planned {
         running: running_of(batching, item.input, item.part.as_str()),
-        plan,
+        plan: &prepared.plan,
+        pace: prepared.pace,
     };
     let mut nothing: &[u8] = b"";
     let mut unwritten = Vec::new(alloc);
@@ -206,14 +207,14 @@ fn run_items<'a, S: Storage, T: Threads + AllocGlobal + Clock + Sync>(
     course: Course<'_>,
     items: &[Item<'a>],
 ) -> Result<Vec<Outcome<'a>>, AllocError>
-    requires { Suits course.batching.loaded.now.design.net course.plan.now }
+    requires { Suits course.batching.loaded.now.design.net course.prepared.now.plan }
 {
     thread::map_indices(
         world.threads,
         world.threads.alloc(),
         items.len(),
         &|i: usize| -> Outcome
-            requires { (i < length items.now) × Suits course.batching.loaded.now.design.net course.plan.now }
+            requires { (i < length items.now) × Suits course.batching.loaded.now.design.net course.prepared.now.plan }
         { run_item(world, course, &items[i]) },
     )
 }
@@ -243,7 +244,7 @@ fn serve_group<S: Storage, T: Threads + AllocGlobal + Clock + Sync, O: Write, E:
     items: &[Item<'_>],
     sources: &mut Sources,
 ) -> Result<u8, Fault>
-    requires { Suits course.batching.loaded.now.design.net course.plan.now }
+    requires { Suits course.batching.loaded.now.design.net course.prepared.now.plan }
 {
     let alloc = world.threads.alloc();
     let mut outcomes = run_items(world, course, items)?;
@@ -270,7 +271,7 @@ fn serve_items<S: Storage, T: Threads + AllocGlobal + Clock + Sync, O: Write, E:
     course: Course<'_>,
     sources: &mut Sources,
 ) -> Result<u8, Fault>
-    requires { Suits course.batching.loaded.now.design.net course.plan.now }
+    requires { Suits course.batching.loaded.now.design.net course.prepared.now.plan }
 {
     let alloc = world.threads.alloc();
     let batching = course.batching;
@@ -295,12 +296,12 @@ pub(crate) fn run_batch<S: Storage, T: Threads + AllocGlobal + Clock + Sync, O: 
 ) -> Result<u8, Fault>
     requires { IfSome batching.asked.now.parallel IsCrew }
 {
-    let plan = plan_of(world.threads, err, running_of(batching, STANDARD, STANDARD))?;
+    let prepared = plan_of(world.threads, err, running_of(batching, STANDARD, STANDARD))?;
     let course = Course {
         batching,
-        plan: &plan,
+        prepared: &prepared,
     };
     let done = serve_items(world, out, err, course, sources);
-    drop(plan);
+    drop(prepared);
     done
 }

@@ -19,6 +19,7 @@ use sdf_plan::parallel::{Pace, Paced, parallel_plan};
 use sdf_plan::planning::plan;
 use sdf_plan::{Fault, Plan};
 use sdf_process::process::process;
+use sdf_split::part_size;
 use sdf_wav::{FromRead, ToWrite};
 use sdf_why::loop_text;
 use sdf_words::{Crew, Run};
@@ -53,11 +54,19 @@ impl<'a> Running<'a> {
     }
 }
 
+/// The plan of a run, and how a parallel run goes by it.
+#[derive(Drop)]
+pub(crate) struct Prepared {
+    pub(crate) plan: Plan,
+    pub(crate) pace: Option<Pace>,
+}
+
 /// A run and its plan.
 #[derive(Clone, Copy)]
 pub(crate) struct Planned<'a> {
     pub(crate) running: Running<'a>,
     pub(crate) plan: &'a Plan,
+    pub(crate) pace: Option<Pace>,
 }
 
 /// Runs a plan from the first byte of one stream to the last of another.
@@ -79,16 +88,38 @@ fn run_between<T: Threads + AllocGlobal + Sync, R: Read, W: Write>(
     )
 }
 
-/// Says how loud the outputs of a run are, if they were counted.
-fn tell_levels<E: Write>(
+/// Returns how a sound was run in parts of which `frames` frames were made, if it was to be.
+fn parts_text(alloc: Global, planned: Planned<'_>, frames: u64) -> Result<String, AllocError> {
+    let Some(Pace::Parts {
+        workers,
+        periods,
+        samples,
+    }) = planned.pace
+    else {
+        return Ok(String::new(alloc));
+    };
+    let made = planned.running.loaded.design.net().samples_out() as u64;
+    let run = u32::try_from(frames.div_ceil(made)).unwrap_or(u32::MAX);
+    if run <= part_size(run, workers.clamp(1, MOST_WORKERS) as u32, periods) {
+        return String::from_str(alloc, "one thread: the sound is shorter than two parts\n");
+    }
+    format!(in alloc;
+        "{workers} workers, each on its own part of the sound after {periods} periods ({samples} samples) of warm-up\n"
+    )
+}
+
+/// Says how a sound was run in parts, and how loud its outputs are, if they were counted.
+fn tell_end<E: Write>(
     alloc: Global,
     err: &mut E,
+    planned: Planned<'_>,
     levels: Option<Levels>,
 ) -> Result<(), AllocError> {
     let Some(levels) = levels else {
         return Ok(());
     };
-    let text = levels.text(alloc)?;
+    let mut text = parts_text(alloc, planned, levels.frames())?;
+    text.push_str(levels.text(alloc)?.as_str())?;
     let _ = err.write_all(text.as_bytes());
     Ok(())
 }
@@ -102,19 +133,19 @@ struct Ran {
 }
 
 impl Ran {
-    /// Notes how the system refused the file `output`, and says how loud the outputs are if the run ended well.
+    /// Notes how the system refused the output, and says how the run went if it ended well.
     fn finish<E: Write>(
         self,
         alloc: Global,
         err: &mut E,
-        output: &str,
+        planned: Planned<'_>,
         refused: &mut Vec<Refused>,
     ) -> Result<(), Fault> {
         if let Some(kind) = self.refused {
-            refuse_kind(alloc, refused, output, kind);
+            refuse_kind(alloc, refused, planned.running.asked.output, kind);
         }
         self.ended?;
-        Ok(tell_levels(alloc, err, self.levels)?)
+        Ok(tell_end(alloc, err, planned, self.levels)?)
     }
 }
 
@@ -128,7 +159,7 @@ fn run_shown<T: Threads + AllocGlobal + Clock + Sync, R: Read, W: Write, E: Writ
 ) -> Ran
     requires { Suits planned.running.loaded.now.design.net planned.plan.now }
 {
-    let Planned { running, plan } = planned;
+    let Planned { running, plan, .. } = planned;
     let shown = Shown {
         alloc: threads.alloc(),
         err,
@@ -149,8 +180,7 @@ fn run_shown<T: Threads + AllocGlobal + Clock + Sync, R: Read, W: Write, E: Writ
     }
 }
 
-/// Runs a plan on a stream into another one. A run that ends well says how loud its outputs are if more is said than
-/// faults.
+/// Runs a plan on a stream into another one. A run that ends well says how it went if more is said than faults.
 fn run_into<T: Threads + AllocGlobal + Clock + Sync, R: Read, W: Write, E: Write>(
     threads: &T,
     from: &mut R,
@@ -162,7 +192,7 @@ fn run_into<T: Threads + AllocGlobal + Clock + Sync, R: Read, W: Write, E: Write
     requires { Suits planned.running.loaded.now.design.net planned.plan.now }
 {
     let ran = run_shown(threads, from, to, err, planned);
-    ran.finish(threads.alloc(), err, planned.running.asked.output, refused)
+    ran.finish(threads.alloc(), err, planned, refused)
 }
 
 /// Runs a plan on a stream that is open. OUT is made or emptied where none of the files that are read is OUT.
@@ -271,25 +301,16 @@ fn lasting_text(alloc: Global, design: &Design) -> Result<String, AllocError> {
     format!(in alloc; "one thread: the loop {told} keeps its samples for ever\n")
 }
 
-/// Returns how a parallel run goes, on one line.
+/// Returns why a parallel run goes in one thread, if that is known before it begins.
 fn pace_text(alloc: Global, design: &Design, pace: Pace) -> Result<String, AllocError> {
     match pace {
-        Pace::Parts {
-            workers,
-            periods,
-            samples,
-        } => {
-            format!(in alloc;
-                "{workers} workers, each on its own part of the sound after {periods} periods ({samples} samples) of \
-                 warm-up\n"
-            )
-        }
+        Pace::Parts { .. } => Ok(String::new(alloc)),
         Pace::Lasting => lasting_text(alloc, design),
         Pace::Alone => String::from_str(alloc, "one thread: one worker is asked for\n"),
     }
 }
 
-/// Tells how a parallel run goes.
+/// Tells why a parallel run goes in one thread, if that is known before it begins.
 fn tell_pace<E: Write>(
     alloc: Global,
     err: &mut E,
@@ -301,16 +322,16 @@ fn tell_pace<E: Write>(
     Ok(())
 }
 
-/// The plan of a parallel run. How that goes is told where more is said than faults.
+/// The plan of a parallel run. Why that goes in one thread is told where more is said than faults.
 fn crew_plan<T: Threads + AllocGlobal, E: Write>(
     threads: &T,
     err: &mut E,
     design: &Design,
     crew: Crew,
     is_said: bool,
-) -> Result<Plan, Fault>
+) -> Result<Prepared, Fault>
     requires { IsCrew crew }
-    ensures { IfOk result (λ plan. Suits design.now.net plan) }
+    ensures { IfOk result (λ prepared. Suits design.now.net prepared.plan) }
 {
     let alloc = threads.alloc();
     let Paced { plan, pace } = parallel_plan(alloc, design, workers_of(threads, crew))?;
@@ -320,7 +341,10 @@ fn crew_plan<T: Threads + AllocGlobal, E: Write>(
         Ok(())
     };
     match told {
-        Ok(()) => Ok(plan),
+        Ok(()) => Ok(Prepared {
+            plan,
+            pace: Some(pace),
+        }),
         Err(refused) => {
             drop(plan);
             Err(Fault::from(refused))
@@ -333,14 +357,17 @@ pub(crate) fn plan_of<T: Threads + AllocGlobal, E: Write>(
     threads: &T,
     err: &mut E,
     running: Running<'_>,
-) -> Result<Plan, Fault>
+) -> Result<Prepared, Fault>
     requires { IfSome running.asked.parallel IsCrew }
-    ensures { IfOk result (λ plan. Suits running.entry.loaded.now.design.net plan) }
+    ensures { IfOk result (λ prepared. Suits running.entry.loaded.now.design.net prepared.plan) }
 {
     let design = &running.loaded.design;
     match running.asked.parallel {
         Some(crew) => crew_plan(threads, err, design, crew, running.is_said),
-        None => plan(threads.alloc(), design, &running.asked.options),
+        None => Ok(Prepared {
+            plan: plan(threads.alloc(), design, &running.asked.options)?,
+            pace: None,
+        }),
     }
 }
 
@@ -356,12 +383,13 @@ pub(crate) fn run<S: Storage, T: Threads + AllocGlobal + Clock + Sync, I: Read, 
 ) -> Result<(), Fault>
     requires { IfSome running.asked.parallel IsCrew }
 {
-    let plan = plan_of(world.threads, err, running)?;
+    let prepared = plan_of(world.threads, err, running)?;
     let planned = Planned {
         running,
-        plan: &plan,
+        plan: &prepared.plan,
+        pace: prepared.pace,
     };
     let done = run_planned(world, stdin, out, err, planned, sources);
-    drop(plan);
+    drop(prepared);
     done
 }
