@@ -14,6 +14,7 @@ pub mod Rendering
 pub mod Outputs
 pub mod Played
 pub mod Pieced
+mod Runs
 pub mod InTurn
 pub mod InParts
 pub mod Parts

@@ -17,9 +17,7 @@ use Rattle.sdf_actor.specs.Sides.{period_samples}
 use Rattle.sdf_actor.specs.Steps.{Steps}
 use Rattle.sdf_answer.specs.Answer.{AreOutputs, HasInputs, IsRunFault, periods_of as firings}
 use Rattle.sdf_answer.specs.declared.fault.RunFault.{RunFault}
-use Rattle.sdf_plan.specs.declared.fault.Fault.{Fault}
-use Rattle.sdf_plan.specs.declared.fault.Fault.TheVariants.{OutOfMemory}
-use Rattle.sdf_plan.specs.Faults.{of_run}
+use Rattle.sdf_answer.specs.declared.fault.RunFault.TheVariants.{OutOfMemory}
 use Rattle.sdf_answer.specs.Feeds.{AreFull}
 use Rattle.sdf_answer.specs.Laws.{NetsCanRun}
 use Rattle.sdf_answer.specs.Periods.{HasPeriod}
@@ -119,8 +117,8 @@ piece_full n q s few more e l = from_at few more (exchange_of n q) s e l
 -- so a piece fails by memory alone
 pub piece_refused : {X : Type 0} (n : Netlist Kit ℤ) (q : List ℕ) (s : Sound) (x : Exchange) → x ≡ exchange_of n q →
     (at many : ℕ) (inputs : List (List ℤ)) → inputs ≡ lists_from at many x s →
-    (e : RunFault) (r : Result X Fault) (P : X → Type 0) → IsRunFault n q many inputs e →
-    IsErrAnd r (λ f. f ≡ of_run e) → MatchResult r P (λ f. f ≡ OutOfMemory)
+    (e : RunFault) (r : Result X RunFault) (P : X → Type 0) → IsRunFault n q many inputs e →
+    IsErrAnd r (λ f. f ≡ e) → MatchResult r P (λ f. f ≡ OutOfMemory)
 piece_refused n q s x is at many inputs given e (Err f) P why from =
     from ∙ run_fault_by n q many inputs e (subst (HasInputs n q many)
     (sym (given ∙ ap (λ y. lists_from at many y s) is)) (piece_given n q s at many)) why

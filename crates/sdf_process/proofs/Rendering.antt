@@ -16,8 +16,6 @@ use Rattle.sdf_answer.specs.declared.fault.RunFault.{RunFault}
 use Rattle.sdf_answer.specs.declared.fault.RunFault.TheVariants as run
 use Rattle.sdf_wav.specs.Sound.{Sound}
 use Rattle.sdf_process.specs.declared.exchange.Exchange.{Exchange}
-use Rattle.sdf_plan.specs.declared.fault.Fault.TheVariants as fault
-use Rattle.sdf_plan.specs.Faults.{of_run}
 use Rattle.sdf_process.specs.Output.{exchange_of, sample, channel_samples, lists_to, frame, interleaved}
 
 -- ---- what the runners are given
@@ -67,7 +65,7 @@ begin few many x s less e = go (cases_lt e x.inputs)
 
 -- so the runners fail by memory alone
 pub run_fault_by : (n : Netlist Kit ℤ) (q : List ℕ) (periods : ℕ) (inputs : List (List ℤ)) (e : RunFault) →
-    HasInputs n q periods inputs → IsRunFault n q periods inputs e → of_run e ≡ fault.OutOfMemory
+    HasInputs n q periods inputs → IsRunFault n q periods inputs e → e ≡ run.OutOfMemory
 run_fault_by n q periods inputs run.OutOfMemory given why = refl
 run_fault_by n q periods inputs run.InputLength given why = absurd (why given)
 run_fault_by n q periods inputs run.NotHomed given why = absurd why

@@ -4,6 +4,7 @@
 ghost use Rattle.std.specs.Prelude.{◌≡◌, ◌*◌, ◌≤◌, ◌<◌, [], IfErr, IfOk, IfSome, IfNone, MatchResult, Some};
 ghost use Rattle.sdf_actor.specs.Wires.{lists as items_of};
 ghost use Rattle.sdf_answer.specs.Feeds.{GoesOnBy};
+ghost use Rattle.sdf_answer.specs.declared.fault.RunFault.TheVariants as run;
 ghost use Rattle.sdf_fission.specs.WarmUps.{IsLasting, WarmsIn};
 ghost use Rattle.sdf_kit.specs.Kit.{kit_steps};
 ghost use Rattle.sdf_plan.specs.declared.fault.Fault.TheVariants.{OutOfMemory};
@@ -17,6 +18,7 @@ use crate::exchange::Exchange;
 use crate::portion::Portion;
 use crate::samples::make_frames;
 use sdf_actor::{Net, Rest};
+use sdf_answer::RunFault;
 use sdf_fission::warm_up::warm_up;
 use sdf_kit::{Kept, Kit};
 use sdf_plan::Fault;
@@ -144,13 +146,13 @@ impl<'a> Player<'a> {
     }
 
     /// Runs the periods of a portion on one thread.
-    fn play(&mut self, alloc: Global, portion: Portion<'_>) -> Result<Vec<Vec<i32>>, Fault>
+    fn play(&mut self, alloc: Global, portion: Portion<'_>) -> Result<Vec<Vec<i32>>, RunFault>
         requires { CanPlay self.old portion }
         ensures made { let o = self.old in let q = o.period.now.repetitions in MatchResult result
             (λ r. GoesOnBy kit_steps o.net.now q o.rest portion.entry.periods
             (lists_from 0 portion.entry.periods portion.entry.exchange portion.entry.input.now)
             (items_of r.items) self.new.rest)
-            (λ e. e ≡ OutOfMemory) }
+            (λ e. e ≡ run.OutOfMemory) }
         ensures stays { StaysPlayer self.old self.new }
     {
         let lists = portion.lists(alloc, &mut self.inputs)?;
@@ -167,11 +169,11 @@ impl<'a> Player<'a> {
     }
 
     /// Runs a portion on one thread, and makes frames of what it makes.
-    fn run_whole(&mut self, alloc: Global, portion: Portion<'_>) -> Result<Vec<Vec<i16>>, Fault>
+    fn run_whole(&mut self, alloc: Global, portion: Portion<'_>) -> Result<Vec<Vec<i16>>, RunFault>
         requires player { IsPlayer self.old }
         requires can { CanPlayNext self.old portion }
         ensures plays { IfOk result (λ v. PlaysNext self.old self.new portion.entry (items_of v.items)) }
-        ensures refused { IfErr result (λ f. f ≡ OutOfMemory) }
+        ensures refused { IfErr result (λ f. f ≡ run.OutOfMemory) }
         ensures stays { StaysPlayer self.old self.new }
     {
         let mut made = mem::replace(&mut self.frames, Vec::new(alloc));
@@ -180,25 +182,26 @@ impl<'a> Player<'a> {
         let lists = self.play(alloc, portion)?;
         let frames = make_frames(&lists, portion.frames, spare)?;
         self.spares.give_back(lists);
-        made.push(frames)?;
+        made.reserve(1)?;
+        made.push_reserved(frames);
         Ok(made)
     }
 
     /// Runs a portion in parts at once, each of which makes its own frames, and `meanwhile` beside them.
-    fn run_parts<T: Threads + AllocGlobal + Sync, G: FnMut() -> B, B>(
+    fn run_parts<T: Threads + Sync, G: FnMut() -> B, B>(
         &mut self,
         rt: &T,
         portion: Portion<'_>,
         cut: Cut,
         meanwhile: &mut G,
-    ) -> (Result<Vec<Vec<i16>>, Fault>, B)
+    ) -> (Result<Vec<Vec<i16>>, RunFault>, B)
         requires player { IsPlayer self.old }
         requires can { CanPlayNext self.old portion }
         requires all { portion.frames ≡ portion.periods * portion.exchange.made }
         requires warm { WarmsIn kit_steps self.old.net.now self.old.period.now.repetitions cut.warm }
         requires meanwhile { G.pre meanwhile.old }
         ensures plays { IfOk result.0 (λ v. PlaysNext self.old self.new portion.entry (items_of v.items)) }
-        ensures refused { IfErr result.0 (λ f. f ≡ OutOfMemory) }
+        ensures refused { IfErr result.0 (λ f. f ≡ run.OutOfMemory) }
         ensures stays { StaysPlayer self.old self.new }
         ensures meanwhile { G.step meanwhile.old result.1 meanwhile.new }
     {
@@ -216,29 +219,30 @@ impl<'a> Player<'a> {
                 self.rest = last;
                 (Ok(parts), done)
             }
-            Err(fault) => (Err(fault.into()), done),
+            Err(fault) => (Err(fault), done),
         }
     }
 
     /// Runs a portion, and makes frames of what it makes. `meanwhile` is run beside parts, or behind a run on one thread.
-    pub(crate) fn run<T: Threads + AllocGlobal + Sync, G: FnMut() -> B, B>(
+    pub(crate) fn run<T: Threads + Sync, G: FnMut() -> B, B>(
         &mut self,
         rt: &T,
+        alloc: Global,
         portion: Portion<'_>,
         meanwhile: &mut G,
-    ) -> (Result<Vec<Vec<i16>>, Fault>, B)
+    ) -> (Result<Vec<Vec<i16>>, RunFault>, B)
         requires player { IsPlayer self.old }
         requires can { CanPlayNext self.old portion }
         requires all { portion.frames ≡ portion.periods * portion.exchange.made }
         requires meanwhile { G.pre meanwhile.old }
         ensures plays { IfOk result.0 (λ v. PlaysNext self.old self.new portion.entry (items_of v.items)) }
-        ensures refused { IfErr result.0 (λ f. f ≡ OutOfMemory) }
+        ensures refused { IfErr result.0 (λ f. f ≡ run.OutOfMemory) }
         ensures stays { StaysPlayer self.old self.new }
         ensures meanwhile { G.step meanwhile.old result.1 meanwhile.new }
     {
         match self.cut {
             Some(cut) => self.run_parts(rt, portion, cut, meanwhile),
-            None => (self.run_whole(rt.alloc(), portion), meanwhile()),
+            None => (self.run_whole(alloc, portion), meanwhile()),
         }
     }
 

@@ -1,8 +1,9 @@
 //! What a run goes on by. It makes frames of portions of a sound, and leaves it to others to write them.
 
-ghost use Rattle.std.specs.Prelude.{◌≡◌, ℕ, ℤ, IfOk, IfErr};
+ghost use Rattle.std.specs.Prelude.{◌≡◌, ℕ, ℤ, Ok, IfOk, IfErr};
 ghost use Rattle.sdf_actor.specs.Nets.{Netlist};
 ghost use Rattle.sdf_actor.specs.Wires.{lists as items_of};
+ghost use Rattle.sdf_answer.specs.declared.fault.RunFault.TheVariants as run;
 ghost use Rattle.sdf_kit.specs.declared.kit.Kit.{Kit as KitValue};
 ghost use Rattle.sdf_plan.specs.declared.fault.Fault.TheVariants.{OutOfMemory};
 ghost use Rattle.sdf_sched.specs.Period.{Schedule};
@@ -11,6 +12,7 @@ ghost use Rattle.sdf_process.specs.Streams.{CanRun, CanRunNext, FeedsBy, FeedsNe
 use crate::playing::Player;
 use crate::portion::Portion;
 use crate::samples::make_frames;
+use sdf_answer::RunFault;
 use sdf_kit::Kit;
 use sdf_plan::Fault;
 use sdf_run::{Gate, Session};
@@ -35,27 +37,6 @@ impl<'a> Runner<'a> {
     }
 
     /// Runs the periods of a portion, and makes the first frames of what they make: whole frames in one list or several.
-    /// `meanwhile` is run beside parts, or behind any other run.
-    pub(crate) fn run_beside<T: Threads + AllocGlobal + Sync, G: Gate, M: FnMut() -> B, B>(
-        &mut self,
-        rt: &T,
-        gate: &G,
-        portion: Portion<'_>,
-        meanwhile: &mut M,
-    ) -> (Result<Vec<Vec<i16>>, Fault>, B)
-        requires next { CanRunNext self.old portion }
-        requires meanwhile { M.pre meanwhile.old }
-        ensures runs { IfOk result.0 (λ v. RunsNext self.old self.new portion.entry (items_of v.items)) }
-        ensures refused { IfErr result.0 (λ f. f ≡ OutOfMemory) }
-        ensures meanwhile { M.step meanwhile.old result.1 meanwhile.new }
-    {
-        match self {
-            Runner::Session(session) => (run_fed(rt, gate, session, portion), meanwhile()),
-            Runner::Player(player) => player.run(rt, portion, meanwhile),
-        }
-    }
-
-    /// Runs the periods of a portion, with nothing beside it.
     pub(crate) fn run<T: Threads + AllocGlobal + Sync, G: Gate>(
         &mut self,
         rt: &T,
@@ -66,8 +47,13 @@ impl<'a> Runner<'a> {
         ensures runs { IfOk result (λ v. RunsNext self.old self.new portion.entry (items_of v.items)) }
         ensures refused { IfErr result (λ f. f ≡ OutOfMemory) }
     {
-        let (ran, _) = self.run_beside(rt, gate, portion, &mut || {});
-        ran
+        match self {
+            Runner::Session(session) => run_fed(rt, gate, session, portion),
+            Runner::Player(player) => {
+                let (ran, _) = player.run(rt, rt.alloc(), portion, &mut || {});
+                played(ran)
+            }
+        }
     }
 
     /// Takes back the memory of frames that were written.
@@ -82,7 +68,7 @@ impl<'a> Runner<'a> {
 }
 
 /// Feeds a portion of whole blocks to a session, and makes the first frames of what it makes.
-fn run_fed<T: Threads + AllocGlobal + Sync, G: Gate>(
+pub(crate) fn run_fed<T: Threads + AllocGlobal + Sync, G: Gate>(
     rt: &T,
     gate: &G,
     session: &mut Session<'_, Kit>,
@@ -100,4 +86,13 @@ fn run_fed<T: Threads + AllocGlobal + Sync, G: Gate>(
     let mut made = Vec::new(alloc);
     made.push(frames)?;
     Ok(made)
+}
+
+/// Returns the frames that were played, or the fault of a run.
+pub(crate) fn played(ran: Result<Vec<Vec<i16>>, RunFault>) -> Result<Vec<Vec<i16>>, Fault>
+    requires { IfErr ran (λ f. f ≡ run.OutOfMemory) }
+    ensures played { IfOk result (λ v. ran ≡ Ok v) }
+    ensures refused { IfErr result (λ f. f ≡ OutOfMemory) }
+{
+    Ok(ran?)
 }

@@ -1,20 +1,23 @@
 //! A run that takes its input and writes its output as it goes. It holds what a piece of the input and a block need.
 
-ghost use Rattle.std.specs.Prelude.{◌≡◌, ◌-◌, ◌≤◌, min, ℕ, List, [], length, drop, Option, Err, true, IfErr, IfOk};
+ghost use Rattle.std.specs.Prelude.{◌≡◌, ◌-◌, ◌*◌, ◌≤◌, min, ℕ, List, [], length, drop, Option, Err, true, IfErr, IfOk};
 ghost use Rattle.std.specs.Prelude.{MatchResult};
 ghost use Rattle.sdf_actor.specs.Wires.{lists as items_of};
+ghost use Rattle.sdf_answer.specs.declared.fault.RunFault.TheVariants as run;
 ghost use Rattle.sdf_plan.specs.declared.fault.Fault.TheVariants.{OutOfMemory};
 ghost use Rattle.sdf_process.specs.Flows.{CanFlow, GoesOn, IsAhead, IsStep, Progress, Start, StreamsFrom, TurnsAll};
-ghost use Rattle.sdf_process.specs.Streams.{CanRunNext, IsOpened, RunsNext, Streams};
-ghost use Rattle.sdf_process.specs.Tasks.{IsBegun};
+ghost use Rattle.sdf_process.specs.Streams.{CanPlayNext, CanRunNext, IsOpened, PlaysNext, RunsNext, StaysPlayer, Streams};
+ghost use Rattle.sdf_process.specs.Tasks.{IsBegun, IsPlayer};
 
 use crate::begun::Begun;
 use crate::exchange::Exchange;
 use crate::flow::Flow;
+use crate::playing::Player;
 use crate::portion::Portion;
 use crate::putting::put_in_turn;
-use crate::runner::Runner;
+use crate::runner::{Runner, played, run_fed};
 use sdf_actor::Net;
+use sdf_answer::RunFault;
 use sdf_kit::Kit;
 use sdf_plan::Fault;
 use sdf_run::Gate;
@@ -198,6 +201,37 @@ impl<'a> Stream<'a> {
     }
 }
 
+/// Plays a portion, while the frames before are written and the next ones are taken.
+fn play_while_turning<T: Threads + Sync, R: Reader, W: Writer>(
+    rt: &T,
+    alloc: Global,
+    player: &mut Player<'_>,
+    flow: &mut Flow,
+    reader: &mut R,
+    writer: &mut W,
+    portion: Portion<'_>,
+) -> (Result<Vec<Vec<i16>>, RunFault>, Result<(), Fault>)
+    requires player { IsPlayer player.old }
+    requires can { CanPlayNext player.old portion }
+    requires all { portion.frames ≡ portion.periods * portion.exchange.made }
+    requires ahead { (b : Start) × (g : Progress) × CanFlow b × IsAhead b g flow.old (R.remaining reader.old)
+        (W.contents writer.old) (R.failures reader.old) (W.failures writer.old) }
+    ensures plays { IfOk result.0 (λ v. PlaysNext player.old player.new portion.entry (items_of v.items)) }
+    ensures refused { IfErr result.0 (λ f. f ≡ run.OutOfMemory) }
+    ensures stays { StaysPlayer player.old player.new }
+    ensures turns { TurnsAll flow.old flow.new (R.remaining reader.old) (W.contents writer.old) (R.failures reader.old)
+        (W.failures writer.old) (R.remaining reader.new) (W.contents writer.new) (R.failures reader.new)
+        (W.failures writer.new) result.1 }
+{
+    player.run(rt, alloc, portion, &mut || -> Result<(), Fault>
+        requires { (b : Start) × (g : Progress) × CanFlow b × IsAhead b g flow.now (R.remaining reader.now)
+            (W.contents writer.now) (R.failures reader.now) (W.failures writer.now) }
+        ensures { TurnsAll flow.entry.now flow.exit.now (R.remaining reader.entry.now) (W.contents writer.entry.now)
+            (R.failures reader.entry.now) (W.failures writer.entry.now) (R.remaining reader.exit.now)
+            (W.contents writer.exit.now) (R.failures reader.exit.now) (W.failures writer.exit.now) result }
+    { flow.turn(alloc, reader, writer) })
+}
+
 /// Runs a portion, while the frames before are written and the next ones are taken.
 fn run_while_turning<T: Threads + AllocGlobal + Sync, R: Reader, W: Writer, G: Gate>(
     rt: &T,
@@ -218,13 +252,16 @@ fn run_while_turning<T: Threads + AllocGlobal + Sync, R: Reader, W: Writer, G: G
         (W.failures writer.new) result.1 }
 {
     let alloc = rt.alloc();
-    runner.run_beside(rt, gate, portion, &mut || -> Result<(), Fault>
-        requires { (b : Start) × (g : Progress) × CanFlow b × IsAhead b g flow.now (R.remaining reader.now)
-            (W.contents writer.now) (R.failures reader.now) (W.failures writer.now) }
-        ensures { TurnsAll flow.entry.now flow.exit.now (R.remaining reader.entry.now) (W.contents writer.entry.now)
-            (R.failures reader.entry.now) (W.failures writer.entry.now) (R.remaining reader.exit.now)
-            (W.contents writer.exit.now) (R.failures reader.exit.now) (W.failures writer.exit.now) result }
-    { flow.turn(alloc, reader, writer) })
+    match runner {
+        Runner::Session(session) => {
+            let ran = run_fed(rt, gate, session, portion);
+            (ran, flow.turn(alloc, reader, writer))
+        }
+        Runner::Player(player) => {
+            let (ran, turned) = play_while_turning(rt, alloc, player, flow, reader, writer, portion);
+            (played(ran), turned)
+        }
+    }
 }
 
 /// Runs a net on the frames of a source: takes some frames, runs all whole blocks that there are, writes what they make,

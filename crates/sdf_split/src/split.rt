@@ -44,8 +44,9 @@ fn taken<A: Actor, E: Ends<A::Token>>(
 }
 
 /// Runs all parts at once, a worker each, and `meanwhile` beside them. Takes out what the parts made.
-fn run_parts<R: Threads + AllocGlobal + Sync, A: Actor, E: Ends<A::Token>, G: FnMut() -> B, B>(
+fn run_parts<R: Threads + Sync, A: Actor, E: Ends<A::Token>, G: FnMut() -> B, B>(
     rt: &R,
+    alloc: Global,
     ends: &E,
     split: Split<'_, A>,
     rest: &Rest<A::Token, A::State>,
@@ -66,7 +67,6 @@ fn run_parts<R: Threads + AllocGlobal + Sync, A: Actor, E: Ends<A::Token>, G: Fn
         (λ fault. fault ≡ OutOfMemory) }
     ensures meanwhile { G.step meanwhile.old result.1 meanwhile.new }
 {
-    let alloc = rt.alloc();
     let done = for_each_beside(
         rt,
         workers,
@@ -89,7 +89,7 @@ fn run_parts<R: Threads + AllocGlobal + Sync, A: Actor, E: Ends<A::Token>, G: Fn
 ///
 /// Each part has a thread of its own. `meanwhile` is run once in this one, also if memory is refused.
 pub fn resume_split<
-    R: Threads + AllocGlobal + Sync,
+    R: Threads + Sync,
     A: Actor,
     E: Ends<A::Token>,
     G: FnMut() -> B,
@@ -115,11 +115,12 @@ pub fn resume_split<
         (λ fault. fault ≡ OutOfMemory) }
     ensures meanwhile { G.step meanwhile.old result.1 meanwhile.new }
 {
+    let alloc = workers.alloc;
     let count = split.periods.div_ceil(split.size).max(1) as usize;
-    match workers.take_on(rt.alloc(), count) {
+    match workers.take_on(count) {
         Ok(()) => {
             let all = &mut workers.all[..count];
-            run_parts(rt, ends, split, rest, all, meanwhile)
+            run_parts(rt, alloc, ends, split, rest, all, meanwhile)
         }
         Err(refused) => (Err(refused.into()), meanwhile()),
     }

@@ -58,15 +58,17 @@ pub(crate) fn work<A: Actor, E: Ends<A::Token>>(
 /// The workers of a sound, whose memory lasts from piece to piece.
 #[derive(Drop)]
 pub struct Workers<M, T, S> {
+    pub(crate) alloc: Global,
     pub(crate) all: Vec<Worker<M, T, S>>,
     /// What the outputs of parts became, given back.
     spares: Vec<M>,
 }
 
 impl<M: Drop, T: Copy, S: Drop> Workers<M, T, S> {
-    /// Begins with no worker, and takes no memory.
+    /// Begins with no worker, and takes no memory. Runs take it from `alloc`.
     pub fn none(alloc: Global) -> Workers<M, T, S> {
         Workers {
+            alloc,
             all: Vec::new(alloc),
             spares: Vec::new(alloc),
         }
@@ -78,11 +80,11 @@ impl<M: Drop, T: Copy, S: Drop> Workers<M, T, S> {
     }
 
     /// Takes on workers until there are `count`, and hands them the memory that was given back.
-    pub(crate) fn take_on(&mut self, alloc: Global, count: usize) -> Result<(), AllocError>
+    pub(crate) fn take_on(&mut self, count: usize) -> Result<(), AllocError>
         ensures { OnOk result (count ≤ length self.new.all.items) }
     {
         for _ in self.all.len()..count {
-            self.all.push(Worker::new(alloc))?;
+            self.all.push(Worker::new(self.alloc))?;
         }
         for i in 0..self.all.len() {
             self.all[i].memory.spare = self.spares.pop();

@@ -1,4 +1,5 @@
 use Rattle.std.proofs.Common.{◌≡◌, ◌*◌, ◌∙◌, ap, refl, sym, subst, Some, arith, rules}
+use Rattle.std.proofs.lemmas.Result.{MatchResult-at_ok}
 use Rattle.sdf_actor.specs.Wires.{lists as items_of}
 use Rattle.sdf_answer.specs.Answer.{HasInputs}
 use Rattle.sdf_answer.specs.Feeds.{AreFull}
@@ -14,8 +15,8 @@ use Rattle.sdf_process.proofs.Played.{piece_full, piece_given}
 use Rattle.sdf_wav.proofs.Theorems.{puts_join}
 use Rattle.sdf_process.proofs.playing.Player.run_parts.Goals as goal
 
-pub resume_split-requires-clause-split : goal.resume_split-requires-clause-split
-resume_split-requires-clause-split g c κs within =
+pub resume_split-ran-requires-clause-split : goal.resume_split-ran-requires-clause-split
+resume_split-ran-requires-clause-split g c κs within =
     let v = c.args.self.now in
     let n = v.net.now in
     let p = v.period.now in
@@ -33,8 +34,8 @@ resume_split-requires-clause-split g c κs within =
       long = search rules;
     }
 
-pub returns-clause-plays : goal.returns-clause-plays
-returns-clause-plays g c = λ j s few blocks bytes follows.
+pub returns-in-Ok-clause-plays : goal.returns-in-Ok-clause-plays
+returns-in-Ok-clause-plays g c = λ j s few blocks bytes follows.
     let v = c.args.self.now in
     let n = v.net.now in
     let p = v.period.now in
@@ -45,11 +46,11 @@ returns-clause-plays g c = λ j s few blocks bytes follows.
     c.requires.all ∙ ap (λ (x : Exchange). y.periods * x.made) can.exchange in
     let h = in_parts (nets_can_run kit_steps) (ports_have_channels kit_steps) n p can.has s (few * j) y.periods
     follows.stands.made v.rest (held_is n p j s few (few * j * (exchange_of n q).made) bytes v.rest follows.stands)
-    y.input.now follows.lists y.exchange can.exchange c.in_ok-parts.parts.items c.in_ok-parts.last
-    c.in_ok-parts.ensures in
+    y.input.now follows.lists y.exchange can.exchange c.in-Ok.parts.items c.in-Ok.last
+    (MatchResult-at_ok _ _ _ c.in-Ok.is c.resume_split-ran.ensures.ran) in
     blocks_made puts_join (nets_can_run kit_steps) (ports_have_channels kit_steps) n p can.has j s few blocks
-    bytes (Some v.rest) follows.stands h.outputs h.goes.count c.in_ok-parts.last
-    (plays_on n p j s few blocks bytes v.rest c.in_ok-parts.last y follows h.outputs h.goes)
-    (Some c.in_ok-parts.last) refl y.frames (items_of c.in_ok-parts.parts.items)
+    bytes (Some v.rest) follows.stands h.outputs h.goes.count c.in-Ok.last
+    (plays_on n p j s few blocks bytes v.rest c.in-Ok.last y follows h.outputs h.goes)
+    (Some c.in-Ok.last) refl y.frames (items_of c.in-Ok.parts.items)
     (h.frames ∙ ap (λ k. interleaved k h.outputs) (sym made))
-    (subst (λ k. AreWhole (exchange_of n q).outputs k (items_of c.in_ok-parts.parts.items)) (sym made) h.whole)
+    (subst (λ k. AreWhole (exchange_of n q).outputs k (items_of c.in-Ok.parts.items)) (sym made) h.whole)

@@ -20,7 +20,7 @@ returns-clause-plays c = λ j s few blocks bytes follows.
     let goes = portion_as n p y can.exchange v.rest on c.play.new.self.rest c.in_ok-lists.ensures.made in
     let one = one_list (exchange_of n p.repetitions).outputs y.frames on c.in_ok-frames.frames.items
     (c.in_ok-frames.ensures ∙ ap (λ l. interleaved y.frames (items_of l)) c.deref.ensures.value) goes.count in
-    let only : c.push.new.self.items ≡ c.in_ok-frames.frames ∷ [] = search rules in
+    let only : c.push_reserved.new.self.items ≡ c.in_ok-frames.frames ∷ [] = search rules in
     subst (λ l. Makes n p j s few blocks y.frames bytes (items_of l) (Some c.play.new.self.rest)) (sym only)
     (blocks_made puts_join (nets_can_run kit_steps) (ports_have_channels kit_steps) n p can.has j s
     few blocks bytes (Some v.rest) follows.stands on goes.count c.play.new.self.rest
