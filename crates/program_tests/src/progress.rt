@@ -73,8 +73,8 @@ fn told_at<R: Threads + AllocGlobal + Sync>(
 /// A row: its name, the milliseconds between readings, the words, and the printed text. `…` stands for any text.
 type Row = (&'static str, u64, &'static str, &'static str);
 
-/// Runs at a terminal. Refuses a program that shows a short run, one that leaves the line there, and one that shows a run
-/// where no more is said.
+/// Runs at a terminal. Refuses a program that shows a short run, one that leaves the line there, and one that shows a
+/// run where no more is said.
 const SHOWN: &[Row] = &[
     (
         "a run of less than two seconds",

@@ -9,7 +9,8 @@ use sdf_options::Options;
 use sdf_plan::{Fault, Stalled};
 use sdf_prec::PrecFault;
 use sdf_why::{
-    Halt, block_text, channels_text, device_text, file_text, home_text, rate_text, stall_text, toml_text,
+    Halt, block_text, channels_text, device_text, file_text, home_text, rate_text, stall_text,
+    toml_text,
 };
 use sdf_words::{Task, Words};
 use std::alloc::{AllocError, Global};

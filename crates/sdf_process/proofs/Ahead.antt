@@ -1,5 +1,6 @@
 -- A run that is ahead of its output: the frames that are made and not written yet.
-use Rattle.std.proofs.Common.{◌≡◌, inl, Err, ℕ, zero, suc, ◌+◌, ◌-◌, ◌*◌, ◌≤◌, ◌<◌, ℤ, List, [], ◌++◌, length, get_or, Option, Vec}
+use Rattle.std.proofs.Common.{◌≡◌, inl, Err, ℕ, zero, suc, ◌+◌, ◌-◌, ◌*◌, ◌≤◌, ◌<◌, ℤ, List, [], ◌++◌, length, get_or}
+use Rattle.std.proofs.Common.{Option, Vec}
 use Rattle.std.proofs.Common.{append-nil, false, refl, sym, ap, ◌∙◌, subst, arith}
 use Rattle.std.specs.Io.KnownBytes.{Appends}
 use Rattle.std.proofs.Math.Nat.{mul-le-mul_right}
@@ -13,7 +14,8 @@ use Rattle.sdf_plan.specs.declared.fault.Fault.{Fault}
 use Rattle.sdf_plan.specs.declared.fault.Fault.TheVariants.{Write}
 use Rattle.sdf_process.specs.declared.exchange.Exchange.{Exchange}
 use Rattle.sdf_process.specs.declared.flow.Flow.{Flow}
-use Rattle.sdf_process.specs.Flows.{CameTo, CanFlow, Flows, IsAhead, Progress, Start, StreamsFrom, blocks_on, exchange_in}
+use Rattle.sdf_process.specs.Flows.{CameTo, CanFlow, Flows, IsAhead, Progress, Start, StreamsFrom, blocks_on}
+use Rattle.sdf_process.specs.Flows.{exchange_in}
 use Rattle.sdf_process.specs.Flows.{reading_in, samples_run}
 use Rattle.sdf_process.specs.Output.{in_turn, periods_for}
 use Rattle.sdf_process.specs.Streams.{AreWhole, Makes, StandsAt}
@@ -196,7 +198,8 @@ made_ahead b g f blocks frames left flows makes all there = record {
 }
 
 -- frames in whole lists can be written, if so many are owed
-pub can_write : {Z : Type 0} (o : Owed) (channels frames : ℕ) (made ps : List (Vec ℤ Z)) → o.channels ≡ channels → ps ≡ made →
+pub can_write : {Z : Type 0} (o : Owed) (channels frames : ℕ) (made ps : List (Vec ℤ Z)) → o.channels ≡ channels →
+    ps ≡ made →
     AreWhole channels frames (items_of made) → frames ≤ o.missing →
     ((i : ℕ) → i < length ps → (k : ℕ) × (length (get_or (items_of ps) i []) ≡ k * o.channels))
     × (length (in_turn (items_of ps)) ≤ o.missing * o.channels)

@@ -24,7 +24,8 @@ use Rattle.sdf_process.proofs.Sizes.{below_by, cancel, periods_fit}
 use Rattle.sdf_process.proofs.Taken.{takes_whole}
 
 module _ (b : Start) (can : CanFlow b) (g : Progress) {unread : ℕ} {source : Source} {o : Owed}
-    {now after : Option (List ℕ)} {r1 w1 : ℕ} (here : Flows b g unread source o now after r1 w1) (end : unread ≡ 0) where
+    {now after : Option (List ℕ)} {r1 w1 : ℕ} (here : Flows b g unread source o now after r1 w1)
+    (end : unread ≡ 0) where
   abbrev c : Reading
   c = reading_in b
 
@@ -117,7 +118,8 @@ module _ (b : Start) (can : CanFlow b) (g : Progress) {unread : ℕ} {source : S
         omega arith in z) in
         let most : blocks * (j * x.made) ≡ blocks * x.made = ap (λ (k : ℕ). blocks * k) size in
         let no_more : blocks < q + 1 = below_by blocks (q + 1) x.made
-        (let sum : (q + 1) * x.made ≡ q * x.made + x.made = omega arith in omega (arith, less, most, size, rest, sum)) in
+        (let sum : (q + 1) * x.made ≡ q * x.made + x.made = omega arith in
+        omega (arith, less, most, size, rest, sum)) in
         let no_less : q ≤ blocks = cancel q blocks x.made can.made (omega (arith, covers, most, rest)) in
         let same : q ≡ blocks = omega (arith, no_more, no_less) in
         let split : blocks * (j * x.made) ≡ blocks * j * x.made = omega arith in

@@ -163,7 +163,8 @@ module _ (n : Netlist Kit ℤ) (p : Schedule) (j : ℕ) (v : SessionValue Kit (L
         Makes n p j s few blocks frames bytes (list ∷ []) w.rest
     fed_made joins ports_can ports s few bytes follows frames list is =
         let one = one_list x.outputs frames on list is count in
-        blocks_made joins ports_can ports n p can.has j s few blocks bytes v.rest follows.stands on count after_both.rest
+        blocks_made joins ports_can ports n p can.has j s few blocks bytes v.rest follows.stands on count
+        after_both.rest
         run_both w.rest after_both.held frames (list ∷ []) one.0 one.1
       where
         count : length on ≡ list_count Outputs n.nodes

@@ -108,7 +108,8 @@ module _ (b : Start) (g : Progress) (blocks : ℕ) (t : Stream) (y : Portion) {n
     ahead_on none f is left source output =
         let flows : Flows b g f.left f.source f.output now after r w =
         rw (left, source, output) (none_left b step.ready.can g t.flow step.ahead none) in
-        subst (λ (l : List (List ℤ)). IsAhead b (blocks_on g blocks (sample_bytes (in_turn l)) (left_by v)) f now after r
+        subst (λ (l : List (List ℤ)). IsAhead b (blocks_on g blocks (sample_bytes (in_turn l))
+        (left_by v)) f now after r
         w) is
         (made_ahead b g f blocks y.frames (left_by v)
         flows

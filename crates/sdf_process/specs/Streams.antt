@@ -154,7 +154,8 @@ RunsNext v now y made = (n : Netlist Kit ℤ) (p : Schedule) (j : ℕ) (s : Soun
 
 -- nothing of it changes but its memory
 abbrev pub StaysRunner : Runner → Runner → Type 0
-StaysRunner v w = (left_by w ≡ left_by v) × ((n : Netlist Kit ℤ) (p : Schedule) (j : ℕ) → GoesBy n p j v → GoesBy n p j w)
+StaysRunner v w = (left_by w ≡ left_by v) × ((n : Netlist Kit ℤ) (p : Schedule) (j : ℕ) → GoesBy n p j v →
+    GoesBy n p j w)
 
 -- the same of a session
 abbrev pub FeedsNext : SessionValue Kit (List ℤ) ℤ → SessionValue Kit (List ℤ) ℤ → Portion → List (List ℤ) → Type 0

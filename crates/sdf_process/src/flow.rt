@@ -1,7 +1,8 @@
 //! What goes into a run and comes out of it: the frames of a source, and those that are made of them.
 
 ghost use Rattle.std.specs.Prelude.{ℕ, List, MatchResult, Option, Err};
-ghost use Rattle.sdf_process.specs.Flows.{CanFlow, Flows, IsAhead, Progress, Start, StreamsFrom, TakesNext, TurnsAll, Writes};
+ghost use Rattle.sdf_process.specs.Flows.{CanFlow, Flows, IsAhead, Progress, Start, StreamsFrom, TakesNext, TurnsAll};
+ghost use Rattle.sdf_process.specs.Flows.{Writes};
 
 use crate::putting::put_in_turn;
 use crate::source::Source;

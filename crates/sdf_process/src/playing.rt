@@ -223,7 +223,8 @@ impl<'a> Player<'a> {
         }
     }
 
-    /// Runs a portion, and makes frames of what it makes. `meanwhile` is run beside parts, or behind a run on one thread.
+    /// Runs a portion, and makes frames of what it makes. `meanwhile` is run beside parts, or behind a run on one
+    /// thread.
     pub(crate) fn run<T: Threads + Sync, G: FnMut() -> B, B>(
         &mut self,
         rt: &T,

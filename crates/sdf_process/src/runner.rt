@@ -36,7 +36,8 @@ impl<'a> Runner<'a> {
         }
     }
 
-    /// Runs the periods of a portion, and makes the first frames of what they make: whole frames in one list or several.
+    /// Runs the periods of a portion, and makes the first frames of what they make: whole frames in one list or
+    /// several.
     pub(crate) fn run<T: Threads + AllocGlobal + Sync, G: Gate>(
         &mut self,
         rt: &T,

@@ -6,7 +6,8 @@ ghost use Rattle.sdf_actor.specs.Wires.{lists as items_of};
 ghost use Rattle.sdf_answer.specs.declared.fault.RunFault.TheVariants as run;
 ghost use Rattle.sdf_plan.specs.declared.fault.Fault.TheVariants.{OutOfMemory};
 ghost use Rattle.sdf_process.specs.Flows.{CanFlow, GoesOn, IsAhead, IsStep, Progress, Start, StreamsFrom, TurnsAll};
-ghost use Rattle.sdf_process.specs.Streams.{CanPlayNext, CanRunNext, IsOpened, PlaysNext, RunsNext, StaysPlayer, Streams};
+ghost use Rattle.sdf_process.specs.Streams.{CanPlayNext, CanRunNext, IsOpened, PlaysNext, RunsNext, StaysPlayer};
+ghost use Rattle.sdf_process.specs.Streams.{Streams};
 ghost use Rattle.sdf_process.specs.Tasks.{IsBegun, IsPlayer};
 
 use crate::begun::Begun;
@@ -166,8 +167,8 @@ impl<'a> Stream<'a> {
         }
     }
 
-    /// Writes what was made, runs the samples that are kept, filled up with zeros to whole blocks, and writes the frames
-    /// that are missing.
+    /// Writes what was made, runs the samples that are kept, filled up with zeros to whole blocks, and writes the
+    /// frames that are missing.
     fn finish<T: Threads + AllocGlobal + Sync, W: Writer, G: Gate>(
         &mut self,
         rt: &T,
@@ -223,13 +224,18 @@ fn play_while_turning<T: Threads + Sync, R: Reader, W: Writer>(
         (W.failures writer.old) (R.remaining reader.new) (W.contents writer.new) (R.failures reader.new)
         (W.failures writer.new) result.1 }
 {
-    player.run(rt, alloc, portion, &mut || -> Result<(), Fault>
-        requires { (b : Start) × (g : Progress) × CanFlow b × IsAhead b g flow.now (R.remaining reader.now)
-            (W.contents writer.now) (R.failures reader.now) (W.failures writer.now) }
-        ensures { TurnsAll flow.entry.now flow.exit.now (R.remaining reader.entry.now) (W.contents writer.entry.now)
-            (R.failures reader.entry.now) (W.failures writer.entry.now) (R.remaining reader.exit.now)
-            (W.contents writer.exit.now) (R.failures reader.exit.now) (W.failures writer.exit.now) result }
-    { flow.turn(alloc, reader, writer) })
+    player.run(
+        rt,
+        alloc,
+        portion,
+        &mut || -> Result<(), Fault>
+            requires { (b : Start) × (g : Progress) × CanFlow b × IsAhead b g flow.now (R.remaining reader.now)
+                (W.contents writer.now) (R.failures reader.now) (W.failures writer.now) }
+            ensures { TurnsAll flow.entry.now flow.exit.now (R.remaining reader.entry.now) (W.contents writer.entry.now)
+                (R.failures reader.entry.now) (W.failures writer.entry.now) (R.remaining reader.exit.now)
+                (W.contents writer.exit.now) (R.failures reader.exit.now) (W.failures writer.exit.now) result }
+        { flow.turn(alloc, reader, writer) },
+    )
 }
 
 /// Runs a portion, while the frames before are written and the next ones are taken.
@@ -258,14 +264,16 @@ fn run_while_turning<T: Threads + AllocGlobal + Sync, R: Reader, W: Writer, G: G
             (ran, flow.turn(alloc, reader, writer))
         }
         Runner::Player(player) => {
-            let (ran, turned) = play_while_turning(rt, alloc, player, flow, reader, writer, portion);
+            let (ran, turned) = play_while_turning(
+                rt, alloc, player, flow, reader, writer, portion,
+            );
             (played(ran), turned)
         }
     }
 }
 
-/// Runs a net on the frames of a source: takes some frames, runs all whole blocks that there are, writes what they make,
-/// and so on. The last block is filled up with zeros. A run in parts at once writes and takes frames meanwhile.
+/// Runs a net on the frames of a source: takes some frames, runs all whole blocks that there are, writes what they
+/// make, and so on. The last block is filled up with zeros. A run in parts at once writes and takes frames meanwhile.
 pub(crate) fn run_stream<T: Threads + AllocGlobal + Sync, R: Reader, W: Writer, G: Gate>(
     rt: &T,
     reader: &mut R,

@@ -90,11 +90,13 @@ fn run_between<T: Threads + AllocGlobal + Sync, R: Read, W: Write>(
 
 /// Returns how a sound was run in parts of which `frames` frames were made, if it was to be.
 fn parts_text(alloc: Global, planned: Planned<'_>, frames: u64) -> Result<String, AllocError> {
-    let Some(Pace::Parts {
-        workers,
-        periods,
-        samples,
-    }) = planned.pace
+    let Some(
+        Pace::Parts {
+            workers,
+            periods,
+            samples,
+        },
+    ) = planned.pace
     else {
         return Ok(String::new(alloc));
     };

@@ -88,13 +88,7 @@ fn run_parts<R: Threads + Sync, A: Actor, E: Ends<A::Token>, G: FnMut() -> B, B>
 /// The memory of `workers` is used again.
 ///
 /// Each part has a thread of its own. `meanwhile` is run once in this one, also if memory is refused.
-pub fn resume_split<
-    R: Threads + Sync,
-    A: Actor,
-    E: Ends<A::Token>,
-    G: FnMut() -> B,
-    B,
->(
+pub fn resume_split<R: Threads + Sync, A: Actor, E: Ends<A::Token>, G: FnMut() -> B, B>(
     rt: &R,
     ends: &E,
     split: Split<'_, A>,

@@ -4,8 +4,9 @@
 //! `sdf_actor`, `sdf_graph` and `sdf_kit` for nets, on `sdf_options`, which makes a text printable, and on
 //! `sdf_similar` for names that are like a word. Begin at `told`; `document`, `net`, `cycle`, `block` and `sound` have
 //! the lines of each fault, `limits` those of a key, and `near` what may have been meant. `more` has what the tables of
-//! a net do not show, of the graph that `channels` makes. The definitions are in `specs/Told.antt`, `specs/Documents.antt`,
-//! `specs/Near.antt`, `specs/Nets.antt`, `specs/More.antt`, `specs/Cycles.antt` and `specs/Words.antt`.
+//! a net do not show, of the graph that `channels` makes. The definitions are in `specs/Told.antt`,
+//! `specs/Documents.antt`, `specs/Near.antt`, `specs/Nets.antt`, `specs/More.antt`, `specs/Cycles.antt` and
+//! `specs/Words.antt`.
 #![tactic(auto)]
 
 mod actors;
@@ -31,4 +32,6 @@ pub use document::document_text;
 pub use loops::loop_text;
 pub use said::{device_text, toml_text};
 pub use sound::Header;
-pub use told::{Sources, block_text, channels_text, file_text, home_text, net_text, rate_text, stall_text};
+pub use told::{
+    Sources, block_text, channels_text, file_text, home_text, net_text, rate_text, stall_text,
+};

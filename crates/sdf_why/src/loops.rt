@@ -5,7 +5,8 @@ ghost use Rattle.std.specs.Prelude.{None, IfOk, OnOk, MatchOption, string_bytes,
 ghost use Rattle.std.specs.List.{flat_map, All};
 ghost use Rattle.sdf_actor.specs.Graphs.{graph_of};
 ghost use Rattle.sdf_kit.specs.Kit.{kit_steps};
-ghost use Rattle.sdf_why.specs.Loops.{arrow_to, is_kept, loop_line, name_at, AreFed, AreTargets, Feeds, HoldsLoops, IsLoop, IsLoopText, IsUnfed};
+ghost use Rattle.sdf_why.specs.Loops.{arrow_to, is_kept, loop_line, name_at, AreFed, AreTargets, Feeds, HoldsLoops};
+ghost use Rattle.sdf_why.specs.Loops.{IsLoop, IsLoopText, IsUnfed};
 
 use crate::cycle::{Halt, cycle_of};
 use sdf_file::Design;

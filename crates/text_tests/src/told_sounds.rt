@@ -1,7 +1,8 @@
 //! Deadlocks, sounds that a design does not take, and files of which something was said.
 
 use sdf_why::{
-    Halt, Header, Sources, block_text, channels_text, device_text, home_text, rate_text, stall_text, toml_text,
+    Halt, Header, Sources, block_text, channels_text, device_text, home_text, rate_text,
+    stall_text, toml_text,
 };
 use std::alloc::{AllocError, Global};
 use std::test::Fail;

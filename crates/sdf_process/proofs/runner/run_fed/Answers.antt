@@ -25,7 +25,8 @@ returns-clause-runs g c = λ n p j s few blocks bytes by can follows.
     let y = c.args.portion in
     let on = items_of c.in_ok-ran.ran.outputs.items in
     let only : c.push.new.self.items ≡ c.in_ok-frames.frames ∷ [] = search rules in (
-      subst (λ l. Makes n p j s few blocks y.frames bytes (items_of l) c.feed.new.self.rest) (sym only) (fed_made n p j c.args.session.now by y can blocks follows.periods (items_of c.deref.result.now)
+      subst (λ l. Makes n p j s few blocks y.frames bytes (items_of l) c.feed.new.self.rest) (sym only)
+          (fed_made n p j c.args.session.now by y can blocks follows.periods (items_of c.deref.result.now)
           (ap items_of c.deref.ensures.value ∙ c.in_ok-inputs.ensures) c.feed.new.self on c.in_ok-ran.ran.rounds
           c.in_ok-ran.ensures puts_join (nets_can_run kit_steps) (ports_have_channels kit_steps) s few bytes follows
           y.frames c.in_ok-frames.frames.items

@@ -29,11 +29,13 @@ returns-in_err-go_on g c =
     (g.W.Writer.failures c.args.writer.now) in
     run_fails (λ (z : Result (Unit {0}) Fault). StreamsFrom s (g.R.Reader.remaining c.go_on.new.reader)
     (g.W.Writer.contents c.go_on.new.writer) (g.R.Reader.failures c.go_on.new.reader)
-    (g.W.Writer.failures c.go_on.new.writer) z) c.in_err-go_on.field-0.0 c.from_residual.result c.from_residual.ensures.1
+    (g.W.Writer.failures c.go_on.new.writer) z) c.in_err-go_on.field-0.0 c.from_residual.result
+    c.from_residual.ensures.1
     (c.in_err-go_on.ensures.goes s c.loop-stream.invariant)
 
 pub loop-stream-preserved : goal.loop-stream-preserved
-loop-stream-preserved g c = c.in_ok-go_on.ensures.goes (start_of c.args.opened c.args.begun (g.R.Reader.remaining c.args.reader.now)
+loop-stream-preserved g c = c.in_ok-go_on.ensures.goes
+    (start_of c.args.opened c.args.begun (g.R.Reader.remaining c.args.reader.now)
     (g.W.Writer.contents c.args.writer.now) (g.R.Reader.failures c.args.reader.now)
     (g.W.Writer.failures c.args.writer.now))
     c.loop-stream.invariant

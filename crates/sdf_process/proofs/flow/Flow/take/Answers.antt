@@ -30,4 +30,11 @@ returns g c = λ b p after w can here.
     (g.R.Reader.failures c.take.new.reader) c.take.new.self c.replace-kept.result.items c.in_ok-self.field-0.items
     (c.in_ok-self.ensures b.source p.samples b.read b.reader here.source_is here.takes here.reader) in
     let same : c.replace-kept.result ≡ c.args.self.now.kept = search rules in
-    record { more = t.0; flows = t.2; kept = t.1 ∙ ap (λ (z : _). z.items ++ t.0) same; made = refl; left = search rules; most = refl }
+    record {
+      more = t.0;
+      flows = t.2;
+      kept = t.1 ∙ ap (λ (z : _). z.items ++ t.0) same;
+      made = refl;
+      left = search rules;
+      most = refl;
+    }

@@ -7,7 +7,14 @@ use Rattle.sdf_process.proofs.flow.Flow.turn.Goals as goal
 
 pub write-requires : goal.write-requires
 write-requires g c =
-    let h = c.requires in (h.0, h.1, g.R.Reader.remaining c.args.reader.now, g.R.Reader.failures c.args.reader.now, h.2, h.3)
+    let h = c.requires in (
+      h.0,
+      h.1,
+      g.R.Reader.remaining c.args.reader.now,
+      g.R.Reader.failures c.args.reader.now,
+      h.2,
+      h.3,
+    )
 
 pub returns-in_err-write : goal.returns-in_err-write
 returns-in_err-write g c = record {
@@ -39,5 +46,6 @@ returns g c = record {
             ∙ ap (λ (k : ℕ). c.args.self.now.left - min k c.args.self.now.left) w.most);
         most = t.most ∙ w.most;
       })
-      (c.take.ensures b p (g.W.Writer.contents c.write.new.writer) (g.W.Writer.failures c.write.new.writer) can w.flows);
+      (c.take.ensures b p (g.W.Writer.contents c.write.new.writer)
+      (g.W.Writer.failures c.write.new.writer) can w.flows);
 }

@@ -25,7 +25,8 @@ use Rattle.sdf_process.proofs.streaming.Stream.finish.Goals as goal
 pub returns-in_err-write : goal.returns-in_err-write
 returns-in_err-write g c = λ b now r on.
     run_fails (λ (z : Result (Unit {0}) Fault). StreamsFrom b now (g.W.Writer.contents c.write.new.writer) r
-    (g.W.Writer.failures c.write.new.writer) z) c.in_err-write.field-0.0 c.from_residual.result c.from_residual.ensures.1
+    (g.W.Writer.failures c.write.new.writer) z) c.in_err-write.field-0.0 c.from_residual.result
+    c.from_residual.ensures.1
     (c.in_err-write.ensures b on.0 now r on.1.ready.can on.1.ahead)
 
 pub returns-then-frames-eq0 : goal.returns-then-frames-eq0
@@ -68,9 +69,15 @@ overflow_mul-portion g c =
     let o = c.write.new.self.output in
     let m = c.missing-frames.result in
     let times = subst (λ z. (m ≤ z * k) × (z * k < m + k)) (sym c.div_ceil-blocks.ensures)
-    (div_ceil_times m k (omega (arith, same_k, positive b.blocking x.made under.ready.can.some under.ready.can.made))) in
+    (div_ceil_times m k (omega (
+      arith,
+      same_k,
+      positive b.blocking x.made under.ready.can.some
+          under.ready.can.made,
+    ))) in
     let size = ap (λ z. c.div_ceil-blocks.result * z) same_k in
-    let covers : o.missing ≤ c.div_ceil-blocks.result * (b.blocking * x.made) = omega (arith, times.0, c.missing-frames.ensures, size) in
+    let covers : o.missing ≤ c.div_ceil-blocks.result * (b.blocking * x.made) =
+    omega (arith, times.0, c.missing-frames.ensures, size) in
     let less : c.div_ceil-blocks.result * (b.blocking * x.made) < o.missing + b.blocking * x.made =
     omega (arith, times.1, c.missing-frames.ensures, size, same_k) in
     let blocks = c.div_ceil-blocks.result in
@@ -97,9 +104,15 @@ overflow_cast-portion-2 g c =
     let o = c.write.new.self.output in
     let m = c.missing-frames.result in
     let times = subst (λ z. (m ≤ z * k) × (z * k < m + k)) (sym c.div_ceil-blocks.ensures)
-    (div_ceil_times m k (omega (arith, same_k, positive b.blocking x.made under.ready.can.some under.ready.can.made))) in
+    (div_ceil_times m k (omega (
+      arith,
+      same_k,
+      positive b.blocking x.made under.ready.can.some
+          under.ready.can.made,
+    ))) in
     let size = ap (λ z. c.div_ceil-blocks.result * z) same_k in
-    let covers : o.missing ≤ c.div_ceil-blocks.result * (b.blocking * x.made) = omega (arith, times.0, c.missing-frames.ensures, size) in
+    let covers : o.missing ≤ c.div_ceil-blocks.result * (b.blocking * x.made) =
+    omega (arith, times.0, c.missing-frames.ensures, size) in
     let less : c.div_ceil-blocks.result * (b.blocking * x.made) < o.missing + b.blocking * x.made =
     omega (arith, times.1, c.missing-frames.ensures, size, same_k) in
     let blocks = c.div_ceil-blocks.result in
@@ -126,14 +139,24 @@ invariant_of-portion g c =
     let o = c.write.new.self.output in
     let m = c.missing-frames.result in
     let times = subst (λ z. (m ≤ z * k) × (z * k < m + k)) (sym c.div_ceil-blocks.ensures)
-    (div_ceil_times m k (omega (arith, same_k, positive b.blocking x.made under.ready.can.some under.ready.can.made))) in
+    (div_ceil_times m k (omega (
+      arith,
+      same_k,
+      positive b.blocking x.made under.ready.can.some
+          under.ready.can.made,
+    ))) in
     let size = ap (λ z. c.div_ceil-blocks.result * z) same_k in
-    let covers : o.missing ≤ c.div_ceil-blocks.result * (b.blocking * x.made) = omega (arith, times.0, c.missing-frames.ensures, size) in
+    let covers : o.missing ≤ c.div_ceil-blocks.result * (b.blocking * x.made) =
+    omega (arith, times.0, c.missing-frames.ensures, size) in
     let less : c.div_ceil-blocks.result * (b.blocking * x.made) < o.missing + b.blocking * x.made =
     omega (arith, times.1, c.missing-frames.ensures, size, same_k) in
     let blocks = c.div_ceil-blocks.result in
     record {
-      fits = omega (arith, last_short b under.ready.can p w.flows end blocks covers less, ap (λ z. blocks * z) under.ready.blocking);
+      fits = omega (
+        arith,
+        last_short b under.ready.can p w.flows end blocks covers less,
+        ap (λ z. blocks * z) under.ready.blocking,
+      );
       limits = under.ready.limits;
       some = some_inputs b t under.ready;
     }
@@ -154,15 +177,22 @@ run-requires-clause-next g c κs within =
     let o = c.write.new.self.output in
     let m = c.missing-frames.result in
     let times = subst (λ z. (m ≤ z * k) × (z * k < m + k)) (sym c.div_ceil-blocks.ensures)
-    (div_ceil_times m k (omega (arith, same_k, positive b.blocking x.made under.ready.can.some under.ready.can.made))) in
+    (div_ceil_times m k (omega (
+      arith,
+      same_k,
+      positive b.blocking x.made under.ready.can.some
+          under.ready.can.made,
+    ))) in
     let size = ap (λ z. c.div_ceil-blocks.result * z) same_k in
-    let covers : o.missing ≤ c.div_ceil-blocks.result * (b.blocking * x.made) = omega (arith, times.0, c.missing-frames.ensures, size) in
+    let covers : o.missing ≤ c.div_ceil-blocks.result * (b.blocking * x.made) =
+    omega (arith, times.0, c.missing-frames.ensures, size) in
     let less : c.div_ceil-blocks.result * (b.blocking * x.made) < o.missing + b.blocking * x.made =
     omega (arith, times.1, c.missing-frames.ensures, size, same_k) in
     let blocks = c.div_ceil-blocks.result in
     let same = ap (λ (z : _). z.items) (c.replace-kept.ensures.value ∙ w.kept) in
     let whole = subst (λ l. length l % t.channels ≡ 0) (sym same) (kept_whole b p t under) in
-    let sound = sound_made c.in_ok-input.input c.new-2.result t.rate t.channels c.replace-kept.result.items c.new-2.ensures
+    let sound = sound_made c.in_ok-input.input c.new-2.result t.rate t.channels c.replace-kept.result.items
+    c.new-2.ensures
     c.in_ok-input.was under.ready.some_rate (omega (arith, under.ready.channels, under.ready.can.one))
     under.ready.few_channels whole in
     let follows = kept_follows b p (left_by t.runner) under.ahead.came under.left _ blocks
@@ -229,22 +259,30 @@ put_in_turn-requires-clause-whole g c =
     let o = c.write.new.self.output in
     let m = c.missing-frames.result in
     let times = subst (λ z. (m ≤ z * k) × (z * k < m + k)) (sym c.div_ceil-blocks.ensures)
-    (div_ceil_times m k (omega (arith, same_k, positive b.blocking x.made under.ready.can.some under.ready.can.made))) in
+    (div_ceil_times m k (omega (
+      arith,
+      same_k,
+      positive b.blocking x.made under.ready.can.some
+          under.ready.can.made,
+    ))) in
     let size = ap (λ z. c.div_ceil-blocks.result * z) same_k in
-    let covers : o.missing ≤ c.div_ceil-blocks.result * (b.blocking * x.made) = omega (arith, times.0, c.missing-frames.ensures, size) in
+    let covers : o.missing ≤ c.div_ceil-blocks.result * (b.blocking * x.made) =
+    omega (arith, times.0, c.missing-frames.ensures, size) in
     let less : c.div_ceil-blocks.result * (b.blocking * x.made) < o.missing + b.blocking * x.made =
     omega (arith, times.1, c.missing-frames.ensures, size, same_k) in
     let blocks = c.div_ceil-blocks.result in
     let same = ap (λ (z : _). z.items) (c.replace-kept.ensures.value ∙ w.kept) in
     let whole = subst (λ l. length l % t.channels ≡ 0) (sym same) (kept_whole b p t under) in
-    let sound = sound_made c.in_ok-input.input c.new-2.result t.rate t.channels c.replace-kept.result.items c.new-2.ensures
+    let sound = sound_made c.in_ok-input.input c.new-2.result t.rate t.channels c.replace-kept.result.items
+    c.new-2.ensures
     c.in_ok-input.was under.ready.some_rate (omega (arith, under.ready.channels, under.ready.can.one))
     under.ready.few_channels whole in
     let follows = kept_follows b p (left_by t.runner) under.ahead.came under.left _ blocks
     (ap (λ z. blocks * z) under.ready.blocking) (ap (λ (y : Sound). y.channels) sound ∙ under.ready.channels)
     (ap (λ (y : Sound). y.samples) sound ∙ (same ∙ under.kept)) in
     let can = can_run_on b t under.ready _ refl in
-    let makes = (c.in_ok-made.ensures.runs b.net b.period b.blocking (sound_read (reading_in b) p.samples) p.blocks blocks
+    let makes = (c.in_ok-made.ensures.runs b.net b.period b.blocking (sound_read (reading_in b) p.samples)
+    p.blocks blocks
     p.bytes under.ready.goes can follows).0 in
     (can_write o x.outputs c.missing-frames.result c.in_ok-made.made.items c.deref.result.now
     (ap (λ (z : Owed). z.channels) w.flows.owed) c.deref.ensures.value makes.whole
@@ -266,22 +304,30 @@ put_in_turn-requires-clause-missing g c =
     let o = c.write.new.self.output in
     let m = c.missing-frames.result in
     let times = subst (λ z. (m ≤ z * k) × (z * k < m + k)) (sym c.div_ceil-blocks.ensures)
-    (div_ceil_times m k (omega (arith, same_k, positive b.blocking x.made under.ready.can.some under.ready.can.made))) in
+    (div_ceil_times m k (omega (
+      arith,
+      same_k,
+      positive b.blocking x.made under.ready.can.some
+          under.ready.can.made,
+    ))) in
     let size = ap (λ z. c.div_ceil-blocks.result * z) same_k in
-    let covers : o.missing ≤ c.div_ceil-blocks.result * (b.blocking * x.made) = omega (arith, times.0, c.missing-frames.ensures, size) in
+    let covers : o.missing ≤ c.div_ceil-blocks.result * (b.blocking * x.made) =
+    omega (arith, times.0, c.missing-frames.ensures, size) in
     let less : c.div_ceil-blocks.result * (b.blocking * x.made) < o.missing + b.blocking * x.made =
     omega (arith, times.1, c.missing-frames.ensures, size, same_k) in
     let blocks = c.div_ceil-blocks.result in
     let same = ap (λ (z : _). z.items) (c.replace-kept.ensures.value ∙ w.kept) in
     let whole = subst (λ l. length l % t.channels ≡ 0) (sym same) (kept_whole b p t under) in
-    let sound = sound_made c.in_ok-input.input c.new-2.result t.rate t.channels c.replace-kept.result.items c.new-2.ensures
+    let sound = sound_made c.in_ok-input.input c.new-2.result t.rate t.channels c.replace-kept.result.items
+    c.new-2.ensures
     c.in_ok-input.was under.ready.some_rate (omega (arith, under.ready.channels, under.ready.can.one))
     under.ready.few_channels whole in
     let follows = kept_follows b p (left_by t.runner) under.ahead.came under.left _ blocks
     (ap (λ z. blocks * z) under.ready.blocking) (ap (λ (y : Sound). y.channels) sound ∙ under.ready.channels)
     (ap (λ (y : Sound). y.samples) sound ∙ (same ∙ under.kept)) in
     let can = can_run_on b t under.ready _ refl in
-    let makes = (c.in_ok-made.ensures.runs b.net b.period b.blocking (sound_read (reading_in b) p.samples) p.blocks blocks
+    let makes = (c.in_ok-made.ensures.runs b.net b.period b.blocking (sound_read (reading_in b) p.samples)
+    p.blocks blocks
     p.bytes under.ready.goes can follows).0 in
     (can_write o x.outputs c.missing-frames.result c.in_ok-made.made.items c.deref.result.now
     (ap (λ (z : Owed). z.channels) w.flows.owed) c.deref.ensures.value makes.whole
@@ -301,22 +347,30 @@ returns g c = λ b now r on.
     let o = c.write.new.self.output in
     let m = c.missing-frames.result in
     let times = subst (λ z. (m ≤ z * k) × (z * k < m + k)) (sym c.div_ceil-blocks.ensures)
-    (div_ceil_times m k (omega (arith, same_k, positive b.blocking x.made under.ready.can.some under.ready.can.made))) in
+    (div_ceil_times m k (omega (
+      arith,
+      same_k,
+      positive b.blocking x.made under.ready.can.some
+          under.ready.can.made,
+    ))) in
     let size = ap (λ z. c.div_ceil-blocks.result * z) same_k in
-    let covers : o.missing ≤ c.div_ceil-blocks.result * (b.blocking * x.made) = omega (arith, times.0, c.missing-frames.ensures, size) in
+    let covers : o.missing ≤ c.div_ceil-blocks.result * (b.blocking * x.made) =
+    omega (arith, times.0, c.missing-frames.ensures, size) in
     let less : c.div_ceil-blocks.result * (b.blocking * x.made) < o.missing + b.blocking * x.made =
     omega (arith, times.1, c.missing-frames.ensures, size, same_k) in
     let blocks = c.div_ceil-blocks.result in
     let same = ap (λ (z : _). z.items) (c.replace-kept.ensures.value ∙ w.kept) in
     let whole = subst (λ l. length l % t.channels ≡ 0) (sym same) (kept_whole b p t under) in
-    let sound = sound_made c.in_ok-input.input c.new-2.result t.rate t.channels c.replace-kept.result.items c.new-2.ensures
+    let sound = sound_made c.in_ok-input.input c.new-2.result t.rate t.channels c.replace-kept.result.items
+    c.new-2.ensures
     c.in_ok-input.was under.ready.some_rate (omega (arith, under.ready.channels, under.ready.can.one))
     under.ready.few_channels whole in
     let follows = kept_follows b p (left_by t.runner) under.ahead.came under.left _ blocks
     (ap (λ z. blocks * z) under.ready.blocking) (ap (λ (y : Sound). y.channels) sound ∙ under.ready.channels)
     (ap (λ (y : Sound). y.samples) sound ∙ (same ∙ under.kept)) in
     let can = can_run_on b t under.ready _ refl in
-    let makes = (c.in_ok-made.ensures.runs b.net b.period b.blocking (sound_read (reading_in b) p.samples) p.blocks blocks
+    let makes = (c.in_ok-made.ensures.runs b.net b.period b.blocking (sound_read (reading_in b) p.samples)
+    p.blocks blocks
     p.bytes under.ready.goes can follows).0 in
     ended b under.ready.can p w.flows end blocks covers less (items_of c.in_ok-made.made.items) (left_by c.run.new.self)
     (subst (λ m. Makes b.net b.period b.blocking (sound_read (reading_in b) p.samples) p.blocks blocks m p.bytes

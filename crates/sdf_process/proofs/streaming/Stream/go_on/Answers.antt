@@ -48,7 +48,8 @@ behind-requires g c =
     let blocks : ℕ = c.len.result / k in
     let same = ap (λ (z : _). z.items) c.replace-kept.ensures.value in
     let whole = subst (λ l. length l % t.channels ≡ 0) (sym same) (kept_whole b p t under) in
-    let sound = sound_made c.in_ok-input.input c.new-2.result t.rate t.channels c.replace-kept.result.items c.new-2.ensures
+    let sound = sound_made c.in_ok-input.input c.new-2.result t.rate t.channels c.replace-kept.result.items
+    c.new-2.ensures
     c.in_ok-input.was under.ready.some_rate (omega (arith, under.ready.channels, under.ready.can.one))
     under.ready.few_channels whole in
     omega (
@@ -152,7 +153,8 @@ run_beside-requires-clause-step g c κs within =
     let blocks : ℕ = c.len.result / k in
     let same = ap (λ (z : _). z.items) c.replace-kept.ensures.value in
     let whole = subst (λ l. length l % t.channels ≡ 0) (sym same) (kept_whole b p t under) in
-    let sound = sound_made c.in_ok-input.input c.new-2.result t.rate t.channels c.replace-kept.result.items c.new-2.ensures
+    let sound = sound_made c.in_ok-input.input c.new-2.result t.rate t.channels c.replace-kept.result.items
+    c.new-2.ensures
     c.in_ok-input.was under.ready.some_rate (omega (arith, under.ready.channels, under.ready.can.one))
     under.ready.few_channels whole in
     let x = exchange_in b in
@@ -164,7 +166,8 @@ run_beside-requires-clause-step g c κs within =
       p,
       blocks,
       step_by b p t under blocks k block some c.give_back.new.self _ _ c.in_ok-self.field-0.items
-          c.give_back.ensures.0 (c.give_back.ensures.1 b.net b.period b.blocking under.ready.goes) refl refl refl refl refl
+          c.give_back.ensures.0 (c.give_back.ensures.1 b.net b.period b.blocking under.ready.goes) refl
+          refl refl refl refl
           (c.in_ok-self.ensures ∙ ap (drop (blocks * k)) (c.samples.ensures.value
           ∙ (ap (λ (y : Sound). y.samples) sound ∙ same))) refl (ap (λ z. blocks * z) under.ready.blocking) refl
           (ap (λ (y : Sound). y.channels) sound) (ap (λ (y : Sound). y.samples) sound ∙ same),
@@ -179,7 +182,8 @@ returns-then-self-clause-goes g c = λ b on.
     let blocks : ℕ = c.len.result / k in
     let same = ap (λ (z : _). z.items) c.replace-kept.ensures.value in
     let whole = subst (λ l. length l % t.channels ≡ 0) (sym same) (kept_whole b on.0 t under) in
-    let sound = sound_made c.in_ok-input.input c.new-2.result t.rate t.channels c.replace-kept.result.items c.new-2.ensures
+    let sound = sound_made c.in_ok-input.input c.new-2.result t.rate t.channels c.replace-kept.result.items
+    c.new-2.ensures
     c.in_ok-input.was under.ready.some_rate (omega (arith, under.ready.channels, under.ready.can.one))
     under.ready.few_channels whole in
     let x = exchange_in b in
@@ -187,7 +191,8 @@ returns-then-self-clause-goes g c = λ b on.
     ap (λ z. z * t.exchange.taken * f) under.ready.blocking ∙ (ap (λ (y : Exchange). b.blocking * y.taken * f)
     under.ready.exchange ∙ ap (λ z. b.blocking * x.taken * z) (c.from.ensures ∙ under.ready.channels)) in
     let some : blocks * k ≤ length t.flow.kept.items = omega (arith, div-mul-le_self c.len.result k, c.len.ensures) in
-    c.run_beside.ensures.goes b on.0 blocks (step_by b on.0 t under blocks k block some c.give_back.new.self _ _ c.in_ok-self.field-0.items
+    c.run_beside.ensures.goes b on.0 blocks (step_by b on.0 t under blocks k block some c.give_back.new.self
+    _ _ c.in_ok-self.field-0.items
     c.give_back.ensures.0 (c.give_back.ensures.1 b.net b.period b.blocking under.ready.goes) refl refl refl refl refl
     (c.in_ok-self.ensures ∙ ap (drop (blocks * k)) (c.samples.ensures.value
     ∙ (ap (λ (y : Sound). y.samples) sound ∙ same))) refl (ap (λ z. blocks * z) under.ready.blocking) refl
@@ -204,7 +209,8 @@ run_in_turn-requires-clause-step g c κs within =
     let blocks : ℕ = c.len.result / k in
     let same = ap (λ (z : _). z.items) c.replace-kept.ensures.value in
     let whole = subst (λ l. length l % t.channels ≡ 0) (sym same) (kept_whole b p t under) in
-    let sound = sound_made c.in_ok-input.input c.new-2.result t.rate t.channels c.replace-kept.result.items c.new-2.ensures
+    let sound = sound_made c.in_ok-input.input c.new-2.result t.rate t.channels c.replace-kept.result.items
+    c.new-2.ensures
     c.in_ok-input.was under.ready.some_rate (omega (arith, under.ready.channels, under.ready.can.one))
     under.ready.few_channels whole in
     let x = exchange_in b in
@@ -216,7 +222,8 @@ run_in_turn-requires-clause-step g c κs within =
       p,
       blocks,
       step_by b p t under blocks k block some c.give_back.new.self _ _ c.in_ok-self.field-0.items
-          c.give_back.ensures.0 (c.give_back.ensures.1 b.net b.period b.blocking under.ready.goes) refl refl refl refl refl
+          c.give_back.ensures.0 (c.give_back.ensures.1 b.net b.period b.blocking under.ready.goes) refl
+          refl refl refl refl
           (c.in_ok-self.ensures ∙ ap (drop (blocks * k)) (c.samples.ensures.value
           ∙ (ap (λ (y : Sound). y.samples) sound ∙ same))) refl (ap (λ z. blocks * z) under.ready.blocking) refl
           (ap (λ (y : Sound). y.channels) sound) (ap (λ (y : Sound). y.samples) sound ∙ same),
@@ -234,7 +241,8 @@ returns-clause-goes g c = λ b on.
     let blocks : ℕ = c.len.result / k in
     let same = ap (λ (z : _). z.items) c.replace-kept.ensures.value in
     let whole = subst (λ l. length l % t.channels ≡ 0) (sym same) (kept_whole b on.0 t under) in
-    let sound = sound_made c.in_ok-input.input c.new-2.result t.rate t.channels c.replace-kept.result.items c.new-2.ensures
+    let sound = sound_made c.in_ok-input.input c.new-2.result t.rate t.channels c.replace-kept.result.items
+    c.new-2.ensures
     c.in_ok-input.was under.ready.some_rate (omega (arith, under.ready.channels, under.ready.can.one))
     under.ready.few_channels whole in
     let x = exchange_in b in
@@ -242,7 +250,8 @@ returns-clause-goes g c = λ b on.
     ap (λ z. z * t.exchange.taken * f) under.ready.blocking ∙ (ap (λ (y : Exchange). b.blocking * y.taken * f)
     under.ready.exchange ∙ ap (λ z. b.blocking * x.taken * z) (c.from.ensures ∙ under.ready.channels)) in
     let some : blocks * k ≤ length t.flow.kept.items = omega (arith, div-mul-le_self c.len.result k, c.len.ensures) in
-    c.run_in_turn.ensures.goes b on.0 blocks (step_by b on.0 t under blocks k block some c.give_back.new.self _ _ c.in_ok-self.field-0.items
+    c.run_in_turn.ensures.goes b on.0 blocks (step_by b on.0 t under blocks k block some c.give_back.new.self
+    _ _ c.in_ok-self.field-0.items
     c.give_back.ensures.0 (c.give_back.ensures.1 b.net b.period b.blocking under.ready.goes) refl refl refl refl refl
     (c.in_ok-self.ensures ∙ ap (drop (blocks * k)) (c.samples.ensures.value
     ∙ (ap (λ (y : Sound). y.samples) sound ∙ same))) refl (ap (λ z. blocks * z) under.ready.blocking) refl

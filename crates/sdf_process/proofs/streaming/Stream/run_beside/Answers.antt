@@ -36,7 +36,8 @@ returns-clause-goes g c = λ b p blocks step.
     let made = items_of c.in_ok-self.field-0.items in
     let turns = at_ok c.run_while_turning-ran.result.1 tt _ _ c.in_ok-turned.was
     (c.run_while_turning-ran.ensures.turns.turns b p step.ready.can step.ahead) in
-    let runs = subst (λ z. IfOk z (λ v. RunsNext c.args.self.now.runner c.run_while_turning-ran.new.runner c.args.portion
+    let runs = subst (λ z. IfOk z (λ v. RunsNext c.args.self.now.runner
+    c.run_while_turning-ran.new.runner c.args.portion
     (items_of v.items))) c.in_ok-self.was c.run_while_turning-ran.ensures.runs in
     beside_on b p blocks c.args.self.now c.args.portion step c.run_while_turning-ran.new.runner made
     runs c.requires.waits c.run_while_turning-ran.new.flow

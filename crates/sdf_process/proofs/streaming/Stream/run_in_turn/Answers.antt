@@ -41,7 +41,8 @@ returns-clause-goes g c = λ b p blocks step.
     (λ x turns. in_turn_on b p blocks t c.args.portion step c.run.new.self made c.in_ok-self.ensures.runs f
     c.turn.new.self refl refl turns)
     (c.turn.ensures.turns b (blocks_on p blocks (sample_bytes (in_turn made)) (left_by c.run.new.self)) step.ready.can
-    (ahead_on b p blocks t c.args.portion step c.run.new.self made c.in_ok-self.ensures.runs c.requires.waits f refl refl
+    (ahead_on b p blocks t c.args.portion step c.run.new.self made c.in_ok-self.ensures.runs
+    c.requires.waits f refl refl
     refl refl))
 
 pub returns-clause-left : goal.returns-clause-left
