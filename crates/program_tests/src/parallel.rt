@@ -22,9 +22,9 @@ const PARALLEL: &[Row] = &[
     ),
     (
         "wider parallel 16 why",
-        "run wider.toml in.wav out.wav --parallel 16 --why",
+        "run wider.toml silence.wav out.wav --parallel 16 --why",
         "0\n--\n16 workers, each on its own part of the sound after 0 periods (0 samples) of warm-up\n\
-         output 0: 2 frames, peak -76.3 dB, 0 samples at full scale\n--\n<5 -5>",
+         output 0: 16 frames, no peak, 0 samples at full scale\n--\n<another sound>",
     ),
     (
         "kept parallel 3 why",
@@ -53,7 +53,7 @@ const PARALLEL: &[Row] = &[
     (
         "line parallel 4 why",
         "run line.toml in.wav out.wav --parallel 4 --why",
-        "0\n--\n4 workers, each on its own part of the sound after 0 periods (0 samples) of warm-up\n\
+        "0\n--\n2 workers, each on its own part of the sound after 0 periods (0 samples) of warm-up\n\
          output 0: 2 frames, peak -76.3 dB, 0 samples at full scale\n--\n<5 -5>",
     ),
     (
@@ -131,7 +131,9 @@ fn by_number<T: Threads + AllocGlobal + Clock + Clone + Drop + Sync>(
         Ok(processors) => processors.get().min(16),
         Err(_) => 4,
     };
-    let line = format!(in rt.alloc(); "run steep.toml in.wav out.wav --parallel {workers} --why")?;
+    let line = format!(in rt.alloc();
+        "run steep.toml silence.wav out.wav --parallel {workers} --why"
+    )?;
     told(rt, &line)
 }
 
@@ -142,7 +144,7 @@ fn runs_in_parallel(rt: HostRuntime) -> Result<(), Fail> {
     are_told(&rt, REFUSED)?;
     let wanted = by_number(&rt)?;
     says(
-        told(&rt, "run steep.toml in.wav out.wav --parallel --why"),
+        told(&rt, "run steep.toml silence.wav out.wav --parallel --why"),
         wanted.as_str(),
     )
 }

@@ -16,6 +16,11 @@ pub(crate) const SOUND: &[u8] =
 pub(crate) const HEADER: &[u8] =
     b"RIFF\x28\0\0\0WAVEfmt \x10\0\0\0\x01\0\x01\0\x44\xAC\0\0\x88\x58\x01\0\x02\0\x10\0data\x04\0\0\0";
 
+/// Sixteen samples that are 0.
+const SILENCE: &[u8] =
+    b"RIFF\x44\0\0\0WAVEfmt \x10\0\0\0\x01\0\x01\0\x44\xAC\0\0\x88\x58\x01\0\x02\0\x10\0data\x20\0\0\0\0\0\0\0\0\0\
+    \0\0\0\0\0\0\0\0\0\0\0\0\0\0\0\0\0\0\0\0\0\0\0\0\0\0";
+
 /// The samples 7 and 8, 44,100 a second.
 pub(crate) const NEW_SOUND: &[u8] =
     b"RIFF\x28\0\0\0WAVEfmt \x10\0\0\0\x01\0\x01\0\x44\xAC\0\0\x88\x58\x01\0\x02\0\x10\0data\x04\0\0\0\x07\0\x08\0";
@@ -225,6 +230,9 @@ const TEXTS: [(&str, &str); 41] = [
 fn bytes_of(path: &str) -> Option<&'static [u8]> {
     if path == "in.wav" || path == "./-" {
         return Some(SOUND);
+    }
+    if path == "silence.wav" {
+        return Some(SILENCE);
     }
     if path == "cut.wav" {
         return Some(HEADER);

@@ -82,6 +82,26 @@ const AT_TERMINAL: &[Row] = &[
         "5\n--\nsdfw: 48 Write\n  \"else.wav\": permission denied\n--\n",
     ),
     (
+        "a design in a folder that can't be made",
+        "resample 44100 48000 else",
+        "5\n--\nsdfw: 48 Write\n  \"else\": permission denied\n--\n",
+    ),
+    (
+        "a batch into a folder that can't be made",
+        "run plain.toml --into else in.wav",
+        "5\n--\nsdfw: 48 Write\n  \"else\": permission denied\n--\n",
+    ),
+    (
+        "costs into a file that can't be made",
+        "profile commented.toml in.wav --write else.toml",
+        "5\n--\nsdfw: 48 Write\n  \"else.toml\": permission denied\n--\n",
+    ),
+    (
+        "a fault of which no more is known",
+        "run blocks.toml in.wav out.wav --runner rings --workers 2 --placement hu",
+        "3\n--\nsdfw: 30 NotHomed\n  sdfw explain 30 says what to do\n--\n",
+    ),
+    (
         "a check that ends well",
         "check plain.toml",
         "0\nactors 2\nlinks 1\nperiod 2\nq in 1\nq out 1\ninput 1 output 1\n--\n--\n",

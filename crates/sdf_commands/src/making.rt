@@ -2,7 +2,7 @@
 
 use crate::printing::{show, test_plan};
 use sdf_file::{Design, read_design};
-use sdf_files::files::{device_fault, write_at};
+use sdf_files::files::{Refused, Sources, refuse, write_at};
 use sdf_files::overwriting::{keep_file, only_path};
 use sdf_files::storage::Storage;
 use sdf_files::world::World;
@@ -63,15 +63,20 @@ fn keep_all<S: Storage>(
     keep_file(alloc, storage, folder, GRAPH)
 }
 
-/// Makes a folder that is not there. Another program may make it at the same time.
-pub fn make_folder<S: Storage>(alloc: Global, storage: &S, folder: &str) -> Result<(), Fault> {
+/// Makes a folder that is not there, or notes how the system refused it. Another program may make it at the same time.
+pub fn make_folder<S: Storage>(
+    alloc: Global,
+    storage: &S,
+    folder: &str,
+    refused: &mut Vec<Refused>,
+) -> Result<(), Fault> {
     if only_path(alloc, storage, folder)?.is_some() {
         return Ok(());
     }
     match storage.create_folder(folder) {
         Ok(()) => Ok(()),
         Err(error) if error.kind() == ErrorKind::AlreadyExists => Ok(()),
-        Err(error) => Err(device_fault(&error, Fault::Write)),
+        Err(error) => Err(refuse(alloc, refused, folder, &error, Fault::Write)),
     }
 }
 
@@ -81,9 +86,17 @@ fn write_into<S: Storage, T: AllocGlobal>(
     folder: &str,
     name: &str,
     text: &str,
+    refused: &mut Vec<Refused>,
 ) -> Result<(), Fault> {
-    let path = format!(in world.threads.alloc(); "{folder}/{name}")?;
-    write_at(world.storage, path.as_str(), text.as_bytes())
+    let alloc = world.threads.alloc();
+    let path = format!(in alloc; "{folder}/{name}")?;
+    write_at(
+        alloc,
+        world.storage,
+        path.as_str(),
+        text.as_bytes(),
+        refused,
+    )
 }
 
 /// Writes the files of a converter into a folder, and on standard error what the taps of each stage do.
@@ -92,12 +105,19 @@ fn write_all<S: Storage, T: AllocGlobal, E: Write>(
     err: &mut E,
     folder: &str,
     texts: &ConverterTexts,
+    refused: &mut Vec<Refused>,
 ) -> Result<(), Fault> {
     for file in &texts.files {
-        write_into(world, folder, file.name.as_str(), file.text.as_str())?;
+        write_into(
+            world,
+            folder,
+            file.name.as_str(),
+            file.text.as_str(),
+            refused,
+        )?;
         show(err, file.told.as_str())?;
     }
-    write_into(world, folder, GRAPH, texts.graph.as_str())
+    write_into(world, folder, GRAPH, texts.graph.as_str(), refused)
 }
 
 /// Tests that the design that texts say can be scheduled.
@@ -113,19 +133,21 @@ fn write_design<S: Storage, T: AllocGlobal, E: Write>(
     err: &mut E,
     folder: &str,
     texts: &ConverterTexts,
+    refused: &mut Vec<Refused>,
 ) -> Result<(), Fault> {
     let alloc = world.threads.alloc();
     test_texts(alloc, texts)?;
     keep_all(alloc, world.storage, folder, texts)?;
-    make_folder(alloc, world.storage, folder)?;
-    write_all(world, err, folder, texts)
+    make_folder(alloc, world.storage, folder, refused)?;
+    write_all(world, err, folder, texts, refused)
 }
 
-/// Writes the design of a conversion.
+/// Writes the design of a conversion. How the system refused a file stands in `sources`.
 pub fn resample<S: Storage, T: AllocGlobal, E: Write>(
     world: &World<S, T>,
     err: &mut E,
     conversion: Conversion<'_>,
+    sources: &mut Sources,
 ) -> Result<(), Fault> {
     let alloc = world.threads.alloc();
     let Conversion {
@@ -136,7 +158,7 @@ pub fn resample<S: Storage, T: AllocGlobal, E: Write>(
         attenuation,
     } = conversion;
     match converter_texts(alloc, from, to, channels, attenuation) {
-        Ok(texts) => write_design(world, err, folder, &texts),
+        Ok(texts) => write_design(world, err, folder, &texts, &mut sources.refused),
         Err(fault) => Err(filter_fault(alloc, fault)),
     }
 }

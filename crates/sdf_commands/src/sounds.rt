@@ -211,7 +211,8 @@ fn length_text(alloc: Global, front: Front<'_>, bytes: u64) -> Result<String, Al
         Some(Chunk { size, .. }) if size != UNKNOWN => {
             format!(in alloc; "has {size} bytes of samples")
         }
-        _ => format!(in alloc; "has more than {bytes} bytes"),
+        Some(_) => format!(in alloc; "has more than {bytes} bytes"),
+        None => String::from_str(alloc, "has over 65,536 parts before its samples"),
     }
 }
 

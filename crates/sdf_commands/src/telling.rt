@@ -95,8 +95,21 @@ fn sound_text(
     }
 }
 
-/// What more is told of a fault, by what was read; nothing where no more is known.
-pub fn why(
+/// Where more stands of a fault of which no more is known.
+fn pointer(alloc: Global, fault: &Fault) -> Result<String, AllocError> {
+    if let Fault::Words(_) = fault {
+        return Ok(String::new(alloc));
+    }
+    let told = format!(in alloc; "{fault}")?;
+    let number = match told.as_str().split_once(' ') {
+        Some((number, _)) => number,
+        None => told.as_str(),
+    };
+    format!(in alloc; "  sdfw explain {number} says what to do\n")
+}
+
+/// What more is told of a fault, by what was read.
+fn known(
     alloc: Global,
     fault: &Fault,
     options: &Options,
@@ -116,6 +129,20 @@ pub fn why(
         Fault::Table(PrecFault::BlockTooLong) => block_text(alloc, given),
         _ => sound_text(alloc, fault, &sources.trace, given),
     }
+}
+
+/// What more is told of a fault, by what was read. Where no more is known, it says where more stands.
+pub fn why(
+    alloc: Global,
+    fault: &Fault,
+    options: &Options,
+    sources: &Sources,
+) -> Result<String, AllocError> {
+    let told = known(alloc, fault, options, sources)?;
+    if told.is_empty() {
+        return pointer(alloc, fault);
+    }
+    Ok(told)
 }
 
 /// What is told of a fault: its line, with what more is known where these are the options, or JSON in its place.
@@ -178,6 +205,8 @@ impl Background {
                 self.telling = Telling::Why(batch.options);
             }
             Words::Kinds { json: true } => self.telling = Telling::Json,
+            Words::Batch { .. } => {}
+            _ if terminal => self.telling = Telling::Why(Options::DEFAULT),
             _ => {}
         }
     }

@@ -55,14 +55,6 @@ pub fn put<W: Write>(to: &mut W, bytes: &[u8]) -> Result<(), Fault> {
     }
 }
 
-/// Makes a file of bytes, or fills it anew.
-pub fn write_at<S: Storage>(storage: &S, path: &str, bytes: &[u8]) -> Result<(), Fault> {
-    match storage.create(path) {
-        Ok(mut file) => put(&mut file, bytes),
-        Err(error) => Err(device_fault(&error, Fault::Write)),
-    }
-}
-
 /// A file that the system refused, as it was named, and what the system said.
 #[derive(Drop)]
 pub struct Refused {
@@ -93,6 +85,24 @@ pub fn refuse(
     match note(alloc, refused, name, error) {
         Ok(()) => device_fault(error, blamed),
         Err(_) => Fault::OutOfMemory,
+    }
+}
+
+/// Makes a file of bytes, or fills it anew. Notes how the system refused it.
+pub fn write_at<S: Storage>(
+    alloc: Global,
+    storage: &S,
+    path: &str,
+    bytes: &[u8],
+    refused: &mut Vec<Refused>,
+) -> Result<(), Fault> {
+    let written = match storage.create(path) {
+        Ok(mut file) => file.write_all(bytes),
+        Err(error) => Err(error),
+    };
+    match written {
+        Ok(()) => Ok(()),
+        Err(error) => Err(refuse(alloc, refused, path, &error, Fault::Write)),
     }
 }
 

@@ -6,22 +6,18 @@ use Rattle.sdf_plan.specs.Plans.{PlanValue, Suits}
 use Rattle.sdf_process.specs.Run.{IsRun}
 use Rattle.sdf_profile.specs.Profiles.{HasRunOn, IsRunFault}
 
-pub ran : (d : DesignValue) (p : PlanValue) (input : List ℕ) (left before after : Option (List ℕ)) (r r' w w' : ℕ)
+pub ran : (d : DesignValue) (p : PlanValue) (input : List ℕ) (left before after : Option (List ℕ))
     (result : Result (Unit {0}) Fault) → Suits d.net p →
-    IsRun d.net p.period.repetitions (Some input) left before after r r' w w' result →
+    IsRun d.net p.period.repetitions (Some input) left before after 0 0 0 0 result →
     MatchResult result (λ _. HasRunOn d input) (IsRunFault d input)
-ran d p input left before after r r' w w' (Ok x) suits run =
+ran d p input left before after (Ok x) suits run =
     let is = run.runs input refl in
     record { plan = p; suits = suits; out = is.0; output = is.1 }
-ran d p input left before after r r' w w' (Err e) suits run = record {
+ran d p input left before after (Err e) suits run = record {
   plan = p;
   suits = suits;
   left = left;
   before = before;
   after = after;
-  reader = r;
-  reader_after = r';
-  writer = w;
-  writer_after = w';
   run = run;
 }

@@ -46,19 +46,14 @@ pub record AreProfileOptions (d : DesignValue) (o : Options) : Type 0 where
   pub patience : o.patience ≡ MOST_PATIENCE
   pub blocking : (q : List ℕ) → IsLeastPeriod (rates (graph_of kit_steps d.net)) q → o.blocking ≡ blocking_of (sum q)
 
--- a run of the design on the input answers the fault
+-- a run of the design on the input, by devices that never fail, answers the fault
 pub record IsRunFault (d : DesignValue) (input : List ℕ) (f : Fault) : Type 0 where
   pub plan : PlanValue
   pub suits : Suits d.net plan
   pub left : Option (List ℕ)
   pub before : Option (List ℕ)
   pub after : Option (List ℕ)
-  pub reader : ℕ
-  pub reader_after : ℕ
-  pub writer : ℕ
-  pub writer_after : ℕ
-  pub run : IsRun d.net plan.period.repetitions (Some input) left before after reader reader_after writer writer_after
-      (Err f)
+  pub run : IsRun d.net plan.period.repetitions (Some input) left before after 0 0 0 0 (Err f)
 
 -- memory was refused, or a run answers the fault
 abbrev pub IsMeasuringFault : DesignValue → List ℕ → Fault → Type 0

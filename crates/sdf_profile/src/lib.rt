@@ -1,7 +1,7 @@
 //! What each actor's firings take of the time of a run, as a text and as the costs of a graph file.
 //!
 //! It stands on `sdf_plan`, which plans a design, on `sdf_process`, which runs it and calls a gate before each firing,
-//! on `sdf_run` for the gate, on `sdf_wav` for the adapters of readers and writers, on `sdf_options`, on `sdf_file` for
+//! on `sdf_run` for the gate, on `sdf_wav` for what a reader and a writer are, on `sdf_options`, on `sdf_file` for
 //! the names of actors, on `sdf_actor` for how many there are, on `sdf_graph` and `sdf_kit` for the length of a period,
 //! on `sdf_document`, which reads a graph file, and on `sdf_limits`.
 //! Begin with `measuring`. `stopwatch` measures, `lines` and `costs` make the report, and `costing` writes the costs
@@ -13,6 +13,7 @@ mod costing;
 mod costs;
 mod lines;
 mod measuring;
+mod memory;
 mod places;
 mod replaced;
 mod same;

@@ -8,6 +8,7 @@ ghost use Rattle.sdf_profile.specs.Times.{AreMeasured};
 
 use crate::costs::{costs_of, times_of};
 use crate::lines::profile_text;
+use crate::memory::{Dropped, Heard};
 use crate::stopwatch::{Spent, Stopwatch};
 use sdf_file::Design;
 use sdf_limits::{MOST_BLOCK, MOST_BLOCKING, MOST_PATIENCE};
@@ -16,9 +17,7 @@ use sdf_plan::planning::plan;
 use sdf_plan::{Fault, Plan};
 use sdf_process::process::process_with;
 use sdf_run::Gate;
-use sdf_wav::{FromRead, ToWrite};
 use std::alloc::{AllocError, Global};
-use std::io;
 use std::thread::Threads;
 use std::time::Clock;
 
@@ -57,9 +56,8 @@ fn run_through<T: Threads + AllocGlobal + Sync, G: Gate>(
     requires { Suits design.now.net plan.now }
     ensures { MatchResult result (λ _. HasRunOn design.now input.now) (IsRunFault design.now input.now) }
 {
-    let reader = &mut FromRead::new(input);
-    let writer = &mut ToWrite::new(io::sink());
-    process_with(rt, reader, writer, design, plan, gate)
+    let mut reader = Heard { left: input };
+    process_with(rt, &mut reader, &mut Dropped, design, plan, gate)
 }
 
 /// The text and the costs of what firings took.

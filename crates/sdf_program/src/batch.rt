@@ -193,10 +193,11 @@ fn run_item<'a, S: Storage, T: Threads + AllocGlobal + Clock + Sync>(
         planned,
         &mut heard,
     );
+    let settled = settle(alloc, world.storage, item, ended, &mut heard.refused);
     Outcome {
         input: item.input,
         said,
-        ended: settle(world.storage, item, ended),
+        ended: settled,
         heard,
     }
 }
@@ -277,7 +278,12 @@ fn serve_items<S: Storage, T: Threads + AllocGlobal + Clock + Sync, O: Write, E:
     let batching = course.batching;
     let items = items_of(alloc, batching.asked)?;
     keep_inputs(alloc, world.storage, batching, &items)?;
-    make_folder(alloc, world.storage, batching.asked.folder)?;
+    make_folder(
+        alloc,
+        world.storage,
+        batching.asked.folder,
+        &mut sources.refused,
+    )?;
     let mut worst = 0;
     for group in items.chunks(files_at_once(world.threads, batching.asked)) {
         worst = worst.max(serve_group(world, out, err, course, group, sources)?);

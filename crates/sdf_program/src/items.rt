@@ -1,6 +1,6 @@
 //! The files of a batch: where each is written.
 
-use sdf_files::files::device_fault;
+use sdf_files::files::{Refused, refuse};
 use sdf_files::storage::Storage;
 use sdf_files::world::STANDARD;
 use sdf_options::printable::printable;
@@ -101,22 +101,29 @@ pub(crate) fn items_of<'a>(alloc: Global, batch: &Batch<'a>) -> Result<Vec<Item<
     Ok(items)
 }
 
-/// Puts a sound that is whole in its place.
-fn place<S: Storage>(storage: &S, item: &Item<'_>) -> Result<(), Fault> {
+/// Puts a sound that is whole in its place, or notes how the system refused that.
+fn place<S: Storage>(
+    alloc: Global,
+    storage: &S,
+    item: &Item<'_>,
+    refused: &mut Vec<Refused>,
+) -> Result<(), Fault> {
     match storage.rename(item.part.as_str(), item.output.as_str()) {
         Ok(()) => Ok(()),
-        Err(error) => Err(device_fault(&error, Fault::Write)),
+        Err(error) => Err(refuse(alloc, refused, item.output.as_str(), &error, Fault::Write)),
     }
 }
 
 /// Puts a sound that is whole in its place, and removes one that is not, or that has no place.
 pub(crate) fn settle<S: Storage>(
+    alloc: Global,
     storage: &S,
     item: &Item<'_>,
     ended: Result<(), Fault>,
+    refused: &mut Vec<Refused>,
 ) -> Result<(), Fault> {
     let settled = match ended {
-        Ok(()) => place(storage, item),
+        Ok(()) => place(alloc, storage, item, refused),
         Err(fault) => Err(fault),
     };
     if settled.is_err() {

@@ -1,7 +1,7 @@
 //! The command that measures a run.
 
 use sdf_commands::printing::show;
-use sdf_files::files::{Loaded, Sources, bytes_of, put, read_at, refuse, write_at};
+use sdf_files::files::{Loaded, Refused, Sources, bytes_of, put, read_at, refuse, write_at};
 use sdf_files::overwriting::{Paths, keep_what_is_read};
 use sdf_files::storage::Storage;
 use sdf_files::world::{STANDARD, World};
@@ -79,17 +79,24 @@ pub(crate) struct Profiling<'a> {
 }
 
 /// Writes the text of a graph file, and prints a profile where that text does not stand there.
-fn put_written<S: Storage, O: Write>(
-    storage: &S,
+fn put_written<S: Storage, T: AllocGlobal, O: Write>(
+    world: &World<S, T>,
     out: &mut O,
     output: &str,
     written: &[u8],
     profile: &str,
+    refused: &mut Vec<Refused>,
 ) -> Result<(), Fault> {
     if output == STANDARD {
         return put(out, written);
     }
-    write_at(storage, output, written)?;
+    write_at(
+        world.threads.alloc(),
+        world.storage,
+        output,
+        written,
+        refused,
+    )?;
     show(out, profile)
 }
 
@@ -98,12 +105,12 @@ fn write_measured<S: Storage, T: AllocGlobal, O: Write>(
     world: &World<S, T>,
     out: &mut O,
     output: &str,
-    sources: &Sources,
+    sources: &mut Sources,
     measured: &Measured,
 ) -> Result<(), Fault> {
     let written = costed(world.threads.alloc(), sources, &measured.costs)?;
     let profile = measured.text.as_str();
-    put_written(world.storage, out, output, &written, profile)
+    put_written(world, out, output, &written, profile, &mut sources.refused)
 }
 
 /// Measures a run once it is tested that the file to write is none of those that are read, and that the graph file can
@@ -113,7 +120,7 @@ fn measure_into<S: Storage, T, O: Write>(
     out: &mut O,
     asked: Profiling<'_>,
     output: &str,
-    sources: &Sources,
+    sources: &mut Sources,
     bytes: &[u8],
 ) -> Result<(), Fault>
 where
@@ -142,7 +149,7 @@ fn measure<S: Storage, T, O: Write>(
     world: &World<S, T>,
     out: &mut O,
     asked: Profiling<'_>,
-    sources: &Sources,
+    sources: &mut Sources,
     bytes: &[u8],
 ) -> Result<(), Fault>
 where

@@ -198,7 +198,7 @@ fn obey<
             run_on(world, out, err, asked, sources)
         }
         Words::Fir { wanted } => ended_well(fir(world, out, err, wanted)),
-        Words::Resample { conversion } => ended_well(resample(world, err, conversion)),
+        Words::Resample { conversion } => ended_well(resample(world, err, conversion, sources)),
         Words::Kinds { json } => ended_well(print_kinds(world, out, json)),
         Words::Explain { number } => ended_well(print_meaning(world, out, number)),
     }

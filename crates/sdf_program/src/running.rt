@@ -102,11 +102,13 @@ fn parts_text(alloc: Global, planned: Planned<'_>, frames: u64) -> Result<String
     };
     let made = planned.running.loaded.design.net().samples_out() as u64;
     let run = u32::try_from(frames.div_ceil(made)).unwrap_or(u32::MAX);
-    if run <= part_size(run, workers.clamp(1, MOST_WORKERS) as u32, periods) {
+    let most = workers.clamp(1, MOST_WORKERS) as u32;
+    let parts = run.div_ceil(part_size(run, most, periods));
+    if parts < 2 {
         return String::from_str(alloc, "one thread: the sound is shorter than two parts\n");
     }
     format!(in alloc;
-        "{workers} workers, each on its own part of the sound after {periods} periods ({samples} samples) of warm-up\n"
+        "{parts} workers, each on its own part of the sound after {periods} periods ({samples} samples) of warm-up\n"
     )
 }
 

@@ -72,7 +72,7 @@ pub(super) static MEANINGS: [Meaning; 15] = [
         place: "",
         means: "The WAV file is empty or ends within one of its parts. OUT is left empty, or ends early too.",
         limits: "",
-        remedy: "Get the whole file: a copy was cut off, or nothing was written to it.",
+        remedy: "Get the whole file: a copy was cut off, or nothing was written to it. Use `run --open-ended` if another program writes it to a pipe.",
     },
     // 44 PartialFrame
     Meaning {

@@ -1,0 +1,39 @@
+//! What a profile reads, and where it writes: neither ever fails.
+
+ghost use Rattle.std.specs.Prelude.{None, Some};
+
+use sdf_wav::{DeviceFault, Reader, Writer};
+
+/// The bytes of a sound that are still to be read.
+#[derive(Clone, Copy)]
+pub(crate) struct Heard<'a> {
+    pub(crate) left: &'a [u8],
+}
+
+impl<'a> Reader for Heard<'a> {
+    ghost remaining = { λ s. Some s.left.now };
+
+    ghost failures = { λ _. 0 };
+
+    fn read(&mut self, buf: &mut [u8]) -> Result<usize, DeviceFault> {
+        let count = self.left.len().min(buf.len());
+        let (front, rest) = self.left.split_at(count);
+        buf[..count].copy_from_slice(front);
+        self.left = rest;
+        Ok(count)
+    }
+}
+
+/// Takes what a run makes, and drops it.
+#[derive(Clone, Copy)]
+pub(crate) struct Dropped;
+
+impl Writer for Dropped {
+    ghost contents = { λ _. None };
+
+    ghost failures = { λ _. 0 };
+
+    fn write(&mut self, bytes: &[u8]) -> Result<usize, DeviceFault> {
+        Ok(bytes.len())
+    }
+}
