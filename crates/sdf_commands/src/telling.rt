@@ -95,16 +95,21 @@ fn sound_text(
     }
 }
 
+/// The number at the front of a fault's text.
+fn number_of(told: &str) -> &str {
+    match told.split_once(' ') {
+        Some((number, _)) => number,
+        None => told,
+    }
+}
+
 /// Where more stands of a fault of which no more is known.
 fn pointer(alloc: Global, fault: &Fault) -> Result<String, AllocError> {
     if let Fault::Words(_) = fault {
         return Ok(String::new(alloc));
     }
     let told = format!(in alloc; "{fault}")?;
-    let number = match told.as_str().split_once(' ') {
-        Some((number, _)) => number,
-        None => told.as_str(),
-    };
+    let number = number_of(told.as_str());
     format!(in alloc; "  sdfw explain {number} says what to do\n")
 }
 
