@@ -103,7 +103,7 @@ fn number_of(told: &str) -> &str {
     }
 }
 
-/// Where more stands of a fault of which no more is known.
+/// Returns the line that names `explain`, or no line for a mistake in the words.
 fn pointer(alloc: Global, fault: &Fault) -> Result<String, AllocError> {
     if let Fault::Words(_) = fault {
         return Ok(String::new(alloc));

@@ -28,13 +28,6 @@ module _ (c now : Reading) (before : List ℤ) (here : now ≡ record c { gone =
       left → IsReadTo input now before left
   stood_there input bytes left is = subst (λ (y : Reading). IsReadTo input y before left) (sym here) is
 
-  -- memory was refused behind it
-  pub more_refused : {Y : Type 0} (e : Fault) (x : Result Y Fault) (P : Y → Type 0) → e ≡ OutOfMemory →
-      Known mid new LosesFront → r2 ≡ r1 → IsErrAnd x (λ f. f ≡ e) →
-      MatchResult x P (λ f. ReadsContent c old new r r2 (Err f))
-  more_refused e (Err f) P memory lost same is = inl (is ∙ memory, both_lost lost, same ∙ counted)
-  more_refused e (Ok y) P memory lost same is = absurd is
-
   -- it failed
   pub more_failed : {Y : Type 0} (e : WavFault) (x : Result Y Fault) (P : Y → Type 0) →
       ((input : List ℕ) (d : Reading) (first : List ℤ) (bytes : List ℕ) (many : ℕ) (f : FormatFault) →

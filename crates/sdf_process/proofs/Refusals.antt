@@ -32,11 +32,6 @@ pub if_err : {X : Type 0} (r : Result X Fault) (f g : Fault) → f ≡ g → IsE
 if_err (Err e) f g same is = is ∙ same
 if_err (Ok x) f g same is = absurd is
 
--- what is said of an answer, in other words where it is Ok
-pub ok_by : {X : Type 0} (r : Result X Fault) (P Q : X → Type 0) → ((x : X) → P x → Q x) → IfOk r P → IfOk r Q
-ok_by (Ok x) P Q go h = go x h
-ok_by (Err e) P Q go h = tt
-
 -- what is said of an answer, if it is known
 pub at_ok : {X : Type 0} (r : Result X Fault) (x : X) (P : X → Type 0) (E : Fault → Type 0) → r ≡ Ok x →
     MatchResult r P E → P x

@@ -97,9 +97,6 @@ module _ (j taken made f channels len : ℕ) (some_j : 0 < j) (some_taken : 0 < 
   some_f : 0 < f
   some_f = omega (arith, one, same)
 
-  block_some : 0 < j * taken * f
-  block_some = positive (j * taken) f (positive j taken some_j some_taken) some_f
-
   abbrev blocks : ℕ
   blocks = len / (j * taken * f)
 

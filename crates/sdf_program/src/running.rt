@@ -88,7 +88,7 @@ fn run_between<T: Threads + AllocGlobal + Sync, R: Read, W: Write>(
     )
 }
 
-/// Returns how a sound was run in parts of which `frames` frames were made, if it was to be.
+/// Returns how a run in parts went that made `frames` frames, or no text for any other run.
 fn parts_text(alloc: Global, planned: Planned<'_>, frames: u64) -> Result<String, AllocError> {
     let Some(
         Pace::Parts {

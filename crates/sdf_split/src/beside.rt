@@ -44,7 +44,7 @@ fn call_at<T, F: Fn(usize, &mut T)>(f: &F, i: usize, s: &mut [T])
     call_with(f, i, &mut s[0]);
 }
 
-/// Does so with elements whose first number is `i`.
+/// Calls `f` with each element of `s`, the first of which has number `i`, and `meanwhile` beside them.
 #[cycle(places)]
 fn from_place<R: Threads + Sync, T: Send, F: Fn(usize, &mut T) + Sync, G: FnMut() -> B, B>(
     rt: &R,
@@ -66,7 +66,7 @@ fn from_place<R: Threads + Sync, T: Send, F: Fn(usize, &mut T) + Sync, G: FnMut(
     first_beside(rt, f, i, first, others, meanwhile)
 }
 
-/// Does so with one element of number `i`, and with the others.
+/// Calls `f` with the element of `first`, whose number is `i`, and with each of `others`, and `meanwhile` beside them.
 #[cycle(places)]
 fn first_beside<R: Threads + Sync, T: Send, F: Fn(usize, &mut T) + Sync, G: FnMut() -> B, B>(
     rt: &R,

@@ -24,7 +24,7 @@ fn push_most(text: &mut String, periods: u64) -> Result<(), AllocError>
     Ok(())
 }
 
-/// Adds how many periods of so many firings a block can have.
+/// Adds how many periods a block can have, if a period has `firings` firings.
 #[tactic(auto, unfolding(crate::specs::Blocks::block_line))]
 pub(crate) fn push_block(text: &mut String, firings: u32) -> Result<(), AllocError>
     ensures { OnOk result (string_bytes text.new ≡ string_bytes text.old ++ block_line firings) }
