@@ -44,6 +44,9 @@ class Ended:
     def together(self):
         return self.counts[8]
 
+    def beside(self):
+        return self.counts[9]
+
 
 def wav(samples, size=None, before=b"", channels=1):
     """A file of 44,100 frames a second; its data may announce another size, and chunks may stand before them."""
@@ -112,7 +115,7 @@ def run(words, kind=None, at=0, how="error", one=False, window=None, sound=None,
     made = output.read_bytes() if output.is_file() else None
     if sound:
         said, made = b"", said
-    return Ended(status, said, faults, made, struct.unpack("<9Q", counts.read_bytes()))
+    return Ended(status, said, faults, made, struct.unpack("<10Q", counts.read_bytes()))
 
 
 def describe(ended):

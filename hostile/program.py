@@ -192,6 +192,13 @@ def in_pieces():
     return True if ended.status == 0 and ended.greatest() < LONG else f"{ended.greatest()} bytes, {describe(ended)}"
 
 
+def meanwhile():
+    """Whether most reads and writes of a parallel run are made while parts are run."""
+    ended = run([SDFW, "run", "pieces.toml", "whole.wav", "out.wav", "--parallel", "2"])
+    most = (ended.calls("read") + ended.calls("write")) * 3 // 4
+    return True if ended.status == 0 and ended.beside() > most else f"{ended.beside()} of {most}, {describe(ended)}"
+
+
 def outputs_of_sdfw(lists):
     """Outputs of over 10,000,000 samples are never refused for want of memory."""
     (Folder.here() / "widened.toml").write_text(WIDENED)
@@ -200,7 +207,8 @@ def outputs_of_sdfw(lists):
     lists.cases("sdfw: 10,240,000 samples", [(" ".join(more), lambda more=more: makes_all(more)) for more in ways])
     lists.cases("sdfw: parts at work at the same time, in pieces", [
         *((f"--parallel {workers}", lambda workers=workers: at_once(workers)) for workers in (2, 3, 4)),
-        ("a sound of sixteen pieces", in_pieces)])
+        ("a sound of sixteen pieces", in_pieces),
+        ("its reads and writes", meanwhile)])
 
 
 def asked_by_run(runner, samples, sound):

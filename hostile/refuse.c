@@ -35,6 +35,7 @@ struct counts {
     _Atomic uint64_t refused;       /* how many calls were refused */
     _Atomic uint64_t foreign;       /* requests for memory from outside the program, which are left out */
     _Atomic uint64_t together;      /* the most started threads that were at work at the same time */
+    _Atomic uint64_t beside;        /* reads and writes while a thread was started and had not ended */
 };
 
 static struct counts unseen;
@@ -185,6 +186,7 @@ void free(void *block) {
 struct started { void *(*work)(void *); void *given; };
 
 static _Atomic uint64_t at_work;
+static _Atomic uint64_t begun;
 
 /* The work of a thread, between two counts of those that are at work. */
 static void *counted_work(void *started) {
@@ -195,6 +197,7 @@ static void *counted_work(void *started) {
     while (now > most && !atomic_compare_exchange_weak(&counts->together, &most, now)) {}
     void *made = own.work(own.given);
     atomic_fetch_sub(&at_work, 1);
+    atomic_fetch_sub(&begun, 1);
     return made;
 }
 
@@ -204,7 +207,15 @@ int pthread_create(pthread_t *thread, const pthread_attr_t *how, void *(*work)(v
     struct started *own = next_malloc(sizeof *own);
     if (!own) return EAGAIN;
     *own = (struct started){work, given};
-    return next_pthread_create(thread, how, counted_work, own);
+    atomic_fetch_add(&begun, 1);
+    int refused = next_pthread_create(thread, how, counted_work, own);
+    if (refused) atomic_fetch_sub(&begun, 1);
+    return refused;
+}
+
+/* Counts a read or write of the program, if threads are started. */
+static void count_beside(void) {
+    if (atomic_load(&begun)) atomic_fetch_add(&counts->beside, 1);
 }
 
 /* What a refused read or write answers. */
@@ -215,6 +226,7 @@ static ssize_t refusal(void) {
 }
 
 ssize_t read(int file, void *bytes, size_t size) {
+    if (is_program(CALLER)) count_beside();
     if (is_program(CALLER) && is_refused(READ)) return refusal();
     return syscall(SYS_read, file, bytes, one_byte && size > 1 ? 1 : size);
 }
@@ -227,6 +239,7 @@ static void turn_window(int file, const void *bytes, size_t size) {
 }
 
 static ssize_t write_from(void *from, int file, const void *bytes, size_t size) {
+    if (is_program(from)) count_beside();
     if (is_program(from) && is_refused(WRITE)) return refusal();
     turn_window(file, bytes, size);
     return syscall(SYS_write, file, bytes, one_byte && size > 1 ? 1 : size);
