@@ -56,8 +56,9 @@ def behind(fault, ample_too):
     def allowed(ended, ample, at):
         if ended.answer() == ample.answer():
             return ample_too
-        front = ended.told[: -len(fault[1])]
-        told = ended.fault() == (fault[0], front + fault[1]) and ample.told.startswith(front)
+        status, line = ended.fault()
+        front = line[: -len(fault[1])]
+        told = (status, line) == (fault[0], front + fault[1]) and ample.told.startswith(front)
         return told and ample.printed.startswith(ended.printed)
 
     return allowed

@@ -14,6 +14,7 @@ BUILD = HERE.parent / "build"
 SHARED = BUILD / "refuse.so"
 SECONDS = 60
 KINDS = ["memory", "read", "write", "thread"]
+EXPLAINED = b"  sdfw explain 1 says what to do\n"
 NOUNS = {"memory": "requests for memory", "read": "reads", "write": "writes", "thread": "threads"}
 
 
@@ -27,7 +28,8 @@ class Ended:
         return self.status, self.printed, self.told, self.output
 
     def fault(self):
-        return self.status, self.told
+        """The status and the fault, without the line behind refused memory, for which memory may be refused too."""
+        return self.status, self.told.removesuffix(EXPLAINED)
 
     def calls(self, kind):
         return self.counts[KINDS.index(kind)]

@@ -273,8 +273,7 @@ fn run_while_turning<T: Threads + AllocGlobal + Sync, R: Reader, W: Writer, G: G
 }
 
 /// Runs a net on the frames of a source: takes some frames, runs all whole blocks that there are, writes what they
-/// make, and so on. The last block is filled up with zeros. A run in parts at once writes and takes frames meanwhile,
-/// and so runs the last whole blocks before its end.
+/// make, and so on. The last block is filled up with zeros. A run in parts at once writes and takes frames meanwhile.
 pub(crate) fn run_stream<T: Threads + AllocGlobal + Sync, R: Reader, W: Writer, G: Gate>(
     rt: &T,
     reader: &mut R,
@@ -320,9 +319,6 @@ pub(crate) fn run_stream<T: Threads + AllocGlobal + Sync, R: Reader, W: Writer, 
     };
     while stream.flow.left > 0 {
         stream.go_on(rt, reader, writer, gate)?;
-    }
-    if !stream.at_once {
-        return stream.finish(rt, writer, gate);
     }
     stream.go_on(rt, reader, writer, gate)?;
     stream.finish(rt, writer, gate)

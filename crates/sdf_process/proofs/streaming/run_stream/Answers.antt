@@ -40,28 +40,12 @@ loop-stream-preserved g c = c.in_ok-go_on.ensures.goes
     (g.W.Writer.failures c.args.writer.now))
     c.loop-stream.invariant
 
-pub finish-requires-clause-on : goal.finish-requires-clause-on
-finish-requires-clause-on g c κs within = (
-  (start_of c.args.opened c.args.begun (g.R.Reader.remaining c.args.reader.now)
-      (g.W.Writer.contents c.args.writer.now) (g.R.Reader.failures c.args.reader.now)
-      (g.W.Writer.failures c.args.writer.now)),
-  g.R.Reader.remaining c.loop-stream.reader,
-  g.R.Reader.failures c.loop-stream.reader,
-  c.loop-stream.invariant,
-)
-
-pub returns-then-not-stream : goal.returns-then-not-stream
-returns-then-not-stream g c = c.finish.ensures
-    (start_of c.args.opened c.args.begun (g.R.Reader.remaining c.args.reader.now) (g.W.Writer.contents c.args.writer.now) (g.R.Reader.failures c.args.reader.now)
-    (g.W.Writer.failures c.args.writer.now))
-    (g.R.Reader.remaining c.loop-stream.reader) (g.R.Reader.failures c.loop-stream.reader) c.loop-stream.invariant
-
 pub returns : goal.returns
 returns g c =
     let s = start_of c.args.opened c.args.begun (g.R.Reader.remaining c.args.reader.now)
     (g.W.Writer.contents c.args.writer.now) (g.R.Reader.failures c.args.reader.now)
     (g.W.Writer.failures c.args.writer.now) in
-    c.finish-2.ensures s (g.R.Reader.remaining c.go_on-2.new.reader) (g.R.Reader.failures c.go_on-2.new.reader)
+    c.finish.ensures s (g.R.Reader.remaining c.go_on-2.new.reader) (g.R.Reader.failures c.go_on-2.new.reader)
     (c.in_ok-go_on-2.ensures.goes s c.loop-stream.invariant)
 
 pub go_on-requires-2-clause-on : goal.go_on-requires-2-clause-on
@@ -83,8 +67,8 @@ returns-in_err-go_on-2 g c =
     c.from_residual-in_err-go_on-2.ensures.1
     (c.in_err-go_on-2.ensures.goes s c.loop-stream.invariant)
 
-pub finish-requires-2-clause-on : goal.finish-requires-2-clause-on
-finish-requires-2-clause-on g c κs within =
+pub finish-requires-clause-on : goal.finish-requires-clause-on
+finish-requires-clause-on g c κs within =
     let s = start_of c.args.opened c.args.begun (g.R.Reader.remaining c.args.reader.now)
     (g.W.Writer.contents c.args.writer.now) (g.R.Reader.failures c.args.reader.now)
     (g.W.Writer.failures c.args.writer.now) in (
