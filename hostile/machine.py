@@ -1,5 +1,6 @@
 """Runs a program beside `refuse.so`, and keeps count of the lists that passed."""
 import os
+import re
 import shutil
 import struct
 import subprocess
@@ -14,7 +15,7 @@ BUILD = HERE.parent / "build"
 SHARED = BUILD / "refuse.so"
 SECONDS = 60
 KINDS = ["memory", "read", "write", "thread"]
-EXPLAINED = b"  sdfw explain 1 says what to do\n"
+EXPLAINED = re.compile(rb"  sdfw explain \d+ says what to do\n\Z")
 NOUNS = {"memory": "requests for memory", "read": "reads", "write": "writes", "thread": "threads"}
 
 
@@ -28,8 +29,8 @@ class Ended:
         return self.status, self.printed, self.told, self.output
 
     def fault(self):
-        """The status and the fault, without the line behind refused memory, for which memory may be refused too."""
-        return self.status, self.told.removesuffix(EXPLAINED)
+        """The status and the fault, without the line that names `explain`: it stands where memory lacked for more."""
+        return self.status, EXPLAINED.sub(b"", self.told)
 
     def calls(self, kind):
         return self.counts[KINDS.index(kind)]
