@@ -113,7 +113,7 @@ fn pointer(alloc: Global, fault: &Fault) -> Result<String, AllocError> {
     format!(in alloc; "  sdfw explain {number} says what to do\n")
 }
 
-/// What more is told of a fault, by what was read.
+/// Returns what stands in the files that were read, if it explains the fault, or else no text.
 fn known(
     alloc: Global,
     fault: &Fault,
@@ -136,7 +136,8 @@ fn known(
     }
 }
 
-/// What more is told of a fault, by what was read. Where no more is known, it says where more stands.
+/// Returns the lines behind a fault's line: what stands in the files that were read, or else the command that explains
+/// the fault.
 pub fn why(
     alloc: Global,
     fault: &Fault,

@@ -326,7 +326,7 @@ fn tell_pace<E: Write>(
     Ok(())
 }
 
-/// The plan of a parallel run. Why that goes in one thread is told where more is said than faults.
+/// Returns the plan of a parallel run. If `is_said`, prints why one thread runs the design.
 fn crew_plan<T: Threads + AllocGlobal, E: Write>(
     threads: &T,
     err: &mut E,

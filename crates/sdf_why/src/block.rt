@@ -1,4 +1,4 @@
-//! What is told of a block that is too long for a table.
+//! The line of `--why` for a block that is too long for a table.
 
 ghost use Rattle.std.specs.Prelude.{◌≡◌, ◌++◌, OnOk, string_bytes};
 ghost use Rattle.sdf_why.specs.Blocks.{firings_text, most_text, block_line};

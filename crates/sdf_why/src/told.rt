@@ -270,7 +270,7 @@ fn block_of(alloc: Global, design: &Design) -> Result<String, AllocError>
     Ok(text)
 }
 
-/// What is told of a block that is too long for a table.
+/// Returns the firings of a period and the greatest `--blocking`, or no text if the files give no design.
 pub fn block_text(alloc: Global, sources: Sources<'_>) -> Result<String, AllocError>
     ensures { IfOk result (λ text. IsBlockText sources.entry.graph.now (files_view sources.entry.files.now)
         (string_bytes text)) }
