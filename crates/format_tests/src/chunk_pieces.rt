@@ -54,9 +54,7 @@ struct Watching<'a, R> {
 }
 
 impl<R: Reader> Reader for Watching<'_, R> {
-    ghost remaining = { λ s. R.remaining s.reader };
-
-    ghost failures = { λ s. R.failures s.reader };
+    ghost state = { λ s. R.state s.reader };
 
     fn read(&mut self, buf: &mut [u8]) -> Result<usize, DeviceFault> {
         self.most = self.most.max(pages(self.rt));

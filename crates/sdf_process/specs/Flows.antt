@@ -12,6 +12,7 @@ use Rattle.sdf_kit.specs.declared.kit.Kit.{Kit}
 use Rattle.sdf_kit.specs.Kit.{kit_steps}
 use Rattle.sdf_sched.specs.Period.{Schedule}
 use Rattle.sdf_wav.specs.Canonical.{sample_bytes}
+use Rattle.sdf_wav.specs.Device.{ReaderState, WriterState}
 use Rattle.sdf_wav.specs.PiecesIn.{Reading, sound_read}
 use Rattle.sdf_wav.specs.PiecesOut.{Owed}
 use Rattle.sdf_wav.specs.declared.wav.TheConstants.{MOST_CHANNELS}
@@ -28,8 +29,7 @@ use Rattle.sdf_process.specs.Sources.{reading_of, source_behind, Takes}
 use Rattle.sdf_process.specs.Streams.{AreWhole, Follows, GoesBy, StandsWhole, Streams, left_by}
 
 -- What a run was begun with: its net, a period and how many of these make a block; the source of its sound, how many
--- frames that has and how many are made of it; the bytes in the reader and in the writer, and how often each has
--- failed.
+-- frames that has and how many are made of it; the reader and the writer.
 pub record Start : Type 0 where
   pub net : Netlist Kit ℤ
   pub period : Schedule
@@ -37,21 +37,17 @@ pub record Start : Type 0 where
   pub source : Source
   pub frames : ℕ
   pub owed : ℕ
-  pub read : Option (List ℕ)
-  pub written : Option (List ℕ)
-  pub reader : ℕ
-  pub writer : ℕ
+  pub reader : ReaderState
+  pub writer : WriterState
 
-abbrev pub start_of : Opened → Begun → Option (List ℕ) → Option (List ℕ) → ℕ → ℕ → Start
-start_of t b read written r w = record {
+abbrev pub start_of : Opened → Begun → ReaderState → WriterState → Start
+start_of t b r w = record {
   net = t.net.now;
   period = t.period.now;
   blocking = t.blocking;
   source = b.source;
   frames = b.frames;
   owed = b.output.missing;
-  read = read;
-  written = written;
   reader = r;
   writer = w;
 }
@@ -63,9 +59,8 @@ abbrev pub exchange_in : Start → Exchange
 exchange_in b = exchange_of b.net b.period.repetitions
 
 -- the answer of a run that was begun so, and leaves the devices so
-abbrev pub StreamsFrom : Start → Option (List ℕ) → Option (List ℕ) → ℕ → ℕ → Result (Unit {0}) Fault → Type 0
-StreamsFrom b now after r w result =
-    Streams b.net b.period.repetitions b.source b.read now b.written after b.reader r b.writer w result
+abbrev pub StreamsFrom : Start → ReaderState → WriterState → Result (Unit {0}) Fault → Type 0
+StreamsFrom b r w result = Streams b.net b.period.repetitions b.source b.reader r b.writer w result
 
 -- what is known of the sound and of the output before any frame is taken
 pub record CanFlow (b : Start) : Type 0 where
@@ -104,21 +99,21 @@ pub record CameTo (b : Start) (g : Progress) : Type 0 where
   pub there : samples_run b g.blocks ≤ length g.samples
 
 -- All frames are written that were made so far. So many frames are still to be taken, and this is what is owed.
-pub record Flows (b : Start) (g : Progress) (unread : ℕ) (source : Source) (o : Owed) (now after : Option (List ℕ))
-    (r w : ℕ) : Type 0 where
+pub record Flows (b : Start) (g : Progress) (unread : ℕ) (source : Source) (o : Owed) (r : ReaderState)
+    (w : WriterState) : Type 0 where
   pub came : CameTo b g
-  pub takes : Takes b.source g.samples b.read now
+  pub takes : Takes b.source g.samples b.reader.remaining r.remaining
   pub source_is : source ≡ source_behind b.source g.samples
   pub within : unread ≤ b.frames
   pub count : length g.samples ≡ (b.frames - unread) * (reading_in b).channels
-  pub written : Appends b.written after g.bytes
+  pub written : Appends b.writer.contents w.contents g.bytes
   pub owed : o ≡ record {
     channels = (exchange_in b).outputs;
     missing = b.owed - g.blocks * b.blocking * (exchange_in b).made;
     spent = false;
   }
-  pub reader : r ≡ b.reader
-  pub writer : w ≡ b.writer
+  pub reader : r.failures ≡ b.reader.failures
+  pub writer : w.failures ≡ b.writer.failures
 
 -- some blocks behind those of which all is written
 abbrev pub blocks_on : Progress → ℕ → List ℕ → Option (Rest ℤ (List ℤ)) → Progress
@@ -126,9 +121,9 @@ blocks_on g more bytes left =
     record { samples = g.samples; blocks = g.blocks + more; bytes = g.bytes ++ bytes; left = left }
 
 -- The frames of some blocks were written, and those of the blocks behind them are made.
-pub record IsAhead (b : Start) (g : Progress) (f : Flow) (now after : Option (List ℕ)) (r w : ℕ) : Type 0 where
+pub record IsAhead (b : Start) (g : Progress) (f : Flow) (r : ReaderState) (w : WriterState) : Type 0 where
   pub before : Progress
-  pub flows : Flows b before f.left f.source f.output now after r w
+  pub flows : Flows b before f.left f.source f.output r w
   pub more : ℕ
   pub is : g ≡ blocks_on before more (sample_bytes (in_turn (items_of f.made.items))) g.left
   pub came : CameTo b g
@@ -139,36 +134,36 @@ abbrev pub samples_on : Progress → List ℤ → Progress
 samples_on g more = record { samples = g.samples ++ more; blocks = g.blocks; bytes = g.bytes; left = g.left }
 
 -- all frames that were made are written
-pub record Writes (b : Start) (g : Progress) (f f' : Flow) (now after : Option (List ℕ)) (r w : ℕ) : Type 0 where
-  pub flows : Flows b g f'.left f'.source f'.output now after r w
+pub record Writes (b : Start) (g : Progress) (f f' : Flow) (r : ReaderState) (w : WriterState) : Type 0 where
+  pub flows : Flows b g f'.left f'.source f'.output r w
   pub none : items_of f'.made.items ≡ []
   pub kept : f'.kept ≡ f.kept
   pub left : f'.left ≡ f.left
   pub most : f'.most ≡ f.most
 
 -- the next frames are taken: of those that are left as many as may be taken at a time
-pub record TakesNext (b : Start) (g : Progress) (f f' : Flow) (now after : Option (List ℕ)) (r w : ℕ) : Type 0 where
+pub record TakesNext (b : Start) (g : Progress) (f f' : Flow) (r : ReaderState) (w : WriterState) : Type 0 where
   pub more : List ℤ
-  pub flows : Flows b (samples_on g more) f'.left f'.source f'.output now after r w
+  pub flows : Flows b (samples_on g more) f'.left f'.source f'.output r w
   pub kept : f'.kept.items ≡ f.kept.items ++ more
   pub made : f'.made ≡ f.made
   pub left : f'.left ≡ f.left - min f.most f.left
   pub most : f'.most ≡ f.most
 
 -- the one, and then the other
-pub record Turns (b : Start) (g : Progress) (f f' : Flow) (now after : Option (List ℕ)) (r w : ℕ) : Type 0 where
+pub record Turns (b : Start) (g : Progress) (f f' : Flow) (r : ReaderState) (w : WriterState) : Type 0 where
   pub more : List ℤ
-  pub flows : Flows b (samples_on g more) f'.left f'.source f'.output now after r w
+  pub flows : Flows b (samples_on g more) f'.left f'.source f'.output r w
   pub kept : f'.kept.items ≡ f.kept.items ++ more
   pub none : items_of f'.made.items ≡ []
   pub left : f'.left ≡ f.left - min f.most f.left
   pub most : f'.most ≡ f.most
 
 -- so it is, whatever run came so far; or the run ends by a fault
-pub record TurnsAll (f f' : Flow) (now after : Option (List ℕ)) (r w : ℕ) (now' after' : Option (List ℕ)) (r' w' : ℕ)
-    (result : Result (Unit {0}) Fault) : Type 0 where
-  pub turns : (b : Start) (g : Progress) → CanFlow b → IsAhead b g f now after r w →
-      MatchResult result (λ x. Turns b g f f' now' after' r' w') (λ e. StreamsFrom b now' after' r' w' (Err e))
+pub record TurnsAll (f f' : Flow) (r r' : ReaderState) (w w' : WriterState) (result : Result (Unit {0}) Fault) :
+    Type 0 where
+  pub turns : (b : Start) (g : Progress) → CanFlow b → IsAhead b g f r w →
+      MatchResult result (λ x. Turns b g f f' r' w') (λ e. StreamsFrom b r' w' (Err e))
 
 -- ---- the whole state of a run
 
@@ -187,14 +182,14 @@ pub record IsReady (b : Start) (t : Stream) : Type 0 where
   pub waits : t.at_once ≡ false → items_of t.flow.made.items ≡ []
 
 -- it came as far as this, and keeps the samples behind it
-pub record IsUnderWay (b : Start) (g : Progress) (t : Stream) (now after : Option (List ℕ)) (r w : ℕ) : Type 0 where
+pub record IsUnderWay (b : Start) (g : Progress) (t : Stream) (r : ReaderState) (w : WriterState) : Type 0 where
   pub ready : IsReady b t
-  pub ahead : IsAhead b g t.flow now after r w
+  pub ahead : IsAhead b g t.flow r w
   pub left : left_by t.runner ≡ g.left
   pub kept : t.flow.kept.items ≡ drop (samples_run b g.blocks) g.samples
 
-abbrev pub GoesOn : Start → Stream → Option (List ℕ) → Option (List ℕ) → ℕ → ℕ → Type 0
-GoesOn b t now after r w = (g : Progress) × IsUnderWay b g t now after r w
+abbrev pub GoesOn : Start → Stream → ReaderState → WriterState → Type 0
+GoesOn b t r w = (g : Progress) × IsUnderWay b g t r w
 
 -- ---- its next blocks
 
@@ -207,9 +202,9 @@ pub record IsNext (b : Start) (g : Progress) (blocks : ℕ) (t : Stream) (y : Po
   pub there : samples_run b (g.blocks + blocks) ≤ length g.samples
 
 -- a run whose kept samples stand behind the portion
-pub record IsStep (b : Start) (g : Progress) (blocks : ℕ) (t : Stream) (y : Portion) (now after : Option (List ℕ))
-    (r w : ℕ) : Type 0 where
+pub record IsStep (b : Start) (g : Progress) (blocks : ℕ) (t : Stream) (y : Portion) (r : ReaderState)
+    (w : WriterState) : Type 0 where
   pub ready : IsReady b t
-  pub ahead : IsAhead b g t.flow now after r w
+  pub ahead : IsAhead b g t.flow r w
   pub next : IsNext b g blocks t y
   pub kept : t.flow.kept.items ≡ drop (samples_run b (g.blocks + blocks)) g.samples

@@ -9,7 +9,7 @@ use Rattle.sdf_kit.specs.Kit.{kit_steps}
 use Rattle.sdf_wav.specs.Sound.{Sound, frames_of}
 use Rattle.sdf_wav.specs.Grammar.{IsWav}
 use Rattle.sdf_wav.specs.Fault.{HasFault}
-use Rattle.sdf_wav.specs.Device.{AppendsFront, Known, LosesFront, one_more}
+use Rattle.sdf_wav.specs.Device.{AppendsFront, Known, LosesFront, one_more, ReaderState, WriterState}
 use Rattle.sdf_wav.specs.Canonical.{canonical_wav, sample_bytes, IsCanonical}
 use Rattle.sdf_process.specs.Output.{exchange_of, announced_fault, output_header, periods_of, lists_to, input_lists}
 use Rattle.sdf_process.specs.Output.{interleaved, output_of, output_fault}
@@ -190,18 +190,17 @@ writer_failures (Err Write) failures = one_more failures
 writer_failures result failures = failures
 
 -- all that a run's answer says of the two devices, whatever was to be run
-pub record Handles {X : Type 0} (read left before after : Option (List ℕ)) (r r' w w' : ℕ)
-    (result : Result X Fault) : Type 0 where
+pub record Handles {X : Type 0} (r r' : ReaderState) (w w' : WriterState) (result : Result X Fault) : Type 0 where
   -- whatever is known of the bytes, no other fault comes
   pub faults : IfErr result IsProcessFault
   -- nothing behind the samples is read, and no sample before all tests that come before them
-  pub leaves : Leaves read left result
+  pub leaves : Leaves r.remaining r'.remaining result
   -- whatever the reader tells, one canonical file is written, or a front of one where the run stopped behind its
   -- header, or nothing
-  pub writes : WritesFile before after result
+  pub writes : WritesFile w.contents w'.contents result
   -- a device is blamed exactly where it failed in this call, and after its first failure it is not called again
-  pub reader : r' ≡ reader_failures result r
-  pub writer : w' ≡ writer_failures result w
+  pub reader : r'.failures ≡ reader_failures result r.failures
+  pub writer : w'.failures ≡ writer_failures result w.failures
 
 -- memory or a device failed
 abbrev pub IsFromOutside : Fault → Type 0
@@ -214,19 +213,20 @@ Refuses None (Err e) = IsFromOutside e
 Refuses (Some f) (Ok x) = ⊥
 Refuses (Some f) (Err e) = (e ≡ f) ⊎ IsFromOutside e
 
--- all that a run's answer says
-pub record IsRun (n : Netlist Kit ℤ) (q : List ℕ) (read left before after : Option (List ℕ)) (r r' w w' : ℕ)
+-- All that the answer says of a run of net n of period vector q, which found the reader and the writer in the first of
+-- two states each, and left them in the second.
+pub record IsRun (n : Netlist Kit ℤ) (q : List ℕ) (r r' : ReaderState) (w w' : WriterState)
     (result : Result (Unit {0}) Fault) : Type 0 where
   -- what is answered is so, where the reader's bytes are known
-  pub runs : WhereKnown read (λ input. Runs n q input before after result)
+  pub runs : WhereKnown r.remaining (λ input. Runs n q input w.contents w'.contents result)
   -- what is so is answered, unless memory or a device failed
-  pub accepts : (input : List ℕ) (s : Sound) (rest : List ℕ) → read ≡ Some input → IsWav input s rest →
+  pub accepts : (input : List ℕ) (s : Sound) (rest : List ℕ) → r.remaining ≡ Some input → IsWav input s rest →
       Refuses (output_fault (exchange_of n q) s) result
   -- the output's fault comes first where the size of the data says how long it would be, and else a fault of the input
-  pub foresees : (input : List ℕ) (f : Format) (size : ℕ) (rest : List ℕ) (e : Fault) → read ≡ Some input →
+  pub foresees : (input : List ℕ) (f : Format) (size : ℕ) (rest : List ℕ) (e : Fault) → r.remaining ≡ Some input →
       Opens input f size rest → size ≢ 0xFFFFFFFF →
       announced_fault (exchange_of n q) (announced_size f size) ≡ Some e → Refuses (Some e) result
-  pub refuses : (input : List ℕ) (f : FormatFault) → read ≡ Some input → HasFault input f →
+  pub refuses : (input : List ℕ) (f : FormatFault) → r.remaining ≡ Some input → HasFault input f →
       IsAllowed (exchange_of n q) input → Refuses (Some (Wav f)) result
   -- the devices
-  pub devices : Handles read left before after r r' w w' result
+  pub devices : Handles r r' w w' result

@@ -1,6 +1,6 @@
 -- Where the frames of a sound come from, and what is taken of them.
 use Rattle.std.specs.Prelude.{◌≡◌, ℕ, ◌+◌, ◌*◌, ℤ, List, [], ◌++◌, length, take, drop, Option, None, Result, Ok, Err}
-use Rattle.sdf_wav.specs.Device.{Known, LosesFront}
+use Rattle.sdf_wav.specs.Device.{Known, LosesFront, ReaderState}
 use Rattle.sdf_wav.specs.PiecesIn.{Reading, IsReadTo}
 use Rattle.sdf_wav.specs.Sound.{Sound}
 use Rattle.sdf_plan.specs.declared.fault.Fault.{Fault}
@@ -18,13 +18,13 @@ ReadsBy c samples old new =
     IsReadTo input (record c { gone = c.gone + 2 * length samples }) samples left) × LosesFront bytes left)
 
 -- So many frames behind these samples were read, and are kept behind others; or the reading of the content failed.
-abbrev pub ReadsMore : Reading → List ℤ → ℕ → List ℤ → Option (List ℕ) → Option (List ℕ) → ℕ → ℕ → Reading →
-    Result (List ℤ) Fault → Type 0
-ReadsMore c before frames kept old new r r' now (Ok all) =
+abbrev pub ReadsMore : Reading → List ℤ → ℕ → List ℤ → ReaderState → ReaderState → Reading → Result (List ℤ) Fault →
+    Type 0
+ReadsMore c before frames kept r r' now (Ok all) =
     (samples : List ℤ) × (all ≡ kept ++ samples) × (length samples ≡ frames * c.channels)
-    × ReadsBy c (before ++ samples) old new × (now ≡
-    record c { gone = c.gone + 2 * length (before ++ samples) }) × (r' ≡ r)
-ReadsMore c before frames kept old new r r' now (Err f) = ReadsContent c old new r r' (Err f)
+    × ReadsBy c (before ++ samples) r.remaining r'.remaining × (now ≡
+    record c { gone = c.gone + 2 * length (before ++ samples) }) × (r'.failures ≡ r.failures)
+ReadsMore c before frames kept r r' now (Err f) = ReadsContent c r r' (Err f)
 
 -- ---- a content, or a sound that was read before
 
@@ -50,15 +50,17 @@ Takes (Content c) samples old new = ReadsBy c samples old new
 Takes (Heard s taken) samples old new = (new ≡ old) × (samples ≡ take (length samples) (drop taken s.samples))
 
 -- the whole sound was taken from it, or that failed
-abbrev pub TakesAll : Source → Option (List ℕ) → Option (List ℕ) → ℕ → ℕ → Result Sound Fault → Type 0
-TakesAll (Content c) old new r r' result = ReadsContent c old new r r' result
-TakesAll (Heard s taken) old new r r' (Ok t) = (t ≡ s) × (new ≡ old) × (r' ≡ r)
-TakesAll (Heard s taken) old new r r' (Err f) = (f ≡ OutOfMemory) × (new ≡ old) × (r' ≡ r)
+abbrev pub TakesAll : Source → ReaderState → ReaderState → Result Sound Fault → Type 0
+TakesAll (Content c) r r' result = ReadsContent c r r' result
+TakesAll (Heard s taken) r r' (Ok t) = (t ≡ s) × (r'.remaining ≡ r.remaining) × (r'.failures ≡ r.failures)
+TakesAll (Heard s taken) r r' (Err f) =
+    (f ≡ OutOfMemory) × (r'.remaining ≡ r.remaining) × (r'.failures ≡ r.failures)
 
 -- So many frames behind these samples were taken, and are kept behind others; or that failed.
-abbrev pub TakesMore : Source → List ℤ → ℕ → List ℤ → Option (List ℕ) → Option (List ℕ) → ℕ → ℕ → Source →
-    Result (List ℤ) Fault → Type 0
-TakesMore first before frames kept old new r r' now (Ok all) =
+abbrev pub TakesMore : Source → List ℤ → ℕ → List ℤ → ReaderState → ReaderState → Source → Result (List ℤ) Fault →
+    Type 0
+TakesMore first before frames kept r r' now (Ok all) =
     (samples : List ℤ) × (all ≡ kept ++ samples) × (length samples ≡ frames * (reading_of first).channels)
-    × Takes first (before ++ samples) old new × (now ≡ source_behind first (before ++ samples)) × (r' ≡ r)
-TakesMore first before frames kept old new r r' now (Err f) = TakesAll first old new r r' (Err f)
+    × Takes first (before ++ samples) r.remaining r'.remaining × (now ≡ source_behind first (before ++ samples))
+    × (r'.failures ≡ r.failures)
+TakesMore first before frames kept r r' now (Err f) = TakesAll first r r' (Err f)

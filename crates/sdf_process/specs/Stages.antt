@@ -7,7 +7,7 @@ use Rattle.sdf_answer.specs.Answer.{AreOutputs, periods_of as firings}
 use Rattle.sdf_kit.specs.declared.kit.Kit.{Kit}
 use Rattle.sdf_kit.specs.Kit.{kit_steps}
 use Rattle.sdf_wav.specs.Canonical.{sample_bytes, canonical_wav, write_fault, IsCanonical}
-use Rattle.sdf_wav.specs.Device.{AppendsFront, Known, LosesFront, one_more}
+use Rattle.sdf_wav.specs.Device.{AppendsFront, Known, LosesFront, one_more, ReaderState, WriterState}
 use Rattle.sdf_wav.specs.Grammar.{IsWav}
 use Rattle.sdf_wav.specs.Fault.{HasFault}
 use Rattle.sdf_wav.specs.PiecesIn.{Reading, Opens, OpensAs, OpensTo, AnswersOpening, IsReadTo, IsEnded, sound_read}
@@ -26,40 +26,41 @@ use Rattle.sdf_process.specs.Output.{output_header, periods_of, IsExtent}
 use Rattle.sdf_process.specs.Run.{Announces, AreFrames, IsAllowed, IsRun}
 
 -- What a call did that is to write these bytes: all of them, or a front where the writer failed.
-abbrev pub PutsHeader : {X : Type 0} → Option (List ℕ) → Option (List ℕ) → ℕ → ℕ → List ℕ → Result X Fault → Type 0
-PutsHeader before after w w' bytes (Ok x) = Appends before after bytes × (w' ≡ w)
-PutsHeader before after w w' bytes (Err f) = (f ≡ Write) × AppendsFront before after bytes × (w' ≡ one_more w)
+abbrev pub PutsHeader : {X : Type 0} → WriterState → WriterState → List ℕ → Result X Fault → Type 0
+PutsHeader w w' bytes (Ok x) = Appends w.contents w'.contents bytes × (w'.failures ≡ w.failures)
+PutsHeader w w' bytes (Err f) =
+    (f ≡ Write) × AppendsFront w.contents w'.contents bytes × (w'.failures ≡ one_more w.failures)
 
 -- The frames of a net on a sound were written: all of them, or a front of those of some periods where the writer
 -- failed, or those of some periods where memory was refused.
-abbrev pub PutsOutput : Netlist Kit ℤ → List ℕ → Sound → Option (List ℕ) → Option (List ℕ) → ℕ → ℕ →
-    Result (Unit {0}) Fault → Type 0
-PutsOutput n q s before after w w' (Ok x) =
+abbrev pub PutsOutput : Netlist Kit ℤ → List ℕ → Sound → WriterState → WriterState → Result (Unit {0}) Fault → Type 0
+PutsOutput n q s w w' (Ok x) =
     (lists : List (List ℤ)) × AreOutputs kit_steps n (input_lists (exchange_of n q) s)
     (firings q (periods_of (exchange_of n q) s)) lists
-    × Appends before after (sample_bytes (interleaved (output_frames (exchange_of n q) s) lists)) × (w' ≡ w)
-PutsOutput n q s before after w w' (Err f) =
+    × Appends w.contents w'.contents (sample_bytes (interleaved (output_frames (exchange_of n q) s) lists))
+    × (w'.failures ≡ w.failures)
+PutsOutput n q s w w' (Err f) =
     (periods : ℕ) × (frames : List ℕ) × (periods ≤ periods_of (exchange_of n q) s) × AreFrames n q s periods frames
-    × (((f ≡ Write) × AppendsFront before after frames × (w' ≡ one_more w))
-    ⊎ ((f ≡ OutOfMemory) × Appends before after frames × (w' ≡ w)))
+    × (((f ≡ Write) × AppendsFront w.contents w'.contents frames × (w'.failures ≡ one_more w.failures))
+    ⊎ ((f ≡ OutOfMemory) × Appends w.contents w'.contents frames × (w'.failures ≡ w.failures)))
 
 -- where the content c of an input was read from its start on, to its end, and this is its sound
 pub record IsHeardFrom (c : Reading) (input : List ℕ) (s : Sound) (left : List ℕ) : Type 0 where
   pub read : IsReadTo input (record c { gone = c.gone + 2 * length s.samples }) s.samples left
   pub ended : IsEnded (record c { gone = c.gone + 2 * length s.samples }) left
 
--- what the reading of a whole content says of the bytes before it and behind it
-abbrev pub ReadsContent : Reading → Option (List ℕ) → Option (List ℕ) → ℕ → ℕ → Result Sound Fault → Type 0
-ReadsContent c old new r r' (Ok s) =
-    Known old new (λ bytes left. ((input : List ℕ) → IsReadTo input c [] bytes → IsHeardFrom c input s left)
-    × LosesFront bytes left) × (r' ≡ r)
+-- what the reading of a whole content says of the reader before it and behind it
+abbrev pub ReadsContent : Reading → ReaderState → ReaderState → Result Sound Fault → Type 0
+ReadsContent c r r' (Ok s) =
+    Known r.remaining r'.remaining (λ bytes left. ((input : List ℕ) → IsReadTo input c [] bytes → IsHeardFrom c input s left)
+    × LosesFront bytes left) × (r'.failures ≡ r.failures)
     × (s.rate ≡ c.rate) × (s.channels ≡ c.channels) × (c.size ≢ 0xFFFFFFFF → 2 * length s.samples ≡ c.size)
-ReadsContent c old new r r' (Err f) =
-    ((f ≡ OutOfMemory) × Known old new LosesFront × (r' ≡ r))
-    ⊎ (((f ≡ Read) × Known old new LosesFront × (r' ≡ one_more r))
-    ⊎ ((g : FormatFault) × (f ≡ Wav g) × Known old new
+ReadsContent c r r' (Err f) =
+    ((f ≡ OutOfMemory) × Known r.remaining r'.remaining LosesFront × (r'.failures ≡ r.failures))
+    ⊎ (((f ≡ Read) × Known r.remaining r'.remaining LosesFront × (r'.failures ≡ one_more r.failures))
+    ⊎ ((g : FormatFault) × (f ≡ Wav g) × Known r.remaining r'.remaining
     (λ bytes left. ((input : List ℕ) → IsReadTo input c [] bytes → HasFault input g) × LosesFront bytes left)
-    × (r' ≡ r) × (c.size ≢ 0xFFFFFFFF → g ≡ Truncated)))
+    × (r'.failures ≡ r.failures) × (c.size ≢ 0xFFFFFFFF → g ≡ Truncated)))
 
 -- an input was read to the end of its content, this is its sound, and its frames are those that it announced
 pub record IsHeard (input : List ℕ) (s : Sound) (left : List ℕ) : Type 0 where
@@ -72,15 +73,15 @@ pub record IsHeard (input : List ℕ) (s : Sound) (left : List ℕ) : Type 0 whe
 
 -- All that is known once a sound was heard and the header of its output is written: of an output of this rate and
 -- length nothing is there but the header.
-pub record Hears (x : Exchange) (read left before after : Option (List ℕ)) (r r' w w' : ℕ) (s : Sound) (e : Extent)
-    (o : Owed) : Type 0 where
-  pub heard : Known read left (λ input rest. IsHeard input s rest × LosesFront input rest)
-  pub allowed : (input : List ℕ) → read ≡ Some input → IsAllowed x input
+pub record Hears (x : Exchange) (r r' : ReaderState) (w w' : WriterState) (s : Sound) (e : Extent) (o : Owed) :
+    Type 0 where
+  pub heard : Known r.remaining r'.remaining (λ input rest. IsHeard input s rest × LosesFront input rest)
+  pub allowed : (input : List ℕ) → r.remaining ≡ Some input → IsAllowed x input
   pub extent : IsExtent x (announced_by s) e
-  pub header : Appends before after (output_header x (announced_by s))
+  pub header : Appends w.contents w'.contents (output_header x (announced_by s))
   pub owed : o ≡ record { channels = x.outputs; missing = output_frames x s; spent = false }
-  pub reader : r' ≡ r
-  pub writer : w' ≡ w
+  pub reader : r'.failures ≡ r.failures
+  pub writer : w'.failures ≡ w.failures
 
 -- a content that was opened from an input of which this is left
 pub record IsOpened (read left : Option (List ℕ)) (c : Reading) : Type 0 where
@@ -89,10 +90,10 @@ pub record IsOpened (read left : Option (List ℕ)) (c : Reading) : Type 0 where
       OpensTo left f size rest (Ok c)
 
 -- what the stages behind an opening say of the run, whatever was opened
-abbrev pub RunsOn : Netlist Kit ℤ → List ℕ → Reading → Option (List ℕ) → Option (List ℕ) → Option (List ℕ) →
-    Option (List ℕ) → ℕ → ℕ → ℕ → ℕ → Result (Unit {0}) Fault → Type 0
-RunsOn n q c mid left before after r r' w w' result = (read : Option (List ℕ)) → IsOpened read mid c →
-    IsRun n q read left before after r r' w w' result
+abbrev pub RunsOn : Netlist Kit ℤ → List ℕ → Reading → ReaderState → ReaderState → WriterState → WriterState →
+    Result (Unit {0}) Fault → Type 0
+RunsOn n q c r r' w w' result = (read : Option (List ℕ)) → IsOpened read r.remaining c →
+    IsRun n q (record r { remaining = read }) r' w w' result
 
 -- samples that are written in turn are written as one list
 abbrev pub SamplesJoin : Type 0

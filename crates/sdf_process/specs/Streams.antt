@@ -18,7 +18,7 @@ use Rattle.sdf_kit.specs.Kit.{kit_steps}
 use Rattle.sdf_run.specs.Sessions.{SessionValue, IsLive}
 use Rattle.sdf_sched.specs.Period.{Schedule, IsPeriodOf}
 use Rattle.sdf_wav.specs.Canonical.{sample_bytes}
-use Rattle.sdf_wav.specs.Device.{AppendsFront, one_more}
+use Rattle.sdf_wav.specs.Device.{AppendsFront, one_more, ReaderState, WriterState}
 use Rattle.sdf_wav.specs.PiecesIn.{Reading, sound_read}
 use Rattle.sdf_wav.specs.Sound.{Sound, frames_of}
 use Rattle.sdf_wav.specs.declared.wav.TheConstants.{MOST_CHANNELS}
@@ -183,12 +183,13 @@ pub record IsStream (n : Netlist Kit ℤ) (q : List ℕ) (c : Reading) (samples 
 
 -- The whole sound was taken from the source and its whole output written; or the writer failed among the frames of what
 -- was taken; or taking more failed, or memory was refused, behind some frames that were written.
-abbrev pub Streams : Netlist Kit ℤ → List ℕ → Source → Option (List ℕ) → Option (List ℕ) → Option (List ℕ) →
-    Option (List ℕ) → ℕ → ℕ → ℕ → ℕ → Result (Unit {0}) Fault → Type 0
-Streams n q first old new before after r r' w w' (Ok x) =
-    (s : Sound) × TakesAll first old new r r' (Ok s) × PutsOutput n q s before after w w' (Ok x)
-Streams n q first old new before after r r' w w' (Err f) =
+abbrev pub Streams : Netlist Kit ℤ → List ℕ → Source → ReaderState → ReaderState → WriterState → WriterState →
+    Result (Unit {0}) Fault → Type 0
+Streams n q first r r' w w' (Ok x) =
+    (s : Sound) × TakesAll first r r' (Ok s) × PutsOutput n q s w w' (Ok x)
+Streams n q first r r' w w' (Err f) =
     (samples : List ℤ) × (periods : ℕ) × (frames : List ℕ) × (mid : Option (List ℕ))
-    × IsStream n q (reading_of first) samples periods frames × Takes first samples old mid
-    × (((f ≡ Write) × (mid ≡ new) × AppendsFront before after frames × (r' ≡ r) × (w' ≡ one_more w))
-    ⊎ (TakesAll first old new r r' (Err f) × Appends before after frames × (w' ≡ w)))
+    × IsStream n q (reading_of first) samples periods frames × Takes first samples r.remaining mid
+    × (((f ≡ Write) × (mid ≡ r'.remaining) × AppendsFront w.contents w'.contents frames
+    × (r'.failures ≡ r.failures) × (w'.failures ≡ one_more w.failures))
+    ⊎ (TakesAll first r r' (Err f) × Appends w.contents w'.contents frames × (w'.failures ≡ w.failures)))

@@ -71,8 +71,7 @@ fn run_shared<T: Threads + AllocGlobal + Sync, R: Reader, W: Writer, G: Gate>(
     requires shared { IsShared shared }
     requires begun { IsBegun shared.net.now shared.table.now.period.repetitions begun }
     ensures { Streams shared.entry.net.now shared.entry.table.now.period.repetitions begun.source
-        (R.remaining reader.old) (R.remaining reader.new) (W.contents writer.old) (W.contents writer.new)
-        (R.failures reader.old) (R.failures reader.new) (W.failures writer.old) (W.failures writer.new) result }
+        (R.state reader.old) (R.state reader.new) (W.state writer.old) (W.state writer.new) result }
 {
     nets_have_periods(shared.net);
     let session = open_session(rt.alloc(), shared)?;
@@ -100,8 +99,7 @@ fn play<T: Threads + AllocGlobal + Sync, R: Reader, W: Writer, G: Gate>(
     requires outputs { list_count Outputs score.net.now.nodes ≤ MOST_CHANNELS }
     requires begun { IsBegun score.net.now score.period.now.repetitions begun }
     ensures { Streams score.entry.net.now score.entry.period.now.repetitions begun.source
-        (R.remaining reader.old) (R.remaining reader.new) (W.contents writer.old) (W.contents writer.new)
-        (R.failures reader.old) (R.failures reader.new) (W.failures writer.old) (W.failures writer.new) result }
+        (R.state reader.old) (R.state reader.new) (W.state writer.old) (W.state writer.new) result }
 {
     let exchange = Exchange::of_net(score.net);
     let player = Player::open(rt.alloc(), score)?;
@@ -130,8 +128,7 @@ fn play_heard<T: Threads + AllocGlobal + Sync, R: Reader, W: Writer, G: Gate>(
     requires outputs { list_count Outputs score.net.now.nodes ≤ MOST_CHANNELS }
     requires begun { IsBegun score.net.now score.period.now.repetitions begun }
     ensures { Streams score.entry.net.now score.entry.period.now.repetitions begun.source
-        (R.remaining reader.old) (R.remaining reader.new) (W.contents writer.old) (W.contents writer.new)
-        (R.failures reader.old) (R.failures reader.new) (W.failures writer.old) (W.failures writer.new) result }
+        (R.state reader.old) (R.state reader.new) (W.state writer.old) (W.state writer.new) result }
 {
     let Begun {
         source,
@@ -162,8 +159,7 @@ pub(crate) fn run_begun<T: Threads + AllocGlobal + Sync, R: Reader, W: Writer, G
     requires task { IsTask task }
     requires begun { IsBegun task.net.now task.plan.now.period.repetitions begun }
     ensures { Streams task.entry.net.now task.entry.plan.now.period.repetitions begun.source
-        (R.remaining reader.old) (R.remaining reader.new) (W.contents writer.old) (W.contents writer.new)
-        (R.failures reader.old) (R.failures reader.new) (W.failures writer.old) (W.failures writer.new) result }
+        (R.state reader.old) (R.state reader.new) (W.state writer.old) (W.state writer.new) result }
 {
     match task.plan.way() {
         Way::One { period, .. } => {

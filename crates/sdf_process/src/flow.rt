@@ -1,6 +1,7 @@
 //! What goes into a run and comes out of it: the frames of a source, and those that are made of them.
 
-ghost use Rattle.std.specs.Prelude.{ℕ, List, MatchResult, Option, Err};
+ghost use Rattle.std.specs.Prelude.{MatchResult, Err};
+ghost use Rattle.sdf_wav.specs.Device.{ReaderState, WriterState};
 ghost use Rattle.sdf_process.specs.Flows.{CanFlow, Flows, IsAhead, Progress, Start, StreamsFrom, TakesNext, TurnsAll};
 ghost use Rattle.sdf_process.specs.Flows.{Writes};
 
@@ -31,13 +32,13 @@ pub(crate) struct Flow {
 impl Flow {
     /// Writes the frames that were made.
     pub(crate) fn write<W: Writer>(&mut self, alloc: Global, writer: &mut W) -> Result<(), Fault>
-        requires { (b : Start) × (g : Progress) × (now : Option (List ℕ)) × (r : ℕ) × CanFlow b
-            × IsAhead b g self.old now (W.contents writer.old) r (W.failures writer.old) }
-        ensures { (b : Start) (g : Progress) (now : Option (List ℕ)) (r : ℕ) → CanFlow b →
-            IsAhead b g self.old now (W.contents writer.old) r (W.failures writer.old) →
+        requires { (b : Start) × (g : Progress) × (r : ReaderState) × CanFlow b
+            × IsAhead b g self.old r (W.state writer.old) }
+        ensures { (b : Start) (g : Progress) (r : ReaderState) → CanFlow b →
+            IsAhead b g self.old r (W.state writer.old) →
             MatchResult result
-            (λ x. Writes b g self.old self.new now (W.contents writer.new) r (W.failures writer.new))
-            (λ f. StreamsFrom b now (W.contents writer.new) r (W.failures writer.new) (Err f)) }
+            (λ x. Writes b g self.old self.new r (W.state writer.new))
+            (λ f. StreamsFrom b r (W.state writer.new) (Err f)) }
     {
         put_in_turn(writer, &mut self.output, &self.made)?;
         self.spare = mem::replace(&mut self.made, Vec::new(alloc));
@@ -46,15 +47,13 @@ impl Flow {
 
     /// Takes the next frames.
     fn take<R: Reader>(&mut self, alloc: Global, reader: &mut R) -> Result<(), Fault>
-        requires { (b : Start) × (g : Progress) × (after : Option (List ℕ)) × (w : ℕ) × CanFlow b
-            × Flows b g self.old.left self.old.source self.old.output (R.remaining reader.old) after
-            (R.failures reader.old) w }
-        ensures { (b : Start) (g : Progress) (after : Option (List ℕ)) (w : ℕ) → CanFlow b →
-            Flows b g self.old.left self.old.source self.old.output (R.remaining reader.old) after
-            (R.failures reader.old) w →
+        requires { (b : Start) × (g : Progress) × (w : WriterState) × CanFlow b
+            × Flows b g self.old.left self.old.source self.old.output (R.state reader.old) w }
+        ensures { (b : Start) (g : Progress) (w : WriterState) → CanFlow b →
+            Flows b g self.old.left self.old.source self.old.output (R.state reader.old) w →
             MatchResult result
-            (λ x. TakesNext b g self.old self.new (R.remaining reader.new) after (R.failures reader.new) w)
-            (λ f. StreamsFrom b (R.remaining reader.new) after (R.failures reader.new) w (Err f)) }
+            (λ x. TakesNext b g self.old self.new (R.state reader.new) w)
+            (λ f. StreamsFrom b (R.state reader.new) w (Err f)) }
     {
         let many = self.most.min(self.left);
         let kept = mem::replace(&mut self.kept, Vec::new(alloc));
@@ -70,11 +69,8 @@ impl Flow {
         reader: &mut R,
         writer: &mut W,
     ) -> Result<(), Fault>
-        requires { (b : Start) × (g : Progress) × CanFlow b × IsAhead b g self.old (R.remaining reader.old)
-            (W.contents writer.old) (R.failures reader.old) (W.failures writer.old) }
-        ensures { TurnsAll self.old self.new (R.remaining reader.old) (W.contents writer.old) (R.failures reader.old)
-            (W.failures writer.old) (R.remaining reader.new) (W.contents writer.new) (R.failures reader.new)
-            (W.failures writer.new) result }
+        requires { (b : Start) × (g : Progress) × CanFlow b × IsAhead b g self.old (R.state reader.old) (W.state writer.old) }
+        ensures { TurnsAll self.old self.new (R.state reader.old) (R.state reader.new) (W.state writer.old) (W.state writer.new) result }
     {
         self.write(alloc, writer)?;
         self.take(alloc, reader)

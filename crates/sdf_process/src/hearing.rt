@@ -20,8 +20,7 @@ pub(crate) fn begin<W: Writer>(
     requires some_rate { 0 < extent.rate }
     requires few_bytes_a_second { extent.rate * (2 * exchange.outputs) ≤ 4294967295 }
     requires few_bytes { 2 * (extent.periods * exchange.made * exchange.outputs) ≤ 4294967259 }
-    ensures puts { PutsHeader (W.contents writer.old) (W.contents writer.new) (W.failures writer.old)
-        (W.failures writer.new) (file_header extent.rate exchange.outputs (extent.periods * exchange.made)) result }
+    ensures puts { PutsHeader (W.state writer.old) (W.state writer.new) (file_header extent.rate exchange.outputs (extent.periods * exchange.made)) result }
     ensures owed { IfOk result (λ o. o ≡ record {
       channels = exchange.outputs;
       missing = extent.periods * exchange.made;
@@ -45,8 +44,7 @@ pub(crate) fn read_content<R: Reader>(
 ) -> Result<Wav, Fault>
     requires unread { content.gone ≡ 0 }
     requires unspoilt { content.fault ≡ None }
-    ensures reads { ReadsContent content (R.remaining reader.old) (R.remaining reader.new) (R.failures reader.old)
-        (R.failures reader.new) result }
+    ensures reads { ReadsContent content (R.state reader.old) (R.state reader.new) result }
     ensures few { IfOk result (λ s. 2 * length s.samples ≤ 0xFFFFFFFF) }
 {
     let samples = content.next(alloc, reader, usize::MAX)?;

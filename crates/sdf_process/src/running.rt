@@ -36,8 +36,7 @@ fn run_ahead<T: Threads + AllocGlobal + Sync, R: Reader, W: Writer, G: Gate>(
     requires task { IsTask task }
     requires content { IsUnheard unheard.content unheard.frames }
     ensures { RunsOn task.entry.net.now task.entry.plan.now.period.repetitions unheard.content
-        (R.remaining reader.old) (R.remaining reader.new) (W.contents writer.old) (W.contents writer.new)
-        (R.failures reader.old) (R.failures reader.new) (W.failures writer.old) (W.failures writer.new) result }
+        (R.state reader.old) (R.state reader.new) (W.state writer.old) (W.state writer.new) result }
 {
     let Unheard { content, frames } = unheard;
     let exchange = Exchange::of_net(task.net);
@@ -71,8 +70,7 @@ fn run_behind<T: Threads + AllocGlobal + Sync, R: Reader, W: Writer, G: Gate>(
     requires unspoilt { content.fault ≡ None }
     requires unknown { known_frames content ≡ None }
     ensures { RunsOn task.entry.net.now task.entry.plan.now.period.repetitions content
-        (R.remaining reader.old) (R.remaining reader.new) (W.contents writer.old) (W.contents writer.new)
-        (R.failures reader.old) (R.failures reader.new) (W.failures writer.old) (W.failures writer.new) result }
+        (R.state reader.old) (R.state reader.new) (W.state writer.old) (W.state writer.new) result }
 {
     let exchange = Exchange::of_net(task.net);
     let sound = read_content(rt.alloc(), reader, content)?;
@@ -96,10 +94,7 @@ pub(crate) fn run_net<T: Threads + AllocGlobal + Sync, R: Reader, W: Writer, G: 
     gate: &G,
 ) -> Result<(), Fault>
     requires { IsTask task }
-    ensures { IsRun task.entry.net.now task.entry.plan.now.period.repetitions (R.remaining reader.old)
-        (R.remaining reader.new)
-        (W.contents writer.old) (W.contents writer.new)
-        (R.failures reader.old) (R.failures reader.new) (W.failures writer.old) (W.failures writer.new) result }
+    ensures { IsRun task.entry.net.now task.entry.plan.now.period.repetitions (R.state reader.old) (R.state reader.new) (W.state writer.old) (W.state writer.new) result }
 {
     let content = ContentIn::open(reader)?;
     match content.frames() {

@@ -1,6 +1,7 @@
 //! Where the frames of a sound come from.
 
-ghost use Rattle.std.specs.Prelude.{◌≡◌, ◌≢◌, ◌+◌, ◌*◌, ◌≤◌, ℕ, ℤ, List, length, Option, Ok, Err, MatchResult, None};
+ghost use Rattle.std.specs.Prelude.{◌≡◌, ◌≢◌, ◌+◌, ◌*◌, ◌≤◌, ℤ, List, length, Ok, Err, MatchResult, None};
+ghost use Rattle.sdf_wav.specs.Device.{ReaderState};
 ghost use Rattle.sdf_wav.specs.PiecesIn.{Reading};
 ghost use Rattle.sdf_wav.specs.declared.wav.TheConstants.{MOST_CHANNELS};
 ghost use Rattle.sdf_process.specs.Sources.{reading_of, source_behind, ReadsBy, ReadsMore, Takes, TakesAll, TakesMore};
@@ -30,14 +31,12 @@ fn read_more<R: Reader>(
     requires unspoilt { content.old.fault ≡ None }
     requires sized { content.old.size ≢ 0xFFFFFFFF }
     requires enough { content.old.gone + 2 * (frames * content.old.channels) ≤ content.old.size }
-    ensures { (c : Reading) (before : List ℤ) (old : Option (List ℕ)) (r : ℕ) →
-        content.old ≡ record c { gone = c.gone + 2 * length before } → ReadsBy c before old (R.remaining reader.old) →
-        R.failures reader.old ≡ r →
+    ensures { (c : Reading) (before : List ℤ) (r : ReaderState) →
+        content.old ≡ record c { gone = c.gone + 2 * length before } →
+        ReadsBy c before r.remaining (R.state reader.old).remaining → (R.state reader.old).failures ≡ r.failures →
         MatchResult result
-        (λ all. ReadsMore c before frames kept.items old (R.remaining reader.new) r (R.failures reader.new) content.new
-        (Ok all.items))
-        (λ f. ReadsMore c before frames kept.items old (R.remaining reader.new) r (R.failures reader.new)
-        content.new (Err f)) }
+        (λ all. ReadsMore c before frames kept.items r (R.state reader.new) content.new (Ok all.items))
+        (λ f. ReadsMore c before frames kept.items r (R.state reader.new) content.new (Err f)) }
 {
     let samples = content.next(alloc, reader, frames)?;
     if kept.is_empty() {
@@ -83,14 +82,12 @@ impl Source {
         requires sized { (reading_of self.old).size ≢ 0xFFFFFFFF }
         requires short { (reading_of self.old).size ≤ 0xFFFFFFFF }
         requires enough { let c = reading_of self.old in c.gone + 2 * (frames * c.channels) ≤ c.size }
-        ensures { (first : Source) (before : List ℤ) (old : Option (List ℕ)) (r : ℕ) →
-            self.old ≡ source_behind first before → Takes first before old (R.remaining reader.old) →
-            R.failures reader.old ≡ r →
+        ensures { (first : Source) (before : List ℤ) (r : ReaderState) → self.old ≡ source_behind first before →
+            Takes first before r.remaining (R.state reader.old).remaining →
+            (R.state reader.old).failures ≡ r.failures →
             MatchResult result
-            (λ all. TakesMore first before frames kept.items old (R.remaining reader.new) r (R.failures reader.new)
-            self.new (Ok all.items))
-            (λ f. TakesMore first before frames kept.items old (R.remaining reader.new) r (R.failures reader.new)
-            self.new (Err f)) }
+            (λ all. TakesMore first before frames kept.items r (R.state reader.new) self.new (Ok all.items))
+            (λ f. TakesMore first before frames kept.items r (R.state reader.new) self.new (Err f)) }
     {
         match self {
             Source::Content(content) => read_more(alloc, reader, content, frames, kept),
@@ -107,8 +104,7 @@ impl Source {
     pub(crate) fn take_all<R: Reader>(self, alloc: Global, reader: &mut R) -> Result<Wav, Fault>
         requires unread { (reading_of self).gone ≡ 0 }
         requires unspoilt { (reading_of self).fault ≡ None }
-        ensures { TakesAll self (R.remaining reader.old) (R.remaining reader.new) (R.failures reader.old)
-            (R.failures reader.new) result }
+        ensures { TakesAll self (R.state reader.old) (R.state reader.new) result }
     {
         match self {
             Source::Content(content) => read_content(alloc, reader, content),

@@ -78,15 +78,13 @@ impl<'a> Stream<'a> {
         portion: Portion<'_>,
     ) -> Result<(), Fault>
         requires step { (b : Start) × (g : Progress) × (blocks : ℕ) × IsStep b g blocks self.old portion
-            (R.remaining reader.old) (W.contents writer.old) (R.failures reader.old) (W.failures writer.old) }
+            (R.state reader.old) (W.state writer.old) }
         requires waits { items_of self.old.flow.made.items ≡ [] }
         ensures goes { (b : Start) (g : Progress) (blocks : ℕ) → IsStep b g blocks self.old portion.entry
-            (R.remaining reader.old) (W.contents writer.old) (R.failures reader.old) (W.failures writer.old) →
+            (R.state reader.old) (W.state writer.old) →
             MatchResult result
-            (λ x. GoesOn b self.new (R.remaining reader.new) (W.contents writer.new) (R.failures reader.new)
-            (W.failures writer.new))
-            (λ f. StreamsFrom b (R.remaining reader.new) (W.contents writer.new) (R.failures reader.new)
-            (W.failures writer.new) (Err f)) }
+            (λ x. GoesOn b self.new (R.state reader.new) (W.state writer.new))
+            (λ f. StreamsFrom b (R.state reader.new) (W.state writer.new) (Err f)) }
         ensures left { IfOk result (λ x. self.new.flow.left ≡
             self.old.flow.left - min self.old.flow.most self.old.flow.left) }
     {
@@ -104,15 +102,13 @@ impl<'a> Stream<'a> {
         portion: Portion<'_>,
     ) -> Result<(), Fault>
         requires step { (b : Start) × (g : Progress) × (blocks : ℕ) × IsStep b g blocks self.old portion
-            (R.remaining reader.old) (W.contents writer.old) (R.failures reader.old) (W.failures writer.old) }
+            (R.state reader.old) (W.state writer.old) }
         requires waits { self.old.at_once ≡ true }
         ensures goes { (b : Start) (g : Progress) (blocks : ℕ) → IsStep b g blocks self.old portion.entry
-            (R.remaining reader.old) (W.contents writer.old) (R.failures reader.old) (W.failures writer.old) →
+            (R.state reader.old) (W.state writer.old) →
             MatchResult result
-            (λ x. GoesOn b self.new (R.remaining reader.new) (W.contents writer.new) (R.failures reader.new)
-            (W.failures writer.new))
-            (λ f. StreamsFrom b (R.remaining reader.new) (W.contents writer.new) (R.failures reader.new)
-            (W.failures writer.new) (Err f)) }
+            (λ x. GoesOn b self.new (R.state reader.new) (W.state writer.new))
+            (λ f. StreamsFrom b (R.state reader.new) (W.state writer.new) (Err f)) }
         ensures left { IfOk result (λ x. self.new.flow.left ≡
             self.old.flow.left - min self.old.flow.most self.old.flow.left) }
     {
@@ -131,15 +127,11 @@ impl<'a> Stream<'a> {
         writer: &mut W,
         gate: &G,
     ) -> Result<(), Fault>
-        requires on { (b : Start) × GoesOn b self.old (R.remaining reader.old) (W.contents writer.old)
-            (R.failures reader.old) (W.failures writer.old) }
-        ensures goes { (b : Start) → GoesOn b self.old (R.remaining reader.old) (W.contents writer.old)
-            (R.failures reader.old) (W.failures writer.old) →
+        requires on { (b : Start) × GoesOn b self.old (R.state reader.old) (W.state writer.old) }
+        ensures goes { (b : Start) → GoesOn b self.old (R.state reader.old) (W.state writer.old) →
             MatchResult result
-            (λ x. GoesOn b self.new (R.remaining reader.new) (W.contents writer.new) (R.failures reader.new)
-            (W.failures writer.new))
-            (λ f. StreamsFrom b (R.remaining reader.new) (W.contents writer.new) (R.failures reader.new)
-            (W.failures writer.new) (Err f)) }
+            (λ x. GoesOn b self.new (R.state reader.new) (W.state writer.new))
+            (λ f. StreamsFrom b (R.state reader.new) (W.state writer.new) (Err f)) }
         ensures left { IfOk result (λ x. self.new.flow.left ≡
             self.old.flow.left - min self.old.flow.most self.old.flow.left) }
     {
@@ -175,12 +167,10 @@ impl<'a> Stream<'a> {
         writer: &mut W,
         gate: &G,
     ) -> Result<(), Fault>
-        requires on { (b : Start) × (now : Option (List ℕ)) × (r : ℕ)
-            × GoesOn b self.old now (W.contents writer.old) r (W.failures writer.old) }
+        requires on { (b : Start) × (r : ReaderState) × GoesOn b self.old r (W.state writer.old) }
         requires all { self.old.flow.left ≡ 0 }
-        ensures { (b : Start) (now : Option (List ℕ)) (r : ℕ) →
-            GoesOn b self.old now (W.contents writer.old) r (W.failures writer.old) →
-            StreamsFrom b now (W.contents writer.new) r (W.failures writer.new) result }
+        ensures { (b : Start) (r : ReaderState) → GoesOn b self.old r (W.state writer.old) →
+            StreamsFrom b r (W.state writer.new) result }
     {
         let alloc = rt.alloc();
         self.flow.write(alloc, writer)?;
@@ -215,25 +205,19 @@ fn play_while_turning<T: Threads + Sync, R: Reader, W: Writer>(
     requires player { IsPlayer player.old }
     requires can { CanPlayNext player.old portion }
     requires all { portion.frames ≡ portion.periods * portion.exchange.made }
-    requires ahead { (b : Start) × (g : Progress) × CanFlow b × IsAhead b g flow.old (R.remaining reader.old)
-        (W.contents writer.old) (R.failures reader.old) (W.failures writer.old) }
+    requires ahead { (b : Start) × (g : Progress) × CanFlow b × IsAhead b g flow.old (R.state reader.old) (W.state writer.old) }
     ensures plays { IfOk result.0 (λ v. PlaysNext player.old player.new portion.entry (items_of v.items)) }
     ensures refused { IfErr result.0 (λ f. f ≡ run.OutOfMemory) }
     ensures stays { StaysPlayer player.old player.new }
-    ensures turns { TurnsAll flow.old flow.new (R.remaining reader.old) (W.contents writer.old) (R.failures reader.old)
-        (W.failures writer.old) (R.remaining reader.new) (W.contents writer.new) (R.failures reader.new)
-        (W.failures writer.new) result.1 }
+    ensures turns { TurnsAll flow.old flow.new (R.state reader.old) (R.state reader.new) (W.state writer.old) (W.state writer.new) result.1 }
 {
     player.run(
         rt,
         alloc,
         portion,
         &mut || -> Result<(), Fault>
-            requires { (b : Start) × (g : Progress) × CanFlow b × IsAhead b g flow.now (R.remaining reader.now)
-                (W.contents writer.now) (R.failures reader.now) (W.failures writer.now) }
-            ensures { TurnsAll flow.entry.now flow.exit.now (R.remaining reader.entry.now) (W.contents writer.entry.now)
-                (R.failures reader.entry.now) (W.failures writer.entry.now) (R.remaining reader.exit.now)
-                (W.contents writer.exit.now) (R.failures reader.exit.now) (W.failures writer.exit.now) result }
+            requires { (b : Start) × (g : Progress) × CanFlow b × IsAhead b g flow.now (R.state reader.now) (W.state writer.now) }
+            ensures { TurnsAll flow.entry.now flow.exit.now (R.state reader.entry.now) (R.state reader.exit.now) (W.state writer.entry.now) (W.state writer.exit.now) result }
         { flow.turn(alloc, reader, writer) },
     )
 }
@@ -249,13 +233,10 @@ fn run_while_turning<T: Threads + AllocGlobal + Sync, R: Reader, W: Writer, G: G
     portion: Portion<'_>,
 ) -> (Result<Vec<Vec<i16>>, Fault>, Result<(), Fault>)
     requires next { CanRunNext runner.old portion }
-    requires ahead { (b : Start) × (g : Progress) × CanFlow b × IsAhead b g flow.old (R.remaining reader.old)
-        (W.contents writer.old) (R.failures reader.old) (W.failures writer.old) }
+    requires ahead { (b : Start) × (g : Progress) × CanFlow b × IsAhead b g flow.old (R.state reader.old) (W.state writer.old) }
     ensures runs { IfOk result.0 (λ v. RunsNext runner.old runner.new portion.entry (items_of v.items)) }
     ensures refused { IfErr result.0 (λ f. f ≡ OutOfMemory) }
-    ensures turns { TurnsAll flow.old flow.new (R.remaining reader.old) (W.contents writer.old) (R.failures reader.old)
-        (W.failures writer.old) (R.remaining reader.new) (W.contents writer.new) (R.failures reader.new)
-        (W.failures writer.new) result.1 }
+    ensures turns { TurnsAll flow.old flow.new (R.state reader.old) (R.state reader.new) (W.state writer.old) (W.state writer.new) result.1 }
 {
     let alloc = rt.alloc();
     match runner {
@@ -285,8 +266,7 @@ pub(crate) fn run_stream<T: Threads + AllocGlobal + Sync, R: Reader, W: Writer, 
     requires opened { IsOpened opened }
     requires begun { IsBegun opened.net.now opened.period.now.repetitions begun }
     ensures { Streams opened.entry.net.now opened.entry.period.now.repetitions begun.source
-        (R.remaining reader.old) (R.remaining reader.new) (W.contents writer.old) (W.contents writer.new)
-        (R.failures reader.old) (R.failures reader.new) (W.failures writer.old) (W.failures writer.new) result }
+        (R.state reader.old) (R.state reader.new) (W.state writer.old) (W.state writer.new) result }
 {
     let Begun {
         source,

@@ -11,9 +11,7 @@ pub(crate) struct Heard<'a> {
 }
 
 impl<'a> Reader for Heard<'a> {
-    ghost remaining = { λ s. Some s.left.now };
-
-    ghost failures = { λ _. 0 };
+    ghost state = { λ s. record { remaining = Some s.left.now; failures = 0 } };
 
     fn read(&mut self, buf: &mut [u8]) -> Result<usize, DeviceFault> {
         let count = self.left.len().min(buf.len());
@@ -29,9 +27,7 @@ impl<'a> Reader for Heard<'a> {
 pub(crate) struct Dropped;
 
 impl Writer for Dropped {
-    ghost contents = { λ _. None };
-
-    ghost failures = { λ _. 0 };
+    ghost state = { λ _. record { contents = None; failures = 0 } };
 
     fn write(&mut self, bytes: &[u8]) -> Result<usize, DeviceFault> {
         Ok(bytes.len())

@@ -8,6 +8,17 @@ use Rattle.sdf_wav.specs.declared.fault.ReadFault.TheVariants as read_faults
 use Rattle.sdf_wav.specs.declared.fault.WavFault.{WavFault}
 use Rattle.sdf_wav.specs.declared.fault.WavFault.TheVariants as faults
 
+-- a reader: the bytes that it has still to give, where they are known, and how many of its calls failed, up to the
+-- greatest u64
+pub record ReaderState : Type 0 where
+  pub remaining : Option (List ℕ)
+  pub failures : ℕ
+
+-- a writer: the bytes that it has taken, where they are known, and how many of its calls failed, up to the greatest u64
+pub record WriterState : Type 0 where
+  pub contents : Option (List ℕ)
+  pub failures : ℕ
+
 -- what a device's call answers where the one call of the device inside answered this
 abbrev pub answered : {E : Type 0} → Result ℕ E → Result ℕ DeviceFault
 answered (Ok n) = Ok n

@@ -17,8 +17,8 @@ use crate::parts::{ChunkHeader, ChunkKind, DataStart, data_start, format_of, hea
 
 /// The first twelve bytes.
 fn read_riff<R: Reader>(reader: &mut R) -> Result<(), ReadFault>
-    ensures bytes { Reads (λ x. x) (R.remaining reader.old) (R.remaining reader.new) riff_at result }
-    ensures counted { R.failures reader.new ≡ failures_after (widened result) (R.failures reader.old) }
+    ensures bytes { Reads (λ x. x) (R.state reader.old).remaining (R.state reader.new).remaining riff_at result }
+    ensures counted { (R.state reader.new).failures ≡ failures_after (widened result) (R.state reader.old).failures }
     ensures fault { IfErr (widened result) IsOpeningFault }
 {
     let mut front = [0u8; 12];
@@ -29,8 +29,9 @@ fn read_riff<R: Reader>(reader: &mut R) -> Result<(), ReadFault>
 
 /// The first eight bytes at the place of a chunk, or the fault of an input that ends there.
 fn read_header<R: Reader>(reader: &mut R, has_format: bool) -> Result<ChunkHeader, ReadFault>
-    ensures bytes { Reads (λ x. x) (R.remaining reader.old) (R.remaining reader.new) (header_at has_format) result }
-    ensures counted { R.failures reader.new ≡ failures_after (widened result) (R.failures reader.old) }
+    ensures bytes { Reads (λ x. x) (R.state reader.old).remaining (R.state reader.new).remaining
+        (header_at has_format) result }
+    ensures counted { (R.state reader.new).failures ≡ failures_after (widened result) (R.state reader.old).failures }
     ensures fault { IfErr (widened result) IsOpeningFault }
 {
     let mut front = [0u8; 8];
@@ -40,9 +41,9 @@ fn read_header<R: Reader>(reader: &mut R, has_format: bool) -> Result<ChunkHeade
 
 /// Fills `buf`.
 fn read_front<R: Reader>(reader: &mut R, buf: &mut [u8]) -> Result<(), ReadFault>
-    ensures bytes { Reads (λ _. buf.new) (R.remaining reader.old) (R.remaining reader.new)
+    ensures bytes { Reads (λ _. buf.new) (R.state reader.old).remaining (R.state reader.new).remaining
         (front_at (length buf.old)) result }
-    ensures counted { R.failures reader.new ≡ failures_after (widened result) (R.failures reader.old) }
+    ensures counted { (R.state reader.new).failures ≡ failures_after (widened result) (R.state reader.old).failures }
     ensures fault { IfErr (widened result) IsOpeningFault }
 {
     let n = fill(reader, buf)?;
@@ -54,8 +55,8 @@ fn read_front<R: Reader>(reader: &mut R, buf: &mut [u8]) -> Result<(), ReadFault
 
 /// Skips this many bytes.
 fn skip_exactly<R: Reader>(reader: &mut R, size: u64) -> Result<(), ReadFault>
-    ensures bytes { Reads (λ x. x) (R.remaining reader.old) (R.remaining reader.new) (skip_at size) result }
-    ensures counted { R.failures reader.new ≡ failures_after (widened result) (R.failures reader.old) }
+    ensures bytes { Reads (λ x. x) (R.state reader.old).remaining (R.state reader.new).remaining (skip_at size) result }
+    ensures counted { (R.state reader.new).failures ≡ failures_after (widened result) (R.state reader.old).failures }
     ensures fault { IfErr (widened result) IsOpeningFault }
 {
     let n = skip(reader, size)?;
@@ -67,8 +68,8 @@ fn skip_exactly<R: Reader>(reader: &mut R, size: u64) -> Result<(), ReadFault>
 
 /// Skips the pad byte behind a content of odd size. At the end of the input it may be missing.
 fn skip_pad<R: Reader>(reader: &mut R, size: u32) -> Result<(), ReadFault>
-    ensures bytes { Reads (λ x. x) (R.remaining reader.old) (R.remaining reader.new) (pad_at size) result }
-    ensures counted { R.failures reader.new ≡ failures_after (widened result) (R.failures reader.old) }
+    ensures bytes { Reads (λ x. x) (R.state reader.old).remaining (R.state reader.new).remaining (pad_at size) result }
+    ensures counted { (R.state reader.new).failures ≡ failures_after (widened result) (R.state reader.old).failures }
     ensures fault { IfErr result (λ e. e ≡ ReadFault.Device) }
 {
     skip(reader, u64::from(size % 2))?;
@@ -77,8 +78,9 @@ fn skip_pad<R: Reader>(reader: &mut R, size: u32) -> Result<(), ReadFault>
 
 /// Skips a content of this size, and its pad byte.
 fn skip_content<R: Reader>(reader: &mut R, size: u32) -> Result<(), ReadFault>
-    ensures bytes { Reads (λ x. x) (R.remaining reader.old) (R.remaining reader.new) (skipped_at size) result }
-    ensures counted { R.failures reader.new ≡ failures_after (widened result) (R.failures reader.old) }
+    ensures bytes { Reads (λ x. x) (R.state reader.old).remaining (R.state reader.new).remaining
+        (skipped_at size) result }
+    ensures counted { (R.state reader.new).failures ≡ failures_after (widened result) (R.state reader.old).failures }
     ensures fault { IfErr (widened result) IsOpeningFault }
 {
     skip_exactly(reader, u64::from(size))?;
@@ -89,9 +91,9 @@ fn skip_content<R: Reader>(reader: &mut R, size: u32) -> Result<(), ReadFault>
 #[tactic(auto, unfolding(crate::specs::Steps::looked_at))]
 fn read_looked<R: Reader>(reader: &mut R, front: &mut [u8], size: u32) -> Result<(), ReadFault>
     requires { length front.old ≤ size }
-    ensures bytes { Reads (λ _. front.new) (R.remaining reader.old) (R.remaining reader.new)
+    ensures bytes { Reads (λ _. front.new) (R.state reader.old).remaining (R.state reader.new).remaining
         (looked_at (length front.old) size) result }
-    ensures counted { R.failures reader.new ≡ failures_after (widened result) (R.failures reader.old) }
+    ensures counted { (R.state reader.new).failures ≡ failures_after (widened result) (R.state reader.old).failures }
     ensures fault { IfErr (widened result) IsOpeningFault }
 {
     let len = front.len() as u64;
@@ -106,8 +108,8 @@ const LONGEST_FORMAT: u32 = 40;
 #[tactic(auto, unfolding(crate::specs::Steps::pcm_at))]
 fn read_pcm<R: Reader>(reader: &mut R, size: u32) -> Result<Format, ReadFault>
     requires { 16 ≤ size }
-    ensures bytes { Reads (λ x. x) (R.remaining reader.old) (R.remaining reader.new) (pcm_at size) result }
-    ensures counted { R.failures reader.new ≡ failures_after (widened result) (R.failures reader.old) }
+    ensures bytes { Reads (λ x. x) (R.state reader.old).remaining (R.state reader.new).remaining (pcm_at size) result }
+    ensures counted { (R.state reader.new).failures ≡ failures_after (widened result) (R.state reader.old).failures }
     ensures fault { IfErr (widened result) IsOpeningFault }
     ensures valid { IfOk result IsFormat }
 {
@@ -121,8 +123,9 @@ fn read_pcm<R: Reader>(reader: &mut R, size: u32) -> Result<Format, ReadFault>
 /// Reads the content of a format chunk, and its pad byte.
 #[tactic(auto, unfolding(crate::specs::Steps::format_at))]
 fn read_format<R: Reader>(reader: &mut R, size: u32) -> Result<Format, ReadFault>
-    ensures bytes { Reads (λ x. x) (R.remaining reader.old) (R.remaining reader.new) (format_at size) result }
-    ensures counted { R.failures reader.new ≡ failures_after (widened result) (R.failures reader.old) }
+    ensures bytes { Reads (λ x. x) (R.state reader.old).remaining (R.state reader.new).remaining
+        (format_at size) result }
+    ensures counted { (R.state reader.new).failures ≡ failures_after (widened result) (R.state reader.old).failures }
     ensures fault { IfErr (widened result) IsOpeningFault }
     ensures valid { IfOk result IsFormat }
 {
@@ -141,9 +144,9 @@ fn pass<R: Reader>(
     seen: Option<Format>,
 ) -> Result<Option<Format>, ReadFault>
     requires { IsKnown seen }
-    ensures bytes { Reads (λ x. x) (R.remaining reader.old) (R.remaining reader.new)
+    ensures bytes { Reads (λ x. x) (R.state reader.old).remaining (R.state reader.new).remaining
         (passed_at header.kind header.size seen) result }
-    ensures counted { R.failures reader.new ≡ failures_after (widened result) (R.failures reader.old) }
+    ensures counted { (R.state reader.new).failures ≡ failures_after (widened result) (R.state reader.old).failures }
     ensures fault { IfErr (widened result) IsOpeningFault }
     ensures valid { IfOk result IsKnown }
 {
@@ -170,8 +173,8 @@ enum Step {
 #[tactic(auto, unfolding(crate::specs::Steps::step_at))]
 fn next_part<R: Reader>(reader: &mut R, seen: Option<Format>) -> Result<Step, ReadFault>
     requires { IsKnown seen }
-    ensures bytes { Reads (λ x. x) (R.remaining reader.old) (R.remaining reader.new) (step_at seen) result }
-    ensures counted { R.failures reader.new ≡ failures_after (widened result) (R.failures reader.old) }
+    ensures bytes { Reads (λ x. x) (R.state reader.old).remaining (R.state reader.new).remaining (step_at seen) result }
+    ensures counted { (R.state reader.new).failures ≡ failures_after (widened result) (R.state reader.old).failures }
     ensures fault { IfErr (widened result) IsOpeningFault }
     ensures valid { IfOk result IsStep }
 {
@@ -192,8 +195,8 @@ fn next_part<R: Reader>(reader: &mut R, seen: Option<Format>) -> Result<Step, Re
 #[tactic(auto, unfolding(crate::specs::Steps::last_at))]
 fn read_last<R: Reader>(reader: &mut R, seen: Option<Format>) -> Result<DataStart, ReadFault>
     requires { IsKnown seen }
-    ensures bytes { Reads (λ x. x) (R.remaining reader.old) (R.remaining reader.new) (last_at seen) result }
-    ensures counted { R.failures reader.new ≡ failures_after (widened result) (R.failures reader.old) }
+    ensures bytes { Reads (λ x. x) (R.state reader.old).remaining (R.state reader.new).remaining (last_at seen) result }
+    ensures counted { (R.state reader.new).failures ≡ failures_after (widened result) (R.state reader.old).failures }
     ensures fault { IfErr (widened result) IsOpeningFault }
     ensures valid { IfOk result (λ start. IsFormat start.format) }
 {
@@ -209,8 +212,9 @@ const MAX_CHUNKS: u32 = 65_536;
 
 /// Reads up to the samples.
 fn find_data<R: Reader>(reader: &mut R) -> Result<DataStart, ReadFault>
-    ensures bytes { Reads (λ x. x) (R.remaining reader.old) (R.remaining reader.new) (data_at 65536 None) result }
-    ensures counted { R.failures reader.new ≡ failures_after (widened result) (R.failures reader.old) }
+    ensures bytes { Reads (λ x. x) (R.state reader.old).remaining (R.state reader.new).remaining
+        (data_at 65536 None) result }
+    ensures counted { (R.state reader.new).failures ≡ failures_after (widened result) (R.state reader.old).failures }
     ensures fault { IfErr (widened result) IsOpeningFault }
     ensures valid { IfOk result (λ start. IsFormat start.format) }
 {
@@ -227,8 +231,8 @@ fn find_data<R: Reader>(reader: &mut R) -> Result<DataStart, ReadFault>
 /// Reads a file up to the size of its data, which is whole frames where it is known.
 #[tactic(auto, unfolding(crate::specs::Steps::open_at))]
 pub(crate) fn open_data<R: Reader>(reader: &mut R) -> Result<DataStart, ReadFault>
-    ensures bytes { Reads (λ x. x) (R.remaining reader.old) (R.remaining reader.new) open_at result }
-    ensures counted { R.failures reader.new ≡ failures_after (widened result) (R.failures reader.old) }
+    ensures bytes { Reads (λ x. x) (R.state reader.old).remaining (R.state reader.new).remaining open_at result }
+    ensures counted { (R.state reader.new).failures ≡ failures_after (widened result) (R.state reader.old).failures }
     ensures fault { IfErr (widened result) IsOpeningFault }
     ensures valid { IfOk result (λ start. IsFormat start.format) }
     ensures whole { IfOk result (λ start. IsWithin (2 * start.format.channels) start.size 0) }

@@ -40,12 +40,12 @@ const READ_PIECE: usize = 16_384;
 /// Reads at most so many bytes in pieces, fewer only where the input ends. Memory grows with what has come alone.
 fn read_samples<R: Reader>(alloc: Global, reader: &mut R, limit: u64) -> Result<Content, ReadFault>
     requires { limit % 2 ≡ 0 }
-    ensures ok { IfOk result (λ x. Known (R.remaining reader.old) (R.remaining reader.new)
+    ensures ok { IfOk result (λ x. Known (R.state reader.old).remaining (R.state reader.new).remaining
         (λ input left. Holds input left limit x.bytes x.samples.items)) }
-    ensures err { OnErr result (Known (R.remaining reader.old) (R.remaining reader.new) LosesFront) }
+    ensures err { OnErr result (Known (R.state reader.old).remaining (R.state reader.new).remaining LosesFront) }
     ensures fits { IfOk result (λ x. x.bytes ≤ limit) }
     ensures count { IfOk result (λ x. length x.samples.items ≡ x.bytes / 2) }
-    ensures counted { R.failures reader.new ≡ failures_after (widened result) (R.failures reader.old) }
+    ensures counted { (R.state reader.new).failures ≡ failures_after (widened result) (R.state reader.old).failures }
     ensures fault { IfErr result (λ e. (e ≡ ReadFault.Device) ⊎ (e ≡ ReadFault.OutOfMemory)) }
 {
     let mut samples = Vec::new(alloc);
@@ -86,12 +86,12 @@ pub(crate) fn read_open<R: Reader>(
     requires within { gone ≤ 4294967294 }
     requires whole { gone % 2 ≡ 0 }
     requires even { asked % 2 ≡ 0 }
-    ensures bytes { Reads (λ v. v.items) (R.remaining reader.old) (R.remaining reader.new)
+    ensures bytes { Reads (λ v. v.items) (R.state reader.old).remaining (R.state reader.new).remaining
         (λ bytes. open_piece (2 * channels) gone (min asked (length bytes)) bytes) result }
     ensures whole { IfOk result (λ v. length v.items % channels ≡ 0) }
     ensures most { IfOk result (λ v. 2 * length v.items ≤ asked) }
     ensures fits { IfOk result (λ v. gone + 2 * length v.items ≤ 4294967294) }
-    ensures counted { R.failures reader.new ≡ failures_after (widened result) (R.failures reader.old) }
+    ensures counted { (R.state reader.new).failures ≡ failures_after (widened result) (R.state reader.old).failures }
     ensures fault { IfErr (widened result) IsReadingFault }
 {
     let content = read_samples(alloc, reader, asked.min(LIMIT - gone))?;
@@ -111,9 +111,10 @@ pub(crate) fn read_sized<R: Reader>(
     size: u64,
 ) -> Result<Vec<i16>, ReadFault>
     requires { size % 2 ≡ 0 }
-    ensures bytes { Reads (λ v. v.items) (R.remaining reader.old) (R.remaining reader.new) (sized_piece size) result }
+    ensures bytes { Reads (λ v. v.items) (R.state reader.old).remaining (R.state reader.new).remaining
+        (sized_piece size) result }
     ensures count { IfOk result (λ v. 2 * length v.items ≡ size) }
-    ensures counted { R.failures reader.new ≡ failures_after (widened result) (R.failures reader.old) }
+    ensures counted { (R.state reader.new).failures ≡ failures_after (widened result) (R.state reader.old).failures }
     ensures fault { IfErr (widened result) IsReadingFault }
     ensures cut { IfErr (widened result) IsSizedFault }
 {

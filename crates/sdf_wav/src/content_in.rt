@@ -60,13 +60,14 @@ impl ContentIn {
     /// and by `PartialFrame` where that size is known and no whole number of frames.
     pub fn open<R: Reader>(reader: &mut R) -> Result<ContentIn, WavFault>
         // What is answered is so: the input opens and its content is left, or it has this fault before its content.
-        ensures answers { AnswersOpening (R.remaining reader.old) (R.remaining reader.new) result }
+        ensures answers { AnswersOpening (R.state reader.old).remaining (R.state reader.new).remaining result }
 
         // What is so is answered, unless the reader failed.
         ensures accepts { (input : List ℕ) (f : Format) (size : ℕ) (rest : List ℕ) →
-            R.remaining reader.old ≡ Some input → Opens input f size rest →
-            OpensTo (R.remaining reader.new) f size rest result }
-        ensures refuses { (input : List ℕ) (f : FormatFault) → R.remaining reader.old ≡ Some input → HasFault input f →
+            (R.state reader.old).remaining ≡ Some input → Opens input f size rest →
+            OpensTo (R.state reader.new).remaining f size rest result }
+        ensures refuses { (input : List ℕ) (f : FormatFault) → (R.state reader.old).remaining ≡ Some input →
+            HasFault input f →
             ((g : Format) (size : ℕ) (rest : List ℕ) → Opens input g size rest → ⊥) → RefusesToOpen f result }
 
         // Whatever is known of the bytes, it is at a start, and no other fault comes. It takes no memory.
@@ -75,8 +76,9 @@ impl ContentIn {
         ensures fault { IfErr result IsOpeningFault }
 
         // A failure of the reader is answered at once: no other call of it failed.
-        ensures counted { R.failures reader.new ≡ failures_after result (R.failures reader.old) }
-        ensures device { IsErrOf result WavFault.Read → Failed (R.failures reader.old) (R.failures reader.new) }
+        ensures counted { (R.state reader.new).failures ≡ failures_after result (R.state reader.old).failures }
+        ensures device { IsErrOf result WavFault.Read →
+            Failed (R.state reader.old).failures (R.state reader.new).failures }
     {
         let start = open_data(reader)?;
         Ok(ContentIn {
@@ -129,12 +131,13 @@ impl ContentIn {
         reader: &mut R,
         frames: usize,
     ) -> Result<Vec<i16>, ReadFault>
-        ensures bytes { Reads (λ v. v.items) (R.remaining reader.old) (R.remaining reader.new)
+        ensures bytes { Reads (λ v. v.items) (R.state reader.old).remaining (R.state reader.new).remaining
             (next_at self.now frames) result }
         ensures piece { IfOk result (λ v. IsPiece self.now frames (length v.items)) }
         ensures within { IfOk result (λ v. IsWithin (2 * self.now.channels) self.now.size
             (self.now.gone + 2 * length v.items)) }
-        ensures counted { R.failures reader.new ≡ failures_after (widened result) (R.failures reader.old) }
+        ensures counted { (R.state reader.new).failures ≡
+            failures_after (widened result) (R.state reader.old).failures }
         ensures fault { IfErr (widened result) IsReadingFault }
         ensures cut { self.now.size ≢ 0xFFFFFFFF → IfErr (widened result) IsSizedFault }
     {
@@ -159,10 +162,10 @@ impl ContentIn {
     ) -> Result<Vec<i16>, WavFault>
         // These are the samples before the reader, or the fault that stands among them, and what is behind them is
         // left.
-        ensures bytes { self.old.fault ≡ None → AnswersBy (λ v. v.items) (R.remaining reader.old)
-            (R.remaining reader.new) (next_at self.old frames) result }
-        ensures counted { self.old.fault ≡ None → R.failures reader.new ≡
-            failures_after result (R.failures reader.old) }
+        ensures bytes { self.old.fault ≡ None → AnswersBy (λ v. v.items) (R.state reader.old).remaining
+            (R.state reader.new).remaining (next_at self.old frames) result }
+        ensures counted { self.old.fault ≡ None → (R.state reader.new).failures ≡
+            failures_after result (R.state reader.old).failures }
         ensures piece { IfOk result (λ v. IsPiece self.old frames (length v.items)) }
 
         // A fault is repeated, and the reader left alone.

@@ -42,11 +42,13 @@ impl ContentOut {
         channels: u16,
         frames: u64,
     ) -> Result<ContentOut, WavFault>
-        ensures writes { Writes (W.contents writer.old) (W.contents writer.new) (start_fault rate channels frames)
+        ensures writes { Writes (W.state writer.old).contents (W.state writer.new).contents
+            (start_fault rate channels frames)
             (file_header rate channels frames) result }
         ensures owed { IfOk result (λ c. c ≡ record { channels = channels; missing = frames; spent = false }) }
-        ensures counted { W.failures writer.new ≡ failures_after result (W.failures writer.old) }
-        ensures device { IsErrOf result WavFault.Write → Failed (W.failures writer.old) (W.failures writer.new) }
+        ensures counted { (W.state writer.new).failures ≡ failures_after result (W.state writer.old).failures }
+        ensures device { IsErrOf result WavFault.Write →
+            Failed (W.state writer.old).failures (W.state writer.new).failures }
     {
         if channels == 0 || channels > MOST_CHANNELS {
             return Err(WavFault::Format(FormatFault::Channels));
@@ -85,10 +87,10 @@ impl ContentOut {
         requires missing { length samples.now ≤ self.old.missing * self.old.channels }
 
         // The samples are written, or a front of their bytes where the writer fails.
-        ensures writes { self.old.spent ≡ false → Puts (W.contents writer.old) (W.contents writer.new)
+        ensures writes { self.old.spent ≡ false → Puts (W.state writer.old).contents (W.state writer.new).contents
             (sample_bytes samples.now) result }
-        ensures counted { self.old.spent ≡ false → W.failures writer.new ≡
-            failures_after result (W.failures writer.old) }
+        ensures counted { self.old.spent ≡ false → (W.state writer.new).failures ≡
+            failures_after result (W.state writer.old).failures }
 
         // A failure is repeated, and the writer left alone.
         ensures repeats { self.old.spent ≡ true → (result ≡ Err WavFault.Write) × (writer.new ≡ writer.old) }

@@ -1,9 +1,9 @@
 //! What bytes are read from and written to.
 
-ghost use Rattle.std.specs.Prelude.{◌≡◌, ℕ, List, Option};
+ghost use Rattle.std.specs.Prelude.{◌≡◌};
 ghost use Rattle.std.specs.Io.{ReadsAtMost, WritesAtMost};
 ghost use Rattle.std.specs.Io.KnownBytes.{ReadConsumes, WriteAppends};
-ghost use Rattle.sdf_wav.specs.Device.{answered, failures_after_read, failures_after_write};
+ghost use Rattle.sdf_wav.specs.Device.{answered, failures_after_read, failures_after_write, ReaderState, WriterState};
 
 use std::io;
 
@@ -13,33 +13,27 @@ pub struct DeviceFault;
 
 /// Gives bytes, as std's `Read` does, and counts its calls that failed.
 pub trait Reader {
-    // The bytes that it has still to give, where they are known.
-    ghost remaining: { Self → Option (List ℕ) };
-
-    // How many of its calls failed, up to the greatest u64.
-    ghost failures: { Self → ℕ };
+    // The bytes that it has still to give, and how many of its calls failed.
+    ghost state: { Self → ReaderState };
 
     /// Moves bytes to the front of `buf`, and says how many: none only at the end of the input, or where `buf` is
     /// empty.
     fn read(&mut self, buf: &mut [u8]) -> Result<usize, DeviceFault>
         ensures bound { ReadsAtMost result buf.new }
-        ensures bytes { ReadConsumes (remaining self.old) (remaining self.new) result buf.new }
-        ensures counted { failures self.new ≡ failures_after_read result (failures self.old) };
+        ensures bytes { ReadConsumes (state self.old).remaining (state self.new).remaining result buf.new }
+        ensures counted { (state self.new).failures ≡ failures_after_read result (state self.old).failures };
 }
 
 /// Takes bytes, as std's `Write` does, and counts its calls that failed.
 pub trait Writer {
-    // The bytes that it has taken, where they are known.
-    ghost contents: { Self → Option (List ℕ) };
-
-    // How many of its calls failed, up to the greatest u64.
-    ghost failures: { Self → ℕ };
+    // The bytes that it has taken, and how many of its calls failed.
+    ghost state: { Self → WriterState };
 
     /// Takes bytes from the front of `bytes`, and says how many. Taking none where there are some counts as a failure.
     fn write(&mut self, bytes: &[u8]) -> Result<usize, DeviceFault>
         ensures bound { WritesAtMost result bytes.now }
-        ensures bytes { WriteAppends (contents self.old) (contents self.new) result bytes.now }
-        ensures counted { failures self.new ≡ failures_after_write result bytes.now (failures self.old) };
+        ensures bytes { WriteAppends (state self.old).contents (state self.new).contents result bytes.now }
+        ensures counted { (state self.new).failures ≡ failures_after_write result bytes.now (state self.old).failures };
 }
 
 /// What a call of std's answered, as a device's call: each error is a failure, an interrupted call too.

@@ -38,9 +38,7 @@ impl<R> FromRead<R> {
 }
 
 impl<R: io::Read> Reader for FromRead<R> {
-    ghost remaining = { λ s. R.remaining s.inner };
-
-    ghost failures = { λ s. s.failed };
+    ghost state = { λ s. record { remaining = R.remaining s.inner; failures = s.failed } };
 
     fn read(&mut self, buf: &mut [u8]) -> Result<usize, DeviceFault> {
         counted(self.inner.read(buf), &mut self.failed)

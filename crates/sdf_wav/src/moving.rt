@@ -9,10 +9,10 @@ use crate::device::{DeviceFault, Reader, Writer};
 /// Fills `buf` from the reader, and says with how many bytes: fewer than it holds only where the input ends.
 pub(crate) fn fill<R: Reader>(reader: &mut R, buf: &mut [u8]) -> Result<usize, DeviceFault>
     ensures fits { IfOk result (λ n. n ≤ length buf.new) }
-    ensures ok { IfOk result (λ n. Known (R.remaining reader.old) (R.remaining reader.new)
+    ensures ok { IfOk result (λ n. Known (R.state reader.old).remaining (R.state reader.new).remaining
         (λ input left. Fills input left buf.new n)) }
-    ensures err { OnErr result (Known (R.remaining reader.old) (R.remaining reader.new) LosesFront) }
-    ensures counted { R.failures reader.new ≡ failures_after_read result (R.failures reader.old) }
+    ensures err { OnErr result (Known (R.state reader.old).remaining (R.state reader.new).remaining LosesFront) }
+    ensures counted { (R.state reader.new).failures ≡ failures_after_read result (R.state reader.old).failures }
 {
     let mut at = 0;
     while at < buf.len() {
@@ -31,10 +31,10 @@ const SKIP_PIECE: usize = 4096;
 /// Reads this many bytes and drops them, and says how many there were: fewer only where the input ends.
 pub(crate) fn skip<R: Reader>(reader: &mut R, size: u64) -> Result<u64, DeviceFault>
     ensures fits { IfOk result (λ n. n ≤ size) }
-    ensures ok { IfOk result (λ n. Known (R.remaining reader.old) (R.remaining reader.new)
+    ensures ok { IfOk result (λ n. Known (R.state reader.old).remaining (R.state reader.new).remaining
         (λ input left. Skips input left size n)) }
-    ensures err { OnErr result (Known (R.remaining reader.old) (R.remaining reader.new) LosesFront) }
-    ensures counted { R.failures reader.new ≡ failures_after_read result (R.failures reader.old) }
+    ensures err { OnErr result (Known (R.state reader.old).remaining (R.state reader.new).remaining LosesFront) }
+    ensures counted { (R.state reader.new).failures ≡ failures_after_read result (R.state reader.old).failures }
 {
     let mut piece = [0u8; SKIP_PIECE];
     let mut skipped = 0u64;
@@ -51,9 +51,9 @@ pub(crate) fn skip<R: Reader>(reader: &mut R, size: u64) -> Result<u64, DeviceFa
 
 /// Writes all of the bytes, or stops at the first call that fails or takes none of them.
 pub(crate) fn put_all<W: Writer>(writer: &mut W, bytes: &[u8]) -> Result<(), DeviceFault>
-    ensures ok { OnOk result (Appends (W.contents writer.old) (W.contents writer.new) bytes.now) }
-    ensures err { OnErr result (AppendsFront (W.contents writer.old) (W.contents writer.new) bytes.now) }
-    ensures counted { W.failures writer.new ≡ failures_after_read result (W.failures writer.old) }
+    ensures ok { OnOk result (Appends (W.state writer.old).contents (W.state writer.new).contents bytes.now) }
+    ensures err { OnErr result (AppendsFront (W.state writer.old).contents (W.state writer.new).contents bytes.now) }
+    ensures counted { (W.state writer.new).failures ≡ failures_after_read result (W.state writer.old).failures }
 {
     let mut at = 0;
     while at < bytes.len() {

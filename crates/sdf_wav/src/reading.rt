@@ -22,10 +22,10 @@ fn read_content<R: Reader>(
     content: ContentIn,
 ) -> Result<Wav, WavFault>
     requires { content.fault ≡ None }
-    ensures bytes { AnswersBy (λ w. w.samples) (R.remaining reader.old) (R.remaining reader.new)
+    ensures bytes { AnswersBy (λ w. w.samples) (R.state reader.old).remaining (R.state reader.new).remaining
         (next_at content 18446744073709551615) result }
     ensures format { IfOk result (λ w. (w.rate ≡ content.rate) × (w.channels ≡ content.channels)) }
-    ensures counted { R.failures reader.new ≡ failures_after result (R.failures reader.old) }
+    ensures counted { (R.state reader.new).failures ≡ failures_after result (R.state reader.old).failures }
     ensures fault { IfErr result IsReadingFault }
 {
     let format = content.format();
@@ -41,20 +41,21 @@ fn read_content<R: Reader>(
 /// writer never filled in, goes to the end of the input.
 pub fn read_wav<R: Reader>(alloc: Global, reader: &mut R) -> Result<Wav, WavFault>
     // What is answered is so: the input is a file of this sound and the rest is left, or the input has this fault.
-    ensures answers { Answers (R.remaining reader.old) (R.remaining reader.new) result }
+    ensures answers { Answers (R.state reader.old).remaining (R.state reader.new).remaining result }
 
     // What is so is answered, unless memory or the reader failed.
-    ensures accepts { (input : List ℕ) (s : Sound) (rest : List ℕ) → R.remaining reader.old ≡ Some input →
-        IsWav input s rest → Accepts (R.remaining reader.new) s rest result }
-    ensures refuses { (input : List ℕ) (f : FormatFault) → R.remaining reader.old ≡ Some input → HasFault input f →
+    ensures accepts { (input : List ℕ) (s : Sound) (rest : List ℕ) → (R.state reader.old).remaining ≡ Some input →
+        IsWav input s rest → Accepts (R.state reader.new).remaining s rest result }
+    ensures refuses { (input : List ℕ) (f : FormatFault) → (R.state reader.old).remaining ≡ Some input →
+        HasFault input f →
         Refuses f result }
 
     // Whatever is known of the bytes, no other fault comes.
     ensures fault { IfErr result IsReadingFault }
 
     // A failure of the reader is answered at once: no other call of it failed.
-    ensures counted { R.failures reader.new ≡ failures_after result (R.failures reader.old) }
-    ensures device { IsErrOf result WavFault.Read → Failed (R.failures reader.old) (R.failures reader.new) }
+    ensures counted { (R.state reader.new).failures ≡ failures_after result (R.state reader.old).failures }
+    ensures device { IsErrOf result WavFault.Read → Failed (R.state reader.old).failures (R.state reader.new).failures }
 {
     let content = ContentIn::open(reader)?;
     read_content(alloc, reader, content)

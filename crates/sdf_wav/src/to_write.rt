@@ -38,9 +38,7 @@ impl<W> ToWrite<W> {
 }
 
 impl<W: io::Write> Writer for ToWrite<W> {
-    ghost contents = { λ s. W.contents s.inner };
-
-    ghost failures = { λ s. s.failed };
+    ghost state = { λ s. record { contents = W.contents s.inner; failures = s.failed } };
 
     fn write(&mut self, bytes: &[u8]) -> Result<usize, DeviceFault> {
         let taken = counted(self.inner.write(bytes), &mut self.failed)?;

@@ -29,18 +29,18 @@ impl<'a, R: Reader> WavIn<'a, R> {
     /// taken from `alloc`, and none here.
     pub fn open(alloc: Global, reader: &'a mut R) -> Result<WavIn<'a, R>, WavFault>
         ensures same_reader { IfOk result (λ w. reader_name w ≡ reader.entry.ghost_name) }
-        ensures opens { IfOk result (λ w. Known (R.remaining reader.old) (R.remaining (reader_of w))
+        ensures opens { IfOk result (λ w. Known (R.state reader.old).remaining (R.state (reader_of w)).remaining
             (λ input left. IsReadTo input (reading w) [] left × LosesFront input left)) }
         ensures start { IfOk result (λ w. ((reading w).gone ≡ 0) × ((reading w).fault ≡ None)) }
-        ensures counted { IfOk result (λ w. R.failures (reader_of w) ≡ R.failures reader.old) }
+        ensures counted { IfOk result (λ w. (R.state (reader_of w)).failures ≡ (R.state reader.old).failures) }
         ensures sound { IfOk result (λ w. IsReading (reading w)) }
-        ensures refuses { IfErr result (OpenFails (R.remaining reader.old)) }
+        ensures refuses { IfErr result (OpenFails (R.state reader.old).remaining) }
         ensures fault { IfErr result IsOpeningFault }
 
         // Where the reader is blamed, some reader was left that had failed once more: a body that reads nothing has
         // none.
         ensures device { IsErrOf result WavFault.Read →
-            (left : R) × (R.failures left ≡ one_more (R.failures reader.old)) }
+            (left : R) × ((R.state left).failures ≡ one_more (R.state reader.old).failures) }
     {
         let content = ContentIn::open(reader)?;
         Ok(WavIn::over(alloc, reader, content))
@@ -91,10 +91,10 @@ impl<'a, R: Reader> WavIn<'a, R> {
         // These are the samples before the reader, or the fault that stands among them, and what is behind them is
         // left.
         ensures bytes { (reading self.old).fault ≡ None →
-            AnswersBy (λ v. v.items) (R.remaining (reader_of self.old)) (R.remaining (reader_of self.new))
+            AnswersBy (λ v. v.items) (R.state (reader_of self.old)).remaining (R.state (reader_of self.new)).remaining
             (next_at (reading self.old) frames) result }
         ensures counted { (reading self.old).fault ≡ None →
-            R.failures (reader_of self.new) ≡ failures_after result (R.failures (reader_of self.old)) }
+            (R.state (reader_of self.new)).failures ≡ failures_after result (R.state (reader_of self.old)).failures }
         ensures piece { IfOk result (λ v. IsPiece (reading self.old) frames (length v.items)) }
 
         // A fault is repeated, and the reader left alone.

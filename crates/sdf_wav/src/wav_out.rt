@@ -29,9 +29,9 @@ impl<'a, W: Writer> WavOut<'a, W> {
         frames: u64,
     ) -> Result<WavOut<'a, W>, WavFault>
         ensures same_writer { IfOk result (λ o. writer_name o ≡ writer.entry.ghost_name) }
-        ensures header { IfOk result (λ o. Appends (W.contents writer.old) (W.contents (writer_of o))
+        ensures header { IfOk result (λ o. Appends (W.state writer.old).contents (W.state (writer_of o)).contents
             (file_header rate channels frames)) }
-        ensures counted { IfOk result (λ o. W.failures (writer_of o) ≡ W.failures writer.old) }
+        ensures counted { IfOk result (λ o. (W.state (writer_of o)).failures ≡ (W.state writer.old).failures) }
         ensures owed { IfOk result (λ o. owed o ≡ record { channels = channels; missing = frames; spent = false }) }
         ensures fits { IfOk result (λ _. start_fault rate channels frames ≡ None) }
         ensures fault { IfErr result (StartFails rate channels frames) }
@@ -39,7 +39,7 @@ impl<'a, W: Writer> WavOut<'a, W> {
         // Where the writer is blamed, some writer was left that had failed once more: a body that writes nothing has
         // none.
         ensures device { IsErrOf result WavFault.Write →
-            (left : W) × (W.failures left ≡ one_more (W.failures writer.old)) }
+            (left : W) × ((W.state left).failures ≡ one_more (W.state writer.old).failures) }
     {
         let content = ContentOut::start(writer, rate, channels, frames)?;
         Ok(WavOut::over(writer, content))
@@ -69,9 +69,10 @@ impl<'a, W: Writer> WavOut<'a, W> {
 
         // The samples are written, or a front of their bytes where the writer fails.
         ensures writes { (owed self.old).spent ≡ false →
-            Puts (W.contents (writer_of self.old)) (W.contents (writer_of self.new)) (sample_bytes samples.now) result }
+            Puts (W.state (writer_of self.old)).contents (W.state (writer_of self.new)).contents
+            (sample_bytes samples.now) result }
         ensures counted { (owed self.old).spent ≡ false →
-            W.failures (writer_of self.new) ≡ failures_after result (W.failures (writer_of self.old)) }
+            (W.state (writer_of self.new)).failures ≡ failures_after result (W.state (writer_of self.old)).failures }
 
         // A failure is repeated, and the writer left alone.
         ensures repeats { (owed self.old).spent ≡ true →

@@ -59,10 +59,11 @@ const WRITE_PIECE: usize = 8192;
 
 /// Writes the samples, a piece at a time.
 pub(crate) fn put_samples<W: Writer>(writer: &mut W, samples: &[i16]) -> Result<(), DeviceFault>
-    ensures ok { OnOk result (Appends (W.contents writer.old) (W.contents writer.new) (sample_bytes samples.now)) }
-    ensures err { OnErr result (AppendsFront (W.contents writer.old) (W.contents writer.new)
+    ensures ok { OnOk result (Appends (W.state writer.old).contents (W.state writer.new).contents
         (sample_bytes samples.now)) }
-    ensures counted { W.failures writer.new ≡ failures_after_read result (W.failures writer.old) }
+    ensures err { OnErr result (AppendsFront (W.state writer.old).contents (W.state writer.new).contents
+        (sample_bytes samples.now)) }
+    ensures counted { (W.state writer.new).failures ≡ failures_after_read result (W.state writer.old).failures }
 {
     let mut piece = [0u8; 2 * WRITE_PIECE];
     let mut at = 0;
@@ -92,8 +93,9 @@ fn put_content<W: Writer>(
     requires frames { length samples.now % content.channels ≡ 0 }
     requires whole { content.missing * content.channels ≡ length samples.now }
     requires ends { content.missing ≡ length samples.now / content.channels }
-    ensures writes { Puts (W.contents writer.old) (W.contents writer.new) (sample_bytes samples.now) result }
-    ensures counted { W.failures writer.new ≡ failures_after result (W.failures writer.old) }
+    ensures writes { Puts (W.state writer.old).contents (W.state writer.new).contents
+        (sample_bytes samples.now) result }
+    ensures counted { (W.state writer.new).failures ≡ failures_after result (W.state writer.old).failures }
 {
     let mut out = WavOut::over(writer, content);
     out.put(samples)?;
@@ -103,7 +105,7 @@ fn put_content<W: Writer>(
 /// Writes the canonical file of a sound: RIFF/WAVE with one `fmt ` chunk of 16 bytes and one `data` chunk. Fails by
 /// `RateTooLarge`, or else `TooLong`, before the first byte; after `Write` a front of the file is written.
 pub fn write_wav<W: Writer>(writer: &mut W, wav: &Wav) -> Result<(), WavFault>
-    ensures writes { Writes (W.contents writer.old) (W.contents writer.new) (write_fault wav.now)
+    ensures writes { Writes (W.state writer.old).contents (W.state writer.new).contents (write_fault wav.now)
         (canonical_wav wav.now) result }
 
     // That is the canonical file of a sound, and whatever is known of the bytes, no other fault comes.
@@ -111,8 +113,9 @@ pub fn write_wav<W: Writer>(writer: &mut W, wav: &Wav) -> Result<(), WavFault>
     ensures fault { IfErr result IsWritingFault }
 
     // A failure of the writer is answered at once: no other call of it failed.
-    ensures counted { W.failures writer.new ≡ failures_after result (W.failures writer.old) }
-    ensures device { IsErrOf result WavFault.Write → Failed (W.failures writer.old) (W.failures writer.new) }
+    ensures counted { (W.state writer.new).failures ≡ failures_after result (W.state writer.old).failures }
+    ensures device { IsErrOf result WavFault.Write →
+        Failed (W.state writer.old).failures (W.state writer.new).failures }
 {
     let samples = wav.samples();
     let content = ContentOut::start(

@@ -6,8 +6,8 @@ use Rattle.sdf_wav.proofs.chunks.find_data.Given as goal
 
 abbrev pub invariant-loop : goal.invariant-loop
 invariant-loop g l = record {
-  read : Known (g.R.Reader.remaining l.initial.reader) (g.R.Reader.remaining l.reader)
+  read : Known (g.R.Reader.state l.initial.reader).remaining (g.R.Reader.state l.reader).remaining
       (λ input left. (data_at 65536 None input ≡ data_at (65536 - l.counter) l.seen left) × LosesFront input left);
   known : IsKnown l.seen;
-  counted : g.R.Reader.failures l.reader ≡ g.R.Reader.failures l.initial.reader;
+  counted : (g.R.Reader.state l.reader).failures ≡ (g.R.Reader.state l.initial.reader).failures;
 }

@@ -18,10 +18,11 @@ pub returns-clause-writes : goal.returns-clause-writes
 returns-clause-writes g c =
     let s = c.args.wav.now in
     let none : start_fault s.rate s.channels c.frames.result ≡ None = search rules in
-    let front : Appends (g.W.Writer.contents c.args.writer.now) (g.W.Writer.contents c.start.new.writer)
+    let front : Appends (g.W.Writer.state c.args.writer.now).contents (g.W.Writer.state c.start.new.writer).contents
     (file_header s.rate s.channels c.frames.result) = search rules in
     samples_put _ _ _ s c.frames.result c.put_content.result
     (start_by_size s.rate s.channels c.frames.result _ (search rules) (search rules) (search rules) (search rules)
     none) (search rules) front
-    (subst (λ zs. Puts (g.W.Writer.contents c.start.new.writer) (g.W.Writer.contents c.put_content.new.writer)
+    (subst (λ zs. Puts (g.W.Writer.state c.start.new.writer).contents
+    (g.W.Writer.state c.put_content.new.writer).contents
     (sample_bytes zs) c.put_content.result) c.samples-samples.ensures.value c.put_content.ensures.writes)
