@@ -7,7 +7,7 @@ use Rattle.std.proofs.Math.Nat.{mul-le-mul_right}
 use Rattle.sdf_actor.specs.Wires.{lists as items_of}
 use Rattle.sdf_actor.specs.declared.rest.Rest.{Rest}
 use Rattle.sdf_wav.specs.Canonical.{sample_bytes}
-use Rattle.sdf_wav.specs.Device.{AppendsFront, one_more}
+use Rattle.sdf_wav.specs.Device.{AppendsFront, ReaderState, WriterState, one_more}
 use Rattle.sdf_wav.specs.PiecesIn.{Reading, sound_read}
 use Rattle.sdf_wav.specs.PiecesOut.{Owed}
 use Rattle.sdf_plan.specs.declared.fault.Fault.{Fault}
@@ -34,8 +34,8 @@ no_frames channels frames none = record {
 }
 
 -- nothing is ahead
-pub none_ahead : (b : Start) (g : Progress) (f : Flow) {now after : Option (List ℕ)} {r w : ℕ} →
-    items_of f.made.items ≡ [] → Flows b g f.left f.source f.output now after r w → IsAhead b g f now after r w
+pub none_ahead : (b : Start) (g : Progress) (f : Flow) {r : ReaderState} {w : WriterState} →
+    items_of f.made.items ≡ [] → Flows b g f.left f.source f.output r w → IsAhead b g f r w
 none_ahead b g f none flows = record {
   before = g;
   flows = flows;
@@ -50,15 +50,15 @@ none_ahead b g f none flows = record {
       (let z : 0 * b.blocking * (exchange_in b).made ≡ 0 = omega arith in z));
 }
 
-module _ (b : Start) (can : CanFlow b) (g : Progress) (f : Flow) {now after : Option (List ℕ)} {r w : ℕ}
-    (ahead : IsAhead b g f now after r w) where
+module _ (b : Start) (can : CanFlow b) (g : Progress) (f : Flow) {r : ReaderState} {w : WriterState}
+    (ahead : IsAhead b g f r w) where
   abbrev c : Reading
   c = reading_in b
 
   abbrev x : Exchange
   x = exchange_in b
 
-  abbrev here : Flows b ahead.before f.left f.source f.output now after r w
+  abbrev here : Flows b ahead.before f.left f.source f.output r w
   here = ahead.flows
 
   abbrev made : List (List ℤ)
@@ -116,17 +116,17 @@ module _ (b : Start) (can : CanFlow b) (g : Progress) (f : Flow) {now after : Op
   frames_of ps is = rw is all_frames
 
   -- they are written
-  pub wrote : (last : Option (List ℕ)) (w2 : ℕ) (o : Owed) → Appends after last bytes → w2 ≡ w →
+  pub wrote : (w' : WriterState) (o : Owed) → Appends w.contents w'.contents bytes → w'.failures ≡ w.failures →
       o ≡ record f.output { missing = f.output.missing - ahead.more * b.blocking * x.made } →
-      Flows b g f.left f.source o now last r w2
-  wrote last w2 o puts fine owed = subst (λ (z : Progress). Flows b z f.left f.source o now last r w2) (sym ahead.is)
+      Flows b g f.left f.source o r w'
+  wrote w' o puts fine owed = subst (λ (z : Progress). Flows b z f.left f.source o r w') (sym ahead.is)
       (record {
         came = came_on;
         takes = here.takes;
         source_is = here.source_is;
         within = here.within;
         count = here.count;
-        written = appends_join b.written after last ahead.before.bytes bytes here.written puts;
+        written = appends_join b.writer.contents w.contents w'.contents ahead.before.bytes bytes here.written puts;
         owed = owed ∙ ap (λ (y : Owed). record y { missing = y.missing - ahead.more * b.blocking * x.made }) here.owed
             ∙ ap (λ (k : ℕ). record { channels = x.outputs; missing = k; spent = false })
             (less_twice b.owed (ahead.before.blocks * b.blocking * x.made) (ahead.more * b.blocking * x.made)
@@ -136,34 +136,35 @@ module _ (b : Start) (can : CanFlow b) (g : Progress) (f : Flow) {now after : Op
       })
 
   -- they are not
-  pub writing_failed : (last : Option (List ℕ)) (w2 : ℕ) (e : Fault) → e ≡ Write → AppendsFront after last bytes →
-      w2 ≡ one_more w → StreamsFrom b now last r w2 (Err e)
-  writing_failed last w2 e is front failed = (
+  pub writing_failed : (w' : WriterState) (e : Fault) → e ≡ Write → AppendsFront w.contents w'.contents bytes →
+      w'.failures ≡ one_more w.failures → StreamsFrom b r w' (Err e)
+  writing_failed w' e is front failed = (
     ahead.before.samples,
     (ahead.before.blocks + ahead.more) * b.blocking,
     ahead.before.bytes ++ bytes,
-    now,
+    r.remaining,
     came_to can.runs b.net b.period can.has b.blocking c ahead.before.samples (ahead.before.blocks + ahead.more)
         (ahead.before.bytes ++ bytes) g.left (within_size b can ahead.before here) can.one came_on.there came_on.stands,
     here.takes,
     inl (
       is,
       refl,
-      front_join b.written after last ahead.before.bytes bytes here.written front,
+      front_join b.writer.contents w.contents w'.contents ahead.before.bytes bytes here.written front,
       here.reader,
       failed ∙ ap one_more here.writer,
     ),
   )
 
   -- if there are none, all is written
-  pub none_left : made ≡ [] → Flows b g f.left f.source f.output now after r w
+  pub none_left : made ≡ [] → Flows b g f.left f.source f.output r w
   none_left none =
       let no : ahead.more * b.blocking * x.made * x.outputs ≡ 0 =
       sym ahead.whole.all ∙ ap (λ (l : List (List ℤ)). length (in_turn l)) none in
       let zero_more : ahead.more * b.blocking * x.made ≡ 0 =
       nothing (ahead.more * b.blocking * x.made) x.outputs can.outputs no in
-      wrote after w f.output (subst (λ (l : List (List ℤ)). Appends after after (sample_bytes (in_turn l))) (sym none)
-      (appends_none after after (keeps_same after))) refl
+      wrote w f.output
+      (subst (λ (l : List (List ℤ)). Appends w.contents w.contents (sample_bytes (in_turn l))) (sym none)
+      (appends_none w.contents w.contents (keeps_same w.contents))) refl
       (ap (λ (k : ℕ). record f.output { missing = k })
       (let z : f.output.missing ≡ f.output.missing - ahead.more * b.blocking * x.made = omega (arith, zero_more) in z))
     where
@@ -174,12 +175,12 @@ module _ (b : Start) (can : CanFlow b) (g : Progress) (f : Flow) {now after : Op
           absurd (omega (arith, is, more, some))
 
 -- the next blocks are made ahead of what is written
-pub made_ahead : (b : Start) (g : Progress) (f : Flow) {now after : Option (List ℕ)} {r w : ℕ} (blocks frames : ℕ)
-    (left : Option (Rest ℤ (List ℤ))) → Flows b g f.left f.source f.output now after r w →
+pub made_ahead : (b : Start) (g : Progress) (f : Flow) {r : ReaderState} {w : WriterState} (blocks frames : ℕ)
+    (left : Option (Rest ℤ (List ℤ))) → Flows b g f.left f.source f.output r w →
     Makes b.net b.period b.blocking (sound_read (reading_in b) g.samples) g.blocks blocks frames g.bytes
     (items_of f.made.items) left → frames ≡ blocks * b.blocking * (exchange_in b).made →
     samples_run b (g.blocks + blocks) ≤ length g.samples →
-    IsAhead b (blocks_on g blocks (sample_bytes (in_turn (items_of f.made.items))) left) f now after r w
+    IsAhead b (blocks_on g blocks (sample_bytes (in_turn (items_of f.made.items))) left) f r w
 made_ahead b g f blocks frames left flows makes all there = record {
   before = g;
   flows = flows;

@@ -12,6 +12,7 @@ use Rattle.sdf_answer.specs.Periods.{HasPeriod}
 use Rattle.sdf_kit.specs.declared.kit.Kit.{Kit}
 use Rattle.sdf_kit.specs.Kit.{kit_steps}
 use Rattle.sdf_sched.specs.Period.{Schedule}
+use Rattle.sdf_wav.specs.Device.{ReaderState, WriterState}
 use Rattle.sdf_wav.specs.Canonical.{sample_bytes}
 use Rattle.sdf_wav.specs.PiecesIn.{Reading, IsReading, IsWithin, sound_read}
 use Rattle.sdf_wav.specs.Sound.{Sound}
@@ -88,25 +89,23 @@ whole_size c frames is known same = go is.within
     go (inr (endless, there)) = absurd (known endless)
 
 -- nothing was taken, or no run was opened
-pub untaken : (n : Netlist Kit ℤ) (q : List ℕ) (first : Source) (old new held : Option (List ℕ)) (r r' w : ℕ)
-    (e f : Fault) → f ≡ e → TakesAll first old new r r' (Err e) →
-    Streams n q first old new held held r r' w w (Err f)
-untaken n q first old new held r r' w e f same takes = (
+pub untaken : (n : Netlist Kit ℤ) (q : List ℕ) (first : Source) (r r' : ReaderState) (w : WriterState) (e f : Fault) →
+    f ≡ e → TakesAll first r r' (Err e) → Streams n q first r r' w w (Err f)
+untaken n q first r r' w e f same takes = (
   [],
   0,
   [],
-  old,
+  r.remaining,
   record { within = omega arith; are_read = inl (omega arith); are_frames = inl (refl, refl) },
-  takes_none first old,
+  takes_none first r.remaining,
   inr (
-    subst (λ (g : Fault). TakesAll first old new r r' (Err g)) (sym same) takes,
-    appends_none held held (keeps_same held),
+    subst (λ (g : Fault). TakesAll first r r' (Err g)) (sym same) takes,
+    appends_none w.contents w.contents (keeps_same w.contents),
     refl,
   ),
 )
 
-pub unopened : (n : Netlist Kit ℤ) (q : List ℕ) (first : Source) (old held : Option (List ℕ)) (r w : ℕ)
-    (e f : Fault) → e ≡ OutOfMemory → f ≡ e → Streams n q first old old held held r r w w (Err f)
-unopened n q first old held r w e f memory same =
-    untaken n q first old old held r r w e f same
-    (takes_refused first [] old old r r e memory (takes_none first old) refl)
+pub unopened : (n : Netlist Kit ℤ) (q : List ℕ) (first : Source) (r : ReaderState) (w : WriterState) (e f : Fault) →
+    e ≡ OutOfMemory → f ≡ e → Streams n q first r r w w (Err f)
+unopened n q first r w e f memory same =
+    untaken n q first r r w e f same (takes_refused first [] r r e memory (takes_none first r.remaining) refl)

@@ -5,7 +5,7 @@ use Rattle.std.specs.Prelude.{IsErrAnd}
 use Rattle.std.specs.declared.vec.Vec.{Vec}
 use Rattle.sdf_wav.specs.Sound.{Sound, sound_of}
 use Rattle.sdf_wav.specs.Canonical.{Writes}
-use Rattle.sdf_wav.specs.Device.{failures_after}
+use Rattle.sdf_wav.specs.Device.{ReaderState, WriterState, failures_after}
 use Rattle.sdf_wav.specs.Fault.{HasFault}
 use Rattle.sdf_wav.specs.PiecesIn.{Reading, AnswersBy, IsEnded, IsPiece, IsReading, IsReadTo, IsSizedFault, IsWithin}
 use Rattle.sdf_wav.specs.PiecesIn.{next_at}
@@ -19,42 +19,45 @@ use Rattle.sdf_process.specs.Stages.{PutsHeader, ReadsContent}
 use Rattle.sdf_process.proofs.Sounds.{sound_is}
 
 -- a header that may be written fails by its writer alone
-pub begin_failed : {X : Type 0} (before after : Option (List ℕ)) (w w' rate channels frames : ℕ) (e : WavFault)
+pub begin_failed : {X : Type 0} (w w' : WriterState) (rate channels frames : ℕ) (e : WavFault)
     (r : Result X Fault) → start_fault rate channels frames ≡ None →
-    Writes {X = Unit {0}} before after (start_fault rate channels frames) (file_header rate channels frames) (Err e) →
-    w' ≡ failures_after {X = Unit {0}} (Err e) w → IsErrAnd r (λ f. f ≡ of_wav e) →
-    PutsHeader before after w w' (file_header rate channels frames) r
-begin_failed before after w w' rate channels frames wav.Write (Err f) allowed written counted is =
+    Writes {X = Unit {0}} w.contents w'.contents (start_fault rate channels frames)
+    (file_header rate channels frames) (Err e) →
+    w'.failures ≡ failures_after {X = Unit {0}} (Err e) w.failures → IsErrAnd r (λ f. f ≡ of_wav e) →
+    PutsHeader w w' (file_header rate channels frames) r
+begin_failed w w' rate channels frames wav.Write (Err f) allowed written counted is =
     (is, written.1, counted)
-begin_failed before after w w' rate channels frames (wav.Format g) (Err f) allowed written counted is =
+begin_failed w w' rate channels frames (wav.Format g) (Err f) allowed written counted is =
     absurd (let no : None ≡ Some g = sym allowed ∙ written.0 in cc)
-begin_failed before after w w' rate channels frames wav.OutOfMemory (Err f) allowed written counted is = absurd written
-begin_failed before after w w' rate channels frames wav.Read (Err f) allowed written counted is = absurd written
-begin_failed before after w w' rate channels frames e (Ok x) allowed written counted is = absurd is
+begin_failed w w' rate channels frames wav.OutOfMemory (Err f) allowed written counted is = absurd written
+begin_failed w w' rate channels frames wav.Read (Err f) allowed written counted is = absurd written
+begin_failed w w' rate channels frames e (Ok x) allowed written counted is = absurd is
 
 -- the same, where the numbers are not yet known to be those
-pub begin_failed_as : {X : Type 0} (before after : Option (List ℕ)) (w w' rate r channels frames f : ℕ) (e : WavFault)
+pub begin_failed_as : {X : Type 0} (w w' : WriterState) (rate r channels frames f : ℕ) (e : WavFault)
     (x : Result X Fault) → r ≡ rate → f ≡ frames → start_fault rate channels frames ≡ None →
-    Writes {X = Unit {0}} before after (start_fault r channels f) (file_header r channels f) (Err e) →
-    w' ≡ failures_after {X = Unit {0}} (Err e) w → IsErrAnd x (λ g. g ≡ of_wav e) →
-    PutsHeader before after w w' (file_header rate channels frames) x
-begin_failed_as before after w w' rate r channels frames f e x same_rate same_frames allowed written counted is =
-    let here = subst (λ (z : ℕ). Writes {X = Unit {0}} before after (start_fault z channels f)
+    Writes {X = Unit {0}} w.contents w'.contents (start_fault r channels f) (file_header r channels f) (Err e) →
+    w'.failures ≡ failures_after {X = Unit {0}} (Err e) w.failures → IsErrAnd x (λ g. g ≡ of_wav e) →
+    PutsHeader w w' (file_header rate channels frames) x
+begin_failed_as w w' rate r channels frames f e x same_rate same_frames allowed written counted is =
+    let here = subst (λ (z : ℕ). Writes {X = Unit {0}} w.contents w'.contents (start_fault z channels f)
     (file_header z channels f) (Err e)) same_rate written in
-    begin_failed before after w w' rate channels frames e x allowed
-    (subst (λ (z : ℕ). Writes {X = Unit {0}} before after (start_fault rate channels z) (file_header rate channels z)
+    begin_failed w w' rate channels frames e x allowed
+    (subst (λ (z : ℕ). Writes {X = Unit {0}} w.contents w'.contents (start_fault rate channels z)
+    (file_header rate channels z)
     (Err e)) same_frames here) counted is
 
 -- the content of an opened input failed
-pub content_failed : (old new : Option (List ℕ)) (r r' : ℕ) (c : Reading) (frames : ℕ) →
+pub content_failed : (r r' : ReaderState) (c : Reading) (frames : ℕ) →
     ((input : List ℕ) (d : Reading) (before : List ℤ) (bytes : List ℕ) (many : ℕ) (f : FormatFault) →
     IsReadTo input d before bytes → next_at d many bytes ≡ Err f → HasFault input f) →
-    (e : WavFault) (x : Result Sound Fault) → AnswersBy {X = Unit {0}} {Y = List ℤ} (λ x. []) old new (next_at c frames)
-    (Err e) → r' ≡ failures_after {X = Unit {0}} (Err e) r → (c.size ≢ 0xFFFFFFFF → IsSizedFault e) →
-    IsErrAnd x (λ f. f ≡ of_wav e) → ReadsContent c old new r r' x
-content_failed old new r r' c frames falls wav.OutOfMemory (Err f) said counted cut is = inl (is, said, counted)
-content_failed old new r r' c frames falls wav.Read (Err f) said counted cut is = inr (inl (is, said, counted))
-content_failed old new r r' c frames falls (wav.Format g) (Err f) said counted cut is =
+    (e : WavFault) (x : Result Sound Fault) → AnswersBy {X = Unit {0}} {Y = List ℤ} (λ x. []) r.remaining r'.remaining
+    (next_at c frames)
+    (Err e) → r'.failures ≡ failures_after {X = Unit {0}} (Err e) r.failures → (c.size ≢ 0xFFFFFFFF → IsSizedFault e) →
+    IsErrAnd x (λ f. f ≡ of_wav e) → ReadsContent c r r' x
+content_failed r r' c frames falls wav.OutOfMemory (Err f) said counted cut is = inl (is, said, counted)
+content_failed r r' c frames falls wav.Read (Err f) said counted cut is = inr (inl (is, said, counted))
+content_failed r r' c frames falls (wav.Format g) (Err f) said counted cut is =
     inr (inr (
       g,
       is,
@@ -65,8 +68,8 @@ content_failed old new r r' c frames falls (wav.Format g) (Err f) said counted c
       counted,
       cut,
     ))
-content_failed old new r r' c frames falls wav.Write (Err f) said counted cut is = absurd said
-content_failed old new r r' c frames falls e (Ok x) said counted cut is = absurd is
+content_failed r r' c frames falls wav.Write (Err f) said counted cut is = absurd said
+content_failed r r' c frames falls e (Ok x) said counted cut is = absurd is
 
 few_samples : (r : Reading) (samples : ℕ) → IsReading r → IsWithin (2 * r.channels) r.size r.gone →
     2 * samples ≤ r.gone → samples < 18446744073709551615 * r.channels
@@ -91,7 +94,7 @@ all_sized frames channels size samples e one fits is =
     ap (λ (z : ℕ). 2 * (z * channels)) (sym e) in omega arith
 
 -- it was read whole
-module _ {Z : Type 0} (old new : Option (List ℕ)) (r r' : ℕ) (c : Reading) (frames : ℕ)
+module _ {Z : Type 0} (r r' : ReaderState) (c : Reading) (frames : ℕ)
     (all : frames ≡ 18446744073709551615) (gone : c.gone ≡ 0)
     (on : (input : List ℕ) (d : Reading) (before : List ℤ) (bytes : List ℕ) (many : ℕ) (samples : List ℤ)
     (rest : List ℕ) → IsReadTo input d before bytes
@@ -101,8 +104,9 @@ module _ {Z : Type 0} (old new : Option (List ℕ)) (r r' : ℕ) (c : Reading) (
     (rest : List ℕ) → IsReadTo input d before bytes
     → next_at d many bytes ≡ Ok (samples, rest) → length samples < many * d.channels →
     IsEnded (record d { gone = d.gone + 2 * length samples }) rest)
-    (v : Vec ℤ Z) (said : AnswersBy {X = Vec ℤ Z} (λ (x : Vec ℤ Z). x.items) old new (next_at c frames) (Ok v))
-    (counted : r' ≡ r) (piece : IsPiece c frames (length v.items)) (last : Reading)
+    (v : Vec ℤ Z) (said : AnswersBy {X = Vec ℤ Z} (λ (x : Vec ℤ Z). x.items) r.remaining r'.remaining
+    (next_at c frames) (Ok v))
+    (counted : r'.failures ≡ r.failures) (piece : IsPiece c frames (length v.items)) (last : Reading)
     (goes : last ≡ record c { gone = c.gone + 2 * length v.items }) (is : IsReading last) where
   here : IsReading (record c { gone = c.gone + 2 * length v.items })
   here = subst IsReading goes is
@@ -116,9 +120,9 @@ module _ {Z : Type 0} (old new : Option (List ℕ)) (r r' : ℕ) (c : Reading) (
       (piece.sized known ∙ ap (λ (z : ℕ). min (2 * (frames * c.channels)) (c.size - z)) gone)
 
   pub content_read : (s : Sound) → s ≡ record { rate = c.rate; channels = c.channels; samples = v.items } →
-      ReadsContent c old new r r' (Ok s)
+      ReadsContent c r r' (Ok s)
   content_read s same =
-      subst (λ (t : Sound). ReadsContent c old new r r' (Ok t)) (sym same) (
+      subst (λ (t : Sound). ReadsContent c r r' (Ok t)) (sym same) (
         record {
           at = λ bytes known. let y = said.at bytes known in (
             y.0,

@@ -5,7 +5,7 @@ use Rattle.std.specs.Io.KnownBytes.{Appends}
 use Rattle.std.proofs.Math.Nat.{mul-div_left, mul-le-mul_left, mul-le-mul_right}
 use Rattle.sdf_actor.specs.declared.rest.Rest.{Rest}
 use Rattle.sdf_wav.specs.Canonical.{sample_bytes}
-use Rattle.sdf_wav.specs.Device.{one_more}
+use Rattle.sdf_wav.specs.Device.{ReaderState, WriterState, one_more}
 use Rattle.sdf_wav.specs.PiecesIn.{Reading, sound_read}
 use Rattle.sdf_wav.specs.PiecesOut.{Owed}
 use Rattle.sdf_wav.specs.Sound.{Sound}
@@ -24,7 +24,7 @@ use Rattle.sdf_process.proofs.Sizes.{below_by, cancel, periods_fit}
 use Rattle.sdf_process.proofs.Taken.{takes_whole}
 
 module _ (b : Start) (can : CanFlow b) (g : Progress) {unread : ℕ} {source : Source} {o : Owed}
-    {now after : Option (List ℕ)} {r1 w1 : ℕ} (here : Flows b g unread source o now after r1 w1)
+    {r : ReaderState} {w : WriterState} (here : Flows b g unread source o r w)
     (end : unread ≡ 0) where
   abbrev c : Reading
   c = reading_in b
@@ -45,8 +45,8 @@ module _ (b : Start) (can : CanFlow b) (g : Progress) {unread : ℕ} {source : S
   size_there : 2 * length g.samples ≡ c.size
   size_there = omega (arith, all_there, can.size)
 
-  heard : TakesAll b.source b.read now b.reader r1 (Ok sound)
-  heard = takes_whole b.source g.samples b.read now b.reader r1 can.unread can.known size_there here.takes here.reader
+  heard : TakesAll b.source b.reader r (Ok sound)
+  heard = takes_whole b.source g.samples b.reader r can.unread can.known size_there here.takes here.reader
 
   periods_are : periods_of x sound ≡ periods_for x b.frames
   periods_are = ap (periods_for x)
@@ -74,23 +74,23 @@ module _ (b : Start) (can : CanFlow b) (g : Progress) {unread : ℕ} {source : S
           let all : b.owed * 1 ≤ b.owed * x.outputs = mul-le-mul_left b.owed can.outputs in
           omega (arith, more, all)
 
-  ended_by : (blocks many : ℕ) (bytes : List ℕ) (v : Option (Rest ℤ (List ℤ))) (last : Option (List ℕ)) (w2 : ℕ) →
+  ended_by : (blocks many : ℕ) (bytes : List ℕ) (v : Option (Rest ℤ (List ℤ))) (w' : WriterState) →
       StandsAt b.net b.period j sound blocks many bytes v → periods_for x b.frames ≤ blocks * j →
-      many ≡ periods_for x b.frames * x.made → Appends b.written last bytes → w2 ≡ b.writer →
-      StreamsFrom b now last r1 w2 (Ok tt)
-  ended_by blocks many bytes v last w2 at less same written fine =
+      many ≡ periods_for x b.frames * x.made → Appends b.writer.contents w'.contents bytes →
+      w'.failures ≡ b.writer.failures → StreamsFrom b r w' (Ok tt)
+  ended_by blocks many bytes v w' at less same written fine =
       let s = stood can.runs b.net b.period can.has j sound blocks many (periods_of x sound) bytes v at
       (subst (λ (k : ℕ). k ≤ blocks * j) (sym periods_are) less)
       (same ∙ ap (λ (k : ℕ). k * x.made) (sym periods_are)) in
-      (sound, heard, (s.0, s.1, subst (Appends b.written last) s.2 written, fine))
+      (sound, heard, (s.0, s.1, subst (Appends b.writer.contents w'.contents) s.2 written, fine))
 
   -- nothing is missing
-  pub ended_whole : o.missing ≡ 0 → StreamsFrom b now after r1 w1 (Ok tt)
+  pub ended_whole : o.missing ≡ 0 → StreamsFrom b r w (Ok tt)
   ended_whole none =
       let made : g.blocks * j * x.made ≡ periods_for x b.frames * x.made = omega (arith, filled, none) in
       let less : periods_for x b.frames ≤ g.blocks * j =
       cancel (periods_for x b.frames) (g.blocks * j) x.made can.made (omega (arith, made)) in
-      ended_by g.blocks (g.blocks * j * x.made) g.bytes g.left after w1 here.came.stands less made here.written
+      ended_by g.blocks (g.blocks * j * x.made) g.bytes g.left w here.came.stands less made here.written
       here.writer
 
   -- the last blocks
@@ -132,19 +132,20 @@ module _ (b : Start) (can : CanFlow b) (g : Progress) {unread : ℕ} {source : S
 
     -- their frames are written, or a front of them
     pub ended : (made : List (List ℤ)) (v : Option (Rest ℤ (List ℤ))) →
-        Makes b.net b.period j sound g.blocks blocks o.missing g.bytes made v → (last : Option (List ℕ)) (w2 : ℕ)
-        (result : Result (Unit {0}) Fault) → PutsHeader after last w1 w2 (sample_bytes (in_turn made)) result →
-        StreamsFrom b now last r1 w2 result
-    ended made v makes last w2 (Ok y) (written, fine) =
-        ended_by (g.blocks + blocks) (g.blocks * j * x.made + o.missing) (g.bytes ++ sample_bytes (in_turn made)) v last
-        w2 makes.stands enough filled
-        (appends_join b.written after last g.bytes (sample_bytes (in_turn made)) here.written written)
+        Makes b.net b.period j sound g.blocks blocks o.missing g.bytes made v → (w' : WriterState)
+        (result : Result (Unit {0}) Fault) → PutsHeader w w' (sample_bytes (in_turn made)) result →
+        StreamsFrom b r w' result
+    ended made v makes w' (Ok y) (written, fine) =
+        ended_by (g.blocks + blocks) (g.blocks * j * x.made + o.missing) (g.bytes ++ sample_bytes (in_turn made)) v
+        w' makes.stands enough filled
+        (appends_join b.writer.contents w.contents w'.contents g.bytes (sample_bytes (in_turn made))
+        here.written written)
         (fine ∙ here.writer)
-    ended made v makes last w2 (Err f) (is_write, front, failed) = (
+    ended made v makes w' (Err f) (is_write, front, failed) = (
       g.samples,
       periods_of x sound,
       g.bytes ++ sample_bytes (in_turn made),
-      now,
+      r.remaining,
       record {
         within = within_size b can g here;
         are_read = inr (size_there, omega arith);
@@ -157,7 +158,7 @@ module _ (b : Start) (can : CanFlow b) (g : Progress) {unread : ℕ} {source : S
       inl (
         is_write,
         refl,
-        front_join b.written after last g.bytes (sample_bytes (in_turn made)) here.written front,
+        front_join b.writer.contents w.contents w'.contents g.bytes (sample_bytes (in_turn made)) here.written front,
         here.reader,
         failed ∙ ap one_more here.writer,
       ),

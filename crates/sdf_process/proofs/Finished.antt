@@ -9,10 +9,9 @@ use Rattle.sdf_kit.specs.Kit.{kit_steps}
 use Rattle.sdf_wav.specs.Sound.{Sound}
 use Rattle.sdf_wav.specs.Grammar.{IsWav}
 use Rattle.sdf_wav.specs.Canonical.{header, canonical_wav, sample_bytes, IsCanonical}
-use Rattle.sdf_wav.specs.Device.{AppendsFront, one_more}
-use Rattle.sdf_wav.specs.PiecesIn.{Reading, Opens, OpensTo, AnswersOpening, known_frames, sound_read}
+use Rattle.sdf_wav.specs.Device.{AppendsFront, ReaderState, WriterState, one_more}
+use Rattle.sdf_wav.specs.PiecesIn.{Reading, known_frames, sound_read}
 use Rattle.sdf_wav.specs.PiecesOut.{Owed, file_header}
-use Rattle.sdf_wav.specs.declared.format.Format.{Format}
 use Rattle.sdf_process.specs.declared.exchange.Exchange.{Exchange}
 use Rattle.sdf_process.specs.declared.exchange.Extent.{Extent}
 use Rattle.sdf_plan.specs.declared.fault.Fault.{Fault}
@@ -20,7 +19,7 @@ use Rattle.sdf_plan.specs.declared.fault.Fault.TheVariants.{OutOfMemory, Write}
 use Rattle.sdf_process.specs.Output.{announced_by, exchange_of, interleaved, input_lists, output_frames, output_fault}
 use Rattle.sdf_process.specs.Output.{output_header, output_of, periods_of, IsExchange, IsExtent}
 use Rattle.sdf_process.specs.Run.{AreFrames, HasOutput, IsRun, IsText, Refuses}
-use Rattle.sdf_process.specs.Stages.{Hears, PutsOutput, WavLaws}
+use Rattle.sdf_process.specs.Stages.{Hears, IsOpened, PutsOutput, WavLaws}
 use Rattle.sdf_process.specs.declared.source.Source.TheVariants.{Content}
 use Rattle.sdf_process.specs.Streams.{Streams}
 use Rattle.sdf_process.proofs.Outcomes.{appends_join, front_join}
@@ -30,17 +29,17 @@ use Rattle.sdf_process.proofs.Sounds.{length-interleaved}
 use Rattle.sdf_process.proofs.Texts.{text_begins, whole_file}
 
 module _ (laws : WavLaws) (n : Netlist Kit ℤ) (q : List ℕ) (limits : IsExchange (exchange_of n q))
-    (read left before mid after : Option (List ℕ)) (r r' w w1 w' : ℕ) (s : Sound) (e : Extent) (o : Owed)
-    (hears : Hears (exchange_of n q) read left before mid r r' w w1 s e o) where
+    (r r' : ReaderState) (w w1 w' : WriterState) (s : Sound) (e : Extent) (o : Owed)
+    (hears : Hears (exchange_of n q) r r' w w1 s e o) where
   abbrev of_output : List ℕ
   of_output = output_header (exchange_of n q) (announced_by s)
 
-  heard_is_wav : (input : List ℕ) (known : read ≡ Some input) → IsWav input s (hears.heard.at input known).0
+  heard_is_wav : (input : List ℕ) (known : r.remaining ≡ Some input) → IsWav input s (hears.heard.at input known).0
   heard_is_wav input known = let y = hears.heard.at input known in wav_of_heard laws input s y.0 y.2.0
 
   module _ (periods : ℕ) (frames : List ℕ) (few : periods ≤ periods_of (exchange_of n q) s)
       (are : AreFrames n q s periods frames) where
-    is_text : (input : List ℕ) → read ≡ Some input → IsText n q input (of_output ++ frames)
+    is_text : (input : List ℕ) → r.remaining ≡ Some input → IsText n q input (of_output ++ frames)
     is_text input known =
         let y = hears.heard.at input known in
         let h = y.2.0 in
@@ -64,28 +63,29 @@ module _ (laws : WavLaws) (n : Netlist Kit ℤ) (q : List ℕ) (limits : IsExcha
     begins = text_begins laws n q (announced_by s) e limits hears.extent s periods frames
         (subst (λ (k : ℕ). periods ≤ k) (sym hears.extent.periods) few) are
 
-    pub finishing_failed : (f : Fault) → ((f ≡ Write) × AppendsFront mid after frames × (w' ≡ one_more w1))
-        ⊎ ((f ≡ OutOfMemory) × Appends mid after frames × (w' ≡ w1)) →
-        IsRun n q read left before after r r' w w' (Err f)
+    pub finishing_failed : (f : Fault) → ((f ≡ Write) × AppendsFront w1.contents w'.contents frames
+        × (w'.failures ≡ one_more w1.failures))
+        ⊎ ((f ≡ OutOfMemory) × Appends w1.contents w'.contents frames × (w'.failures ≡ w1.failures)) →
+        IsRun n q r r' w w' (Err f)
     finishing_failed f (inl puts) =
-        subst (λ (g : Fault). IsRun n q read left before after r r' w w' (Err g)) (sym puts.0)
-        (writer_failed n q read left before after r r' w w' (of_output ++ frames) is_text begins
-        (front_join before mid after of_output frames hears.header puts.1)
+        subst (λ (g : Fault). IsRun n q r r' w w' (Err g)) (sym puts.0)
+        (writer_failed n q r r' w w' (of_output ++ frames) is_text begins
+        (front_join w.contents w1.contents w'.contents of_output frames hears.header puts.1)
         (record {
           at = λ input known. let y = hears.heard.at input known in
               (y.0, y.1, (y.2.0.reading, s.samples, y.2.0.read));
         }) hears.reader (puts.2 ∙ ap one_more hears.writer))
     finishing_failed f (inr puts) =
-        subst (λ (g : Fault). IsRun n q read left before after r r' w w' (Err g)) (sym puts.0)
-        (memory_failed n q read left before after r r' w w' (of_output ++ frames) is_text begins
-        (appends_join before mid after of_output frames hears.header puts.1)
+        subst (λ (g : Fault). IsRun n q r r' w w' (Err g)) (sym puts.0)
+        (memory_failed n q r r' w w' (of_output ++ frames) is_text begins
+        (appends_join w.contents w1.contents w'.contents of_output frames hears.header puts.1)
         (record { at = λ input known. let y = hears.heard.at input known in (y.0, y.1, y.2.1) }) hears.reader
         (puts.2 ∙ hears.writer))
 
   module _ (lists : List (List ℤ)) (made : AreOutputs kit_steps n (input_lists (exchange_of n q) s)
       (firings q (periods_of (exchange_of n q) s)) lists)
-      (written : Appends mid after (sample_bytes (interleaved (output_frames (exchange_of n q) s) lists)))
-      (fine : w' ≡ w1) where
+      (written : Appends w1.contents w'.contents (sample_bytes (interleaved (output_frames (exchange_of n q) s) lists)))
+      (fine : w'.failures ≡ w1.failures) where
     abbrev out : Sound
     out = output_of (exchange_of n q) s lists
 
@@ -96,11 +96,11 @@ module _ (laws : WavLaws) (n : Netlist Kit ℤ) (q : List ℕ) (limits : IsExcha
     file_is : canonical_wav out ≡ of_output ++ sample_bytes out.samples
     file_is = ap (λ (k : ℕ). header out.rate out.channels (2 * k) ++ sample_bytes out.samples) long
 
-    all_written : Appends before after (canonical_wav out)
-    all_written = subst (Appends before after) (sym file_is)
-        (appends_join before mid after of_output (sample_bytes out.samples) hears.header written)
+    all_written : Appends w.contents w'.contents (canonical_wav out)
+    all_written = subst (Appends w.contents w'.contents) (sym file_is)
+        (appends_join w.contents w1.contents w'.contents of_output (sample_bytes out.samples) hears.header written)
 
-    has_output : (input : List ℕ) → read ≡ Some input → HasOutput n q input out
+    has_output : (input : List ℕ) → r.remaining ≡ Some input → HasOutput n q input out
     has_output input known = record {
       sound = s;
       rest = (hears.heard.at input known).0;
@@ -109,7 +109,7 @@ module _ (laws : WavLaws) (n : Netlist Kit ℤ) (q : List ℕ) (limits : IsExcha
       is_output = record { lists = lists; are_outputs = made; output = refl };
     }
 
-    pub finished : IsRun n q read left before after r r' w w' (Ok tt)
+    pub finished : IsRun n q r r' w w' (Ok tt)
     finished = record {
       runs = λ input known. (out, has_output input known, all_written);
       accepts = λ input t rest known wav.
@@ -141,36 +141,33 @@ module _ (laws : WavLaws) (n : Netlist Kit ℤ) (q : List ℕ) (limits : IsExcha
 
 -- so is a run whose last stage answered this
 pub answered : WavLaws → (n : Netlist Kit ℤ) (q : List ℕ) → IsExchange (exchange_of n q) →
-    (read left before mid after : Option (List ℕ)) (r r' w w1 w' : ℕ) (s : Sound) (e : Extent) (o : Owed) →
-    Hears (exchange_of n q) read left before mid r r' w w1 s e o → (result : Result (Unit {0}) Fault) →
-    PutsOutput n q s mid after w1 w' result → IsRun n q read left before after r r' w w' result
-answered laws n q limits read left before mid after r r' w w1 w' s e o hears (Ok x) (lists, made, written, fine) =
-    finished laws n q limits read left before mid after r r' w w1 w' s e o hears lists made written fine
-answered laws n q limits read left before mid after r r' w w1 w' s e o hears (Err f) (periods, frames, few, are, why) =
-    finishing_failed laws n q limits read left before mid after r r' w w1 w' s e o hears periods frames few are f why
+    (r r' : ReaderState) (w w1 w' : WriterState) (s : Sound) (e : Extent) (o : Owed) →
+    Hears (exchange_of n q) r r' w w1 s e o → (result : Result (Unit {0}) Fault) →
+    PutsOutput n q s w1 w' result → IsRun n q r r' w w' result
+answered laws n q limits r r' w w1 w' s e o hears (Ok x) (lists, made, written, fine) =
+    finished laws n q limits r r' w w1 w' s e o hears lists made written fine
+answered laws n q limits r r' w w1 w' s e o hears (Err f) (periods, frames, few, are, why) =
+    finishing_failed laws n q limits r r' w w1 w' s e o hears periods frames few are f why
 
 -- so is one that read and wrote as it went
 pub streamed : (laws : WavLaws) (n : Netlist Kit ℤ) (q : List ℕ) (x : Exchange) (same : x ≡ exchange_of n q)
-    (limits : IsExchange x) (read mid : Option (List ℕ)) (c : Reading) (said : AnswersOpening read mid (Ok c))
-    (gone : c.gone ≡ 0)
-    (only : (input : List ℕ) (f : Format) (size : ℕ) (rest : List ℕ) → read ≡ Some input → Opens input f size rest →
-    OpensTo mid f size rest (Ok c)) (frames : ℕ) (is : known_frames c ≡ Some frames)
-    (e : Extent) (extent : IsExtent x (record { rate = c.rate; channels = c.channels; frames = frames }) e)
-    (left before begun after : Option (List ℕ)) (r r' w w1 w' : ℕ)
-    (written : Appends before begun (file_header e.rate x.outputs (e.periods * x.made))) (fine : w1 ≡ w)
-    (one : 1 ≤ c.channels) (o : Owed) → o ≡ record {
+    (limits : IsExchange x) (r mid : ReaderState) (c : Reading) (opened : IsOpened r mid c) (gone : c.gone ≡ 0)
+    (frames : ℕ) (is : known_frames c ≡ Some frames) (e : Extent)
+    (extent : IsExtent x (record { rate = c.rate; channels = c.channels; frames = frames }) e)
+    (r' : ReaderState) (w w1 w' : WriterState)
+    (written : Appends w.contents w1.contents (file_header e.rate x.outputs (e.periods * x.made)))
+    (fine : w1.failures ≡ w.failures) (one : 1 ≤ c.channels) (o : Owed) → o ≡ record {
       channels = x.outputs;
       missing = e.periods * x.made;
       spent = false;
     } →
-    (result : Result (Unit {0}) Fault) → Streams n q (Content c) mid left begun after r r' w1 w' result →
-    IsRun n q read left before after r r' w w' result
-streamed laws n q x same limits read mid c said gone only frames is e extent left before begun after r r' w w1 w'
-    written fine one o owed (Ok y) (s, reads, puts) =
-    answered laws n q (subst IsExchange same limits) read left before begun after r r' w w1 w' s e o
-    (heard_ahead laws n q x same limits read mid c said gone only frames is e extent left before begun r r r' w w1 refl
-    written fine s o reads owed) (Ok y) puts
-streamed laws n q x same limits read mid c said gone only frames is e extent left before begun after r r' w w1 w'
-    written fine one o owed (Err f) (samples, periods, bytes, last, st, reads, why) =
-    stream_stopped laws n q x same limits read mid c said gone only frames is e extent left before begun after r r' w w1
-    w' one written fine samples periods bytes last st reads f why
+    (result : Result (Unit {0}) Fault) → Streams n q (Content c) mid r' w1 w' result → IsRun n q r r' w w' result
+streamed laws n q x same limits r mid c opened gone frames is e extent r' w w1 w' written fine one o owed (Ok y)
+    (s, reads, puts) =
+    answered laws n q (subst IsExchange same limits) r r' w w1 w' s e o
+    (heard_ahead laws n q x same limits r mid c opened gone frames is e extent r' w w1 written fine s o reads owed)
+    (Ok y) puts
+streamed laws n q x same limits r mid c opened gone frames is e extent r' w w1 w' written fine one o owed (Err f)
+    (samples, periods, bytes, last, st, reads, why) =
+    stream_stopped laws n q x same limits r mid c opened gone frames is e extent r' w w1 w' one written fine samples
+    periods bytes last st reads f why

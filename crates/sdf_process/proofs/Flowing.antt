@@ -3,6 +3,7 @@ use Rattle.std.proofs.Common.{◌≡◌, ◌≢◌, inr, Ok, Err, ℕ, ◌+◌, 
 use Rattle.std.proofs.Common.{sym, ap, ◌∙◌, subst, arith}
 use Rattle.std.proofs.Math.Nat.{mul-le-mul_right}
 use Rattle.std.proofs.lemmas.List.{length-append}
+use Rattle.sdf_wav.specs.Device.{ReaderState, WriterState}
 use Rattle.sdf_wav.specs.PiecesIn.{Reading}
 use Rattle.sdf_wav.specs.PiecesOut.{Owed}
 use Rattle.sdf_plan.specs.declared.fault.Fault.{Fault}
@@ -17,7 +18,7 @@ use Rattle.sdf_process.proofs.Streamed.{stands_on}
 use Rattle.sdf_process.proofs.Taken.{reading_behind, takes_refused}
 
 module _ (b : Start) (can : CanFlow b) (g : Progress) {unread : ℕ} {source : Source} {o : Owed}
-    {now after : Option (List ℕ)} {r1 w1 : ℕ} (here : Flows b g unread source o now after r1 w1) where
+    {r : ReaderState} {w : WriterState} (here : Flows b g unread source o r w) where
   abbrev c : Reading
   c = reading_in b
 
@@ -59,43 +60,43 @@ module _ (b : Start) (can : CanFlow b) (g : Progress) {unread : ℕ} {source : S
       here.came.there here.came.stands
 
   -- no more was taken
-  pub taking_failed : (new : Option (List ℕ)) (r2 : ℕ) (e f : Fault) → f ≡ e →
-      TakesAll b.source b.read new b.reader r2 (Err e) → StreamsFrom b new after r2 w1 (Err f)
-  taking_failed new r2 e f same takes = (
+  pub taking_failed : (r' : ReaderState) (e f : Fault) → f ≡ e → TakesAll b.source b.reader r' (Err e) →
+      StreamsFrom b r' w (Err f)
+  taking_failed r' e f same takes = (
     g.samples,
     g.blocks * b.blocking,
     g.bytes,
-    now,
+    r.remaining,
     came_here,
     here.takes,
     inr (
-      subst (λ (z : Fault). TakesAll b.source b.read new b.reader r2 (Err z)) (sym same) takes,
+      subst (λ (z : Fault). TakesAll b.source b.reader r' (Err z)) (sym same) takes,
       here.written,
       here.writer,
     ),
   )
 
   -- memory was refused
-  pub memory_refused : (f : Fault) → f ≡ OutOfMemory → StreamsFrom b now after r1 w1 (Err f)
+  pub memory_refused : (f : Fault) → f ≡ OutOfMemory → StreamsFrom b r w (Err f)
   memory_refused f is = (
     g.samples,
     g.blocks * b.blocking,
     g.bytes,
-    now,
+    r.remaining,
     came_here,
     here.takes,
     inr (
-      takes_refused b.source g.samples b.read now b.reader r1 f is here.takes here.reader,
+      takes_refused b.source g.samples b.reader r f is here.takes here.reader,
       here.written,
       here.writer,
     ),
   )
 
   -- some more was taken
-  pub took : (many : ℕ) → many ≤ unread → (new : Option (List ℕ)) (r2 : ℕ) (next : Source) (kept all : List ℤ) →
-      TakesMore b.source g.samples many kept b.read new b.reader r2 next (Ok all) →
-      (more : List ℤ) × (all ≡ kept ++ more) × Flows b (samples_on g more) (unread - many) next o new after r2 w1
-  took many fewer new r2 next kept all takes = (
+  pub took : (many : ℕ) → many ≤ unread → (r' : ReaderState) (next : Source) (kept all : List ℤ) →
+      TakesMore b.source g.samples many kept b.reader r' next (Ok all) →
+      (more : List ℤ) × (all ≡ kept ++ more) × Flows b (samples_on g more) (unread - many) next o r' w
+  took many fewer r' next kept all takes = (
     takes.0,
     takes.1,
     record {

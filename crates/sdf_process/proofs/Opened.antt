@@ -11,8 +11,8 @@ use Rattle.sdf_kit.specs.declared.kit.Kit.{Kit}
 use Rattle.sdf_wav.specs.Sound.{Sound, frames_of}
 use Rattle.sdf_wav.specs.Grammar.{IsWav}
 use Rattle.sdf_wav.specs.Fault.{HasFault}
-use Rattle.sdf_wav.specs.Device.{AppendsFront, Known, LosesFront, one_more}
-use Rattle.sdf_wav.specs.PiecesIn.{Reading, Opens, OpensTo, IsReadTo, IsEnded, AnswersOpening, at_start, format_read}
+use Rattle.sdf_wav.specs.Device.{AppendsFront, Known, LosesFront, ReaderState, WriterState, one_more}
+use Rattle.sdf_wav.specs.PiecesIn.{Reading, Opens, IsReadTo, IsEnded, at_start, format_read}
 use Rattle.sdf_wav.specs.PiecesIn.{sound_read, known_frames}
 use Rattle.sdf_wav.specs.PiecesOut.{Owed, file_header}
 use Rattle.sdf_wav.specs.declared.fault.FormatFault.{FormatFault}
@@ -25,7 +25,7 @@ use Rattle.sdf_plan.specs.declared.fault.Fault.TheVariants.{Write}
 use Rattle.sdf_process.specs.Output.{announced_by, announced_fault, exchange_of, output_frames, output_header}
 use Rattle.sdf_process.specs.Output.{IsExchange, IsExtent}
 use Rattle.sdf_process.specs.Run.{announced_size, AreRead, IsAllowed, IsRun, IsText, IsUnsized}
-use Rattle.sdf_process.specs.Stages.{Hears, IsHeard, ReadsContent, PutsHeader, WavLaws}
+use Rattle.sdf_process.specs.Stages.{Hears, IsHeard, IsOpened, ReadsContent, PutsHeader, WavLaws}
 use Rattle.sdf_process.specs.Sources.{ReadsBy}
 use Rattle.sdf_process.specs.Streams.{IsStream}
 use Rattle.sdf_process.proofs.Outcomes.{appends_join, front_join, lost_twice}
@@ -100,34 +100,38 @@ wav_of_heard laws input s rest h =
 
 module _ (laws : WavLaws) (n : Netlist Kit ℤ) (q : List ℕ) (x : Exchange) (same : x ≡ exchange_of n q)
     (limits : IsExchange x)
-    (read mid : Option (List ℕ)) (c : Reading) (said : AnswersOpening read mid (Ok c)) (gone : c.gone ≡ 0)
-    (only : (input : List ℕ) (f : Format) (size : ℕ) (rest : List ℕ) → read ≡ Some input → Opens input f size rest →
-    OpensTo mid f size rest (Ok c)) where
-  abbrev Fails : (left before after : Option (List ℕ)) (r r' w w' : ℕ) → Fault → Type 0
-  Fails left before after r r' w w' f = IsRun n q read left before after r r' w w' (Err f)
+    (r mid : ReaderState) (c : Reading) (opened : IsOpened r mid c) (gone : c.gone ≡ 0) where
+  abbrev Fails : (r' : ReaderState) (w w' : WriterState) → Fault → Type 0
+  Fails r' w w' f = IsRun n q r r' w w' (Err f)
 
   -- it opens to this content alone
-  opens_here : (input : List ℕ) (known : read ≡ Some input) → Opens input (format_read c) c.size (said.at input known).0
+  opens_here : (input : List ℕ) (known : r.remaining ≡ Some input) →
+      Opens input (format_read c) c.size (opened.answers.at input known).0
   opens_here input known =
-      let y = said.at input known in
+      let y = opened.answers.at input known in
       subst (Opens input (format_read c) c.size) (no_gone y.2.0.gone y.0 (y.2.0.count ∙ gone)) y.2.0.opens
 
-  same_start : (input : List ℕ) (f : Format) (size : ℕ) (rest : List ℕ) → read ≡ Some input → Opens input f size rest →
+  same_start : (input : List ℕ) (f : Format) (size : ℕ) (rest : List ℕ) → r.remaining ≡ Some input →
+      Opens input f size rest →
       c ≡ at_start f size
-  same_start input f size rest known o = (only input f size rest known o).0
+  same_start input f size rest known o = (opened.only input f size rest known o).0
 
   limited : IsExchange (exchange_of n q)
   limited = subst IsExchange same limits
 
   -- a fault of the content is the input's
-  content_has : (g : FormatFault) (left : Option (List ℕ)) →
-      Known mid left (λ bytes rest. ((input : List ℕ) → IsReadTo input c [] bytes → HasFault input g)
+  content_has : (g : FormatFault) (r' : ReaderState) →
+      Known mid.remaining r'.remaining (λ bytes rest. ((input : List ℕ) → IsReadTo input c [] bytes → HasFault input g)
       × LosesFront bytes rest) →
-      Known read left (λ input rest. HasFault input g × LosesFront input rest)
-  content_has g left has = record {
-    at = λ input known. let y = said.at input known in let z = has.at y.0 y.1 in
+      Known r.remaining r'.remaining (λ input rest. HasFault input g × LosesFront input rest)
+  content_has g r' has = record {
+    at = λ input known. let y = opened.answers.at input known in let z = has.at y.0 y.1 in
         (z.0, z.1, (z.2.0 input y.2.0, lost_twice input y.0 z.0 y.2.1 z.2.1));
   }
+
+  -- what is lost behind it is lost of the input
+  lost : (r' : ReaderState) → Known mid.remaining r'.remaining LosesFront → Known r.remaining r'.remaining LosesFront
+  lost r' on = then_lost r.remaining mid.remaining r'.remaining _ opened.answers on
 
   -- ---- the size of the data is filled in
 
@@ -149,7 +153,7 @@ module _ (laws : WavLaws) (n : Netlist Kit ℤ) (q : List ℕ) (x : Exchange) (s
         announced_by s ≡ announced
     announced_sound s rate channels size = sound_announced c frames is s rate channels size
 
-    sounds : (input : List ℕ) (s : Sound) (rest : List ℕ) → read ≡ Some input → IsWav input s rest →
+    sounds : (input : List ℕ) (s : Sound) (rest : List ℕ) → r.remaining ≡ Some input → IsWav input s rest →
         announced_by s ≡ announced
     sounds input s rest known wav =
         let o = laws.announces input s rest wav in
@@ -158,16 +162,17 @@ module _ (laws : WavLaws) (n : Netlist Kit ℤ) (q : List ℕ) (x : Exchange) (s
         announced_sound s (sym (ap (λ (z : Reading). z.rate) e)) (sym (ap (λ (z : Reading). z.channels) e))
         (sym (size ∙ o.sized (λ z. sized (size ∙ z))))
 
-    sizes : (input : List ℕ) (f : Format) (size : ℕ) (rest : List ℕ) → read ≡ Some input → Opens input f size rest →
+    sizes : (input : List ℕ) (f : Format) (size : ℕ) (rest : List ℕ) → r.remaining ≡ Some input →
+        Opens input f size rest →
         size ≢ 0xFFFFFFFF → announced_size f size ≡ announced
     sizes input f size rest known o filled =
         let e = same_start input f size rest known o in
         announced_here f size (ap (λ (z : Reading). z.rate) e) (ap (λ (z : Reading). z.channels) e)
         (ap (λ (z : Reading). z.size) e)
 
-    at_content : Known read mid (AnnouncedAt announced)
+    at_content : Known r.remaining mid.remaining (AnnouncedAt announced)
     at_content = record {
-      at = λ input known. let y = said.at input known in (
+      at = λ input known. let y = opened.answers.at input known in (
         y.0,
         y.1,
         record {
@@ -180,16 +185,15 @@ module _ (laws : WavLaws) (n : Netlist Kit ℤ) (q : List ℕ) (x : Exchange) (s
       );
     }
 
-    pub refused_ahead : (held : Option (List ℕ)) (r r' w : ℕ) (g : Fault) → announced_fault x announced ≡ Some g →
-        r' ≡ r → Fails mid held held r r' w w g
-    refused_ahead held r r' w g why counted =
+    pub refused_ahead : (w : WriterState) (g : Fault) → announced_fault x announced ≡ Some g → Fails mid w w g
+    refused_ahead w g why =
         let here : announced_fault (exchange_of n q) announced ≡ Some g =
         ap (λ (z : Exchange). announced_fault z announced) (sym same) ∙ why in
-        refused n q read mid held r r' w announced at_content counted sounds sizes g here
+        refused n q r mid w announced at_content opened.counted sounds sizes g here
         (λ input f known has allowed. some_no_none g
         (sym here ∙ (sym (ap (announced_fault (exchange_of n q))
         (announced_here (format_read c) c.size refl refl refl))
-        ∙ allowed (format_read c) c.size (said.at input known).0 (opens_here input known) sized)))
+        ∙ allowed (format_read c) c.size (opened.answers.at input known).0 (opens_here input known) sized)))
 
     module _ (e : Extent) (extent : IsExtent x announced e) where
       extent_of : IsExtent (exchange_of n q) announced e
@@ -198,9 +202,9 @@ module _ (laws : WavLaws) (n : Netlist Kit ℤ) (q : List ℕ) (x : Exchange) (s
       abbrev text : List ℕ
       text = output_header (exchange_of n q) announced ++ []
 
-      is_text : (input : List ℕ) → read ≡ Some input → IsText n q input text
+      is_text : (input : List ℕ) → r.remaining ≡ Some input → IsText n q input text
       is_text input known =
-          let y = said.at input known in
+          let y = opened.answers.at input known in
           record {
             reading = c;
             samples = [];
@@ -224,52 +228,51 @@ module _ (laws : WavLaws) (n : Netlist Kit ℤ) (q : List ℕ) (x : Exchange) (s
       header_same = header_is x announced e extent ∙ (ap (λ (z : Exchange). output_header z announced) same
           ∙ sym (append-nil (output_header (exchange_of n q) announced)))
 
-      allowed_by : (input : List ℕ) → read ≡ Some input → IsAllowed (exchange_of n q) input
+      allowed_by : (input : List ℕ) → r.remaining ≡ Some input → IsAllowed (exchange_of n q) input
       allowed_by input known f size rest o filled =
           ap (announced_fault (exchange_of n q)) (sizes input f size rest known o filled) ∙ extent_of.is_allowed
 
-      pub header_failed_ahead : (before after : Option (List ℕ)) (r r' w w' : ℕ) (f : Fault) →
-          PutsHeader {X = Unit {0}} before after w w' (file_header e.rate x.outputs (e.periods * x.made)) (Err f) →
-          r' ≡ r → Fails mid before after r r' w w' f
-      header_failed_ahead before after r r' w w' f puts counted =
-          subst (Fails mid before after r r' w w') (sym puts.0)
-          (writer_failed n q read mid before after r r' w w' text is_text begins
-          (subst (AppendsFront before after) header_same puts.1)
-          (record { at = λ input known. let y = said.at input known in (y.0, y.1, (c, [], y.2.0)) }) counted puts.2)
+      pub header_failed_ahead : (w w' : WriterState) (f : Fault) →
+          PutsHeader {X = Unit {0}} w w' (file_header e.rate x.outputs (e.periods * x.made)) (Err f) → Fails mid w w' f
+      header_failed_ahead w w' f puts =
+          subst (Fails mid w w') (sym puts.0)
+          (writer_failed n q r mid w w' text is_text begins
+          (subst (AppendsFront w.contents w'.contents) header_same puts.1)
+          (record { at = λ input known. let y = opened.answers.at input known in (y.0, y.1, (c, [], y.2.0)) })
+          opened.counted puts.2)
 
       -- the reading failed behind some text
-      module _ (text : List ℕ) (is_text : (input : List ℕ) → read ≡ Some input → IsText n q input text)
-          (begins : Begins text) (left before after : Option (List ℕ)) (r r1 r' w w' : ℕ) (counted : r1 ≡ r)
-          (put : Appends before after text)
-          (fine : w' ≡ w) where
-        pub reading_failed : (f : Fault) → ReadsContent c mid left r1 r' (Err f) → Fails left before after r r' w w' f
+      module _ (text : List ℕ) (is_text : (input : List ℕ) → r.remaining ≡ Some input → IsText n q input text)
+          (begins : Begins text) (r' : ReaderState) (w w' : WriterState) (put : Appends w.contents w'.contents text)
+          (fine : w'.failures ≡ w.failures) where
+        pub reading_failed : (f : Fault) → ReadsContent c mid r' (Err f) → Fails r' w w' f
         reading_failed f (inl reads) =
-            subst (Fails left before after r r' w w') (sym reads.0)
-            (memory_failed n q read left before after r r' w w' text is_text begins put
-            (then_lost read mid left _ said reads.1) (reads.2 ∙ counted) fine)
+            subst (Fails r' w w') (sym reads.0)
+            (memory_failed n q r r' w w' text is_text begins put (lost r' reads.1) (reads.2 ∙ opened.counted) fine)
         reading_failed f (inr (inl reads)) =
-            subst (Fails left before after r r' w w') (sym reads.0)
-            (reader_failed n q read left before after r r' w w' text is_text begins put
-            (then_lost read mid left _ said reads.1) (reads.2 ∙ ap one_more counted) fine)
+            subst (Fails r' w w') (sym reads.0)
+            (reader_failed n q r r' w w' text is_text begins put (lost r' reads.1)
+            (reads.2 ∙ ap one_more opened.counted) fine)
         reading_failed f (inr (inr reads)) =
-            subst (Fails left before after r r' w w') (sym reads.1)
-            (content_cut n q read left before after r r' w w' text is_text begins laws reads.0 (reads.4 sized) put
-            (content_has reads.0 left reads.2) allowed_by (reads.3 ∙ counted) fine)
+            subst (Fails r' w w') (sym reads.1)
+            (content_cut n q r r' w w' text is_text begins laws reads.0 (reads.4 sized) put
+            (content_has reads.0 r' reads.2) allowed_by (reads.3 ∙ opened.counted) fine)
 
       -- the content was read behind the header
-      module _ (left before after : Option (List ℕ)) (r r1 r' w w' : ℕ) (counted : r1 ≡ r)
-          (written : Appends before after (file_header e.rate x.outputs (e.periods * x.made))) (fine : w' ≡ w) where
+      module _ (r' : ReaderState) (w w' : WriterState)
+          (written : Appends w.contents w'.contents (file_header e.rate x.outputs (e.periods * x.made)))
+          (fine : w'.failures ≡ w.failures) where
         -- all was heard
-        pub heard_ahead : (s : Sound) (o : Owed) → ReadsContent c mid left r1 r' (Ok s) →
+        pub heard_ahead : (s : Sound) (o : Owed) → ReadsContent c mid r' (Ok s) →
             o ≡ record { channels = x.outputs; missing = e.periods * x.made; spent = false } →
-            Hears (exchange_of n q) read left before after r r' w w' s e o
+            Hears (exchange_of n q) r r' w w' s e o
         heard_ahead s o reads owed =
             let a = announced_sound s reads.2 reads.3 (reads.4 sized) in
             let here : IsExtent (exchange_of n q) (announced_by s) e =
             subst (λ (z : Announced). IsExtent (exchange_of n q) z e) (sym a) extent_of in
             record {
               heard = record {
-                at = λ input known. let y = said.at input known in let z = reads.0.at y.0 y.1 in let h =
+                at = λ input known. let y = opened.answers.at input known in let z = reads.0.at y.0 y.1 in let h =
                     z.2.0 input y.2.0 in (
                       z.0,
                       z.1,
@@ -288,27 +291,28 @@ module _ (laws : WavLaws) (n : Netlist Kit ℤ) (q : List ℕ) (x : Exchange) (s
               };
               allowed = allowed_by;
               extent = here;
-              header = subst (λ (z : Announced). Appends before after (output_header (exchange_of n q) z)) (sym a)
-                  (subst (Appends before after) (header_is x announced e extent
+              header = subst (λ (z : Announced). Appends w.contents w'.contents (output_header (exchange_of n q) z))
+                  (sym a) (subst (Appends w.contents w'.contents) (header_is x announced e extent
                   ∙ ap (λ (z : Exchange). output_header z announced) same) written);
               owed = owed_is x s e o same here owed;
-              reader = reads.1 ∙ counted;
+              reader = reads.1 ∙ opened.counted;
               writer = fine;
             }
 
       -- a run that reads and writes as it goes
-      module _ (left before begun after : Option (List ℕ)) (r r' w w1 w' : ℕ) (one : 1 ≤ c.channels)
-          (written : Appends before begun (file_header e.rate x.outputs (e.periods * x.made))) (fine : w1 ≡ w) where
-        begun_by : Appends before begun (output_header (exchange_of n q) announced)
-        begun_by = subst (Appends before begun) (header_is x announced e extent
+      module _ (r' : ReaderState) (w w1 w' : WriterState) (one : 1 ≤ c.channels)
+          (written : Appends w.contents w1.contents (file_header e.rate x.outputs (e.periods * x.made)))
+          (fine : w1.failures ≡ w.failures) where
+        begun_by : Appends w.contents w1.contents (output_header (exchange_of n q) announced)
+        begun_by = subst (Appends w.contents w1.contents) (header_is x announced e extent
             ∙ ap (λ (z : Exchange). output_header z announced) same) written
 
         module _ (samples : List ℤ) (periods : ℕ) (bytes : List ℕ) (last : Option (List ℕ))
-            (st : IsStream n q c samples periods bytes) (reads : ReadsBy c samples mid last) where
-          here_read : (input : List ℕ) → read ≡ Some input →
+            (st : IsStream n q c samples periods bytes) (reads : ReadsBy c samples mid.remaining last) where
+          here_read : (input : List ℕ) → r.remaining ≡ Some input →
               (rest : List ℕ) × (last ≡ Some rest) × IsReadTo input
               (record c { gone = c.gone + 2 * length samples }) samples rest
-          here_read input known = let y = said.at input known in let z = reads.at y.0 y.1 in
+          here_read input known = let y = opened.answers.at input known in let z = reads.at y.0 y.1 in
               (z.0, z.1, z.2.0 input y.2.0)
 
           are_read_of : (rest : List ℕ) → AreRead (exchange_of n q) (record c { gone = c.gone + 2 * length samples })
@@ -325,7 +329,7 @@ module _ (laws : WavLaws) (n : Netlist Kit ℤ) (q : List ℕ) (x : Exchange) (s
             )
           ]
 
-          text_so_far : (input : List ℕ) → read ≡ Some input →
+          text_so_far : (input : List ℕ) → r.remaining ≡ Some input →
               IsText n q input (output_header (exchange_of n q) announced ++ bytes)
           text_so_far input known =
               let y = here_read input known in
@@ -365,96 +369,96 @@ module _ (laws : WavLaws) (n : Netlist Kit ℤ) (q : List ℕ) (x : Exchange) (s
           begins_so_far = text_begins laws n q announced e limited extent_of (sound_read c samples) periods bytes
               few_periods st.are_frames
 
-          pub stream_stopped : (f : Fault) → (((f ≡ Write) × (last ≡ left) × AppendsFront begun after bytes × (r' ≡ r)
-              × (w' ≡ one_more w1)) ⊎ (ReadsContent c mid left r r' (Err f) × Appends begun after bytes
-              × (w' ≡ w1))) →
-              Fails left before after r r' w w' f
+          pub stream_stopped : (f : Fault) → (((f ≡ Write) × (last ≡ r'.remaining)
+              × AppendsFront w1.contents w'.contents bytes × (r'.failures ≡ mid.failures)
+              × (w'.failures ≡ one_more w1.failures))
+              ⊎ (ReadsContent c mid r' (Err f) × Appends w1.contents w'.contents bytes
+              × (w'.failures ≡ w1.failures))) →
+              Fails r' w w' f
           stream_stopped f (inl (is_write, here, front, counted, failed)) =
-              subst (Fails left before after r r' w w') (sym is_write)
-              (writer_failed n q read left before after r r' w w' (output_header (exchange_of n q) announced ++ bytes)
+              subst (Fails r' w w') (sym is_write)
+              (writer_failed n q r r' w w' (output_header (exchange_of n q) announced ++ bytes)
               text_so_far begins_so_far
-              (front_join before begun after (output_header (exchange_of n q) announced) bytes begun_by front)
+              (front_join w.contents w1.contents w'.contents (output_header (exchange_of n q) announced) bytes
+              begun_by front)
               (record {
                 at = λ input known. let y = here_read input known in
                     (y.0, sym here ∙ y.1, (record c { gone = c.gone + 2 * length samples }, samples, y.2));
-              }) counted
+              }) (counted ∙ opened.counted)
               (failed ∙ ap one_more fine))
           stream_stopped f (inr (failed, all, same_count)) =
-              reading_failed (output_header (exchange_of n q) announced ++ bytes) text_so_far begins_so_far left before
-              after r r r' w w' refl
-              (appends_join before begun after (output_header (exchange_of n q) announced) bytes begun_by all)
+              reading_failed (output_header (exchange_of n q) announced ++ bytes) text_so_far begins_so_far r' w w'
+              (appends_join w.contents w1.contents w'.contents (output_header (exchange_of n q) announced)
+              bytes begun_by all)
               (same_count ∙ fine) f failed
 
   -- ---- the size of the data was not filled in
 
   module _ (is : known_frames c ≡ None) where
-    unsized : (input : List ℕ) → read ≡ Some input → IsUnsized input
+    unsized : (input : List ℕ) → r.remaining ≡ Some input → IsUnsized input
     unsized input known f size rest o = sym (ap (λ (z : Reading). z.size) (same_start input f size rest known o))
         ∙ frames_unknown c.size c.channels is
 
-    pub content_failed_behind : (left held : Option (List ℕ)) (r r1 r' w : ℕ) (f : Fault) → r1 ≡ r →
-        ReadsContent c mid left r1 r' (Err f) → Fails left held held r r' w w f
-    content_failed_behind left held r r1 r' w f counted (inl reads) =
-        subst (Fails left held held r r' w w) (sym reads.0)
-        (unheard_by_memory laws n q read left held r r' w unsized (then_lost read mid left _ said reads.1)
-        (reads.2 ∙ counted))
-    content_failed_behind left held r r1 r' w f counted (inr (inl reads)) =
-        subst (Fails left held held r r' w w) (sym reads.0)
-        (unheard_by_reader laws n q read left held r r' w unsized (then_lost read mid left _ said reads.1)
-        (reads.2 ∙ ap one_more counted))
-    content_failed_behind left held r r1 r' w f counted (inr (inr reads)) =
-        subst (Fails left held held r r' w w) (sym reads.1)
-        (unheard_by_fault laws n q read left held r r' w unsized reads.0 (content_has reads.0 left reads.2)
-        (reads.3 ∙ counted))
+    pub content_failed_behind : (r' : ReaderState) (w : WriterState) (f : Fault) → ReadsContent c mid r' (Err f) →
+        Fails r' w w f
+    content_failed_behind r' w f (inl reads) =
+        subst (Fails r' w w) (sym reads.0)
+        (unheard_by_memory laws n q r r' w unsized (lost r' reads.1) (reads.2 ∙ opened.counted))
+    content_failed_behind r' w f (inr (inl reads)) =
+        subst (Fails r' w w) (sym reads.0)
+        (unheard_by_reader laws n q r r' w unsized (lost r' reads.1) (reads.2 ∙ ap one_more opened.counted))
+    content_failed_behind r' w f (inr (inr reads)) =
+        subst (Fails r' w w) (sym reads.1)
+        (unheard_by_fault laws n q r r' w unsized reads.0 (content_has reads.0 r' reads.2) (reads.3 ∙ opened.counted))
 
     -- the sound was heard, and its output is not begun
-    module _ (left : Option (List ℕ)) (r r1 r' : ℕ) (counted : r1 ≡ r) (s : Sound)
-        (reads : ReadsContent c mid left r1 r' (Ok s)) where
-      heard_whole : Known read left (λ input rest. IsHeard input s rest × LosesFront input rest)
+    module _ (r' : ReaderState) (s : Sound) (reads : ReadsContent c mid r' (Ok s)) where
+      heard_whole : Known r.remaining r'.remaining (λ input rest. IsHeard input s rest × LosesFront input rest)
       heard_whole = record {
-        at = λ input known. let y = said.at input known in let z = reads.0.at y.0 y.1 in let h = z.2.0 input y.2.0 in (
-          z.0,
-          z.1,
-          (
-            record {
-              reading = record c { gone = c.gone + 2 * length s.samples };
-              read = h.read;
-              ended = h.ended;
-              rate = reads.2;
-              channels = reads.3;
-              announces = (reads.2, reads.3, inr (is, h.ended, ap (λ (z : ℕ). length s.samples / z) reads.3));
-            },
-            lost_twice input y.0 z.0 y.2.1 z.2.1,
-          ),
-        );
+        at = λ input known. let y = opened.answers.at input known in let z = reads.0.at y.0 y.1 in let h =
+            z.2.0 input y.2.0 in (
+              z.0,
+              z.1,
+              (
+                record {
+                  reading = record c { gone = c.gone + 2 * length s.samples };
+                  read = h.read;
+                  ended = h.ended;
+                  rate = reads.2;
+                  channels = reads.3;
+                  announces = (reads.2, reads.3, inr (is, h.ended, ap (λ (z : ℕ). length s.samples / z) reads.3));
+                },
+                lost_twice input y.0 z.0 y.2.1 z.2.1,
+              ),
+            );
       }
 
       no_more : (rest : List ℕ) → IsEnded (record c { gone = c.gone + 2 * length s.samples }) rest → rest ≡ []
       no_more rest (inl (known, end)) = absurd (known (frames_unknown c.size c.channels is))
       no_more rest (inr (unknown, none)) = none
 
-      at_end : Known read left (AnnouncedAt (announced_by s))
+      at_end : Known r.remaining r'.remaining (AnnouncedAt (announced_by s))
       at_end = record {
-        at = λ input known. let y = said.at input known in let z = reads.0.at y.0 y.1 in let h = z.2.0 input y.2.0 in (
-          z.0,
-          z.1,
-          record {
-            reading = record c { gone = c.gone + 2 * length s.samples };
-            samples = s.samples;
-            read = h.read;
-            announces = (reads.2, reads.3, inr (is, h.ended, ap (λ (z : ℕ). length s.samples / z) reads.3));
-            least = ((λ filled. absurd (filled (frames_unknown c.size c.channels is))), (λ z. no_more _ h.ended));
-          },
-        );
+        at = λ input known. let y = opened.answers.at input known in let z = reads.0.at y.0 y.1 in let h =
+            z.2.0 input y.2.0 in (
+              z.0,
+              z.1,
+              record {
+                reading = record c { gone = c.gone + 2 * length s.samples };
+                samples = s.samples;
+                read = h.read;
+                announces = (reads.2, reads.3, inr (is, h.ended, ap (λ (z : ℕ). length s.samples / z) reads.3));
+                least = ((λ filled. absurd (filled (frames_unknown c.size c.channels is))), (λ z. no_more _ h.ended));
+              },
+            );
       }
 
-      is_wav : (input : List ℕ) (known : read ≡ Some input) → (rest : List ℕ) × IsWav input s rest
+      is_wav : (input : List ℕ) (known : r.remaining ≡ Some input) → (rest : List ℕ) × IsWav input s rest
       is_wav input known = let y = heard_whole.at input known in (y.0, wav_of_heard laws input s y.0 y.2.0)
 
-      pub refused_behind : (held : Option (List ℕ)) (w : ℕ) (g : Fault) → announced_fault x (announced_by s) ≡ Some g →
-          Fails left held held r r' w w g
-      refused_behind held w g why =
-          refused n q read left held r r' w (announced_by s) at_end (reads.1 ∙ counted)
+      pub refused_behind : (w : WriterState) (g : Fault) → announced_fault x (announced_by s) ≡ Some g → Fails r' w w g
+      refused_behind w g why =
+          refused n q r r' w (announced_by s) at_end (reads.1 ∙ opened.counted)
           (λ input t rest known wav. let y = is_wav input known in
           ap announced_by (laws.one_sound input t s rest y.0 wav y.1).0)
           (λ input f size rest known o filled. absurd (filled (unsized input known f size rest o)))
@@ -473,7 +477,7 @@ module _ (laws : WavLaws) (n : Netlist Kit ℤ) (q : List ℕ) (x : Exchange) (s
         header_behind = header_is x (announced_by s) e extent
             ∙ ap (λ (z : Exchange). output_header z (announced_by s)) same
 
-        is_text_behind : (input : List ℕ) → read ≡ Some input → IsText n q input text_behind
+        is_text_behind : (input : List ℕ) → r.remaining ≡ Some input → IsText n q input text_behind
         is_text_behind input known =
             let y = heard_whole.at input known in
             record {
@@ -491,30 +495,34 @@ module _ (laws : WavLaws) (n : Netlist Kit ℤ) (q : List ℕ) (x : Exchange) (s
               text_is = refl;
             }
 
-        pub header_failed_behind : (before after : Option (List ℕ)) (w w' : ℕ) (f : Fault) →
-            PutsHeader {X = Unit {0}} before after w w' (file_header e.rate x.outputs (e.periods * x.made)) (Err f) →
-            Fails left before after r r' w w' f
-        header_failed_behind before after w w' f puts =
-            subst (Fails left before after r r' w w') (sym puts.0)
-            (writer_failed n q read left before after r r' w w' text_behind is_text_behind
+        pub header_failed_behind : (w w' : WriterState) (f : Fault) →
+            PutsHeader {X = Unit {0}} w w' (file_header e.rate x.outputs (e.periods * x.made)) (Err f) →
+            Fails r' w w' f
+        header_failed_behind w w' f puts =
+            subst (Fails r' w w') (sym puts.0)
+            (writer_failed n q r r' w w' text_behind is_text_behind
             (text_begins laws n q (announced_by s) e limited extent_behind s 0 [] (omega arith) (inl (refl, refl)))
-            (subst (AppendsFront before after) (header_behind
+            (subst (AppendsFront w.contents w'.contents) (header_behind
             ∙ sym (append-nil (output_header (exchange_of n q) (announced_by s)))) puts.1)
             (record {
               at = λ input known. let y = heard_whole.at input known in
                   (y.0, y.1, (y.2.0.reading, s.samples, y.2.0.read));
-            }) (reads.1 ∙ counted) puts.2)
+            }) (reads.1 ∙ opened.counted) puts.2)
 
-        pub heard_behind : (before after : Option (List ℕ)) (w w' : ℕ) (o : Owed) →
-            Appends before after (file_header e.rate x.outputs (e.periods * x.made)) → w' ≡ w →
-            o ≡ record { channels = x.outputs; missing = e.periods * x.made; spent = false } →
-            Hears (exchange_of n q) read left before after r r' w w' s e o
-        heard_behind before after w w' o written fine owed = record {
+        pub heard_behind : (w w' : WriterState) (o : Owed) →
+            Appends w.contents w'.contents (file_header e.rate x.outputs (e.periods * x.made)) →
+            w'.failures ≡ w.failures → o ≡ record {
+              channels = x.outputs;
+              missing = e.periods * x.made;
+              spent = false;
+            } →
+            Hears (exchange_of n q) r r' w w' s e o
+        heard_behind w w' o written fine owed = record {
           heard = heard_whole;
           allowed = λ input known f size rest opens filled. absurd (filled (unsized input known f size rest opens));
           extent = extent_behind;
-          header = subst (Appends before after) header_behind written;
+          header = subst (Appends w.contents w'.contents) header_behind written;
           owed = owed_is x s e o same extent_behind owed;
-          reader = reads.1 ∙ counted;
+          reader = reads.1 ∙ opened.counted;
           writer = fine;
         }

@@ -8,7 +8,7 @@ use Rattle.std.specs.Io.KnownBytes.{Appends, Keeps}
 use Rattle.std.proofs.Math.Nat.{mul-div_cancel, mul-le-mul_right, mul-mod_left}
 use Rattle.std.proofs.lemmas.List.Concat.{flat_map-cons}
 use Rattle.sdf_wav.specs.Canonical.{sample_bytes}
-use Rattle.sdf_wav.specs.Device.{failures_after, one_more}
+use Rattle.sdf_wav.specs.Device.{WriterState, failures_after, one_more}
 use Rattle.sdf_wav.specs.PiecesOut.{Owed, Puts}
 use Rattle.sdf_wav.specs.declared.fault.WavFault.{WavFault}
 use Rattle.sdf_wav.specs.declared.fault.WavFault.TheVariants as wav
@@ -39,14 +39,16 @@ frames_joined xs a (suc n) m =
     ∙ (ap (λ (l : List ℤ). frame xs a ++ l) (frames_joined xs (a + 1) n m)
     ∙ (sym (flat_map-cons (frame xs) a (range_with_len (a + 1) (n + m))) ∙ end))))
 
-module _ (joins : SamplesJoin) (a b c : Option (List ℕ)) (w w1 w2 : ℕ) (xs here rest all : List ℤ)
-    (split : xs ++ (here ++ rest) ≡ all) (before : Appends a b (sample_bytes xs)) (counted : w1 ≡ w) where
+module _ (joins : SamplesJoin) (w w1 w2 : WriterState) (xs here rest all : List ℤ)
+    (split : xs ++ (here ++ rest) ≡ all) (before : Appends w.contents w1.contents (sample_bytes xs))
+    (counted : w1.failures ≡ w.failures) where
   -- the writer failed among the samples here
   pub put_stopped : {X : Type 0} (e : WavFault) (r : Result X Fault) →
-      Puts {X = Unit {0}} b c (sample_bytes here) (Err e) → w2 ≡ failures_after {X = Unit {0}} (Err e) w1 →
-      IsErrAnd r (λ f. f ≡ of_wav e) → PutsHeader a c w w2 (sample_bytes all) r
+      Puts {X = Unit {0}} w1.contents w2.contents (sample_bytes here) (Err e) →
+      w2.failures ≡ failures_after {X = Unit {0}} (Err e) w1.failures →
+      IsErrAnd r (λ f. f ≡ of_wav e) → PutsHeader w w2 (sample_bytes all) r
   put_stopped wav.Write (Err f) puts failed is =
-      let f = front_join a b c (sample_bytes xs) (sample_bytes here) before puts in
+      let f = front_join w.contents w1.contents w2.contents (sample_bytes xs) (sample_bytes here) before puts in
       let more = sample_bytes rest in
       let bytes : sample_bytes xs ++ sample_bytes here ++ more ≡ sample_bytes all =
       append_assoc (sample_bytes xs) (sample_bytes here) more

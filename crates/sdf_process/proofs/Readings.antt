@@ -3,7 +3,7 @@ use Rattle.std.proofs.Common.{◌≡◌, ◌≢◌, inl, inr, ℕ, ◌+◌, ◌*
 use Rattle.std.proofs.Common.{MatchResult, ◌∷◌, refl, sym, ap, ◌∙◌, subst, arith}
 use Rattle.std.specs.Prelude.{IsErrAnd}
 use Rattle.std.proofs.lemmas.List.{length-append}
-use Rattle.sdf_wav.specs.Device.{Known, LosesFront, failures_after, one_more}
+use Rattle.sdf_wav.specs.Device.{Known, LosesFront, ReaderState, failures_after, one_more}
 use Rattle.sdf_wav.specs.Fault.{HasFault}
 use Rattle.sdf_wav.specs.PiecesIn.{Reading, AnswersBy, IsPiece, IsReadTo, IsSizedFault, next_at}
 use Rattle.sdf_wav.specs.declared.fault.FormatFault.{FormatFault}
@@ -17,8 +17,9 @@ use Rattle.sdf_process.specs.Sources.{ReadsBy, ReadsMore}
 use Rattle.sdf_process.proofs.Outcomes.{lost_twice}
 
 module _ (c now : Reading) (before : List ℤ) (here : now ≡ record c { gone = c.gone + 2 * length before }) (frames : ℕ)
-    (old mid new : Option (List ℕ)) (r r1 r2 : ℕ) (reads : ReadsBy c before old mid) (counted : r1 ≡ r) where
-  both_lost : Known mid new LosesFront → Known old new LosesFront
+    (r r1 r2 : ReaderState) (reads : ReadsBy c before r.remaining r1.remaining)
+    (counted : r1.failures ≡ r.failures) where
+  both_lost : Known r1.remaining r2.remaining LosesFront → Known r.remaining r2.remaining LosesFront
   both_lost lost = record {
     at = λ bytes known. let y = reads.at bytes known in let z = lost.at y.0 y.1 in
         (z.0, z.1, lost_twice bytes y.0 z.0 y.2.1 z.2);
@@ -32,9 +33,10 @@ module _ (c now : Reading) (before : List ℤ) (here : now ≡ record c { gone =
   pub more_failed : {Y : Type 0} (e : WavFault) (x : Result Y Fault) (P : Y → Type 0) →
       ((input : List ℕ) (d : Reading) (first : List ℤ) (bytes : List ℕ) (many : ℕ) (f : FormatFault) →
       IsReadTo input d first bytes → next_at d many bytes ≡ Err f → HasFault input f) →
-      AnswersBy {X = Unit {0}} {Y = List ℤ} (λ x. []) mid new (next_at now frames) (Err e) →
-      r2 ≡ failures_after {X = Unit {0}} (Err e) r1 → IsSizedFault e → IsErrAnd x (λ f. f ≡ of_wav e) →
-      MatchResult x P (λ f. ReadsContent c old new r r2 (Err f))
+      AnswersBy {X = Unit {0}} {Y = List ℤ} (λ x. []) r1.remaining r2.remaining (next_at now frames) (Err e) →
+      r2.failures ≡ failures_after {X = Unit {0}} (Err e) r1.failures → IsSizedFault e →
+      IsErrAnd x (λ f. f ≡ of_wav e) →
+      MatchResult x P (λ f. ReadsContent c r r2 (Err f))
   more_failed wav.OutOfMemory (Err f) P falls said same cut is = inl (is, both_lost said, same ∙ counted)
   more_failed wav.Read (Err f) P falls said same cut is = inr (inl (is, both_lost said, same ∙ ap one_more counted))
   more_failed (wav.Format g) (Err f) P falls said same cut is = inr (inr (
@@ -62,11 +64,13 @@ module _ (c now : Reading) (before : List ℤ) (here : now ≡ record c { gone =
       (rest : List ℕ) → IsReadTo input d first bytes
       → next_at d many bytes ≡ Ok (samples, rest) →
       IsReadTo input (record d { gone = d.gone + 2 * length samples }) (first ++ samples) rest) →
-      (samples kept all : List ℤ) → Known mid new (λ input left. (next_at now frames input ≡ Ok (samples, left))
-      × LosesFront input left) → r2 ≡ r1 → IsPiece now frames (length samples) → now.size ≢ 0xFFFFFFFF →
+      (samples kept all : List ℤ) → Known r1.remaining r2.remaining
+      (λ input left. (next_at now frames input ≡ Ok (samples, left))
+      × LosesFront input left) → r2.failures ≡ r1.failures → IsPiece now frames (length samples) →
+      now.size ≢ 0xFFFFFFFF →
       now.gone + 2 * (frames * now.channels) ≤ now.size → (last : Reading) →
       last ≡ record now { gone = now.gone + 2 * length samples } → all ≡ kept ++ samples →
-      ReadsMore c before frames kept old new r r2 last (Ok all)
+      ReadsMore c before frames kept r r2 last (Ok all)
   more_read on samples kept all said same piece sized enough last goes joined = (
     samples,
     joined,

@@ -9,7 +9,7 @@ use Rattle.sdf_wav.specs.Sound.{Sound}
 use Rattle.sdf_wav.specs.Canonical.{IsCanonical}
 use Rattle.sdf_wav.specs.Grammar.{IsWav}
 use Rattle.sdf_wav.specs.Fault.{HasFault}
-use Rattle.sdf_wav.specs.Device.{AppendsFront, Known, LosesFront, failures_after, one_more}
+use Rattle.sdf_wav.specs.Device.{AppendsFront, Known, LosesFront, ReaderState, WriterState, failures_after, one_more}
 use Rattle.sdf_wav.specs.PiecesIn.{Reading, Opens, OpensTo, IsReadTo, AnswersOpening}
 use Rattle.sdf_wav.specs.declared.fault.FormatFault.{FormatFault}
 use Rattle.sdf_wav.specs.declared.fault.FormatFault.TheVariants.{Truncated}
@@ -49,28 +49,41 @@ fails_by (Ok x) f P Q is q = absurd is
 
 -- ---- a file that did not open
 
-module _ (laws : WavLaws) (n : Netlist Kit ℤ) (q : List ℕ) (read mid held : Option (List ℕ)) (r r' w : ℕ) where
-  pub unopened : (e : WavFault) → AnswersOpening read mid (Err e) → r' ≡ failures_after {X = Unit {0}} (Err e) r →
-      ((input : List ℕ) (f : Format) (size : ℕ) (rest : List ℕ) → read ≡ Some input → Opens input f size rest →
-      OpensTo mid f size rest (Err e)) →
-      IsRun n q read mid held held r r' w w (Err (of_wav e))
+module _ (laws : WavLaws) (n : Netlist Kit ℤ) (q : List ℕ) (r r' : ReaderState) (w : WriterState) where
+  pub unopened : (e : WavFault) → AnswersOpening r.remaining r'.remaining (Err e) →
+      r'.failures ≡ failures_after {X = Unit {0}} (Err e) r.failures →
+      ((input : List ℕ) (f : Format) (size : ℕ) (rest : List ℕ) → r.remaining ≡ Some input → Opens input f size rest →
+      OpensTo r'.remaining f size rest (Err e)) →
+      IsRun n q r r' w w (Err (of_wav e))
   unopened wav.OutOfMemory said counted only = record {
-    runs = λ input known. inl (keeps_same held);
+    runs = λ input known. inl (keeps_same w.contents);
     accepts = λ input s rest known is. refuses_outside (output_fault (exchange_of n q) s) OutOfMemory (inl refl);
     foresees = λ input f size rest e known o sized is. inr (inl refl);
     refuses = λ input f known has allowed. inr (inl refl);
-    devices = record { faults = tt; leaves = said; writes = inl (keeps_same held); reader = counted; writer = refl };
+    devices = record {
+      faults = tt;
+      leaves = said;
+      writes = inl (keeps_same w.contents);
+      reader = counted;
+      writer = refl;
+    };
   }
   unopened wav.Read said counted only = record {
-    runs = λ input known. inl (keeps_same held);
+    runs = λ input known. inl (keeps_same w.contents);
     accepts = λ input s rest known is. refuses_outside (output_fault (exchange_of n q) s) Read (inr (inl refl));
     foresees = λ input f size rest e known o sized is. inr (inr (inl refl));
     refuses = λ input f known has allowed. inr (inr (inl refl));
-    devices = record { faults = tt; leaves = said; writes = inl (keeps_same held); reader = counted; writer = refl };
+    devices = record {
+      faults = tt;
+      leaves = said;
+      writes = inl (keeps_same w.contents);
+      reader = counted;
+      writer = refl;
+    };
   }
   unopened (wav.Format g) said counted only = record {
     runs = λ input known. let y = said.at input known in
-        inl (y.2.0.has, (λ f size rest o. absurd (y.2.0.opens_not f size rest o)), keeps_same held);
+        inl (y.2.0.has, (λ f size rest o. absurd (y.2.0.opens_not f size rest o)), keeps_same w.contents);
     accepts = λ input s rest known is. let o = laws.announces input s rest is in
         absurd ((said.at input known).2.0.opens_not _ o.size o.rest o.opens);
     foresees = λ input f size rest e known o sized is. absurd ((said.at input known).2.0.opens_not f size rest o);
@@ -78,7 +91,7 @@ module _ (laws : WavLaws) (n : Netlist Kit ℤ) (q : List ℕ) (read mid held : 
     devices = record {
       faults = tt;
       leaves = record { at = λ input known. let y = said.at input known in (y.0, y.1, inl (y.2.0.has, y.2.1)) };
-      writes = kept held g;
+      writes = kept w.contents g;
       reader = counted;
       writer = refl;
     };
@@ -101,22 +114,23 @@ some_same x y e = cc
 pub some_no_none : {X : Type 0} (x : X) → Some x ≡ None → ⊥
 some_no_none x e = cc
 
-module _ (n : Netlist Kit ℤ) (q : List ℕ) (read mid held : Option (List ℕ)) (r r' w : ℕ) (a : Announced)
-    (at : Known read mid (AnnouncedAt a)) (counted : r' ≡ r)
-    (sounds : (input : List ℕ) (s : Sound) (rest : List ℕ) → read ≡ Some input → IsWav input s rest →
+module _ (n : Netlist Kit ℤ) (q : List ℕ) (r r' : ReaderState) (w : WriterState) (a : Announced)
+    (at : Known r.remaining r'.remaining (AnnouncedAt a)) (counted : r'.failures ≡ r.failures)
+    (sounds : (input : List ℕ) (s : Sound) (rest : List ℕ) → r.remaining ≡ Some input → IsWav input s rest →
     announced_by s ≡ a)
-    (sizes : (input : List ℕ) (f : Format) (size : ℕ) (rest : List ℕ) → read ≡ Some input → Opens input f size rest →
+    (sizes : (input : List ℕ) (f : Format) (size : ℕ) (rest : List ℕ) → r.remaining ≡ Some input →
+    Opens input f size rest →
     size ≢ 0xFFFFFFFF → announced_size f size ≡ a) where
-  stands : Known read mid ReadsAnnounced
+  stands : Known r.remaining r'.remaining ReadsAnnounced
   stands = record {
     at = λ input known. let y = at.at input known in
         (y.0, y.1, (y.2.reading, y.2.samples, y.2.read, y.2.least));
   }
 
   module _ (g : Fault) (why : announced_fault (exchange_of n q) a ≡ Some g)
-      (no_fault : (input : List ℕ) (f : FormatFault) → read ≡ Some input → HasFault input f →
+      (no_fault : (input : List ℕ) (f : FormatFault) → r.remaining ≡ Some input → HasFault input f →
       IsAllowed (exchange_of n q) input → ⊥) where
-    has : (input : List ℕ) → read ≡ Some input → HasOutputFault n q input g
+    has : (input : List ℕ) → r.remaining ≡ Some input → HasOutputFault n q input g
     has input known =
         let y = at.at input known in
         record {
@@ -129,34 +143,34 @@ module _ (n : Netlist Kit ℤ) (q : List ℕ) (read mid held : Option (List ℕ)
           fault = why;
         }
 
-    accepts_it : (input : List ℕ) (s : Sound) (rest : List ℕ) → read ≡ Some input → IsWav input s rest →
+    accepts_it : (input : List ℕ) (s : Sound) (rest : List ℕ) → r.remaining ≡ Some input → IsWav input s rest →
         Refuses (output_fault (exchange_of n q) s) (Err g)
     accepts_it input s rest known is =
         subst (λ o. Refuses o (Err g)) (sym (ap (announced_fault (exchange_of n q)) (sounds input s rest known is)
         ∙ why)) (inl refl)
 
-    foresees_it : (input : List ℕ) (f : Format) (size : ℕ) (rest : List ℕ) (e : Fault) → read ≡ Some input →
+    foresees_it : (input : List ℕ) (f : Format) (size : ℕ) (rest : List ℕ) (e : Fault) → r.remaining ≡ Some input →
         Opens input f size rest → size ≢ 0xFFFFFFFF →
         announced_fault (exchange_of n q) (announced_size f size) ≡ Some e → Refuses (Some e) (Err g)
     foresees_it input f size rest e known o sized is =
         inl (some_same g e (sym why ∙ (sym (ap (announced_fault (exchange_of n q))
         (sizes input f size rest known o sized)) ∙ is)))
 
-    refuses_it : (input : List ℕ) (f : FormatFault) → read ≡ Some input → HasFault input f →
+    refuses_it : (input : List ℕ) (f : FormatFault) → r.remaining ≡ Some input → HasFault input f →
         IsAllowed (exchange_of n q) input → Refuses (Some (Wav f)) (Err g)
     refuses_it input f known has allowed = absurd (no_fault input f known has allowed)
 
     abbrev Refused : Fault → Type 0
-    Refused e = g ≡ e → IsRun n q read mid held held r r' w w (Err e)
+    Refused e = g ≡ e → IsRun n q r r' w w (Err e)
 
-    pub refused : IsRun n q read mid held held r r' w w (Err g)
+    pub refused : IsRun n q r r' w w (Err g)
     refused = go (fault_of_announced (exchange_of n q) a g why)
       where
-        run : (e : Fault) → g ≡ e → ((input : List ℕ) → read ≡ Some input → HasOutputFault n q input e →
-            Runs n q input held held (Err e)) → Handles {X = Unit {0}} read mid held held r r' w w (Err e) →
-            IsRun n q read mid held held r r' w w (Err g)
+        run : (e : Fault) → g ≡ e → ((input : List ℕ) → r.remaining ≡ Some input → HasOutputFault n q input e →
+            Runs n q input w.contents w.contents (Err e)) → Handles {X = Unit {0}} r r' w w (Err e) →
+            IsRun n q r r' w w (Err g)
         run e same runs devices =
-            subst (λ (f : Fault). IsRun n q read mid held held r r' w w (Err f)) (sym same)
+            subst (λ (f : Fault). IsRun n q r r' w w (Err f)) (sym same)
             (record {
               runs = λ input known. runs input known (subst (HasOutputFault n q input) same (has input known));
               accepts = λ input s rest known is. subst (λ (f : Fault). Refuses (output_fault (exchange_of n q) s)
@@ -168,17 +182,17 @@ module _ (n : Netlist Kit ℤ) (q : List ℕ) (read mid held : Option (List ℕ)
               devices = devices;
             })
 
-        go : IsOfOutput g → IsRun n q read mid held held r r' w w (Err g)
-        go (inl same) = run ChannelsMissing same (λ input known h. (h, keeps_same held))
-            (record { faults = tt; leaves = stands; writes = keeps_same held; reader = counted; writer = refl })
-        go (inr (inl same)) = run RateNotWhole same (λ input known h. (h, keeps_same held))
-            (record { faults = tt; leaves = stands; writes = keeps_same held; reader = counted; writer = refl })
+        go : IsOfOutput g → IsRun n q r r' w w (Err g)
+        go (inl same) = run ChannelsMissing same (λ input known h. (h, keeps_same w.contents))
+            (record { faults = tt; leaves = stands; writes = keeps_same w.contents; reader = counted; writer = refl })
+        go (inr (inl same)) = run RateNotWhole same (λ input known h. (h, keeps_same w.contents))
+            (record { faults = tt; leaves = stands; writes = keeps_same w.contents; reader = counted; writer = refl })
         go (inr (inr (f, same))) =
-            run (Wav f) same (λ input known h. inr (inl (h, keeps_same held)))
+            run (Wav f) same (λ input known h. inr (inl (h, keeps_same w.contents)))
             (record {
               faults = tt;
               leaves = record { at = λ input known. let y = stands.at input known in (y.0, y.1, inr y.2) };
-              writes = kept held f;
+              writes = kept w.contents f;
               reader = counted;
               writer = refl;
             })
@@ -205,10 +219,11 @@ all_of : (before after : Option (List ℕ)) (text : List ℕ) (b : Begins text) 
     AppendsFront before after b.file
 all_of before after text b a = record { front = text; rest = b.more; whole = b.whole; written = a }
 
-module _ (n : Netlist Kit ℤ) (q : List ℕ) (read left before after : Option (List ℕ)) (r r' w w' : ℕ) (text : List ℕ)
-    (is : (input : List ℕ) → read ≡ Some input → IsText n q input text) (begins : Begins text) where
-  pub writer_failed : AppendsFront before after text → Known read left ReadsInto → r' ≡ r → w' ≡ one_more w →
-      IsRun n q read left before after r r' w w' (Err Write)
+module _ (n : Netlist Kit ℤ) (q : List ℕ) (r r' : ReaderState) (w w' : WriterState) (text : List ℕ)
+    (is : (input : List ℕ) → r.remaining ≡ Some input → IsText n q input text) (begins : Begins text) where
+  pub writer_failed : AppendsFront w.contents w'.contents text → Known r.remaining r'.remaining ReadsInto →
+      r'.failures ≡ r.failures → w'.failures ≡ one_more w.failures →
+      IsRun n q r r' w w' (Err Write)
   writer_failed written stands counted failed = record {
     runs = λ input known. (text, is input known, written);
     accepts = λ input s rest known wav. refuses_outside (output_fault (exchange_of n q) s) Write (inr (inr refl));
@@ -217,17 +232,18 @@ module _ (n : Netlist Kit ℤ) (q : List ℕ) (read left before after : Option (
     devices = record {
       faults = tt;
       leaves = stands;
-      writes = (begins.file, begins.canonical, front_of before after text begins written);
+      writes = (begins.file, begins.canonical, front_of w.contents w'.contents text begins written);
       reader = counted;
       writer = failed;
     };
   }
 
-  some_written : Appends before after text → WritesSome before after
-  some_written written = inr (begins.file, begins.canonical, all_of before after text begins written)
+  some_written : Appends w.contents w'.contents text → WritesSome w.contents w'.contents
+  some_written written = inr (begins.file, begins.canonical, all_of w.contents w'.contents text begins written)
 
-  pub memory_failed : Appends before after text → Known read left LosesFront → r' ≡ r → w' ≡ w →
-      IsRun n q read left before after r r' w w' (Err OutOfMemory)
+  pub memory_failed : Appends w.contents w'.contents text → Known r.remaining r'.remaining LosesFront →
+      r'.failures ≡ r.failures → w'.failures ≡ w.failures →
+      IsRun n q r r' w w' (Err OutOfMemory)
   memory_failed written lost counted fine = record {
     runs = λ input known. inr (text, is input known, written);
     accepts = λ input s rest known wav. refuses_outside (output_fault (exchange_of n q) s) OutOfMemory (inl refl);
@@ -236,8 +252,9 @@ module _ (n : Netlist Kit ℤ) (q : List ℕ) (read left before after : Option (
     devices = record { faults = tt; leaves = lost; writes = some_written written; reader = counted; writer = fine };
   }
 
-  pub reader_failed : Appends before after text → Known read left LosesFront → r' ≡ one_more r → w' ≡ w →
-      IsRun n q read left before after r r' w w' (Err Read)
+  pub reader_failed : Appends w.contents w'.contents text → Known r.remaining r'.remaining LosesFront →
+      r'.failures ≡ one_more r.failures → w'.failures ≡ w.failures →
+      IsRun n q r r' w w' (Err Read)
   reader_failed written lost failed fine = record {
     runs = λ input known. inr (text, is input known, written);
     accepts = λ input s rest known wav. refuses_outside (output_fault (exchange_of n q) s) Read (inr (inl refl));
@@ -247,10 +264,11 @@ module _ (n : Netlist Kit ℤ) (q : List ℕ) (read left before after : Option (
   }
 
   -- the content is cut off
-  pub content_cut : WavLaws → (g : FormatFault) → g ≡ Truncated → Appends before after text →
-      Known read left (λ input rest. HasFault input g × LosesFront input rest) →
-      ((input : List ℕ) → read ≡ Some input → IsAllowed (exchange_of n q) input) → r' ≡ r → w' ≡ w →
-      IsRun n q read left before after r r' w w' (Err (Wav g))
+  pub content_cut : WavLaws → (g : FormatFault) → g ≡ Truncated → Appends w.contents w'.contents text →
+      Known r.remaining r'.remaining (λ input rest. HasFault input g × LosesFront input rest) →
+      ((input : List ℕ) → r.remaining ≡ Some input → IsAllowed (exchange_of n q) input) → r'.failures ≡ r.failures →
+      w'.failures ≡ w.failures →
+      IsRun n q r r' w w' (Err (Wav g))
   content_cut laws g cut written has allowed counted fine = record {
     runs = λ input known. inr (inr ((has.at input known).2.0, (text, is input known, written)));
     accepts = λ input s rest known wav. absurd (laws.not_both input s rest g wav (has.at input known).2.0);
@@ -260,7 +278,7 @@ module _ (n : Netlist Kit ℤ) (q : List ℕ) (read left before after : Option (
     devices = record {
       faults = tt;
       leaves = record { at = λ input known. let y = has.at input known in (y.0, y.1, inl y.2) };
-      writes = subst (λ (f : FormatFault). WritesFile {X = Unit {0}} before after (Err (Wav f))) (sym cut)
+      writes = subst (λ (f : FormatFault). WritesFile {X = Unit {0}} w.contents w'.contents (Err (Wav f))) (sym cut)
           (some_written written);
       reader = counted;
       writer = fine;
@@ -269,38 +287,52 @@ module _ (n : Netlist Kit ℤ) (q : List ℕ) (read left before after : Option (
 
 -- ---- the content of a size that was not filled in failed
 
-module _ (laws : WavLaws) (n : Netlist Kit ℤ) (q : List ℕ) (read left held : Option (List ℕ)) (r r' w : ℕ)
-    (unsized : (input : List ℕ) → read ≡ Some input → IsUnsized input) where
-  pub unheard_by_memory : Known read left LosesFront → r' ≡ r → IsRun n q read left held held r r' w w (Err OutOfMemory)
+module _ (laws : WavLaws) (n : Netlist Kit ℤ) (q : List ℕ) (r r' : ReaderState) (w : WriterState)
+    (unsized : (input : List ℕ) → r.remaining ≡ Some input → IsUnsized input) where
+  pub unheard_by_memory : Known r.remaining r'.remaining LosesFront → r'.failures ≡ r.failures →
+      IsRun n q r r' w w (Err OutOfMemory)
   unheard_by_memory lost counted = record {
-    runs = λ input known. inl (keeps_same held);
+    runs = λ input known. inl (keeps_same w.contents);
     accepts = λ input s rest known wav. refuses_outside (output_fault (exchange_of n q) s) OutOfMemory (inl refl);
     foresees = λ input f size rest e known o sized why. inr (inl refl);
     refuses = λ input f known has allowed. inr (inl refl);
-    devices = record { faults = tt; leaves = lost; writes = inl (keeps_same held); reader = counted; writer = refl };
+    devices = record {
+      faults = tt;
+      leaves = lost;
+      writes = inl (keeps_same w.contents);
+      reader = counted;
+      writer = refl;
+    };
   }
 
-  pub unheard_by_reader : Known read left LosesFront → r' ≡ one_more r →
-      IsRun n q read left held held r r' w w (Err Read)
+  pub unheard_by_reader : Known r.remaining r'.remaining LosesFront → r'.failures ≡ one_more r.failures →
+      IsRun n q r r' w w (Err Read)
   unheard_by_reader lost failed = record {
-    runs = λ input known. inl (keeps_same held);
+    runs = λ input known. inl (keeps_same w.contents);
     accepts = λ input s rest known wav. refuses_outside (output_fault (exchange_of n q) s) Read (inr (inl refl));
     foresees = λ input f size rest e known o sized why. inr (inr (inl refl));
     refuses = λ input f known has allowed. inr (inr (inl refl));
-    devices = record { faults = tt; leaves = lost; writes = inl (keeps_same held); reader = failed; writer = refl };
+    devices = record {
+      faults = tt;
+      leaves = lost;
+      writes = inl (keeps_same w.contents);
+      reader = failed;
+      writer = refl;
+    };
   }
 
-  pub unheard_by_fault : (g : FormatFault) → Known read left (λ input rest. HasFault input g × LosesFront input rest) →
-      r' ≡ r → IsRun n q read left held held r r' w w (Err (Wav g))
+  pub unheard_by_fault : (g : FormatFault) → Known r.remaining r'.remaining
+      (λ input rest. HasFault input g × LosesFront input rest) →
+      r'.failures ≡ r.failures → IsRun n q r r' w w (Err (Wav g))
   unheard_by_fault g has counted = record {
-    runs = λ input known. inl ((has.at input known).2.0, unsized input known, keeps_same held);
+    runs = λ input known. inl ((has.at input known).2.0, unsized input known, keeps_same w.contents);
     accepts = λ input s rest known wav. absurd (laws.not_both input s rest g wav (has.at input known).2.0);
     foresees = λ input f size rest e known o sized why. absurd (sized (unsized input known f size rest o));
     refuses = λ input f known h allowed. inl (ap Wav (laws.one_fault input g f (has.at input known).2.0 h));
     devices = record {
       faults = tt;
       leaves = record { at = λ input known. let y = has.at input known in (y.0, y.1, inl y.2) };
-      writes = kept held g;
+      writes = kept w.contents g;
       reader = counted;
       writer = refl;
     };

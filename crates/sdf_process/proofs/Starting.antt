@@ -12,6 +12,7 @@ use Rattle.sdf_actor.specs.Graphs.{graph_of}
 use Rattle.sdf_graph.specs.Periods.{IsLeastPeriod}
 use Rattle.sdf_graph.specs.Rates.{rates}
 use Rattle.sdf_sched.specs.Period.{Schedule, IsPeriodOf}
+use Rattle.sdf_wav.specs.Device.{ReaderState, WriterState}
 use Rattle.sdf_wav.specs.PiecesIn.{Reading, sound_read}
 use Rattle.sdf_wav.specs.PiecesOut.{Owed}
 use Rattle.sdf_wav.specs.declared.wav.TheConstants.{MOST_CHANNELS}
@@ -48,9 +49,9 @@ module _ (t : Opened) (is : IsOpened t)
   there : x ≡ exchange_of n p.repetitions
   there = x_is p.repetitions is.period.least
 
-  module _ (runs : RunsGoOn kit_steps) (old before : Option (List ℕ)) (r w : ℕ) where
+  module _ (runs : RunsGoOn kit_steps) (r : ReaderState) (w : WriterState) where
     abbrev s : Start
-    s = start_of t b old before r w
+    s = start_of t b r w
 
     few_bytes : 2 * (b.output.missing * (exchange_of n p.repetitions).outputs) ≤ 4294967259
     few_bytes = subst (λ (m : ℕ). 2 * (m * (exchange_of n p.repetitions).outputs) ≤ 4294967259)
@@ -93,15 +94,15 @@ module _ (t : Opened) (is : IsOpened t)
           there = omega arith;
         }
 
-    flows_first : Flows s none_yet b.frames b.source b.output old before r w
+    flows_first : Flows s none_yet b.frames b.source b.output r w
     flows_first = record {
       came = came_first;
-      takes = takes_none b.source old;
+      takes = takes_none b.source r.remaining;
       source_is = behind_none b.source;
       within = omega arith;
       count = (let z : 0 ≡ 0 * c.channels = omega arith in z) ∙ ap (λ (k : ℕ). k * c.channels)
           (let y : 0 ≡ b.frames - b.frames = omega arith in y);
-      written = appends_none before before (keeps_same before);
+      written = appends_none w.contents w.contents (keeps_same w.contents);
       owed = begun.owed ∙ ap (λ (k : ℕ). record {
         channels = (exchange_of n p.repetitions).outputs;
         missing = k;
@@ -117,10 +118,10 @@ module _ (t : Opened) (is : IsOpened t)
     pub goes_first : (v : Stream) → v.runner ≡ t.runner → v.flow.source ≡ b.source → v.flow.left ≡ b.frames →
         v.flow.most ≡ t.frames → v.flow.kept.items ≡ [] → v.flow.made.items ≡ [] → v.flow.output ≡ b.output →
         v.exchange ≡ x → v.blocking ≡ t.blocking → 1 ≤ v.rate → v.channels ≡ c.channels → v.channels ≤ MOST_CHANNELS →
-        GoesOn s v old before r w
+        GoesOn s v r w
     goes_first v runner source left most kept made output exchange blocking rate channels few =
         let none : items_of v.flow.made.items ≡ [] = ap items_of made in
-        let flows : Flows s none_yet v.flow.left v.flow.source v.flow.output old before r w =
+        let flows : Flows s none_yet v.flow.left v.flow.source v.flow.output r w =
         rw (left, source, output) flows_first in (
           none_yet,
           record {

@@ -2,12 +2,16 @@
 use Rattle.std.proofs.Common.{◌≡◌, Result, Ok, Err, ℕ, ◌+◌, ◌-◌, ◌*◌, ◌%◌, ◌≤◌, ◌<◌, ℤ, List, [], ◌++◌, length, drop}
 use Rattle.std.proofs.Common.{Option, false, true, refl, sym}
 use Rattle.std.specs.Prelude.{IfOk, MatchResult}
+use Rattle.std.specs.Int.{div_ceil}
 use Rattle.std.proofs.Math.Nat.{mul-mod_left}
 use Rattle.std.proofs.Common.{ap, ◌∙◌, subst, arith}
+use Rattle.std.proofs.lemmas.Grind.{div_ceil_times}
 use Rattle.std.proofs.lemmas.List.{drop-drop, length-append, length-drop}
 use Rattle.sdf_actor.specs.Wires.{lists as items_of}
+use Rattle.sdf_wav.specs.Device.{ReaderState, WriterState}
 use Rattle.sdf_wav.specs.Canonical.{sample_bytes}
 use Rattle.sdf_wav.specs.PiecesIn.{Reading, sound_read}
+use Rattle.sdf_wav.specs.PiecesOut.{Owed}
 use Rattle.sdf_plan.specs.declared.fault.Fault.{Fault}
 use Rattle.sdf_process.specs.declared.exchange.Exchange.{Exchange}
 use Rattle.sdf_process.specs.declared.flow.Flow.{Flow}
@@ -18,10 +22,10 @@ use Rattle.sdf_process.specs.Flows.{Flows, GoesOn, IsAhead, IsReady, IsStep, IsU
 use Rattle.sdf_process.specs.Flows.{blocks_on}
 use Rattle.sdf_process.specs.Flows.{exchange_in, reading_in, samples_on, samples_run}
 use Rattle.sdf_process.specs.Output.{in_turn}
-use Rattle.sdf_process.specs.Streams.{CanRun, CanRunNext, GoesBy, Makes, RunsNext, left_by}
+use Rattle.sdf_process.specs.Streams.{CanRun, CanRunNext, GoesBy, Makes, RunsNext, is_at_once, left_by}
 use Rattle.sdf_process.proofs.Ahead.{made_ahead, none_ahead, none_left}
 use Rattle.sdf_process.proofs.Flowing.{within_size}
-use Rattle.sdf_process.proofs.Sizes.{minus}
+use Rattle.sdf_process.proofs.Sizes.{minus, positive}
 use Rattle.sdf_process.proofs.Streamed.{kept_follows, kept_on, stands_on, writes_whole}
 
 -- what is said of an answer, in other words where it is Ok
@@ -37,14 +41,13 @@ where_ok (Err e) P Q E go h = tt
 
 -- a run that is ready is so with another runner of its net, and another flow
 pub ready_on : (b : Start) (t : Stream) → IsReady b t → (v : Runner) (f : Flow) → GoesBy b.net b.period b.blocking v →
-    f.most ≡ t.flow.most → (t.at_once ≡ false → items_of f.made.items ≡ []) → IsReady b (record {
+    f.most ≡ t.flow.most → (is_at_once v ≡ false → items_of f.made.items ≡ []) → IsReady b (record {
       runner = v;
       flow = f;
       exchange = t.exchange;
       blocking = t.blocking;
       rate = t.rate;
       channels = t.channels;
-      at_once = t.at_once;
     })
 ready_on b t ready v f goes most waits = record {
   can = ready.can;
@@ -60,9 +63,9 @@ ready_on b t ready v f goes most waits = record {
 }
 
 -- a flow is as far ahead as another that differs in what it keeps alone
-pub ahead_as : (b : Start) (g : Progress) (f f' : Flow) {now after : Option (List ℕ)} {r w : ℕ} → f'.left ≡ f.left →
-    f'.source ≡ f.source → f'.output ≡ f.output → f'.made ≡ f.made → IsAhead b g f now after r w →
-    IsAhead b g f' now after r w
+pub ahead_as : (b : Start) (g : Progress) (f f' : Flow) {r : ReaderState} {w : WriterState} → f'.left ≡ f.left →
+    f'.source ≡ f.source → f'.output ≡ f.output → f'.made ≡ f.made → IsAhead b g f r w →
+    IsAhead b g f' r w
 ahead_as b g f f' left source output made ahead = record {
   before = ahead.before;
   flows = rw (left, source, output) ahead.flows;
@@ -72,8 +75,8 @@ ahead_as b g f f' left source output made ahead = record {
   whole = rw made ahead.whole;
 }
 
-module _ (b : Start) (g : Progress) (blocks : ℕ) (t : Stream) (y : Portion) {now after : Option (List ℕ)} {r w : ℕ}
-    (step : IsStep b g blocks t y now after r w) where
+module _ (b : Start) (g : Progress) (blocks : ℕ) (t : Stream) (y : Portion) {r : ReaderState} {w : WriterState}
+    (step : IsStep b g blocks t y r w) where
   can_run : CanRun b.net b.period b.blocking y
   can_run = record { has = step.ready.can.has; some = step.ready.can.some; exchange = step.next.exchange }
 
@@ -104,29 +107,27 @@ module _ (b : Start) (g : Progress) (blocks : ℕ) (t : Stream) (y : Portion) {n
 
     -- its frames are ahead of those that are written, if all before are written
     pub ahead_on : items_of t.flow.made.items ≡ [] → (f : Flow) → items_of f.made.items ≡ made →
-        f.left ≡ t.flow.left → f.source ≡ t.flow.source → f.output ≡ t.flow.output → IsAhead b on f now after r w
+        f.left ≡ t.flow.left → f.source ≡ t.flow.source → f.output ≡ t.flow.output → IsAhead b on f r w
     ahead_on none f is left source output =
-        let flows : Flows b g f.left f.source f.output now after r w =
+        let flows : Flows b g f.left f.source f.output r w =
         rw (left, source, output) (none_left b step.ready.can g t.flow step.ahead none) in
         subst (λ (l : List (List ℤ)). IsAhead b (blocks_on g blocks (sample_bytes (in_turn l))
-        (left_by v)) f now after r
-        w) is
+        (left_by v)) f r w) is
         (made_ahead b g f blocks y.frames (left_by v)
         flows
         (subst (λ (l : List (List ℤ)). Makes b.net b.period b.blocking (sound_read (reading_in b) g.samples) g.blocks
         blocks y.frames g.bytes l (left_by v)) (sym is) ran.0) all_frames step.next.there)
 
     -- they are written, and more is taken
-    pub in_turn_on : (f f' : Flow) {now' after' : Option (List ℕ)} {r' w' : ℕ} → f.kept ≡ t.flow.kept →
-        f.most ≡ t.flow.most → Turns b on f f' now' after' r' w' → GoesOn b (record {
+    pub in_turn_on : (f f' : Flow) {r' : ReaderState} {w' : WriterState} → f.kept ≡ t.flow.kept →
+        f.most ≡ t.flow.most → Turns b on f f' r' w' → GoesOn b (record {
           runner = v;
           flow = f';
           exchange = t.exchange;
           blocking = t.blocking;
           rate = t.rate;
           channels = t.channels;
-          at_once = t.at_once;
-        }) now' after' r' w'
+        }) r' w'
     in_turn_on f f' kept most turns = (
       samples_on on turns.more,
       record {
@@ -140,8 +141,8 @@ module _ (b : Start) (g : Progress) (blocks : ℕ) (t : Stream) (y : Portion) {n
     )
 
     -- the frames before were written meanwhile, and more was taken
-    pub beside_on : t.at_once ≡ true → (f f' : Flow) {now' after' : Option (List ℕ)} {r' w' : ℕ} →
-        Turns b g t.flow f now' after' r' w' → items_of f'.made.items ≡ made → f'.left ≡ f.left →
+    pub beside_on : is_at_once v ≡ true → (f f' : Flow) {r' : ReaderState} {w' : WriterState} →
+        Turns b g t.flow f r' w' → items_of f'.made.items ≡ made → f'.left ≡ f.left →
         f'.source ≡ f.source → f'.output ≡ f.output → f'.kept ≡ f.kept → f'.most ≡ f.most → GoesOn b (record {
           runner = v;
           flow = f';
@@ -149,9 +150,8 @@ module _ (b : Start) (g : Progress) (blocks : ℕ) (t : Stream) (y : Portion) {n
           blocking = t.blocking;
           rate = t.rate;
           channels = t.channels;
-          at_once = t.at_once;
-        }) now' after' r' w'
-    beside_on at_once f f' {now'} {after'} {r'} {w'} turns is left source output kept most =
+        }) r' w'
+    beside_on at_once f f' {r'} {w'} turns is left source output kept most =
         let g' = samples_on g turns.more in
         let more = turns.more in
         let longer : samples_run b (g.blocks + blocks) ≤ length g'.samples =
@@ -165,7 +165,7 @@ module _ (b : Start) (g : Progress) (blocks : ℕ) (t : Stream) (y : Portion) {n
               (left_by v) step.ready.can.lower step.next.there ran.0.stands;
           whole = ran.0.whole;
         }) in
-        let flows : Flows b g' f'.left f'.source f'.output now' after' r' w' =
+        let flows : Flows b g' f'.left f'.source f'.output r' w' =
         rw (left, source, output) turns.flows in (
           blocks_on g' blocks (sample_bytes (in_turn (items_of f'.made.items))) (left_by v),
           record {
@@ -179,10 +179,27 @@ module _ (b : Start) (g : Progress) (blocks : ℕ) (t : Stream) (y : Portion) {n
           },
         )
 
+-- ---- what is missing
+
+-- blocks that hold all frames that are missing, and not one too many
+pub blocks_missing : (b : Start) (t : Stream) → IsReady b t → (o : Owed) (frames blocks : ℕ) → frames ≡ o.missing →
+    blocks ≡ div_ceil frames (t.blocking * t.exchange.made) →
+    (o.missing ≤ blocks * (b.blocking * (exchange_in b).made))
+    × (blocks * (b.blocking * (exchange_in b).made) < o.missing + b.blocking * (exchange_in b).made)
+blocks_missing b t ready o frames blocks count is =
+    let k : ℕ = t.blocking * t.exchange.made in
+    let x = exchange_in b in
+    let same : k ≡ b.blocking * x.made = ap (λ z. z * t.exchange.made) ready.blocking
+    ∙ ap (λ (y : Exchange). b.blocking * y.made) ready.exchange in
+    let times = subst (λ z. (frames ≤ z * k) × (z * k < frames + k)) (sym is)
+    (div_ceil_times frames k (omega (arith, same, positive b.blocking x.made ready.can.some ready.can.made))) in
+    let size = ap (λ z. blocks * z) same in
+    (omega (arith, times.0, count, size), omega (arith, times.1, count, size, same))
+
 -- ---- what is kept
 
-module _ (b : Start) (g : Progress) (t : Stream) {now after : Option (List ℕ)} {r w : ℕ}
-    (under : IsUnderWay b g t now after r w) where
+module _ (b : Start) (g : Progress) (t : Stream) {r : ReaderState} {w : WriterState}
+    (under : IsUnderWay b g t r w) where
   abbrev c : Reading
   c = reading_in b
 
@@ -212,16 +229,15 @@ module _ (b : Start) (g : Progress) (t : Stream) {now after : Option (List ℕ)}
       omega (arith, kept_long, size, under.ready.can.fits)
 
   -- the frames that were made are written, and more is taken
-  pub turned_on : (f : Flow) {now' after' : Option (List ℕ)} {r' w' : ℕ} →
-      Turns b g t.flow f now' after' r' w' → GoesOn b (record {
+  pub turned_on : (f : Flow) {r' : ReaderState} {w' : WriterState} →
+      Turns b g t.flow f r' w' → GoesOn b (record {
         runner = t.runner;
         flow = f;
         exchange = t.exchange;
         blocking = t.blocking;
         rate = t.rate;
         channels = t.channels;
-        at_once = t.at_once;
-      }) now' after' r' w'
+      }) r' w'
   turned_on f turns = (
     samples_on g turns.more,
     record {
@@ -232,6 +248,13 @@ module _ (b : Start) (g : Progress) (t : Stream) {now after : Option (List ℕ)}
           under.kept;
     },
   )
+
+  -- a block of it
+  pub block_is : (f : ℕ) → f ≡ t.channels →
+      t.blocking * t.exchange.taken * f ≡ b.blocking * x.taken * c.channels
+  block_is f same = ap (λ z. z * t.exchange.taken * f) under.ready.blocking
+      ∙ (ap (λ (y : Exchange). b.blocking * y.taken * f) under.ready.exchange
+      ∙ ap (λ z. b.blocking * x.taken * z) (same ∙ under.ready.channels))
 
   -- whole blocks of it
   module _ (blocks k : ℕ) (block : k ≡ b.blocking * x.taken * c.channels)
@@ -245,7 +268,8 @@ module _ (b : Start) (g : Progress) (t : Stream) {now after : Option (List ℕ)}
     there_more = omega (arith, past, some, kept_long, under.ahead.came.there)
 
     pub step_by : (v : Runner) (f : Flow) (y : Portion) (rest : List ℤ) → left_by v ≡ left_by t.runner →
-        GoesBy b.net b.period b.blocking v → f.left ≡ t.flow.left → f.source ≡ t.flow.source →
+        GoesBy b.net b.period b.blocking v → is_at_once v ≡ is_at_once t.runner → f.left ≡ t.flow.left →
+        f.source ≡ t.flow.source →
         f.output ≡ t.flow.output → f.made ≡ t.flow.made → f.most ≡ t.flow.most →
         f.kept.items ≡ drop (blocks * k) t.flow.kept.items → y.exchange ≡ t.exchange →
         y.periods ≡ blocks * b.blocking → y.frames ≡ y.periods * y.exchange.made →
@@ -256,22 +280,22 @@ module _ (b : Start) (g : Progress) (t : Stream) {now after : Option (List ℕ)}
           blocking = t.blocking;
           rate = t.rate;
           channels = t.channels;
-          at_once = t.at_once;
-        }) y now after r w
-    step_by v f y rest same goes left source output made most kept exchange periods frames channels samples = record {
-      ready = ready_on b t under.ready v f goes most
-          (λ one. ap (λ (z : _). items_of z.items) made ∙ under.ready.waits one);
-      ahead = ahead_as b g t.flow f left source output made under.ahead;
-      next = record {
-        follows = kept_follows b g (left_by v) under.ahead.came (same ∙ under.left) y blocks periods
-            (channels ∙ under.ready.channels) (samples ∙ under.kept);
-        exchange = exchange ∙ under.ready.exchange;
-        frames = frames;
-        there = there_more;
-      };
-      kept = kept ∙ (ap (drop (blocks * k)) under.kept
-          ∙ (drop-drop (blocks * k) (samples_run b g.blocks) g.samples ∙ ap (λ (z : ℕ). drop z g.samples) past));
-    }
+        }) y r w
+    step_by v f y rest same goes still left source output made most kept exchange periods frames channels samples =
+        record {
+          ready = ready_on b t under.ready v f goes most
+              (λ one. ap (λ (z : _). items_of z.items) made ∙ under.ready.waits (sym still ∙ one));
+          ahead = ahead_as b g t.flow f left source output made under.ahead;
+          next = record {
+            follows = kept_follows b g (left_by v) under.ahead.came (same ∙ under.left) y blocks periods
+                (channels ∙ under.ready.channels) (samples ∙ under.kept);
+            exchange = exchange ∙ under.ready.exchange;
+            frames = frames;
+            there = there_more;
+          };
+          kept = kept ∙ (ap (drop (blocks * k)) under.kept
+              ∙ (drop-drop (blocks * k) (samples_run b g.blocks) g.samples ∙ ap (λ (z : ℕ). drop z g.samples) past));
+        }
 
 -- inputs are read
 pub some_inputs : (b : Start) (t : Stream) → IsReady b t → 0 < t.exchange.inputs

@@ -11,6 +11,7 @@ use Rattle.sdf_actor.specs.Nets.{Netlist}
 use Rattle.sdf_answer.specs.Answer.{AreOutputs, periods_of as firings}
 use Rattle.sdf_kit.specs.declared.kit.Kit.{Kit}
 use Rattle.sdf_kit.specs.Kit.{kit_steps}
+use Rattle.sdf_wav.specs.Device.{ReaderState, WriterState}
 use Rattle.sdf_wav.specs.PiecesIn.{Reading, IsReadTo, known_frames, sound_read}
 use Rattle.sdf_wav.specs.Sound.{Sound, frames_of}
 use Rattle.sdf_wav.specs.declared.wav.TheConstants.{MOST_CHANNELS}
@@ -55,25 +56,30 @@ behind_none (Content c) = ap (λ (k : ℕ). Content (record c { gone = k }))
     (let z : c.gone ≡ c.gone + 2 * 0 = omega arith in z)
 behind_none (Heard s taken) = ap (λ (k : ℕ). Heard s k) (let z : taken ≡ taken + 0 = omega arith in z)
 
+-- a reader of the same bytes and failures is the same
+reader_same : (r r' : ReaderState) → r'.remaining ≡ r.remaining → r'.failures ≡ r.failures → r' ≡ r
+reader_same r r' bytes count = ap (λ (l : Option (List ℕ)). record r' { remaining = l }) bytes
+    ∙ ap (λ (k : ℕ). record r { failures = k }) count
+
 -- memory was refused behind some samples
-pub takes_refused : (first : Source) (samples : List ℤ) (old new : Option (List ℕ)) (r r' : ℕ) (f : Fault) →
-    f ≡ OutOfMemory → Takes first samples old new → r' ≡ r → TakesAll first old new r r' (Err f)
-takes_refused (Content c) samples old new r r' f is takes same = inl (
+pub takes_refused : (first : Source) (samples : List ℤ) (r r' : ReaderState) (f : Fault) → f ≡ OutOfMemory →
+    Takes first samples r.remaining r'.remaining → r'.failures ≡ r.failures → TakesAll first r r' (Err f)
+takes_refused (Content c) samples r r' f is takes same = inl (
   is,
   record { at = λ bytes known. let y = takes.at bytes known in (y.0, y.1, y.2.1) },
   same,
 )
-takes_refused (Heard s taken) samples old new r r' f is takes same = (is, takes.0, same)
+takes_refused (Heard s taken) samples r r' f is takes same = (is, reader_same r r' takes.0 same)
 
 all_of : (xs ys : List ℤ) → xs ≡ take (length xs) ys → length xs ≡ length ys → xs ≡ ys
 all_of xs ys front same = front ∙ (ap (λ (k : ℕ). take k ys) same ∙ take-length ys)
 
 -- all samples are taken
-pub takes_whole : (first : Source) (samples : List ℤ) (old new : Option (List ℕ)) (r r' : ℕ) →
-    (reading_of first).gone ≡ 0 → (reading_of first).size ≢ 0xFFFFFFFF →
-    2 * length samples ≡ (reading_of first).size → Takes first samples old new → r' ≡ r →
-    TakesAll first old new r r' (Ok (sound_read (reading_of first) samples))
-takes_whole (Content c) samples old new r r' gone known size takes same = (
+pub takes_whole : (first : Source) (samples : List ℤ) (r r' : ReaderState) → (reading_of first).gone ≡ 0 →
+    (reading_of first).size ≢ 0xFFFFFFFF → 2 * length samples ≡ (reading_of first).size →
+    Takes first samples r.remaining r'.remaining → r'.failures ≡ r.failures →
+    TakesAll first r r' (Ok (sound_read (reading_of first) samples))
+takes_whole (Content c) samples r r' gone known size takes same = (
   record {
     at = λ bytes is. let y = takes.at bytes is in (
       y.0,
@@ -95,12 +101,12 @@ takes_whole (Content c) samples old new r r' gone known size takes same = (
   refl,
   λ z. size,
 )
-takes_whole (Heard s taken) samples old new r r' gone known size takes same =
+takes_whole (Heard s taken) samples r r' gone known size takes same =
     let none : taken ≡ 0 = omega (arith, gone) in
     let front : samples ≡ take (length samples) s.samples =
     subst (λ (k : ℕ). samples ≡ take (length samples) (drop k s.samples)) none takes.1 in
     let all : samples ≡ s.samples = all_of samples s.samples front (omega (arith, size)) in
-    (ap (λ (l : List ℤ). record s { samples = l }) all, takes.0, same)
+    (ap (λ (l : List ℤ). record s { samples = l }) all, reader_same r r' takes.0 same)
 
 -- ---- some more is taken
 
@@ -118,42 +124,44 @@ pub heard_short : (first : Source) (s : Sound) (taken : ℕ) → first ≡ Heard
     (reading_of first).size ≤ 0xFFFFFFFF → 2 * length s.samples ≤ 0xFFFFFFFF
 heard_short first s taken is short = subst (λ (y : Source). (reading_of y).size ≤ 0xFFFFFFFF) is short
 
-module _ (old : Option (List ℕ)) (r : ℕ) where
+module _ (r : ReaderState) where
   -- from a content
   pub content_more : {Z : Type 0} (first : Source) (before : List ℤ) (frames : ℕ) (kept : List ℤ)
-      (mid new : Option (List ℕ)) (r1 r2 : ℕ) (content now : Reading) (result : Result (Vec ℤ Z) Fault) →
-      ((c : Reading) (xs : List ℤ) (o : Option (List ℕ)) (k : ℕ) → content ≡
-      record c { gone = c.gone + 2 * length xs } → ReadsBy c xs o mid → r1 ≡ k →
-      MatchResult result (λ all. ReadsMore c xs frames kept o new k r2 now (Ok all.items))
-      (λ f. ReadsMore c xs frames kept o new k r2 now (Err f))) →
-      Content content ≡ source_behind first before → Takes first before old mid → r1 ≡ r →
-      MatchResult result (λ all. TakesMore first before frames kept old new r r2 (Content now) (Ok all.items))
-      (λ f. TakesMore first before frames kept old new r r2 (Content now) (Err f))
-  content_more {Z} (Content c) before frames kept mid new r1 r2 content now result reads is takes same =
+      (r1 r2 : ReaderState) (content now : Reading) (result : Result (Vec ℤ Z) Fault) →
+      ((c : Reading) (xs : List ℤ) (o : ReaderState) → content ≡ record c { gone = c.gone + 2 * length xs } →
+      ReadsBy c xs o.remaining r1.remaining → r1.failures ≡ o.failures →
+      MatchResult result (λ all. ReadsMore c xs frames kept o r2 now (Ok all.items))
+      (λ f. ReadsMore c xs frames kept o r2 now (Err f))) →
+      Content content ≡ source_behind first before → Takes first before r.remaining r1.remaining →
+      r1.failures ≡ r.failures →
+      MatchResult result (λ all. TakesMore first before frames kept r r2 (Content now) (Ok all.items))
+      (λ f. TakesMore first before frames kept r r2 (Content now) (Err f))
+  content_more {Z} (Content c) before frames kept r1 r2 content now result reads is takes same =
       let here : content ≡ record c { gone = c.gone + 2 * length before } =
       let both : Content content ≡ Content (record c { gone = c.gone + 2 * length before }) = is in cc in
-      go result (reads c before old r here takes same)
+      go result (reads c before r here takes same)
     where
       go : (result : Result (Vec ℤ Z) Fault) →
-          MatchResult result (λ all. ReadsMore c before frames kept old new r r2 now (Ok all.items))
-          (λ f. ReadsMore c before frames kept old new r r2 now (Err f)) →
-          MatchResult result (λ all. TakesMore (Content c) before frames kept old new r r2 (Content now) (Ok all.items))
-          (λ f. TakesMore (Content c) before frames kept old new r r2 (Content now) (Err f))
+          MatchResult result (λ all. ReadsMore c before frames kept r r2 now (Ok all.items))
+          (λ f. ReadsMore c before frames kept r r2 now (Err f)) →
+          MatchResult result (λ all. TakesMore (Content c) before frames kept r r2 (Content now) (Ok all.items))
+          (λ f. TakesMore (Content c) before frames kept r r2 (Content now) (Err f))
       go (Ok all) (samples, joined, count, on, goes, fine) =
           (samples, joined, count, on, ap (λ (y : Reading). Content y) goes, fine)
       go (Err f) failed = failed
-  content_more (Heard s taken) before frames kept mid new r1 r2 content now result reads is takes same =
+  content_more (Heard s taken) before frames kept r1 r2 content now result reads is takes same =
       absurd (let no : Content content ≡ Heard s (taken + length before) = is in cc)
 
   -- from a sound that was read before
-  pub heard_more : (first : Source) (before : List ℤ) (frames : ℕ) (kept : List ℤ) (mid : Option (List ℕ)) (r1 : ℕ)
-      (s : Sound) (taken end : ℕ) (xs all : List ℤ) → Heard s taken ≡ source_behind first before →
-      Takes first before old mid → r1 ≡ r → end ≡ taken + frames * s.channels → end ≤ length s.samples →
+  pub heard_more : (first : Source) (before : List ℤ) (frames : ℕ) (kept : List ℤ) (r1 : ReaderState) (s : Sound)
+      (taken end : ℕ) (xs all : List ℤ) → Heard s taken ≡ source_behind first before →
+      Takes first before r.remaining r1.remaining → r1.failures ≡ r.failures → end ≡ taken + frames * s.channels →
+      end ≤ length s.samples →
       xs ≡ take (frames * s.channels) (drop taken s.samples) → all ≡ kept ++ xs →
-      TakesMore first before frames kept old mid r r1 (Heard s end) (Ok all)
-  heard_more (Content c) before frames kept mid r1 s taken end xs all is takes same there within slice joined =
+      TakesMore first before frames kept r r1 (Heard s end) (Ok all)
+  heard_more (Content c) before frames kept r1 s taken end xs all is takes same there within slice joined =
       absurd (let no : Heard s taken ≡ Content (record c { gone = c.gone + 2 * length before }) = is in cc)
-  heard_more (Heard t at) before frames kept mid r1 s taken end xs all is takes same there within slice joined =
+  heard_more (Heard t at) before frames kept r1 s taken end xs all is takes same there within slice joined =
       (xs, joined, count ∙ ap (λ (y : Sound). frames * y.channels) sound, (takes.0, front), now, same)
     where
       sound : s ≡ t
@@ -225,11 +233,11 @@ unheard_sound s frames some one few whole short = record {
         ∙ mul-div_left frames (let z : 0 < 2 * s.channels = omega (arith, one) in z))
 
 -- what was taken whole is what the source holds
-pub taken_whole : (first : Source) (old new : Option (List ℕ)) (r r' : ℕ) (s : Sound) → (reading_of first).gone ≡ 0 →
-    (reading_of first).size ≢ 0xFFFFFFFF → TakesAll first old new r r' (Ok s) →
-    (2 * length s.samples ≡ (reading_of first).size) × Takes first s.samples old new
-    × (sound_read (reading_of first) s.samples ≡ s) × (r' ≡ r)
-taken_whole (Content c) old new r r' s gone known takes = (
+pub taken_whole : (first : Source) (r r' : ReaderState) (s : Sound) → (reading_of first).gone ≡ 0 →
+    (reading_of first).size ≢ 0xFFFFFFFF → TakesAll first r r' (Ok s) →
+    (2 * length s.samples ≡ (reading_of first).size) × Takes first s.samples r.remaining r'.remaining
+    × (sound_read (reading_of first) s.samples ≡ s) × (r'.failures ≡ r.failures)
+taken_whole (Content c) r r' s gone known takes = (
   takes.4 known,
   record {
     at = λ bytes is. let y = takes.0.at bytes is in
@@ -238,30 +246,29 @@ taken_whole (Content c) old new r r' s gone known takes = (
   rw (← takes.2, ← takes.3) refl,
   takes.1,
 )
-taken_whole (Heard t taken) old new r r' s gone known takes = (
+taken_whole (Heard t taken) r r' s gone known takes = (
   ap (λ (y : Sound). 2 * length y.samples) takes.0,
   (
-    takes.1,
+    ap (λ (x : ReaderState). x.remaining) takes.1,
     sym (take-length s.samples)
         ∙ (ap (λ (y : Sound). take (length s.samples) y.samples) takes.0
         ∙ ap (λ (k : ℕ). take (length s.samples) (drop k t.samples)) (let z : 0 ≡ taken = omega (arith, gone) in z)),
   ),
   ap (λ (y : Sound). record { rate = t.rate; channels = t.channels; samples = y.samples }) takes.0 ∙ sym takes.0,
-  takes.2,
+  ap (λ (x : ReaderState). x.failures) takes.1,
 )
 
 -- its frames were written, or some of them
-pub whole_streams : (n : Netlist Kit ℤ) (q : List ℕ) (first : Source) (old new : Option (List ℕ)) (r r' : ℕ)
-    (s : Sound) → (reading_of first).gone ≡ 0 → (reading_of first).size ≢ 0xFFFFFFFF →
-    TakesAll first old new r r' (Ok s) → (before after : Option (List ℕ)) (w w' : ℕ)
-    (result : Result (Unit {0}) Fault) → PutsOutput n q s before after w w' result →
-    Streams n q first old new before after r r' w w' result
-whole_streams n q first old new r r' s gone known takes before after w w' (Ok x) puts = (s, takes, puts)
-whole_streams n q first old new r r' s gone known takes before after w w' (Err f) (periods, frames, few, are, why) = (
+pub whole_streams : (n : Netlist Kit ℤ) (q : List ℕ) (first : Source) (r r' : ReaderState) (s : Sound) →
+    (reading_of first).gone ≡ 0 → (reading_of first).size ≢ 0xFFFFFFFF → TakesAll first r r' (Ok s) →
+    (w w' : WriterState) (result : Result (Unit {0}) Fault) → PutsOutput n q s w w' result →
+    Streams n q first r r' w w' result
+whole_streams n q first r r' s gone known takes w w' (Ok x) puts = (s, takes, puts)
+whole_streams n q first r r' s gone known takes w w' (Err f) (periods, frames, few, are, why) = (
   s.samples,
   periods,
   frames,
-  new,
+  r'.remaining,
   record {
     within = omega (arith, all.0);
     are_read = inr (all.0, subst (λ (t : Sound). periods ≤ periods_of (exchange_of n q) t) (sym all.2) few);
@@ -271,16 +278,16 @@ whole_streams n q first old new r r' s gone known takes before after w w' (Err f
   elim why [
     | inl failed ↦ inl (failed.0, refl, failed.1, all.3, failed.2)
     | inr refused ↦ inr (
-      takes_refused first s.samples old new r r' f refused.0 all.1 all.3,
+      takes_refused first s.samples r r' f refused.0 all.1 all.3,
       refused.1,
       refused.2,
     )
   ],
 )
   where
-    all : (2 * length s.samples ≡ (reading_of first).size) × Takes first s.samples old new
-        × (sound_read (reading_of first) s.samples ≡ s) × (r' ≡ r)
-    all = taken_whole first old new r r' s gone known takes
+    all : (2 * length s.samples ≡ (reading_of first).size) × Takes first s.samples r.remaining r'.remaining
+        × (sound_read (reading_of first) s.samples ≡ s) × (r'.failures ≡ r.failures)
+    all = taken_whole first r r' s gone known takes
 
 -- ---- what a sound that was read before makes
 
@@ -338,20 +345,13 @@ module _ (n : Netlist Kit ℤ) (q : List ℕ) (s : Sound) (one : 1 ≤ s.channel
           subst (λ (l : List ℤ). AreFrames n q (front l) periods bytes) all are,
         )
 
-  pub heard_puts : (old new before after : Option (List ℕ)) (r r' w w' : ℕ) (result : Result (Unit {0}) Fault) →
-      Streams n q (Heard s 0) old new before after r r' w w' result →
-      PutsOutput n q s before after w w' result × (new ≡ old) × (r' ≡ r)
-  heard_puts old new before after r r' w w' (Ok x) (t, (same, there, counted), puts) =
-      (subst (λ (u : Sound). PutsOutput n q u before after w w' (Ok x)) same puts, there, counted)
-  heard_puts old new before after r r' w w' (Err f) (samples, periods, bytes, mid, st, (there, first), inl why) =
-      let are = frames_of_front samples first periods bytes st.are_read st.are_frames in (
-        (periods, bytes, are.0, are.1, inl (why.0, why.2, why.4)),
-        sym why.1 ∙ there,
-        why.3,
-      )
-  heard_puts old new before after r r' w w' (Err f) (samples, periods, bytes, mid, st, (there, first), inr why) =
-      let are = frames_of_front samples first periods bytes st.are_read st.are_frames in (
-        (periods, bytes, are.0, are.1, inr (why.0.0, why.1, why.2)),
-        why.0.1,
-        why.0.2,
-      )
+  pub heard_puts : (r r' : ReaderState) (w w' : WriterState) (result : Result (Unit {0}) Fault) →
+      Streams n q (Heard s 0) r r' w w' result → PutsOutput n q s w w' result × (r' ≡ r)
+  heard_puts r r' w w' (Ok x) (t, (same, there), puts) =
+      (subst (λ (u : Sound). PutsOutput n q u w w' (Ok x)) same puts, there)
+  heard_puts r r' w w' (Err f) (samples, periods, bytes, mid, st, (there, first), inl why) =
+      let are = frames_of_front samples first periods bytes st.are_read st.are_frames in
+      ((periods, bytes, are.0, are.1, inl (why.0, why.2, why.4)), reader_same r r' (sym why.1 ∙ there) why.3)
+  heard_puts r r' w w' (Err f) (samples, periods, bytes, mid, st, (there, first), inr why) =
+      let are = frames_of_front samples first periods bytes st.are_read st.are_frames in
+      ((periods, bytes, are.0, are.1, inr (why.0.0, why.1, why.2)), why.0.1)

@@ -9,6 +9,7 @@ use Rattle.sdf_kit.specs.declared.kit.Kit.{Kit}
 use Rattle.sdf_kit.specs.Kit.{kit_steps}
 use Rattle.sdf_run.specs.Sessions.{SessionValue}
 use Rattle.sdf_sched.specs.Period.{Schedule}
+use Rattle.sdf_wav.specs.Device.{ReaderState, WriterState}
 use Rattle.sdf_wav.specs.PiecesIn.{Reading, sound_read}
 use Rattle.sdf_wav.specs.Sound.{Sound}
 use Rattle.sdf_wav.specs.declared.wav.TheConstants.{MOST_CHANNELS}
@@ -56,14 +57,14 @@ session_goes n p j v is stands =
 
 -- ---- a source that is taken whole before it is played
 
-module _ (n : Netlist Kit ℤ) (q : List ℕ) (b : Begun) (begun : IsBegun n q b) (old left : Option (List ℕ)) (r r1 : ℕ)
-    (s : Sound) (takes : TakesAll b.source old left r r1 (Ok s)) where
+module _ (n : Netlist Kit ℤ) (q : List ℕ) (b : Begun) (begun : IsBegun n q b) (r r1 : ReaderState)
+    (s : Sound) (takes : TakesAll b.source r r1 (Ok s)) where
   abbrev c : Reading
   c = reading_of b.source
 
-  whole : (2 * length s.samples ≡ c.size) × Takes b.source s.samples old left × (sound_read c s.samples ≡ s)
-      × (r1 ≡ r)
-  whole = taken_whole b.source old left r r1 s begun.unheard.unread known takes
+  whole : (2 * length s.samples ≡ c.size) × Takes b.source s.samples r.remaining r1.remaining
+      × (sound_read c s.samples ≡ s) × (r1.failures ≡ r.failures)
+  whole = taken_whole b.source r r1 s begun.unheard.unread known takes
     where
       known : c.size ≢ 0xFFFFFFFF
       known = (frames_known c.size c.channels b.frames begun.unheard.known).0
@@ -96,18 +97,17 @@ module _ (n : Netlist Kit ℤ) (q : List ℕ) (b : Begun) (begun : IsBegun n q b
   }
 
   -- what is played of it is played of the source
-  pub heard_streams : 0 < (exchange_of n q).taken → (new before after : Option (List ℕ)) (r' w w' : ℕ)
-      (result : Result (Unit {0}) Fault) → Streams n q (Heard s 0) left new before after r1 r' w w' result →
-      Streams n q b.source old new before after r r' w w' result
-  heard_streams some new before after r' w w' result streams =
-      subst (λ (x : Option (List ℕ)). Streams n q b.source old x before after r r' w w' result) (sym puts.1)
-      (subst (λ (k : ℕ). Streams n q b.source old left before after r k w w' result) (sym puts.2)
-      (whole_streams n q b.source old left r r1 s begun.unheard.unread
-      (frames_known c.size c.channels b.frames begun.unheard.known).0 takes before after w w' result puts.0))
+  pub heard_streams : 0 < (exchange_of n q).taken → (r' : ReaderState) (w w' : WriterState)
+      (result : Result (Unit {0}) Fault) → Streams n q (Heard s 0) r1 r' w w' result →
+      Streams n q b.source r r' w w' result
+  heard_streams some r' w w' result streams =
+      subst (λ (x : ReaderState). Streams n q b.source r x w w' result) (sym puts.1)
+      (whole_streams n q b.source r r1 s begun.unheard.unread
+      (frames_known c.size c.channels b.frames begun.unheard.known).0 takes w w' result puts.0)
     where
-      puts : PutsOutput n q s before after w w' result × (new ≡ left) × (r' ≡ r1)
+      puts : PutsOutput n q s w w' result × (r' ≡ r1)
       puts = heard_puts n q s (subst (λ (k : ℕ). 1 ≤ k) channels_is begun.unheard.sound.one_channel)
           (subst (λ (k : ℕ). (exchange_of n q).inputs ≤ k) channels_is
           (allowed_lower (exchange_of n q)
           (record { rate = c.rate; channels = c.channels; frames = b.frames }) begun.extent.is_allowed)) some
-          left new before after r1 r' w w' result streams
+          r1 r' w w' result streams

@@ -1,6 +1,6 @@
 -- How far a run came that takes its input and writes its output as it goes.
 use Rattle.std.specs.Prelude.{◌≡◌, ◌≢◌, ℕ, ◌+◌, ◌-◌, ◌*◌, ◌<◌, ◌≤◌, min, ℤ, List, [], ◌++◌, length, drop, Option, None}
-use Rattle.std.specs.Prelude.{Result, Err, MatchResult, false}
+use Rattle.std.specs.Prelude.{Result, Err, IfOk, MatchResult, false}
 use Rattle.std.specs.Io.KnownBytes.{Appends}
 use Rattle.sdf_limits.specs.declared.TheConstants.{MOST_BLOCK}
 use Rattle.sdf_actor.specs.Nets.{Netlist}
@@ -26,7 +26,7 @@ use Rattle.sdf_process.specs.declared.streaming.Opened.{Opened}
 use Rattle.sdf_process.specs.declared.streaming.Stream.{Stream}
 use Rattle.sdf_process.specs.Output.{exchange_of, in_turn, periods_for, IsExchange}
 use Rattle.sdf_process.specs.Sources.{reading_of, source_behind, Takes}
-use Rattle.sdf_process.specs.Streams.{AreWhole, Follows, GoesBy, StandsWhole, Streams, left_by}
+use Rattle.sdf_process.specs.Streams.{AreWhole, Follows, GoesBy, StandsWhole, Streams, is_at_once, left_by}
 
 -- What a run was begun with: its net, a period and how many of these make a block; the source of its sound, how many
 -- frames that has and how many are made of it; the reader and the writer.
@@ -159,6 +159,10 @@ pub record Turns (b : Start) (g : Progress) (f f' : Flow) (r : ReaderState) (w :
   pub left : f'.left ≡ f.left - min f.most f.left
   pub most : f'.most ≡ f.most
 
+-- frames can be written and taken: a run came so far
+abbrev pub CanTurn : Flow → ReaderState → WriterState → Type 0
+CanTurn f r w = (b : Start) × (g : Progress) × CanFlow b × IsAhead b g f r w
+
 -- so it is, whatever run came so far; or the run ends by a fault
 pub record TurnsAll (f f' : Flow) (r r' : ReaderState) (w w' : WriterState) (result : Result (Unit {0}) Fault) :
     Type 0 where
@@ -178,8 +182,8 @@ pub record IsReady (b : Start) (t : Stream) : Type 0 where
   pub exchange : t.exchange ≡ exchange_in b
   pub limits : IsExchange t.exchange
   pub piece : 0 < t.flow.most
-  -- frames wait to be written only while others are run
-  pub waits : t.at_once ≡ false → items_of t.flow.made.items ≡ []
+  -- frames wait to be written only while parts are run
+  pub waits : is_at_once t.runner ≡ false → items_of t.flow.made.items ≡ []
 
 -- it came as far as this, and keeps the samples behind it
 pub record IsUnderWay (b : Start) (g : Progress) (t : Stream) (r : ReaderState) (w : WriterState) : Type 0 where
@@ -190,6 +194,16 @@ pub record IsUnderWay (b : Start) (g : Progress) (t : Stream) (r : ReaderState) 
 
 abbrev pub GoesOn : Start → Stream → ReaderState → WriterState → Type 0
 GoesOn b t r w = (g : Progress) × IsUnderWay b g t r w
+
+-- whatever run came so far, it goes on; or it ends by a fault
+abbrev pub ComesOn : Stream → Stream → ReaderState → ReaderState → WriterState → WriterState →
+    Result (Unit {0}) Fault → Type 0
+ComesOn t t' r r' w w' result = (b : Start) → GoesOn b t r w →
+    MatchResult result (λ x. GoesOn b t' r' w') (λ e. StreamsFrom b r' w' (Err e))
+
+-- of the frames that are left as many were taken as may be taken at a time
+abbrev pub TakesMost : Flow → Flow → Result (Unit {0}) Fault → Type 0
+TakesMost f f' result = IfOk result (λ x. f'.left ≡ f.left - min f.most f.left)
 
 -- ---- its next blocks
 
@@ -208,3 +222,13 @@ pub record IsStep (b : Start) (g : Progress) (blocks : ℕ) (t : Stream) (y : Po
   pub ahead : IsAhead b g t.flow r w
   pub next : IsNext b g blocks t y
   pub kept : t.flow.kept.items ≡ drop (samples_run b (g.blocks + blocks)) g.samples
+
+-- there is such a run
+abbrev pub CanStep : Stream → Portion → ReaderState → WriterState → Type 0
+CanStep t y r w = (b : Start) × (g : Progress) × (blocks : ℕ) × IsStep b g blocks t y r w
+
+-- whatever run it is, it goes on; or it ends by a fault
+abbrev pub StepsOn : Stream → Stream → Portion → ReaderState → ReaderState → WriterState → WriterState →
+    Result (Unit {0}) Fault → Type 0
+StepsOn t t' y r r' w w' result = (b : Start) (g : Progress) (blocks : ℕ) → IsStep b g blocks t y r w →
+    MatchResult result (λ x. GoesOn b t' r' w') (λ e. StreamsFrom b r' w' (Err e))

@@ -52,9 +52,8 @@ Takes (Heard s taken) samples old new = (new ≡ old) × (samples ≡ take (leng
 -- the whole sound was taken from it, or that failed
 abbrev pub TakesAll : Source → ReaderState → ReaderState → Result Sound Fault → Type 0
 TakesAll (Content c) r r' result = ReadsContent c r r' result
-TakesAll (Heard s taken) r r' (Ok t) = (t ≡ s) × (r'.remaining ≡ r.remaining) × (r'.failures ≡ r.failures)
-TakesAll (Heard s taken) r r' (Err f) =
-    (f ≡ OutOfMemory) × (r'.remaining ≡ r.remaining) × (r'.failures ≡ r.failures)
+TakesAll (Heard s taken) r r' (Ok t) = (t ≡ s) × (r' ≡ r)
+TakesAll (Heard s taken) r r' (Err f) = (f ≡ OutOfMemory) × (r' ≡ r)
 
 -- So many frames behind these samples were taken, and are kept behind others; or that failed.
 abbrev pub TakesMore : Source → List ℤ → ℕ → List ℤ → ReaderState → ReaderState → Source → Result (List ℤ) Fault →

@@ -52,7 +52,8 @@ pub record IsHeardFrom (c : Reading) (input : List ℕ) (s : Sound) (left : List
 -- what the reading of a whole content says of the reader before it and behind it
 abbrev pub ReadsContent : Reading → ReaderState → ReaderState → Result Sound Fault → Type 0
 ReadsContent c r r' (Ok s) =
-    Known r.remaining r'.remaining (λ bytes left. ((input : List ℕ) → IsReadTo input c [] bytes → IsHeardFrom c input s left)
+    Known r.remaining r'.remaining (λ bytes left. ((input : List ℕ) → IsReadTo input c [] bytes →
+    IsHeardFrom c input s left)
     × LosesFront bytes left) × (r'.failures ≡ r.failures)
     × (s.rate ≡ c.rate) × (s.channels ≡ c.channels) × (c.size ≢ 0xFFFFFFFF → 2 * length s.samples ≡ c.size)
 ReadsContent c r r' (Err f) =
@@ -83,17 +84,17 @@ pub record Hears (x : Exchange) (r r' : ReaderState) (w w' : WriterState) (s : S
   pub reader : r'.failures ≡ r.failures
   pub writer : w'.failures ≡ w.failures
 
--- a content that was opened from an input of which this is left
-pub record IsOpened (read left : Option (List ℕ)) (c : Reading) : Type 0 where
-  pub answers : AnswersOpening read left (Ok c)
-  pub only : (input : List ℕ) (f : Format) (size : ℕ) (rest : List ℕ) → read ≡ Some input → Opens input f size rest →
-      OpensTo left f size rest (Ok c)
+-- a content that was opened by a reader, and how this left the reader
+pub record IsOpened (r r' : ReaderState) (c : Reading) : Type 0 where
+  pub answers : AnswersOpening r.remaining r'.remaining (Ok c)
+  pub only : (input : List ℕ) (f : Format) (size : ℕ) (rest : List ℕ) → r.remaining ≡ Some input →
+      Opens input f size rest → OpensTo r'.remaining f size rest (Ok c)
+  pub counted : r'.failures ≡ r.failures
 
 -- what the stages behind an opening say of the run, whatever was opened
 abbrev pub RunsOn : Netlist Kit ℤ → List ℕ → Reading → ReaderState → ReaderState → WriterState → WriterState →
     Result (Unit {0}) Fault → Type 0
-RunsOn n q c r r' w w' result = (read : Option (List ℕ)) → IsOpened read r.remaining c →
-    IsRun n q (record r { remaining = read }) r' w w' result
+RunsOn n q c opened r' w w' result = (r : ReaderState) → IsOpened r opened c → IsRun n q r r' w w' result
 
 -- samples that are written in turn are written as one list
 abbrev pub SamplesJoin : Type 0

@@ -1,6 +1,6 @@
 -- A run that takes its input and writes its output as it goes.
 use Rattle.std.specs.Prelude.{◌≡◌, ◌⊎◌, ℕ, ◌+◌, ◌*◌, ◌<◌, ◌≤◌, ℤ, List, [], ◌++◌, length, slice_index_or, Option, Some}
-use Rattle.std.specs.Prelude.{Result, Ok, Err}
+use Rattle.std.specs.Prelude.{Bool, Result, Ok, Err, false, is_some}
 use Rattle.std.specs.Io.KnownBytes.{Appends}
 use Rattle.sdf_limits.specs.declared.TheConstants.{MOST_BLOCK}
 use Rattle.sdf_graph.specs.Rates.{rates}
@@ -76,6 +76,11 @@ GoesBy n p j (runner.Player v) = PlaysBy n p j v
 abbrev pub left_by : Runner → Option (Rest ℤ (List ℤ))
 left_by (runner.Session v) = v.rest
 left_by (runner.Player v) = Some v.rest
+
+-- frames are written and taken while parts are run at once
+abbrev pub is_at_once : Runner → Bool
+is_at_once (runner.Session v) = false
+is_at_once (runner.Player v) = is_some v.cut
 
 -- of a player all frames are written that it makes
 abbrev pub WritesOf : Runner → ℕ → ℕ → Type 0
@@ -155,7 +160,7 @@ RunsNext v now y made = (n : Netlist Kit ℤ) (p : Schedule) (j : ℕ) (s : Soun
 -- nothing of it changes but its memory
 abbrev pub StaysRunner : Runner → Runner → Type 0
 StaysRunner v w = (left_by w ≡ left_by v) × ((n : Netlist Kit ℤ) (p : Schedule) (j : ℕ) → GoesBy n p j v →
-    GoesBy n p j w)
+    GoesBy n p j w) × (is_at_once w ≡ is_at_once v)
 
 -- the same of a session
 abbrev pub FeedsNext : SessionValue Kit (List ℤ) ℤ → SessionValue Kit (List ℤ) ℤ → Portion → List (List ℤ) → Type 0

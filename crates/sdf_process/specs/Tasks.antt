@@ -13,7 +13,7 @@ use Rattle.sdf_run.specs.Sessions.{MayRun}
 use Rattle.sdf_sched.specs.Period.{IsPeriodOf}
 use Rattle.sdf_wav.specs.PiecesIn.{Reading, known_frames, IsReading}
 use Rattle.sdf_wav.specs.declared.wav.TheConstants.{MOST_CHANNELS}
-use Rattle.sdf_process.specs.declared.playing.Cut.{Cut}
+use Rattle.sdf_process.specs.declared.cut.Cut.{Cut}
 use Rattle.sdf_process.specs.declared.playing.Player.{Player}
 use Rattle.sdf_process.specs.declared.playing.Score.{Score}
 use Rattle.sdf_process.specs.declared.begun.Begun.{Begun}

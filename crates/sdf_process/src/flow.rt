@@ -1,14 +1,15 @@
 //! What goes into a run and comes out of it: the frames of a source, and those that are made of them.
 
-ghost use Rattle.std.specs.Prelude.{MatchResult, Err};
+ghost use Rattle.std.specs.Prelude.{◌≡◌, ◌≤◌, ◌%◌, length, MatchResult, Err};
+ghost use Rattle.sdf_wav.specs.declared.wav.TheConstants.{MOST_CHANNELS};
 ghost use Rattle.sdf_wav.specs.Device.{ReaderState, WriterState};
-ghost use Rattle.sdf_process.specs.Flows.{CanFlow, Flows, IsAhead, Progress, Start, StreamsFrom, TakesNext, TurnsAll};
-ghost use Rattle.sdf_process.specs.Flows.{Writes};
+ghost use Rattle.sdf_process.specs.Flows.{CanFlow, CanTurn, Flows, IsAhead, Progress, Start, StreamsFrom, TakesNext};
+ghost use Rattle.sdf_process.specs.Flows.{TurnsAll, Writes};
 
 use crate::putting::put_in_turn;
 use crate::source::Source;
 use sdf_plan::Fault;
-use sdf_wav::{ContentOut, Reader, Writer};
+use sdf_wav::{ContentOut, Reader, Wav, Writer};
 use std::alloc::Global;
 use std::mem;
 
@@ -30,6 +31,27 @@ pub(crate) struct Flow {
 }
 
 impl Flow {
+    /// Takes the samples that are kept, as a sound of `rate` frames a second.
+    pub(crate) fn take_kept(
+        &mut self,
+        alloc: Global,
+        rate: u32,
+        channels: u16,
+    ) -> Result<Wav, Fault>
+        requires rate { 1 ≤ rate }
+        requires one { 1 ≤ channels }
+        requires few { channels ≤ MOST_CHANNELS }
+        requires whole { length self.old.kept.items % channels ≡ 0 }
+        ensures sound { MatchResult result
+            (λ w. w ≡ record { rate = rate; channels = channels; samples = self.old.kept.items })
+            (λ e. ⊥) }
+        ensures stays { self.new ≡ record self.old { kept = self.new.kept } }
+    {
+        let kept = mem::replace(&mut self.kept, Vec::new(alloc));
+        let sound = Wav::new(rate, channels, kept)?;
+        Ok(sound)
+    }
+
     /// Writes the frames that were made.
     pub(crate) fn write<W: Writer>(&mut self, alloc: Global, writer: &mut W) -> Result<(), Fault>
         requires { (b : Start) × (g : Progress) × (r : ReaderState) × CanFlow b
@@ -69,8 +91,9 @@ impl Flow {
         reader: &mut R,
         writer: &mut W,
     ) -> Result<(), Fault>
-        requires { (b : Start) × (g : Progress) × CanFlow b × IsAhead b g self.old (R.state reader.old) (W.state writer.old) }
-        ensures { TurnsAll self.old self.new (R.state reader.old) (R.state reader.new) (W.state writer.old) (W.state writer.new) result }
+        requires { CanTurn self.old (R.state reader.old) (W.state writer.old) }
+        ensures { TurnsAll self.old self.new (R.state reader.old) (R.state reader.new) (W.state writer.old)
+            (W.state writer.new) result }
     {
         self.write(alloc, writer)?;
         self.take(alloc, reader)

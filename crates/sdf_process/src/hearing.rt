@@ -20,7 +20,8 @@ pub(crate) fn begin<W: Writer>(
     requires some_rate { 0 < extent.rate }
     requires few_bytes_a_second { extent.rate * (2 * exchange.outputs) ≤ 4294967295 }
     requires few_bytes { 2 * (extent.periods * exchange.made * exchange.outputs) ≤ 4294967259 }
-    ensures puts { PutsHeader (W.state writer.old) (W.state writer.new) (file_header extent.rate exchange.outputs (extent.periods * exchange.made)) result }
+    ensures puts { PutsHeader (W.state writer.old) (W.state writer.new)
+        (file_header extent.rate exchange.outputs (extent.periods * exchange.made)) result }
     ensures owed { IfOk result (λ o. o ≡ record {
       channels = exchange.outputs;
       missing = extent.periods * exchange.made;

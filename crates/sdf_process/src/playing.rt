@@ -1,7 +1,7 @@
 //! A net that plays a sound some periods at a time, on one thread or in parts at once. It holds what the periods before
 //! left, and their memory, which it uses again.
 
-ghost use Rattle.std.specs.Prelude.{◌≡◌, ◌*◌, ◌≤◌, ◌<◌, [], IfErr, IfOk, IfSome, IfNone, MatchResult, Some};
+ghost use Rattle.std.specs.Prelude.{◌≡◌, ◌*◌, ◌≤◌, ◌<◌, [], IfErr, IfOk, IfSome, IfNone, MatchResult, Some, is_some};
 ghost use Rattle.sdf_actor.specs.Wires.{lists as items_of};
 ghost use Rattle.sdf_answer.specs.Feeds.{GoesOnBy};
 ghost use Rattle.sdf_answer.specs.declared.fault.RunFault.TheVariants as run;
@@ -9,11 +9,12 @@ ghost use Rattle.sdf_fission.specs.WarmUps.{IsLasting, WarmsIn};
 ghost use Rattle.sdf_kit.specs.Kit.{kit_steps};
 ghost use Rattle.sdf_plan.specs.declared.fault.Fault.TheVariants.{OutOfMemory};
 ghost use Rattle.sdf_wav.specs.Sound.{Sound};
-ghost use Rattle.sdf_process.specs.declared.playing.Cut.{Cut};
+ghost use Rattle.sdf_process.specs.declared.cut.Cut.{Cut};
 ghost use Rattle.sdf_process.specs.Output.{exchange_of, lists_from, IsExchange};
 ghost use Rattle.sdf_process.specs.Streams.{CanPlay, CanPlayNext, PlaysNext, StandsAt, StaysPlayer};
 ghost use Rattle.sdf_process.specs.Tasks.{IsCut, IsPlayer, IsScore};
 
+use crate::cut::{Cut, piece_periods};
 use crate::exchange::Exchange;
 use crate::portion::Portion;
 use crate::samples::make_frames;
@@ -25,17 +26,10 @@ use sdf_plan::Fault;
 use sdf_run::laws::net_facts;
 use sdf_run::{Passage, Spares, resume_one_in};
 use sdf_sched::Period;
-use sdf_split::{Split, Workers, part_size, resume_split};
+use sdf_split::{Split, Workers, resume_split};
 use std::alloc::{AllocError, Global};
 use std::mem;
 use std::thread::Threads;
-
-/// The most frames that a piece reads or makes on one thread, unless a period has more.
-const PIECE: usize = 32_768;
-
-/// The most frames that a part of a piece reads or makes, unless a period or eight warm-ups have more. Longer parts
-/// have less warm-up, and threads are started less often.
-const PART: usize = 65_536;
 
 /// A net, one of its periods, and the most parts of a sound that are run at once.
 #[derive(Clone, Copy)]
@@ -43,13 +37,6 @@ pub(crate) struct Score<'a> {
     pub(crate) net: &'a Net<Kit>,
     pub(crate) period: &'a Period,
     pub(crate) parts: u32,
-}
-
-/// How a piece is cut in time: the most parts that are run at once, and the periods of warm-up before a part.
-#[derive(Clone, Copy)]
-pub(crate) struct Cut {
-    parts: u32,
-    pub(crate) warm: u32,
 }
 
 /// A net that plays a sound.
@@ -89,20 +76,6 @@ fn cut_of(alloc: Global, score: Score<'_>) -> Result<Option<Cut>, AllocError>
     Ok(Some(Cut { parts, warm }))
 }
 
-/// Returns how many periods make a piece: for each worker a part of up to `PART` frames, or of eight warm-ups.
-fn piece_periods(exchange: Exchange, cut: Option<Cut>) -> u32
-    requires { IsExchange exchange }
-    ensures { 0 < result }
-{
-    let most = exchange.taken.max(exchange.made);
-    let piece = (PIECE / most).max(1) as u32;
-    let part = (PART / most).max(1) as u32;
-    match cut {
-        Some(Cut { parts, warm }) => part_size(part, 1, warm).saturating_mul(parts).max(1),
-        None => piece,
-    }
-}
-
 impl<'a> Player<'a> {
     /// Begins before the first period.
     pub(crate) fn open(alloc: Global, score: Score<'a>) -> Result<Player<'a>, Fault>
@@ -133,7 +106,9 @@ impl<'a> Player<'a> {
     }
 
     /// Returns whether it runs parts at once.
-    pub(crate) fn is_cut(&self) -> bool {
+    pub(crate) fn is_cut(&self) -> bool
+        ensures { result ≡ is_some self.now.cut }
+    {
         self.cut.is_some()
     }
 
@@ -210,7 +185,7 @@ impl<'a> Player<'a> {
             period: self.period,
             periods: portion.periods,
             warm: cut.warm,
-            size: part_size(portion.periods, cut.parts.max(1), cut.warm),
+            size: cut.part_of(portion.periods),
         };
         let workers = &mut self.workers;
         let (ran, done) = resume_split(rt, &portion, split, &self.rest, workers, meanwhile);

@@ -29,7 +29,8 @@ pub fn process_with<T: Threads + AllocGlobal + Sync, R: Reader, W: Writer, G: Ga
     gate: &G,
 ) -> Result<(), Fault>
     requires { Suits design.now.net plan.now }
-    ensures { IsRun design.now.net plan.now.period.repetitions (R.state reader.old) (R.state reader.new) (W.state writer.old) (W.state writer.new) result }
+    ensures { IsRun design.now.net plan.now.period.repetitions (R.state reader.old) (R.state reader.new)
+        (W.state writer.old) (W.state writer.new) result }
 {
     let task = Task {
         net: design.net(),
@@ -47,7 +48,8 @@ pub fn process<T: Threads + AllocGlobal + Sync, R: Reader, W: Writer>(
     plan: &Plan,
 ) -> Result<(), Fault>
     requires { Suits design.now.net plan.now }
-    ensures { IsRun design.now.net plan.now.period.repetitions (R.state reader.old) (R.state reader.new) (W.state writer.old) (W.state writer.new) result }
+    ensures { IsRun design.now.net plan.now.period.repetitions (R.state reader.old) (R.state reader.new)
+        (W.state writer.old) (W.state writer.new) result }
 {
     process_with(rt, reader, writer, design, plan, &NoGate)
 }

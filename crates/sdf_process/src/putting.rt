@@ -20,7 +20,8 @@ pub(crate) fn put_in_turn<W: Writer>(
     requires whole { (i : ℕ) → i < length parts.now → (frames : ℕ)
         × (length (slice_index_or (items_of parts.now) i []) ≡ frames * output.old.channels) }
     requires missing { length (in_turn (items_of parts.now)) ≤ output.old.missing * output.old.channels }
-    ensures puts { PutsHeader (W.state writer.old) (W.state writer.new) (sample_bytes (in_turn (items_of parts.now))) result }
+    ensures puts { PutsHeader (W.state writer.old) (W.state writer.new)
+        (sample_bytes (in_turn (items_of parts.now))) result }
     ensures owed { (frames : ℕ) → length (in_turn (items_of parts.now)) ≡ frames * output.old.channels →
         IfOk result (λ x. output.new ≡ record output.old { missing = output.old.missing - frames }) }
 {

@@ -8,6 +8,7 @@ ghost use Rattle.sdf_kit.specs.declared.kit.Kit.{Kit as KitValue};
 ghost use Rattle.sdf_plan.specs.declared.fault.Fault.TheVariants.{OutOfMemory};
 ghost use Rattle.sdf_sched.specs.Period.{Schedule};
 ghost use Rattle.sdf_process.specs.Streams.{CanRun, CanRunNext, FeedsBy, FeedsNext, IsFollowed, RunsNext, StaysRunner};
+ghost use Rattle.sdf_process.specs.Streams.{is_at_once};
 
 use crate::playing::Player;
 use crate::portion::Portion;
@@ -29,7 +30,9 @@ pub(crate) enum Runner<'a> {
 
 impl<'a> Runner<'a> {
     /// Returns whether it runs parts at once.
-    pub(crate) fn is_cut(&self) -> bool {
+    pub(crate) fn is_cut(&self) -> bool
+        ensures { result ≡ is_at_once self.now }
+    {
         match self {
             Runner::Session(_) => false,
             Runner::Player(player) => player.is_cut(),

@@ -94,7 +94,8 @@ pub(crate) fn run_net<T: Threads + AllocGlobal + Sync, R: Reader, W: Writer, G: 
     gate: &G,
 ) -> Result<(), Fault>
     requires { IsTask task }
-    ensures { IsRun task.entry.net.now task.entry.plan.now.period.repetitions (R.state reader.old) (R.state reader.new) (W.state writer.old) (W.state writer.new) result }
+    ensures { IsRun task.entry.net.now task.entry.plan.now.period.repetitions (R.state reader.old) (R.state reader.new)
+        (W.state writer.old) (W.state writer.new) result }
 {
     let content = ContentIn::open(reader)?;
     match content.frames() {

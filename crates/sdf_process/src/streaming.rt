@@ -1,13 +1,13 @@
 //! A run that takes its input and writes its output as it goes. It holds what a piece of the input and a block need.
 
-ghost use Rattle.std.specs.Prelude.{◌≡◌, ◌-◌, ◌*◌, ◌≤◌, min, ℕ, List, [], length, drop, Option, Err, true, IfErr, IfOk};
-ghost use Rattle.std.specs.Prelude.{MatchResult};
+ghost use Rattle.std.specs.Prelude.{◌≡◌, ◌*◌, ◌≤◌, [], length, drop, true, IfErr, IfOk};
 ghost use Rattle.sdf_actor.specs.Wires.{lists as items_of};
 ghost use Rattle.sdf_answer.specs.declared.fault.RunFault.TheVariants as run;
-ghost use Rattle.sdf_plan.specs.declared.fault.Fault.TheVariants.{OutOfMemory};
-ghost use Rattle.sdf_process.specs.Flows.{CanFlow, GoesOn, IsAhead, IsStep, Progress, Start, StreamsFrom, TurnsAll};
-ghost use Rattle.sdf_process.specs.Streams.{CanPlayNext, CanRunNext, IsOpened, PlaysNext, RunsNext, StaysPlayer};
-ghost use Rattle.sdf_process.specs.Streams.{Streams};
+ghost use Rattle.sdf_wav.specs.Device.{ReaderState};
+ghost use Rattle.sdf_process.specs.Flows.{CanStep, CanTurn, ComesOn, GoesOn, Start, StepsOn, StreamsFrom, TakesMost};
+ghost use Rattle.sdf_process.specs.Flows.{TurnsAll};
+ghost use Rattle.sdf_process.specs.Streams.{CanPlayNext, IsOpened, PlaysNext, StaysPlayer, Streams};
+ghost use Rattle.sdf_process.specs.Streams.{is_at_once};
 ghost use Rattle.sdf_process.specs.Tasks.{IsBegun, IsPlayer};
 
 use crate::begun::Begun;
@@ -16,7 +16,7 @@ use crate::flow::Flow;
 use crate::playing::Player;
 use crate::portion::Portion;
 use crate::putting::put_in_turn;
-use crate::runner::{Runner, played, run_fed};
+use crate::runner::{Runner, played};
 use sdf_actor::Net;
 use sdf_answer::RunFault;
 use sdf_kit::Kit;
@@ -63,8 +63,6 @@ pub(crate) struct Stream<'a> {
     rate: u32,
     /// Samples in a frame of it.
     channels: u16,
-    /// Whether frames are written and taken while others are run.
-    at_once: bool,
 }
 
 impl<'a> Stream<'a> {
@@ -77,23 +75,41 @@ impl<'a> Stream<'a> {
         gate: &G,
         portion: Portion<'_>,
     ) -> Result<(), Fault>
-        requires step { (b : Start) × (g : Progress) × (blocks : ℕ) × IsStep b g blocks self.old portion
-            (R.state reader.old) (W.state writer.old) }
+        requires step { CanStep self.old portion (R.state reader.old) (W.state writer.old) }
         requires waits { items_of self.old.flow.made.items ≡ [] }
-        ensures goes { (b : Start) (g : Progress) (blocks : ℕ) → IsStep b g blocks self.old portion.entry
-            (R.state reader.old) (W.state writer.old) →
-            MatchResult result
-            (λ x. GoesOn b self.new (R.state reader.new) (W.state writer.new))
-            (λ f. StreamsFrom b (R.state reader.new) (W.state writer.new) (Err f)) }
-        ensures left { IfOk result (λ x. self.new.flow.left ≡
-            self.old.flow.left - min self.old.flow.most self.old.flow.left) }
+        ensures goes { StepsOn self.old self.new portion.entry (R.state reader.old) (R.state reader.new)
+            (W.state writer.old) (W.state writer.new) result }
+        ensures left { TakesMost self.old.flow self.new.flow result }
     {
         self.flow.made = self.runner.run(rt, gate, portion)?;
         self.flow.turn(rt.alloc(), reader, writer)
     }
 
-    /// Runs a portion while the frames before are written and the next ones are taken.
-    fn run_beside<T: Threads + AllocGlobal + Sync, R: Reader, W: Writer, G: Gate>(
+    /// Runs a portion in parts at once, while the frames before are written and the next ones are taken.
+    fn run_beside<T: Threads + AllocGlobal + Sync, R: Reader, W: Writer>(
+        &mut self,
+        rt: &T,
+        reader: &mut R,
+        writer: &mut W,
+        portion: Portion<'_>,
+    ) -> Result<(), Fault>
+        requires step { CanStep self.old portion (R.state reader.old) (W.state writer.old) }
+        requires parts { is_at_once self.old.runner ≡ true }
+        ensures goes { StepsOn self.old self.new portion.entry (R.state reader.old) (R.state reader.new)
+            (W.state writer.old) (W.state writer.new) result }
+        ensures left { TakesMost self.old.flow self.new.flow result }
+    {
+        let Runner::Player(player) = &mut self.runner else {
+            unreachable!()
+        };
+        let (ran, turned) = play_while_turning(rt, player, &mut self.flow, reader, writer, portion);
+        turned?;
+        self.flow.made = played(ran)?;
+        Ok(())
+    }
+
+    /// Runs a portion, writes frames and takes the next ones.
+    fn run<T: Threads + AllocGlobal + Sync, R: Reader, W: Writer, G: Gate>(
         &mut self,
         rt: &T,
         reader: &mut R,
@@ -101,22 +117,16 @@ impl<'a> Stream<'a> {
         gate: &G,
         portion: Portion<'_>,
     ) -> Result<(), Fault>
-        requires step { (b : Start) × (g : Progress) × (blocks : ℕ) × IsStep b g blocks self.old portion
-            (R.state reader.old) (W.state writer.old) }
-        requires waits { self.old.at_once ≡ true }
-        ensures goes { (b : Start) (g : Progress) (blocks : ℕ) → IsStep b g blocks self.old portion.entry
-            (R.state reader.old) (W.state writer.old) →
-            MatchResult result
-            (λ x. GoesOn b self.new (R.state reader.new) (W.state writer.new))
-            (λ f. StreamsFrom b (R.state reader.new) (W.state writer.new) (Err f)) }
-        ensures left { IfOk result (λ x. self.new.flow.left ≡
-            self.old.flow.left - min self.old.flow.most self.old.flow.left) }
+        requires step { CanStep self.old portion (R.state reader.old) (W.state writer.old) }
+        ensures goes { StepsOn self.old self.new portion.entry (R.state reader.old) (R.state reader.new)
+            (W.state writer.old) (W.state writer.new) result }
+        ensures left { TakesMost self.old.flow self.new.flow result }
     {
-        let (runner, flow) = (&mut self.runner, &mut self.flow);
-        let (ran, turned) = run_while_turning(rt, runner, flow, reader, writer, gate, portion);
-        turned?;
-        self.flow.made = ran?;
-        Ok(())
+        if self.runner.is_cut() {
+            self.run_beside(rt, reader, writer, portion)
+        } else {
+            self.run_in_turn(rt, reader, writer, gate, portion)
+        }
     }
 
     /// Runs the whole blocks of the samples that are kept, writes what was made, and takes the next frames.
@@ -128,20 +138,16 @@ impl<'a> Stream<'a> {
         gate: &G,
     ) -> Result<(), Fault>
         requires on { (b : Start) × GoesOn b self.old (R.state reader.old) (W.state writer.old) }
-        ensures goes { (b : Start) → GoesOn b self.old (R.state reader.old) (W.state writer.old) →
-            MatchResult result
-            (λ x. GoesOn b self.new (R.state reader.new) (W.state writer.new))
-            (λ f. StreamsFrom b (R.state reader.new) (W.state writer.new) (Err f)) }
-        ensures left { IfOk result (λ x. self.new.flow.left ≡
-            self.old.flow.left - min self.old.flow.most self.old.flow.left) }
+        ensures goes { ComesOn self.old self.new (R.state reader.old) (R.state reader.new) (W.state writer.old)
+            (W.state writer.new) result }
+        ensures left { TakesMost self.old.flow self.new.flow result }
     {
         let block = self.blocking as usize * self.exchange.taken * usize::from(self.channels);
         let blocks = self.flow.kept.len() / block;
         if blocks == 0 {
             return self.flow.turn(rt.alloc(), reader, writer);
         }
-        let kept = mem::replace(&mut self.flow.kept, Vec::new(rt.alloc()));
-        let input = Wav::new(self.rate, self.channels, kept)?;
+        let input = self.flow.take_kept(rt.alloc(), self.rate, self.channels)?;
         self.flow.kept = behind(rt.alloc(), input.samples(), blocks * block)?;
         let periods = blocks * self.blocking as usize;
         let portion = Portion {
@@ -152,11 +158,7 @@ impl<'a> Stream<'a> {
         };
         let spare = mem::replace(&mut self.flow.spare, Vec::new(rt.alloc()));
         self.runner.give_back(spare);
-        if self.at_once {
-            self.run_beside(rt, reader, writer, gate, portion)
-        } else {
-            self.run_in_turn(rt, reader, writer, gate, portion)
-        }
+        self.run(rt, reader, writer, gate, portion)
     }
 
     /// Writes what was made, runs the samples that are kept, filled up with zeros to whole blocks, and writes the
@@ -179,8 +181,7 @@ impl<'a> Stream<'a> {
             return Ok(());
         }
         let blocks = frames.div_ceil(self.blocking as usize * self.exchange.made);
-        let kept = mem::replace(&mut self.flow.kept, Vec::new(alloc));
-        let input = Wav::new(self.rate, self.channels, kept)?;
+        let input = self.flow.take_kept(alloc, self.rate, self.channels)?;
         let portion = Portion {
             exchange: self.exchange,
             input: &input,
@@ -193,9 +194,8 @@ impl<'a> Stream<'a> {
 }
 
 /// Plays a portion, while the frames before are written and the next ones are taken.
-fn play_while_turning<T: Threads + Sync, R: Reader, W: Writer>(
+fn play_while_turning<T: Threads + AllocGlobal + Sync, R: Reader, W: Writer>(
     rt: &T,
-    alloc: Global,
     player: &mut Player<'_>,
     flow: &mut Flow,
     reader: &mut R,
@@ -205,52 +205,24 @@ fn play_while_turning<T: Threads + Sync, R: Reader, W: Writer>(
     requires player { IsPlayer player.old }
     requires can { CanPlayNext player.old portion }
     requires all { portion.frames ≡ portion.periods * portion.exchange.made }
-    requires ahead { (b : Start) × (g : Progress) × CanFlow b × IsAhead b g flow.old (R.state reader.old) (W.state writer.old) }
+    requires ahead { CanTurn flow.old (R.state reader.old) (W.state writer.old) }
     ensures plays { IfOk result.0 (λ v. PlaysNext player.old player.new portion.entry (items_of v.items)) }
     ensures refused { IfErr result.0 (λ f. f ≡ run.OutOfMemory) }
     ensures stays { StaysPlayer player.old player.new }
-    ensures turns { TurnsAll flow.old flow.new (R.state reader.old) (R.state reader.new) (W.state writer.old) (W.state writer.new) result.1 }
+    ensures turns { TurnsAll flow.old flow.new (R.state reader.old) (R.state reader.new) (W.state writer.old)
+        (W.state writer.new) result.1 }
 {
+    let alloc = rt.alloc();
     player.run(
         rt,
         alloc,
         portion,
         &mut || -> Result<(), Fault>
-            requires { (b : Start) × (g : Progress) × CanFlow b × IsAhead b g flow.now (R.state reader.now) (W.state writer.now) }
-            ensures { TurnsAll flow.entry.now flow.exit.now (R.state reader.entry.now) (R.state reader.exit.now) (W.state writer.entry.now) (W.state writer.exit.now) result }
+            requires { CanTurn flow.now (R.state reader.now) (W.state writer.now) }
+            ensures { TurnsAll flow.entry.now flow.exit.now (R.state reader.entry.now) (R.state reader.exit.now)
+                (W.state writer.entry.now) (W.state writer.exit.now) result }
         { flow.turn(alloc, reader, writer) },
     )
-}
-
-/// Runs a portion, while the frames before are written and the next ones are taken.
-fn run_while_turning<T: Threads + AllocGlobal + Sync, R: Reader, W: Writer, G: Gate>(
-    rt: &T,
-    runner: &mut Runner<'_>,
-    flow: &mut Flow,
-    reader: &mut R,
-    writer: &mut W,
-    gate: &G,
-    portion: Portion<'_>,
-) -> (Result<Vec<Vec<i16>>, Fault>, Result<(), Fault>)
-    requires next { CanRunNext runner.old portion }
-    requires ahead { (b : Start) × (g : Progress) × CanFlow b × IsAhead b g flow.old (R.state reader.old) (W.state writer.old) }
-    ensures runs { IfOk result.0 (λ v. RunsNext runner.old runner.new portion.entry (items_of v.items)) }
-    ensures refused { IfErr result.0 (λ f. f ≡ OutOfMemory) }
-    ensures turns { TurnsAll flow.old flow.new (R.state reader.old) (R.state reader.new) (W.state writer.old) (W.state writer.new) result.1 }
-{
-    let alloc = rt.alloc();
-    match runner {
-        Runner::Session(session) => {
-            let ran = run_fed(rt, gate, session, portion);
-            (ran, flow.turn(alloc, reader, writer))
-        }
-        Runner::Player(player) => {
-            let (ran, turned) = play_while_turning(
-                rt, alloc, player, flow, reader, writer, portion,
-            );
-            (played(ran), turned)
-        }
-    }
 }
 
 /// Runs a net on the frames of a source: takes some frames, runs all whole blocks that there are, writes what they
@@ -278,7 +250,6 @@ pub(crate) fn run_stream<T: Threads + AllocGlobal + Sync, R: Reader, W: Writer, 
     nets_have_periods(opened.net);
     let exchange = Exchange::of_net(opened.net);
     let (rate, channels) = (source.rate(), source.channels());
-    let at_once = opened.runner.is_cut();
     let flow = Flow {
         source,
         left: frames,
@@ -295,7 +266,6 @@ pub(crate) fn run_stream<T: Threads + AllocGlobal + Sync, R: Reader, W: Writer, 
         blocking: opened.blocking,
         rate,
         channels,
-        at_once,
     };
     while stream.flow.left > 0 {
         stream.go_on(rt, reader, writer, gate)?;

@@ -18,8 +18,8 @@ use sdf_limits::MOST_WORKERS;
 use sdf_plan::parallel::{Pace, Paced, parallel_plan};
 use sdf_plan::planning::plan;
 use sdf_plan::{Fault, Plan};
+use sdf_process::cut::parts_at_once;
 use sdf_process::process::process;
-use sdf_split::part_size;
 use sdf_wav::{FromRead, ToWrite};
 use sdf_why::loop_text;
 use sdf_words::{Crew, Run};
@@ -100,10 +100,8 @@ fn parts_text(alloc: Global, planned: Planned<'_>, frames: u64) -> Result<String
     else {
         return Ok(String::new(alloc));
     };
-    let made = planned.running.loaded.design.net().samples_out() as u64;
-    let run = u32::try_from(frames.div_ceil(made)).unwrap_or(u32::MAX);
     let most = workers.clamp(1, MOST_WORKERS) as u32;
-    let parts = run.div_ceil(part_size(run, most, periods));
+    let parts = parts_at_once(&planned.running.loaded.design, most, periods, frames);
     if parts < 2 {
         return String::from_str(alloc, "one thread: the sound is shorter than two parts\n");
     }

@@ -11,14 +11,11 @@ returns-in_err-player g c =
     let n = c.args.score.net.now in
     let q = c.args.score.period.now.repetitions in
     run_fails (λ (r : Result (Unit {0}) Fault). Streams n q c.args.begun.source
-    (g.R.Reader.remaining c.args.reader.now) (g.R.Reader.remaining c.args.reader.now)
-    (g.W.Writer.contents c.args.writer.now) (g.W.Writer.contents c.args.writer.now)
-    (g.R.Reader.failures c.args.reader.now) (g.R.Reader.failures c.args.reader.now)
-    (g.W.Writer.failures c.args.writer.now) (g.W.Writer.failures c.args.writer.now) r)
+    (g.R.Reader.state c.args.reader.now) (g.R.Reader.state c.args.reader.now) (g.W.Writer.state c.args.writer.now)
+    (g.W.Writer.state c.args.writer.now) r)
     c.in_err-player.field-0.0 c.from_residual.result c.from_residual.ensures.1
-    (unopened n q c.args.begun.source (g.R.Reader.remaining c.args.reader.now)
-    (g.W.Writer.contents c.args.writer.now) (g.R.Reader.failures c.args.reader.now)
-    (g.W.Writer.failures c.args.writer.now) c.in_err-player.field-0.0 c.in_err-player.field-0.0
+    (unopened n q c.args.begun.source (g.R.Reader.state c.args.reader.now) (g.W.Writer.state c.args.writer.now)
+    c.in_err-player.field-0.0 c.in_err-player.field-0.0
     c.in_err-player.ensures.player refl)
 
 pub open-requires-clause-taken : goal.open-requires-clause-taken

@@ -5,8 +5,7 @@ use Rattle.sdf_process.proofs.hearing.begin.Goals as goal
 
 pub returns-in_err-start-clause-puts : goal.returns-in_err-start-clause-puts
 returns-in_err-start-clause-puts g c =
-    begin_failed_as (g.W.Writer.contents c.args.writer.now) (g.W.Writer.contents c.start.new.writer)
-    (g.W.Writer.failures c.args.writer.now) (g.W.Writer.failures c.start.new.writer)
+    begin_failed_as (g.W.Writer.state c.args.writer.now) (g.W.Writer.state c.start.new.writer)
     c.args.extent.rate c.from-2.result c.args.exchange.outputs (c.args.extent.periods * c.args.exchange.made)
     (c.from.result * c.args.exchange.made) c.in_err-start.field-0.0 c.from_residual.result
     (search rules) (search rules)

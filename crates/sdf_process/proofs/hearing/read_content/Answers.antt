@@ -8,8 +8,7 @@ use Rattle.sdf_process.proofs.hearing.read_content.Goals as goal
 
 pub returns-in_err-samples-clause-reads : goal.returns-in_err-samples-clause-reads
 returns-in_err-samples-clause-reads g c =
-    content_failed (g.R.Reader.remaining c.args.reader.now) (g.R.Reader.remaining c.next.new.reader)
-    (g.R.Reader.failures c.args.reader.now) (g.R.Reader.failures c.next.new.reader)
+    content_failed (g.R.Reader.state c.args.reader.now) (g.R.Reader.state c.next.new.reader)
     c.args.content 18446744073709551615 pieces_fall c.in_err-samples.field-0.0 c.from_residual.result
     (c.in_err-samples.ensures.bytes c.requires.unspoilt) (c.in_err-samples.ensures.counted c.requires.unspoilt)
     (c.in_err-samples.ensures.cut c.requires.unspoilt) c.from_residual.ensures.1
@@ -33,8 +32,7 @@ sound_read g c =
 
 pub returns-clause-reads : goal.returns-clause-reads
 returns-clause-reads g c =
-    content_read (g.R.Reader.remaining c.args.reader.now) (g.R.Reader.remaining c.next.new.reader)
-    (g.R.Reader.failures c.args.reader.now) (g.R.Reader.failures c.next.new.reader)
+    content_read (g.R.Reader.state c.args.reader.now) (g.R.Reader.state c.next.new.reader)
     c.args.content 18446744073709551615 refl c.requires.unread pieces_go_on few_end
     c.in_ok-samples.samples
     (c.in_ok-samples.ensures.bytes c.requires.unspoilt) (c.in_ok-samples.ensures.counted c.requires.unspoilt)

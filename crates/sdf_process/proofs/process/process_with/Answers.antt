@@ -4,8 +4,6 @@ use Rattle.sdf_process.proofs.process.process_with.Goals as goal
 
 pub returns : goal.returns
 returns g c =
-    subst (λ n. IsRun n c.args.plan.now.period.repetitions (g.R.Reader.remaining c.args.reader.now)
-    (g.R.Reader.remaining c.run_net.new.reader) (g.W.Writer.contents c.args.writer.now)
-    (g.W.Writer.contents c.run_net.new.writer) (g.R.Reader.failures c.args.reader.now)
-    (g.R.Reader.failures c.run_net.new.reader) (g.W.Writer.failures c.args.writer.now)
-    (g.W.Writer.failures c.run_net.new.writer) c.run_net.result) c.net.ensures.value c.run_net.ensures
+    subst (λ n. IsRun n c.args.plan.now.period.repetitions (g.R.Reader.state c.args.reader.now)
+    (g.R.Reader.state c.run_net.new.reader) (g.W.Writer.state c.args.writer.now)
+    (g.W.Writer.state c.run_net.new.writer) c.run_net.result) c.net.ensures.value c.run_net.ensures

@@ -46,13 +46,12 @@ returns-in_err-put-clause-puts g c =
     let item : c.deref.result.now ≡ get_or xs i [] =
     c.deref.ensures.value ∙ list_read c.args.parts.now i c.list-item.result c.loop-list-test.true c.list-item.is in
     let unspent = ap (λ (o : Owed). o.spent) c.loop-list.invariant.owed.2 ∙ c.requires.unspent in
-    put_stopped puts_join (g.W.Writer.contents c.args.writer.now) (g.W.Writer.contents c.loop-list.writer)
-    (g.W.Writer.contents c.put.new.writer)
-    (g.W.Writer.failures c.args.writer.now) (g.W.Writer.failures c.loop-list.writer)
-    (g.W.Writer.failures c.put.new.writer) (in_turn (take i xs)) (get_or xs i []) (in_turn (drop (i + 1) xs))
+    put_stopped puts_join (g.W.Writer.state c.args.writer.now) (g.W.Writer.state c.loop-list.writer)
+    (g.W.Writer.state c.put.new.writer) (in_turn (take i xs)) (get_or xs i []) (in_turn (drop (i + 1) xs))
     (in_turn xs) (in_turn_split xs i within) c.loop-list.invariant.written c.loop-list.invariant.counted
     c.in_err-put.field-0.0 c.from_residual.result
-    (subst (λ l. Puts {X = Unit {0}} (g.W.Writer.contents c.loop-list.writer) (g.W.Writer.contents c.put.new.writer)
+    (subst (λ l. Puts {X = Unit {0}} (g.W.Writer.state c.loop-list.writer).contents
+    (g.W.Writer.state c.put.new.writer).contents
     (sample_bytes l) (Err c.in_err-put.field-0.0)) item (c.in_err-put.ensures.writes unspent))
     (c.in_err-put.ensures.counted unspent) c.from_residual.ensures.1
 
@@ -69,12 +68,13 @@ loop-list-preserved g c =
     let unspent = ap (λ (z : Owed). z.spent) owed.2 ∙ c.requires.unspent in
     let grown : in_turn (take (i + 1) xs) ≡ in_turn (take i xs) ++ get_or xs i [] = in_turn_grown xs i within in
     record {
-      written = subst (λ l. Appends (g.W.Writer.contents c.args.writer.now) (g.W.Writer.contents c.put.new.writer)
+      written = subst (λ l. Appends (g.W.Writer.state c.args.writer.now).contents
+          (g.W.Writer.state c.put.new.writer).contents
           (sample_bytes l)) (sym grown)
-          (puts_join (g.W.Writer.contents c.args.writer.now) (g.W.Writer.contents c.loop-list.writer)
-          (g.W.Writer.contents c.put.new.writer) (in_turn (take i xs)) (get_or xs i [])
-          c.loop-list.invariant.written (subst (λ l. Appends (g.W.Writer.contents c.loop-list.writer)
-          (g.W.Writer.contents c.put.new.writer) (sample_bytes l)) item (c.in_ok-put.ensures.writes unspent)));
+          (puts_join (g.W.Writer.state c.args.writer.now).contents (g.W.Writer.state c.loop-list.writer).contents
+          (g.W.Writer.state c.put.new.writer).contents (in_turn (take i xs)) (get_or xs i [])
+          c.loop-list.invariant.written (subst (λ l. Appends (g.W.Writer.state c.loop-list.writer).contents
+          (g.W.Writer.state c.put.new.writer).contents (sample_bytes l)) item (c.in_ok-put.ensures.writes unspent)));
       counted = c.in_ok-put.ensures.counted unspent ∙ c.loop-list.invariant.counted;
       owed = (
         owed.0 + own.0,
@@ -92,7 +92,7 @@ returns-clause-puts g c =
     let xs = items_of c.args.parts.now in
     let all : take c.loop-list.list-index xs ≡ xs = take_all c.loop-list.list-index xs
     (omega (arith, c.loop-list-test.false, length-lists c.args.parts.now)) in (
-      subst (λ l. Appends (g.W.Writer.contents c.args.writer.now) (g.W.Writer.contents c.loop-list.writer)
+      subst (λ l. Appends (g.W.Writer.state c.args.writer.now).contents (g.W.Writer.state c.loop-list.writer).contents
           (sample_bytes (in_turn l))) all c.loop-list.invariant.written,
       c.loop-list.invariant.counted,
     )

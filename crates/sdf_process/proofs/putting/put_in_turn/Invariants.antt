@@ -7,9 +7,9 @@ use Rattle.sdf_process.proofs.putting.put_in_turn.Given as goal
 
 abbrev pub invariant-loop-list : goal.invariant-loop-list
 invariant-loop-list g l = record {
-  written : Appends (g.W.Writer.contents l.initial.writer) (g.W.Writer.contents l.writer)
+  written : Appends (g.W.Writer.state l.initial.writer).contents (g.W.Writer.state l.writer).contents
       (sample_bytes (in_turn (take l.list-index (items_of l.parts))));
-  counted : g.W.Writer.failures l.writer ≡ g.W.Writer.failures l.initial.writer;
+  counted : (g.W.Writer.state l.writer).failures ≡ (g.W.Writer.state l.initial.writer).failures;
   owed : (frames : ℕ) × (length (in_turn (take l.list-index (items_of l.parts))) ≡ frames * l.initial.output.channels)
       × (l.output ≡ record l.initial.output { missing = l.initial.output.missing - frames });
 }

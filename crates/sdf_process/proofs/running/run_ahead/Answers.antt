@@ -18,19 +18,13 @@ returns-in_err-extent g c =
     c.args.unheard.content.channels
     c.args.unheard.frames c.rate.ensures.value c.channels.ensures.value refl in
     run_fails (λ (x : Result (Unit {0}) Fault). RunsOn n q c.args.unheard.content
-    (g.R.Reader.remaining c.args.reader.now)
-    (g.R.Reader.remaining c.args.reader.now) (g.W.Writer.contents c.args.writer.now)
-    (g.W.Writer.contents c.args.writer.now)
-    (g.R.Reader.failures c.args.reader.now) (g.R.Reader.failures c.args.reader.now)
-    (g.W.Writer.failures c.args.writer.now) (g.W.Writer.failures c.args.writer.now) x)
+    (g.R.Reader.state c.args.reader.now) (g.R.Reader.state c.args.reader.now)
+    (g.W.Writer.state c.args.writer.now) (g.W.Writer.state c.args.writer.now) x)
     c.in_err-extent.field-0.0 c.from_residual.result c.from_residual.ensures.1
-    (λ read opened. refused_ahead wav_laws n q c.of_net-exchange.result same c.of_net-exchange.ensures.limits
-    read (g.R.Reader.remaining c.args.reader.now) c.args.unheard.content opened.answers
-    c.requires.content.unread opened.only
-    c.args.unheard.frames c.requires.content.known (g.W.Writer.contents c.args.writer.now)
-    (g.R.Reader.failures c.args.reader.now)
-    (g.R.Reader.failures c.args.reader.now) (g.W.Writer.failures c.args.writer.now)
-    c.in_err-extent.field-0.0 (ap (announced_fault c.of_net-exchange.result) (sym told) ∙ c.in_err-extent.ensures) refl)
+    (λ r opened. refused_ahead wav_laws n q c.of_net-exchange.result same c.of_net-exchange.ensures.limits
+    r (g.R.Reader.state c.args.reader.now) c.args.unheard.content opened c.requires.content.unread
+    c.args.unheard.frames c.requires.content.known (g.W.Writer.state c.args.writer.now)
+    c.in_err-extent.field-0.0 (ap (announced_fault c.of_net-exchange.result) (sym told) ∙ c.in_err-extent.ensures))
 
 pub returns-in_err-output : goal.returns-in_err-output
 returns-in_err-output g c =
@@ -41,22 +35,16 @@ returns-in_err-output g c =
     c.args.unheard.content.channels
     c.args.unheard.frames c.rate.ensures.value c.channels.ensures.value refl in
     run_fails (λ (x : Result (Unit {0}) Fault). RunsOn n q c.args.unheard.content
-    (g.R.Reader.remaining c.args.reader.now)
-    (g.R.Reader.remaining c.args.reader.now) (g.W.Writer.contents c.args.writer.now)
-    (g.W.Writer.contents c.begin.new.writer)
-    (g.R.Reader.failures c.args.reader.now) (g.R.Reader.failures c.args.reader.now)
-    (g.W.Writer.failures c.args.writer.now) (g.W.Writer.failures c.begin.new.writer) x)
+    (g.R.Reader.state c.args.reader.now) (g.R.Reader.state c.args.reader.now)
+    (g.W.Writer.state c.args.writer.now) (g.W.Writer.state c.begin.new.writer) x)
     c.in_err-output.field-0.0 c.from_residual-in_err-output.result c.from_residual-in_err-output.ensures.1
-    (λ read opened. header_failed_ahead wav_laws n q c.of_net-exchange.result same
-    c.of_net-exchange.ensures.limits read (g.R.Reader.remaining c.args.reader.now)
-    c.args.unheard.content opened.answers
-    c.requires.content.unread opened.only
-    c.args.unheard.frames c.requires.content.known c.in_ok-extent.extent
+    (λ r opened. header_failed_ahead wav_laws n q c.of_net-exchange.result same
+    c.of_net-exchange.ensures.limits r (g.R.Reader.state c.args.reader.now)
+    c.args.unheard.content opened c.requires.content.unread c.args.unheard.frames c.requires.content.known
+    c.in_ok-extent.extent
     (subst (λ z. IsExtent c.of_net-exchange.result z c.in_ok-extent.extent) told c.in_ok-extent.ensures)
-    (g.W.Writer.contents c.args.writer.now) (g.W.Writer.contents c.begin.new.writer)
-    (g.R.Reader.failures c.args.reader.now) (g.R.Reader.failures c.args.reader.now)
-    (g.W.Writer.failures c.args.writer.now) (g.W.Writer.failures c.begin.new.writer) c.in_err-output.field-0.0
-    c.in_err-output.ensures.puts refl)
+    (g.W.Writer.state c.args.writer.now) (g.W.Writer.state c.begin.new.writer) c.in_err-output.field-0.0
+    c.in_err-output.ensures.puts)
 
 pub run_begun-requires-clause-begun : goal.run_begun-requires-clause-begun
 run_begun-requires-clause-begun g c κs within =
@@ -81,23 +69,19 @@ run_begun-requires-clause-begun g c κs within =
     }
 
 pub returns : goal.returns
-returns g c = λ read opened.
+returns g c = λ r opened.
     let n = c.args.task.net.now in
     let q = c.args.task.plan.now.period.repetitions in
     let same = c.of_net-exchange.ensures.value q c.requires.task.suits.period.least in
     let told = announced_same c.rate.result c.channels.result c.args.unheard.frames c.args.unheard.content.rate
     c.args.unheard.content.channels
     c.args.unheard.frames c.rate.ensures.value c.channels.ensures.value refl in
-    streamed wav_laws n q c.of_net-exchange.result same c.of_net-exchange.ensures.limits read
-    (g.R.Reader.remaining c.args.reader.now) c.args.unheard.content opened.answers
-    c.requires.content.unread opened.only
+    streamed wav_laws n q c.of_net-exchange.result same c.of_net-exchange.ensures.limits r
+    (g.R.Reader.state c.args.reader.now) c.args.unheard.content opened c.requires.content.unread
     c.args.unheard.frames c.requires.content.known c.in_ok-extent.extent
     (subst (λ z. IsExtent c.of_net-exchange.result z c.in_ok-extent.extent) told c.in_ok-extent.ensures)
-    (g.R.Reader.remaining c.run_begun.new.reader) (g.W.Writer.contents c.args.writer.now)
-    (g.W.Writer.contents c.begin.new.writer) (g.W.Writer.contents c.run_begun.new.writer)
-    (g.R.Reader.failures c.args.reader.now) (g.R.Reader.failures c.run_begun.new.reader)
-    (g.W.Writer.failures c.args.writer.now) (g.W.Writer.failures c.begin.new.writer)
-    (g.W.Writer.failures c.run_begun.new.writer)
+    (g.R.Reader.state c.run_begun.new.reader) (g.W.Writer.state c.args.writer.now)
+    (g.W.Writer.state c.begin.new.writer) (g.W.Writer.state c.run_begun.new.writer)
     c.in_ok-output.ensures.puts.0 c.in_ok-output.ensures.puts.1
     (subst (λ k. 1 ≤ k) c.channels.ensures.value c.channels.ensures.above_0) c.in_ok-output.output
     c.in_ok-output.ensures.owed c.run_begun.result c.run_begun.ensures

@@ -1,4 +1,5 @@
-use Rattle.std.proofs.Common.{◌*◌, false, ℕ, List, Option, Result, refl, ap, sym, ◌∙◌, subst, rules}
+use Rattle.std.proofs.Common.{◌*◌, false, ℕ, Result, ap, sym, ◌∙◌, subst, rules}
+use Rattle.sdf_wav.specs.Device.{ReaderState}
 use Rattle.sdf_process.specs.declared.exchange.Announced.{Announced}
 use Rattle.sdf_process.specs.declared.exchange.Exchange.{Exchange}
 use Rattle.sdf_plan.specs.declared.fault.Fault.{Fault}
@@ -18,37 +19,28 @@ returns-in_err-sound g c =
     let n = c.args.task.net.now in
     let q = c.args.task.plan.now.period.repetitions in
     let same = c.of_net-exchange.ensures.value q c.requires.task.suits.period.least in
-    run_fails (λ (x : Result (Unit {0}) Fault). RunsOn n q c.args.content (g.R.Reader.remaining c.args.reader.now)
-    (g.R.Reader.remaining c.read_content.new.reader) (g.W.Writer.contents c.args.writer.now)
-    (g.W.Writer.contents c.args.writer.now)
-    (g.R.Reader.failures c.args.reader.now) (g.R.Reader.failures c.read_content.new.reader)
-    (g.W.Writer.failures c.args.writer.now) (g.W.Writer.failures c.args.writer.now) x)
+    run_fails (λ (x : Result (Unit {0}) Fault). RunsOn n q c.args.content (g.R.Reader.state c.args.reader.now)
+    (g.R.Reader.state c.read_content.new.reader) (g.W.Writer.state c.args.writer.now)
+    (g.W.Writer.state c.args.writer.now) x)
     c.in_err-sound.field-0.0 c.from_residual.result c.from_residual.ensures.1
-    (λ read opened. content_failed_behind wav_laws n q c.of_net-exchange.result same
-    c.of_net-exchange.ensures.limits read (g.R.Reader.remaining c.args.reader.now) c.args.content opened.answers
-    c.requires.unread opened.only
-    c.requires.unknown (g.R.Reader.remaining c.read_content.new.reader) (g.W.Writer.contents c.args.writer.now)
-    (g.R.Reader.failures c.args.reader.now) (g.R.Reader.failures c.args.reader.now)
-    (g.R.Reader.failures c.read_content.new.reader) (g.W.Writer.failures c.args.writer.now)
-    c.in_err-sound.field-0.0 refl c.in_err-sound.ensures.reads)
+    (λ r opened. content_failed_behind wav_laws n q c.of_net-exchange.result same
+    c.of_net-exchange.ensures.limits r (g.R.Reader.state c.args.reader.now) c.args.content opened
+    c.requires.unread c.requires.unknown (g.R.Reader.state c.read_content.new.reader)
+    (g.W.Writer.state c.args.writer.now) c.in_err-sound.field-0.0 c.in_err-sound.ensures.reads)
 
 pub returns-in_err-extent : goal.returns-in_err-extent
 returns-in_err-extent g c =
     let n = c.args.task.net.now in
     let q = c.args.task.plan.now.period.repetitions in
     let same = c.of_net-exchange.ensures.value q c.requires.task.suits.period.least in
-    run_fails (λ (x : Result (Unit {0}) Fault). RunsOn n q c.args.content (g.R.Reader.remaining c.args.reader.now)
-    (g.R.Reader.remaining c.read_content.new.reader) (g.W.Writer.contents c.args.writer.now)
-    (g.W.Writer.contents c.args.writer.now)
-    (g.R.Reader.failures c.args.reader.now) (g.R.Reader.failures c.read_content.new.reader)
-    (g.W.Writer.failures c.args.writer.now) (g.W.Writer.failures c.args.writer.now) x)
+    run_fails (λ (x : Result (Unit {0}) Fault). RunsOn n q c.args.content (g.R.Reader.state c.args.reader.now)
+    (g.R.Reader.state c.read_content.new.reader) (g.W.Writer.state c.args.writer.now)
+    (g.W.Writer.state c.args.writer.now) x)
     c.in_err-extent.field-0.0 c.from_residual-in_err-extent.result c.from_residual-in_err-extent.ensures.1
-    (λ read opened. refused_behind wav_laws n q c.of_net-exchange.result same c.of_net-exchange.ensures.limits
-    read (g.R.Reader.remaining c.args.reader.now) c.args.content opened.answers c.requires.unread opened.only
-    c.requires.unknown (g.R.Reader.remaining c.read_content.new.reader) (g.R.Reader.failures c.args.reader.now)
-    (g.R.Reader.failures c.args.reader.now) (g.R.Reader.failures c.read_content.new.reader) refl c.in_ok-sound.sound
-    c.in_ok-sound.ensures.reads
-    (g.W.Writer.contents c.args.writer.now) (g.W.Writer.failures c.args.writer.now) c.in_err-extent.field-0.0
+    (λ r opened. refused_behind wav_laws n q c.of_net-exchange.result same c.of_net-exchange.ensures.limits
+    r (g.R.Reader.state c.args.reader.now) c.args.content opened c.requires.unread c.requires.unknown
+    (g.R.Reader.state c.read_content.new.reader) c.in_ok-sound.sound c.in_ok-sound.ensures.reads
+    (g.W.Writer.state c.args.writer.now) c.in_err-extent.field-0.0
     (ap (announced_fault c.of_net-exchange.result) (sym c.by.ensures) ∙ c.in_err-extent.ensures))
 
 pub returns-in_err-output : goal.returns-in_err-output
@@ -56,21 +48,16 @@ returns-in_err-output g c =
     let n = c.args.task.net.now in
     let q = c.args.task.plan.now.period.repetitions in
     let same = c.of_net-exchange.ensures.value q c.requires.task.suits.period.least in
-    run_fails (λ (x : Result (Unit {0}) Fault). RunsOn n q c.args.content (g.R.Reader.remaining c.args.reader.now)
-    (g.R.Reader.remaining c.read_content.new.reader) (g.W.Writer.contents c.args.writer.now)
-    (g.W.Writer.contents c.begin.new.writer)
-    (g.R.Reader.failures c.args.reader.now) (g.R.Reader.failures c.read_content.new.reader)
-    (g.W.Writer.failures c.args.writer.now) (g.W.Writer.failures c.begin.new.writer) x)
+    run_fails (λ (x : Result (Unit {0}) Fault). RunsOn n q c.args.content (g.R.Reader.state c.args.reader.now)
+    (g.R.Reader.state c.read_content.new.reader) (g.W.Writer.state c.args.writer.now)
+    (g.W.Writer.state c.begin.new.writer) x)
     c.in_err-output.field-0.0 c.from_residual-in_err-output.result c.from_residual-in_err-output.ensures.1
-    (λ read opened. header_failed_behind wav_laws n q c.of_net-exchange.result same
-    c.of_net-exchange.ensures.limits read (g.R.Reader.remaining c.args.reader.now) c.args.content opened.answers
-    c.requires.unread opened.only
-    c.requires.unknown (g.R.Reader.remaining c.read_content.new.reader) (g.R.Reader.failures c.args.reader.now)
-    (g.R.Reader.failures c.args.reader.now) (g.R.Reader.failures c.read_content.new.reader) refl c.in_ok-sound.sound
+    (λ r opened. header_failed_behind wav_laws n q c.of_net-exchange.result same
+    c.of_net-exchange.ensures.limits r (g.R.Reader.state c.args.reader.now) c.args.content opened
+    c.requires.unread c.requires.unknown (g.R.Reader.state c.read_content.new.reader) c.in_ok-sound.sound
     c.in_ok-sound.ensures.reads
     c.in_ok-extent.extent (subst (λ z. IsExtent c.of_net-exchange.result z c.in_ok-extent.extent) c.by.ensures
-    c.in_ok-extent.ensures) (g.W.Writer.contents c.args.writer.now) (g.W.Writer.contents c.begin.new.writer)
-    (g.W.Writer.failures c.args.writer.now) (g.W.Writer.failures c.begin.new.writer)
+    c.in_ok-extent.ensures) (g.W.Writer.state c.args.writer.now) (g.W.Writer.state c.begin.new.writer)
     c.in_err-output.field-0.0 c.in_err-output.ensures.puts)
 
 pub run_begun-requires-clause-begun : goal.run_begun-requires-clause-begun
@@ -94,7 +81,7 @@ run_begun-requires-clause-begun g c κs within =
     }
 
 pub returns : goal.returns
-returns g c = λ read opened.
+returns g c = λ r opened.
     let n = c.args.task.net.now in
     let q = c.args.task.plan.now.period.repetitions in
     let same = c.of_net-exchange.ensures.value q c.requires.task.suits.period.least in
@@ -104,34 +91,20 @@ returns g c = λ read opened.
     (c.of_net-exchange.ensures.value c.args.task.plan.now.period.repetitions c.requires.task.suits.period.least)
     (subst (λ (z : Announced). IsExtent c.of_net-exchange.result z c.in_ok-extent.extent) c.by.ensures
     c.in_ok-extent.ensures) in
-    let left = g.R.Reader.remaining c.read_content.new.reader in
-    let failed = g.R.Reader.failures c.read_content.new.reader in
-    let hears = heard_behind wav_laws n q c.of_net-exchange.result same c.of_net-exchange.ensures.limits read
-    (g.R.Reader.remaining c.args.reader.now) c.args.content opened.answers c.requires.unread opened.only
-    c.requires.unknown left (g.R.Reader.failures c.args.reader.now)
-    (g.R.Reader.failures c.args.reader.now) failed refl s c.in_ok-sound.ensures.reads
+    let read = g.R.Reader.state c.read_content.new.reader in
+    let after = g.R.Reader.state c.run_begun.new.reader in
+    let before = g.W.Writer.state c.args.writer.now in
+    let begun = g.W.Writer.state c.begin.new.writer in
+    let written = g.W.Writer.state c.run_begun.new.writer in
+    let hears = heard_behind wav_laws n q c.of_net-exchange.result same c.of_net-exchange.ensures.limits r
+    (g.R.Reader.state c.args.reader.now) c.args.content opened c.requires.unread c.requires.unknown read s
+    c.in_ok-sound.ensures.reads
     c.in_ok-extent.extent (subst (λ z. IsExtent c.of_net-exchange.result z c.in_ok-extent.extent) c.by.ensures
-    c.in_ok-extent.ensures) (g.W.Writer.contents c.args.writer.now) (g.W.Writer.contents c.begin.new.writer)
-    (g.W.Writer.failures c.args.writer.now) (g.W.Writer.failures c.begin.new.writer)
+    c.in_ok-extent.ensures) before begun
     c.in_ok-output.output c.in_ok-output.ensures.puts.0 c.in_ok-output.ensures.puts.1 c.in_ok-output.ensures.owed in
     let puts = heard_puts n q s (search rules)
     (allowed_lower (exchange_of n q) (announced_by s) extent.is_allowed) limits.some_taken
-    left (g.R.Reader.remaining c.run_begun.new.reader)
-    (g.W.Writer.contents c.begin.new.writer) (g.W.Writer.contents c.run_begun.new.writer)
-    failed (g.R.Reader.failures c.run_begun.new.reader)
-    (g.W.Writer.failures c.begin.new.writer) (g.W.Writer.failures c.run_begun.new.writer)
-    c.run_begun.result c.run_begun.ensures in
-    subst (λ (x : Option (List ℕ)). IsRun n q read x (g.W.Writer.contents c.args.writer.now)
-    (g.W.Writer.contents c.run_begun.new.writer) (g.R.Reader.failures c.args.reader.now)
-    (g.R.Reader.failures c.run_begun.new.reader) (g.W.Writer.failures c.args.writer.now)
-    (g.W.Writer.failures c.run_begun.new.writer) c.run_begun.result) (sym puts.1)
-    (subst (λ (k : ℕ). IsRun n q read left (g.W.Writer.contents c.args.writer.now)
-    (g.W.Writer.contents c.run_begun.new.writer) (g.R.Reader.failures c.args.reader.now)
-    k (g.W.Writer.failures c.args.writer.now)
-    (g.W.Writer.failures c.run_begun.new.writer) c.run_begun.result) (sym puts.2)
-    (answered wav_laws n q limits read left (g.W.Writer.contents c.args.writer.now)
-    (g.W.Writer.contents c.begin.new.writer) (g.W.Writer.contents c.run_begun.new.writer)
-    (g.R.Reader.failures c.args.reader.now) failed
-    (g.W.Writer.failures c.args.writer.now) (g.W.Writer.failures c.begin.new.writer)
-    (g.W.Writer.failures c.run_begun.new.writer)
-    s c.in_ok-extent.extent c.in_ok-output.output hears c.run_begun.result puts.0))
+    read after begun written c.run_begun.result c.run_begun.ensures in
+    subst (λ (x : ReaderState). IsRun n q r x before written c.run_begun.result) (sym puts.1)
+    (answered wav_laws n q limits r read before begun written
+    s c.in_ok-extent.extent c.in_ok-output.output hears c.run_begun.result puts.0)

@@ -1,4 +1,4 @@
-use Rattle.std.proofs.Common.{Result, subst}
+use Rattle.std.proofs.Common.{Result}
 use Rattle.sdf_plan.specs.Faults.{of_wav}
 use Rattle.sdf_plan.specs.declared.fault.Fault.{Fault}
 use Rattle.sdf_process.specs.Run.{IsRun}
@@ -10,36 +10,24 @@ use Rattle.sdf_process.proofs.running.run_net.Goals as goal
 pub returns-in_err-content : goal.returns-in_err-content
 returns-in_err-content g c =
     run_fails (λ (x : Result (Unit {0}) Fault). IsRun c.args.task.net.now c.args.task.plan.now.period.repetitions
-    (g.R.Reader.remaining c.args.reader.now) (g.R.Reader.remaining c.open.new.reader)
-    (g.W.Writer.contents c.args.writer.now) (g.W.Writer.contents c.args.writer.now)
-    (g.R.Reader.failures c.args.reader.now) (g.R.Reader.failures c.open.new.reader)
-    (g.W.Writer.failures c.args.writer.now) (g.W.Writer.failures c.args.writer.now) x)
+    (g.R.Reader.state c.args.reader.now) (g.R.Reader.state c.open.new.reader)
+    (g.W.Writer.state c.args.writer.now) (g.W.Writer.state c.args.writer.now) x)
     (of_wav c.in_err-content.field-0.0) c.from_residual.result c.from_residual.ensures.1
     (unopened wav_laws c.args.task.net.now c.args.task.plan.now.period.repetitions
-    (g.R.Reader.remaining c.args.reader.now) (g.R.Reader.remaining c.open.new.reader)
-    (g.W.Writer.contents c.args.writer.now)
-    (g.R.Reader.failures c.args.reader.now) (g.R.Reader.failures c.open.new.reader)
-    (g.W.Writer.failures c.args.writer.now) c.in_err-content.field-0.0 c.in_err-content.ensures.answers
+    (g.R.Reader.state c.args.reader.now) (g.R.Reader.state c.open.new.reader)
+    (g.W.Writer.state c.args.writer.now) c.in_err-content.field-0.0 c.in_err-content.ensures.answers
     c.in_err-content.ensures.counted c.in_err-content.ensures.accepts)
 
 pub returns-in-Some : goal.returns-in-Some
-returns-in-Some g c =
-    subst (λ r. IsRun c.args.task.net.now c.args.task.plan.now.period.repetitions
-    (g.R.Reader.remaining c.args.reader.now)
-    (g.R.Reader.remaining c.run_ahead.new.reader) (g.W.Writer.contents c.args.writer.now)
-    (g.W.Writer.contents c.run_ahead.new.writer)
-    r (g.R.Reader.failures c.run_ahead.new.reader) (g.W.Writer.failures c.args.writer.now)
-    (g.W.Writer.failures c.run_ahead.new.writer) c.run_ahead.result) c.in_ok-content.ensures.counted
-    (c.run_ahead.ensures (g.R.Reader.remaining c.args.reader.now)
-    (record { answers = c.in_ok-content.ensures.answers; only = c.in_ok-content.ensures.accepts }))
+returns-in-Some g c = c.run_ahead.ensures (g.R.Reader.state c.args.reader.now) (record {
+  answers = c.in_ok-content.ensures.answers;
+  only = c.in_ok-content.ensures.accepts;
+  counted = c.in_ok-content.ensures.counted;
+})
 
 pub returns-in-None : goal.returns-in-None
-returns-in-None g c =
-    subst (λ r. IsRun c.args.task.net.now c.args.task.plan.now.period.repetitions
-    (g.R.Reader.remaining c.args.reader.now)
-    (g.R.Reader.remaining c.run_behind.new.reader) (g.W.Writer.contents c.args.writer.now)
-    (g.W.Writer.contents c.run_behind.new.writer)
-    r (g.R.Reader.failures c.run_behind.new.reader) (g.W.Writer.failures c.args.writer.now)
-    (g.W.Writer.failures c.run_behind.new.writer) c.run_behind.result) c.in_ok-content.ensures.counted
-    (c.run_behind.ensures (g.R.Reader.remaining c.args.reader.now)
-    (record { answers = c.in_ok-content.ensures.answers; only = c.in_ok-content.ensures.accepts }))
+returns-in-None g c = c.run_behind.ensures (g.R.Reader.state c.args.reader.now) (record {
+  answers = c.in_ok-content.ensures.answers;
+  only = c.in_ok-content.ensures.accepts;
+  counted = c.in_ok-content.ensures.counted;
+})

@@ -7,35 +7,27 @@ use Rattle.sdf_process.proofs.flow.Flow.turn.Goals as goal
 
 pub write-requires : goal.write-requires
 write-requires g c =
-    let h = c.requires in (
-      h.0,
-      h.1,
-      g.R.Reader.remaining c.args.reader.now,
-      g.R.Reader.failures c.args.reader.now,
-      h.2,
-      h.3,
-    )
+    let h = c.requires in
+    (h.0, h.1, g.R.Reader.state c.args.reader.now, h.2, h.3)
 
 pub returns-in_err-write : goal.returns-in_err-write
 returns-in_err-write g c = record {
   turns = λ b p can ahead.
       fails_by c.from_residual.result c.in_err-write.field-0.0 _ _ c.from_residual.ensures.1
-      (c.in_err-write.ensures b p (g.R.Reader.remaining c.args.reader.now) (g.R.Reader.failures c.args.reader.now) can
+      (c.in_err-write.ensures b p (g.R.Reader.state c.args.reader.now) can
       ahead);
 }
 
 pub take-requires : goal.take-requires
 take-requires g c =
     let h = c.requires in
-    let w = c.in_ok-write.ensures h.0 h.1 (g.R.Reader.remaining c.args.reader.now)
-    (g.R.Reader.failures c.args.reader.now) h.2 h.3 in
-    (h.0, h.1, g.W.Writer.contents c.write.new.writer, g.W.Writer.failures c.write.new.writer, h.2, w.flows)
+    let w = c.in_ok-write.ensures h.0 h.1 (g.R.Reader.state c.args.reader.now) h.2 h.3 in
+    (h.0, h.1, g.W.Writer.state c.write.new.writer, h.2, w.flows)
 
 pub returns : goal.returns
 returns g c = record {
   turns = λ b p can ahead.
-      let w = c.in_ok-write.ensures b p (g.R.Reader.remaining c.args.reader.now)
-      (g.R.Reader.failures c.args.reader.now) can ahead in
+      let w = c.in_ok-write.ensures b p (g.R.Reader.state c.args.reader.now) can ahead in
       answered c.take.result _ _ _
       (λ x t. record {
         more = t.more;
@@ -46,6 +38,5 @@ returns g c = record {
             ∙ ap (λ (k : ℕ). c.args.self.now.left - min k c.args.self.now.left) w.most);
         most = t.most ∙ w.most;
       })
-      (c.take.ensures b p (g.W.Writer.contents c.write.new.writer)
-      (g.W.Writer.failures c.write.new.writer) can w.flows);
+      (c.take.ensures b p (g.W.Writer.state c.write.new.writer) can w.flows);
 }

@@ -10,34 +10,35 @@ use Rattle.sdf_process.proofs.Refusals.{fails_by}
 use Rattle.sdf_process.proofs.flow.Flow.write.Goals as goal
 
 pub put_in_turn-requires-clause-unspent : goal.put_in_turn-requires-clause-unspent
-put_in_turn-requires-clause-unspent g c = ap (λ (o : Owed). o.spent) c.requires.5.flows.owed
+put_in_turn-requires-clause-unspent g c = ap (λ (o : Owed). o.spent) c.requires.4.flows.owed
 
 pub put_in_turn-requires-clause-whole : goal.put_in_turn-requires-clause-whole
 put_in_turn-requires-clause-whole g c =
     let h = c.requires in
-    each_of h.0 h.4 h.1 c.args.self.now h.5 c.deref.result.now c.deref.ensures.value
+    each_of h.0 h.3 h.1 c.args.self.now h.4 c.deref.result.now c.deref.ensures.value
 
 pub put_in_turn-requires-clause-missing : goal.put_in_turn-requires-clause-missing
 put_in_turn-requires-clause-missing g c =
     let h = c.requires in
-    room_of h.0 h.4 h.1 c.args.self.now h.5 c.deref.result.now c.deref.ensures.value
+    room_of h.0 h.3 h.1 c.args.self.now h.4 c.deref.result.now c.deref.ensures.value
 
 pub returns-in_err-put_in_turn : goal.returns-in_err-put_in_turn
-returns-in_err-put_in_turn g c = λ b p now r can ahead.
+returns-in_err-put_in_turn g c = λ b p r can ahead.
     let puts = c.in_err-put_in_turn.ensures.puts in
     fails_by c.from_residual.result c.in_err-put_in_turn.field-0.0 _ _ c.from_residual.ensures.1
-    (writing_failed b can p c.args.self.now ahead (g.W.Writer.contents c.put_in_turn.new.writer)
-    (g.W.Writer.failures c.put_in_turn.new.writer) c.in_err-put_in_turn.field-0.0 puts.0
-    (subst (λ l. AppendsFront (g.W.Writer.contents c.args.writer.now) (g.W.Writer.contents c.put_in_turn.new.writer)
+    (writing_failed b can p c.args.self.now ahead (g.W.Writer.state c.put_in_turn.new.writer)
+    c.in_err-put_in_turn.field-0.0 puts.0
+    (subst (λ l. AppendsFront (g.W.Writer.state c.args.writer.now).contents
+    (g.W.Writer.state c.put_in_turn.new.writer).contents
     (sample_bytes (in_turn (items_of l)))) c.deref.ensures.value puts.1) puts.2)
 
 pub returns : goal.returns
-returns g c = λ b p now r can ahead.
+returns g c = λ b p r can ahead.
     let puts = c.in_ok-put_in_turn.ensures.puts in
     record {
-      flows = wrote b can p c.args.self.now ahead (g.W.Writer.contents c.put_in_turn.new.writer)
-          (g.W.Writer.failures c.put_in_turn.new.writer) c.put_in_turn.new.output
-          (subst (λ l. Appends (g.W.Writer.contents c.args.writer.now) (g.W.Writer.contents c.put_in_turn.new.writer)
+      flows = wrote b can p c.args.self.now ahead (g.W.Writer.state c.put_in_turn.new.writer) c.put_in_turn.new.output
+          (subst (λ l. Appends (g.W.Writer.state c.args.writer.now).contents
+          (g.W.Writer.state c.put_in_turn.new.writer).contents
           (sample_bytes (in_turn (items_of l)))) c.deref.ensures.value puts.0) puts.1
           (c.in_ok-put_in_turn.ensures.owed _ (frames_of b can p c.args.self.now ahead c.deref.result.now
           c.deref.ensures.value));

@@ -30,7 +30,7 @@ resume_split-ran-requires-clause-split g c κs within =
           (sym can.exchange) (piece_full n p.repetitions y.input.now 0 y.periods);
       warm_up = c.requires.warm;
       short = omega (arith, y.fits);
-      some = c.part_size.ensures.is.some;
+      some = c.part_of.ensures.is.some;
       long = search rules;
     }
 

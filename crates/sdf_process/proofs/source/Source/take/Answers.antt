@@ -20,14 +20,13 @@ overflow_add-end g c = Fits-of_lt (omega (
 ))
 
 pub returns-in-Content : goal.returns-in-Content
-returns-in-Content g c = λ first before old r is takes same.
-    content_more old r first before c.args.frames c.args.kept.items (g.R.Reader.remaining c.args.reader.now)
-    (g.R.Reader.remaining c.read_more.new.reader) (g.R.Reader.failures c.args.reader.now)
-    (g.R.Reader.failures c.read_more.new.reader) c.in-Content.content c.read_more.new.content c.read_more.result
+returns-in-Content g c = λ first before r is takes same.
+    content_more r first before c.args.frames c.args.kept.items (g.R.Reader.state c.args.reader.now)
+    (g.R.Reader.state c.read_more.new.reader) c.in-Content.content c.read_more.new.content c.read_more.result
     c.read_more.ensures (sym c.in-Content.is ∙ is) takes same
 
 pub returns-in_ok-extend_from_slice-in-Heard : goal.returns-in_ok-extend_from_slice-in-Heard
-returns-in_ok-extend_from_slice-in-Heard g c = λ first before old r is takes same.
+returns-in_ok-extend_from_slice-in-Heard g c = λ first before r is takes same.
     let s = c.in-Heard.sound in
     let taken = c.in-Heard.taken in
     let count = c.from.ensures ∙ c.channels.ensures.value in
@@ -36,8 +35,8 @@ returns-in_ok-extend_from_slice-in-Heard g c = λ first before old r is takes sa
     let added : c.extend_from_slice.new.self.items ≡
     c.args.kept.items ++ take (end - taken) (drop taken c.samples.result.now) = search rules in
     let many : end - taken ≡ c.args.frames * s.channels = omega (arith, there) in
-    heard_more old r first before c.args.frames c.args.kept.items (g.R.Reader.remaining c.args.reader.now)
-    (g.R.Reader.failures c.args.reader.now) s taken end (take (c.args.frames * s.channels) (drop taken s.samples))
+    heard_more r first before c.args.frames c.args.kept.items (g.R.Reader.state c.args.reader.now) s taken end
+    (take (c.args.frames * s.channels) (drop taken s.samples))
     c.extend_from_slice.new.self.items (sym c.in-Heard.is ∙ is) takes same there
     (heard_enough c.args.self.now s taken c.args.frames c.from.result c.in-Heard.is count c.requires.enough) refl
     (added ∙ (ap (λ l. c.args.kept.items ++ take (end - taken) (drop taken l)) c.samples.ensures.value

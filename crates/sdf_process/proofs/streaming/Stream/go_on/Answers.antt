@@ -4,12 +4,14 @@ use Rattle.std.proofs.Math.Nat.{div-mul-le_self}
 use Rattle.sdf_plan.specs.declared.fault.Fault.TheVariants.{OutOfMemory}
 use Rattle.sdf_wav.specs.Sound.{Sound}
 use Rattle.sdf_process.specs.declared.exchange.Exchange.{Exchange}
+use Rattle.sdf_process.specs.declared.flow.Flow.{Flow}
 use Rattle.sdf_process.specs.Flows.{exchange_in, reading_in}
 use Rattle.sdf_process.proofs.Contents.{sound_made, sound_refused}
 use Rattle.sdf_process.proofs.Flowing.{memory_refused}
 use Rattle.sdf_process.proofs.Refusals.{fails_by}
 use Rattle.sdf_process.proofs.Sizes.{frames_small, periods_small}
-use Rattle.sdf_process.proofs.Steps.{answered, kept_few, kept_whole, some_inputs, step_by, turned_on, where_ok}
+use Rattle.sdf_process.proofs.Steps.{answered, block_is, kept_few, kept_whole, some_inputs, step_by, turned_on}
+use Rattle.sdf_process.proofs.Steps.{where_ok}
 use Rattle.sdf_process.proofs.streaming.Stream.go_on.Goals as goal
 
 pub turn-requires : goal.turn-requires
@@ -28,36 +30,22 @@ returns-then-blocks-eq0-clause-left g c =
     where_ok c.turn.result _ _ _ (λ x turns. turns.left) (c.turn.ensures.turns h.0 h.1.0 h.1.1.ready.can h.1.1.ahead)
 
 pub returns-in_err-input-clause-goes : goal.returns-in_err-input-clause-goes
-returns-in_err-input-clause-goes g c = λ b on.
-    let t = c.args.self.now in
-    let under = on.1 in
-    let same = ap (λ (z : _). z.items) c.replace-kept.ensures.value in
-    absurd (sound_refused c.new-2.result t.rate t.channels c.replace-kept.result.items c.in_err-input.field-0.0
-    c.new-2.ensures c.in_err-input.was under.ready.some_rate
-    (omega (arith, under.ready.channels, under.ready.can.one)) under.ready.few_channels
-    (subst (λ l. length l % t.channels ≡ 0) (sym same) (kept_whole b on.0 t under)))
+returns-in_err-input-clause-goes g c = λ b on. absurd c.in_err-input.ensures.sound
+
+pub take_kept-requires-clause-whole : goal.take_kept-requires-clause-whole
+take_kept-requires-clause-whole g c =
+    let h = c.requires.on in
+    kept_whole h.0 h.1.0 c.args.self.now h.1.1
 
 pub behind-requires : goal.behind-requires
 behind-requires g c =
-    let b = c.requires.on.0 in
-    let p = c.requires.on.1.0 in
-    let under = c.requires.on.1.1 in
     let t = c.args.self.now in
-    let f = c.from.result in
-    let k : ℕ = t.blocking * t.exchange.taken * f in
-    let blocks : ℕ = c.len.result / k in
-    let same = ap (λ (z : _). z.items) c.replace-kept.ensures.value in
-    let whole = subst (λ l. length l % t.channels ≡ 0) (sym same) (kept_whole b p t under) in
-    let sound = sound_made c.in_ok-input.input c.new-2.result t.rate t.channels c.replace-kept.result.items
-    c.new-2.ensures
-    c.in_ok-input.was under.ready.some_rate (omega (arith, under.ready.channels, under.ready.can.one))
-    under.ready.few_channels whole in
+    let k : ℕ = t.blocking * t.exchange.taken * c.from.result in
     omega (
       arith,
       div-mul-le_self c.len.result k,
       c.len.ensures,
-      ap length (c.samples.ensures.value
-          ∙ (ap (λ (y : Sound). y.samples) sound ∙ same)),
+      ap length (c.samples.ensures.value ∙ ap (λ (y : Sound). y.samples) c.in_ok-input.ensures.sound),
     )
 
 pub returns-in_err-self-clause-goes : goal.returns-in_err-self-clause-goes
@@ -126,133 +114,45 @@ invariant_of-portion g c =
       some = some_inputs b t under.ready;
     }
 
-pub invariant_of-portion-else-self : goal.invariant_of-portion-else-self
-invariant_of-portion-else-self g c =
+pub run-requires-clause-step : goal.run-requires-clause-step
+run-requires-clause-step g c κs within =
     let b = c.requires.on.0 in
     let p = c.requires.on.1.0 in
     let under = c.requires.on.1.1 in
     let t = c.args.self.now in
-    let f = c.from.result in
-    record {
-      fits = periods_small t.blocking t.exchange.taken t.exchange.made f t.channels c.len.result
-          (omega (arith, under.ready.blocking, under.ready.can.some)) under.ready.limits.some_taken
-          under.ready.limits.few_made c.from.ensures (omega (arith, under.ready.channels, under.ready.can.one))
-          (omega (arith, c.len.ensures, kept_few b p t under));
-      limits = under.ready.limits;
-      some = some_inputs b t under.ready;
-    }
-
-pub run_beside-requires-clause-step : goal.run_beside-requires-clause-step
-run_beside-requires-clause-step g c κs within =
-    let b = c.requires.on.0 in
-    let p = c.requires.on.1.0 in
-    let under = c.requires.on.1.1 in
-    let t = c.args.self.now in
-    let f = c.from.result in
-    let k : ℕ = t.blocking * t.exchange.taken * f in
+    let k : ℕ = t.blocking * t.exchange.taken * c.from.result in
     let blocks : ℕ = c.len.result / k in
-    let same = ap (λ (z : _). z.items) c.replace-kept.ensures.value in
-    let whole = subst (λ l. length l % t.channels ≡ 0) (sym same) (kept_whole b p t under) in
-    let sound = sound_made c.in_ok-input.input c.new-2.result t.rate t.channels c.replace-kept.result.items
-    c.new-2.ensures
-    c.in_ok-input.was under.ready.some_rate (omega (arith, under.ready.channels, under.ready.can.one))
-    under.ready.few_channels whole in
-    let x = exchange_in b in
-    let block : k ≡ b.blocking * x.taken * (reading_in b).channels =
-    ap (λ z. z * t.exchange.taken * f) under.ready.blocking ∙ (ap (λ (y : Exchange). b.blocking * y.taken * f)
-    under.ready.exchange ∙ ap (λ z. b.blocking * x.taken * z) (c.from.ensures ∙ under.ready.channels)) in
+    let sound = c.in_ok-input.ensures.sound in
+    let stays = c.take_kept.ensures.stays in
     let some : blocks * k ≤ length t.flow.kept.items = omega (arith, div-mul-le_self c.len.result k, c.len.ensures) in (
       b,
       p,
       blocks,
-      step_by b p t under blocks k block some c.give_back.new.self _ _ c.in_ok-self.field-0.items
-          c.give_back.ensures.0 (c.give_back.ensures.1 b.net b.period b.blocking under.ready.goes) refl
-          refl refl refl refl
-          (c.in_ok-self.ensures ∙ ap (drop (blocks * k)) (c.samples.ensures.value
-          ∙ (ap (λ (y : Sound). y.samples) sound ∙ same))) refl (ap (λ z. blocks * z) under.ready.blocking) refl
-          (ap (λ (y : Sound). y.channels) sound) (ap (λ (y : Sound). y.samples) sound ∙ same),
+      step_by b p t under blocks k (block_is b p t under c.from.result c.from.ensures) some c.give_back.new.self _ _
+          c.in_ok-self.field-0.items
+          c.give_back.ensures.0 (c.give_back.ensures.1 b.net b.period b.blocking under.ready.goes)
+          c.give_back.ensures.2 (ap (λ (f : Flow). f.left) stays) (ap (λ (f : Flow). f.source) stays)
+          (ap (λ (f : Flow). f.output) stays) (ap (λ (f : Flow). f.made) stays) (ap (λ (f : Flow). f.most) stays)
+          (c.in_ok-self.ensures ∙ ap (drop (blocks * k))
+          (c.samples.ensures.value ∙ ap (λ (y : Sound). y.samples) sound))
+          refl (ap (λ z. blocks * z) under.ready.blocking) refl
+          (ap (λ (y : Sound). y.channels) sound) (ap (λ (y : Sound). y.samples) sound),
     )
-
-pub returns-then-self-clause-goes : goal.returns-then-self-clause-goes
-returns-then-self-clause-goes g c = λ b on.
-    let under = on.1 in
-    let t = c.args.self.now in
-    let f = c.from.result in
-    let k : ℕ = t.blocking * t.exchange.taken * f in
-    let blocks : ℕ = c.len.result / k in
-    let same = ap (λ (z : _). z.items) c.replace-kept.ensures.value in
-    let whole = subst (λ l. length l % t.channels ≡ 0) (sym same) (kept_whole b on.0 t under) in
-    let sound = sound_made c.in_ok-input.input c.new-2.result t.rate t.channels c.replace-kept.result.items
-    c.new-2.ensures
-    c.in_ok-input.was under.ready.some_rate (omega (arith, under.ready.channels, under.ready.can.one))
-    under.ready.few_channels whole in
-    let x = exchange_in b in
-    let block : k ≡ b.blocking * x.taken * (reading_in b).channels =
-    ap (λ z. z * t.exchange.taken * f) under.ready.blocking ∙ (ap (λ (y : Exchange). b.blocking * y.taken * f)
-    under.ready.exchange ∙ ap (λ z. b.blocking * x.taken * z) (c.from.ensures ∙ under.ready.channels)) in
-    let some : blocks * k ≤ length t.flow.kept.items = omega (arith, div-mul-le_self c.len.result k, c.len.ensures) in
-    c.run_beside.ensures.goes b on.0 blocks (step_by b on.0 t under blocks k block some c.give_back.new.self
-    _ _ c.in_ok-self.field-0.items
-    c.give_back.ensures.0 (c.give_back.ensures.1 b.net b.period b.blocking under.ready.goes) refl refl refl refl refl
-    (c.in_ok-self.ensures ∙ ap (drop (blocks * k)) (c.samples.ensures.value
-    ∙ (ap (λ (y : Sound). y.samples) sound ∙ same))) refl (ap (λ z. blocks * z) under.ready.blocking) refl
-    (ap (λ (y : Sound). y.channels) sound) (ap (λ (y : Sound). y.samples) sound ∙ same))
-
-pub run_in_turn-requires-clause-step : goal.run_in_turn-requires-clause-step
-run_in_turn-requires-clause-step g c κs within =
-    let b = c.requires.on.0 in
-    let p = c.requires.on.1.0 in
-    let under = c.requires.on.1.1 in
-    let t = c.args.self.now in
-    let f = c.from.result in
-    let k : ℕ = t.blocking * t.exchange.taken * f in
-    let blocks : ℕ = c.len.result / k in
-    let same = ap (λ (z : _). z.items) c.replace-kept.ensures.value in
-    let whole = subst (λ l. length l % t.channels ≡ 0) (sym same) (kept_whole b p t under) in
-    let sound = sound_made c.in_ok-input.input c.new-2.result t.rate t.channels c.replace-kept.result.items
-    c.new-2.ensures
-    c.in_ok-input.was under.ready.some_rate (omega (arith, under.ready.channels, under.ready.can.one))
-    under.ready.few_channels whole in
-    let x = exchange_in b in
-    let block : k ≡ b.blocking * x.taken * (reading_in b).channels =
-    ap (λ z. z * t.exchange.taken * f) under.ready.blocking ∙ (ap (λ (y : Exchange). b.blocking * y.taken * f)
-    under.ready.exchange ∙ ap (λ z. b.blocking * x.taken * z) (c.from.ensures ∙ under.ready.channels)) in
-    let some : blocks * k ≤ length t.flow.kept.items = omega (arith, div-mul-le_self c.len.result k, c.len.ensures) in (
-      b,
-      p,
-      blocks,
-      step_by b p t under blocks k block some c.give_back.new.self _ _ c.in_ok-self.field-0.items
-          c.give_back.ensures.0 (c.give_back.ensures.1 b.net b.period b.blocking under.ready.goes) refl
-          refl refl refl refl
-          (c.in_ok-self.ensures ∙ ap (drop (blocks * k)) (c.samples.ensures.value
-          ∙ (ap (λ (y : Sound). y.samples) sound ∙ same))) refl (ap (λ z. blocks * z) under.ready.blocking) refl
-          (ap (λ (y : Sound). y.channels) sound) (ap (λ (y : Sound). y.samples) sound ∙ same),
-    )
-
-pub run_in_turn-requires-clause-waits : goal.run_in_turn-requires-clause-waits
-run_in_turn-requires-clause-waits g c κs within = c.requires.on.1.1.ready.waits c.if-self.false
 
 pub returns-clause-goes : goal.returns-clause-goes
 returns-clause-goes g c = λ b on.
     let under = on.1 in
     let t = c.args.self.now in
-    let f = c.from.result in
-    let k : ℕ = t.blocking * t.exchange.taken * f in
+    let k : ℕ = t.blocking * t.exchange.taken * c.from.result in
     let blocks : ℕ = c.len.result / k in
-    let same = ap (λ (z : _). z.items) c.replace-kept.ensures.value in
-    let whole = subst (λ l. length l % t.channels ≡ 0) (sym same) (kept_whole b on.0 t under) in
-    let sound = sound_made c.in_ok-input.input c.new-2.result t.rate t.channels c.replace-kept.result.items
-    c.new-2.ensures
-    c.in_ok-input.was under.ready.some_rate (omega (arith, under.ready.channels, under.ready.can.one))
-    under.ready.few_channels whole in
-    let x = exchange_in b in
-    let block : k ≡ b.blocking * x.taken * (reading_in b).channels =
-    ap (λ z. z * t.exchange.taken * f) under.ready.blocking ∙ (ap (λ (y : Exchange). b.blocking * y.taken * f)
-    under.ready.exchange ∙ ap (λ z. b.blocking * x.taken * z) (c.from.ensures ∙ under.ready.channels)) in
+    let sound = c.in_ok-input.ensures.sound in
+    let stays = c.take_kept.ensures.stays in
     let some : blocks * k ≤ length t.flow.kept.items = omega (arith, div-mul-le_self c.len.result k, c.len.ensures) in
-    c.run_in_turn.ensures.goes b on.0 blocks (step_by b on.0 t under blocks k block some c.give_back.new.self
-    _ _ c.in_ok-self.field-0.items
-    c.give_back.ensures.0 (c.give_back.ensures.1 b.net b.period b.blocking under.ready.goes) refl refl refl refl refl
-    (c.in_ok-self.ensures ∙ ap (drop (blocks * k)) (c.samples.ensures.value
-    ∙ (ap (λ (y : Sound). y.samples) sound ∙ same))) refl (ap (λ z. blocks * z) under.ready.blocking) refl
-    (ap (λ (y : Sound). y.channels) sound) (ap (λ (y : Sound). y.samples) sound ∙ same))
+    c.run.ensures.goes b on.0 blocks (step_by b on.0 t under blocks k
+    (block_is b on.0 t under c.from.result c.from.ensures) some c.give_back.new.self _ _ c.in_ok-self.field-0.items
+    c.give_back.ensures.0 (c.give_back.ensures.1 b.net b.period b.blocking under.ready.goes)
+    c.give_back.ensures.2 (ap (λ (f : Flow). f.left) stays) (ap (λ (f : Flow). f.source) stays)
+    (ap (λ (f : Flow). f.output) stays) (ap (λ (f : Flow). f.made) stays) (ap (λ (f : Flow). f.most) stays)
+    (c.in_ok-self.ensures ∙ ap (drop (blocks * k)) (c.samples.ensures.value ∙ ap (λ (y : Sound). y.samples) sound))
+    refl (ap (λ z. blocks * z) under.ready.blocking) refl
+    (ap (λ (y : Sound). y.channels) sound) (ap (λ (y : Sound). y.samples) sound))
