@@ -1,10 +1,13 @@
 # The gate, the proved program, and the programs that show it at work.
 
-.PHONY: help build demo announced try install uninstall deb documents examples test mutants tried times allocations bench \
-	hostile clean
+.PHONY: help build demo announced try install uninstall deb packages documents examples test mutants tried times \
+	allocations bench hostile clean
 
 PREFIX ?= /usr/local
 CPU ?= $(shell scripts/cpu)
+ROOT = $(DESTDIR)$(PREFIX)
+# The documents that `install` copies. Each keeps its folder, so that the links between them work.
+INSTALLED = LICENSE *.md docs/*.md docs/*.json examples/*.md examples/*/*
 
 # Lists these targets.
 help:
@@ -34,30 +37,32 @@ announced:
 try:
 	@scripts/try
 
-# Copies the built program, its man page, its completions and its documents below PREFIX (/usr/local).
+# Copies the built program, its man page, its completions, its documents and its examples below PREFIX (/usr/local).
 install:
 	@test -x build/sdfw || { echo "there is no build/sdfw: make build"; exit 1; }
-	install -D -m 755 build/sdfw $(DESTDIR)$(PREFIX)/bin/sdfw
-	install -D -m 644 docs/sdfw.1 $(DESTDIR)$(PREFIX)/share/man/man1/sdfw.1
-	install -D -m 644 docs/completions/sdfw.bash $(DESTDIR)$(PREFIX)/share/bash-completion/completions/sdfw
-	install -D -m 644 docs/completions/_sdfw $(DESTDIR)$(PREFIX)/share/zsh/site-functions/_sdfw
-	install -D -m 644 docs/completions/sdfw.fish $(DESTDIR)$(PREFIX)/share/fish/vendor_completions.d/sdfw.fish
-	install -d $(DESTDIR)$(PREFIX)/share/doc/sdfw
-	install -m 644 README.md LICENSE CHANGELOG.md docs/TUTORIAL.md docs/FORMATS.md $(DESTDIR)$(PREFIX)/share/doc/sdfw
-	install -m 644 docs/graph.schema.json docs/answers.schema.json $(DESTDIR)$(PREFIX)/share/doc/sdfw
+	install -D -m 755 build/sdfw "$(ROOT)/bin/sdfw"
+	install -D -m 644 docs/sdfw.1 "$(ROOT)/share/man/man1/sdfw.1"
+	install -D -m 644 docs/completions/sdfw.bash "$(ROOT)/share/bash-completion/completions/sdfw"
+	install -D -m 644 docs/completions/_sdfw "$(ROOT)/share/zsh/site-functions/_sdfw"
+	install -D -m 644 docs/completions/sdfw.fish "$(ROOT)/share/fish/vendor_completions.d/sdfw.fish"
+	for it in $(INSTALLED); do install -D -m 644 $$it "$(ROOT)/share/doc/sdfw/$$it" || exit 1; done
 
 # Removes what `install` copied.
 uninstall:
-	rm -f $(DESTDIR)$(PREFIX)/bin/sdfw $(DESTDIR)$(PREFIX)/share/man/man1/sdfw.1
-	rm -f $(DESTDIR)$(PREFIX)/share/bash-completion/completions/sdfw
-	rm -f $(DESTDIR)$(PREFIX)/share/zsh/site-functions/_sdfw
-	rm -f $(DESTDIR)$(PREFIX)/share/fish/vendor_completions.d/sdfw.fish
-	rm -rf $(DESTDIR)$(PREFIX)/share/doc/sdfw
+	rm -f "$(ROOT)/bin/sdfw" "$(ROOT)/share/man/man1/sdfw.1"
+	rm -f "$(ROOT)/share/bash-completion/completions/sdfw"
+	rm -f "$(ROOT)/share/zsh/site-functions/_sdfw"
+	rm -f "$(ROOT)/share/fish/vendor_completions.d/sdfw.fish"
+	rm -rf "$(ROOT)/share/doc/sdfw"
 
-# Makes a Debian package of the built program, its man page, completions and documents: build/sdfw.deb. Build it with
-# CPU=x86-64-v2 first, so that it runs on every processor.
+# Makes a Debian package of what `install` copies: build/sdfw.deb. Build the program with CPU=x86-64-v2 first, so that
+# the package runs on every processor since 2009.
 deb:
 	scripts/deb
+
+# Tries install, uninstall and deb below a temporary folder, without root: files, links, and that the program starts.
+packages: build
+	scripts/packages
 
 # Whether the documents say what the program and the sources say: kinds, faults, JSON schemas, what commands print,
 # functions without an edit, pages, the pictures of the examples.
