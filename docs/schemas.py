@@ -275,11 +275,41 @@ def broken_answers(program):
             yield "fault", subprocess.run([program, "check", path, "--json"], capture_output=True, text=True).stderr
 
 
+# Mistakes on a command line that asks for JSON, and the status.
+MISTAKES = [
+    ["check"],
+    ["check", "examples/gain/gain.toml", "--wyh"],
+    ["schedule", "examples/gain/gain.toml", "--workers", "17"],
+    ["analyze", "--compare", "--policy", "none", "examples/gain/gain.toml"],
+    ["kinds", "fir"],
+    ["chekc", "examples/gain/gain.toml"],
+]
+
+
+def mistaken_answers(program):
+    """What `--json` prints of mistakes on the command line."""
+    for words in MISTAKES:
+        yield "fault", subprocess.run([program, *words, "--json"], capture_output=True, text=True).stderr
+
+
+def on_mistakes(program):
+    """What is wrong with what docs/FORMATS.md says of these: their text is what is printed without `--json`."""
+    wrong = []
+    for words in MISTAKES:
+        plain = subprocess.run([program, *words], capture_output=True, text=True)
+        said = subprocess.run([program, *words, "--json"], capture_output=True, text=True)
+        told = {"fault": 0, "name": "Usage", "text": plain.stderr}
+        wanted = json.dumps(told, separators=(",", ":"), ensure_ascii=False) + "\n"
+        if (said.returncode, said.stdout, said.stderr) != (2, "", wanted) or plain.returncode != 2:
+            wrong.append(f"docs/FORMATS.md: sdfw with {[*words, '--json']} prints {said.stderr!r}, not {wanted!r}")
+    return wrong
+
+
 def on_answers(program):
     """What is wrong with what docs/answers.schema.json says of what `--json` prints."""
     schema = json.loads(ANSWERS.read_text())
     validator, wrong = Validator(schema, strict=True), []
-    for name, said in [*answers(program), *broken_answers(program)]:
+    for name, said in [*answers(program), *broken_answers(program), *mistaken_answers(program)]:
         try:
             found = validator.mistakes(json.loads(said), schema["definitions"][name], name)
         except json.JSONDecodeError:
@@ -298,4 +328,4 @@ def differences(program, write):
     wrong = []
     if not GRAPH.exists() or GRAPH.read_text() != made:
         wrong = ["docs/graph.schema.json is not what `sdfw kinds` says (python3 docs/tables.py --write)"]
-    return wrong + on_graphs(program, schema) + on_answers(program)
+    return wrong + on_graphs(program, schema) + on_answers(program) + on_mistakes(program)
