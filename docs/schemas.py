@@ -275,7 +275,7 @@ def broken_answers(program):
             yield "fault", subprocess.run([program, "check", path, "--json"], capture_output=True, text=True).stderr
 
 
-# Mistakes on a command line that asks for JSON, and the status.
+# Mistakes on the command line.
 MISTAKES = [
     ["check"],
     ["check", "examples/gain/gain.toml", "--wyh"],
