@@ -39,7 +39,7 @@ try:
 
 # Copies the built program, its man page, its completions, its documents and its examples below PREFIX (/usr/local).
 install:
-	@test -x build/sdfw || { echo "there is no build/sdfw: make build"; exit 1; }
+	@test -x build/sdfw || { echo "there is no build/sdfw: make build" >&2; exit 1; }
 	install -D -m 755 build/sdfw "$(ROOT)/bin/sdfw"
 	install -D -m 644 docs/sdfw.1 "$(ROOT)/share/man/man1/sdfw.1"
 	install -D -m 644 docs/completions/sdfw.bash "$(ROOT)/share/bash-completion/completions/sdfw"
