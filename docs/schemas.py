@@ -275,7 +275,7 @@ def broken_answers(program):
             yield "fault", subprocess.run([program, "check", path, "--json"], capture_output=True, text=True).stderr
 
 
-# Mistakes on the command line.
+# Mistakes on the command line. The last one has the byte 0xFF in a path.
 MISTAKES = [
     ["check"],
     ["check", "examples/gain/gain.toml", "--wyh"],
@@ -283,6 +283,7 @@ MISTAKES = [
     ["analyze", "--compare", "--policy", "none", "examples/gain/gain.toml"],
     ["kinds", "fir"],
     ["chekc", "examples/gain/gain.toml"],
+    ["check", "gain\udcff.toml"],
 ]
 
 

@@ -68,8 +68,11 @@ fn obey<R: AllocGlobal + Files + Print + Sync + Threads>(rt: &R, line: &[&str]) 
 
 fn main(rt: HostRuntime) -> Result<()> {
     let given = arguments(&rt, rt.alloc())?;
+    if given.unread.is_some() {
+        bail!("a word is not UTF-8");
+    }
     let mut line = Vec::new(rt.alloc());
-    for word in given.iter().skip(1) {
+    for word in given.words.iter().skip(1) {
         line.push(word.as_str())?;
     }
     obey(&rt, line.as_slice())

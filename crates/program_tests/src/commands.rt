@@ -5,6 +5,7 @@ use sdf_files::files::MOST_BYTES;
 use sdf_files::storage::Storage;
 use sdf_files::world::World;
 use sdf_program::program::serve;
+use sdf_words::arguments::Given;
 use std::io::{self, Error, ErrorKind, Write};
 use std::test::Fail;
 use std::thread::Threads;
@@ -50,6 +51,10 @@ pub(crate) fn status_of<S: Storage, T: Threads + AllocGlobal + Clock + Clone + D
     for word in words {
         given.push(String::from_str(alloc, word)?)?;
     }
+    let given = Given {
+        words: given,
+        unread: None,
+    };
     Ok(serve(world, &mut stdin, out, err, Ok(given)))
 }
 

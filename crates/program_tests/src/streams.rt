@@ -7,6 +7,7 @@ use sdf_files::files::MOST_BYTES;
 use sdf_files::world::World;
 use sdf_options::WordFault;
 use sdf_program::program::serve;
+use sdf_words::arguments::Given;
 use std::io::ErrorKind;
 use std::test::Fail;
 use std::thread::Threads;
@@ -257,8 +258,11 @@ fn fits<T: Threads + AllocGlobal + Clock + Clone + Drop + Sync>(
     )
 }
 
-/// How the program ends whose words were refused for want of memory.
-fn unread<T: Threads + AllocGlobal + Clock + Clone + Drop + Sync>(rt: &T) -> Result<String, Fail> {
+/// How the program ends that was given these words.
+fn unread_given<T: Threads + AllocGlobal + Clock + Clone + Drop + Sync>(
+    rt: &T,
+    given: Result<Given, WordFault>,
+) -> Result<String, Fail> {
     let alloc = rt.alloc();
     let places = places(alloc)?;
     let world = World {
@@ -270,18 +274,46 @@ fn unread<T: Threads + AllocGlobal + Clock + Clone + Drop + Sync>(rt: &T) -> Res
     let mut stdin = b"".as_slice();
     let mut out = Vec::new(alloc);
     let mut err = Vec::new(alloc);
-    let given = Err(WordFault::OutOfMemory);
     let status = serve(&world, &mut stdin, &mut out, &mut err, given);
     let err = String::from_utf8(err)?;
     Ok(format!(in alloc; "{status} {} {err}", out.len())?)
 }
 
-/// Refuses another limit than `docs/FORMATS.md` has, and a program that does nothing where its words could not be read.
+/// How the program ends whose last word is not UTF-8.
+fn without_last<T: Threads + AllocGlobal + Clock + Clone + Drop + Sync>(
+    rt: &T,
+    line: &[&str],
+) -> Result<String, Fail> {
+    let mut words = Vec::new(rt.alloc());
+    for word in line {
+        words.push(String::from_str(rt.alloc(), word)?)?;
+    }
+    let unread = Some(words.len());
+    unread_given(rt, Ok(Given { words, unread }))
+}
+
+/// Refuses another limit than `docs/FORMATS.md` has, a program that does nothing where its words could not be read, and
+/// a mistake that is not in JSON though another word asks for that.
 #[test]
 fn files_and_words_that_are_not_read(rt: HostRuntime) -> Result<(), Fail> {
     assert_eq!(rt; MOST_BYTES, 1_073_741_824);
     assert!(rt; TAPS.len() < FILTERED.len() && FILTERED.len() < PADDED.len());
-    is_told("words", unread(&rt), "6 0 sdfw: 1 OutOfMemory\n")?;
+    let refused = Err(WordFault::OutOfMemory);
+    is_told(
+        "words",
+        unread_given(&rt, refused),
+        "6 0 sdfw: 1 OutOfMemory\n",
+    )?;
+    let plain = without_last(&rt, &["sdfw", "check"]);
+    is_told(
+        "no UTF-8",
+        plain,
+        "2 0 error: argument 2 is no UTF-8\n…Usage: …",
+    )?;
+    let json = without_last(&rt, &["sdfw", "check", "--json"]);
+    let wanted =
+        "2 0 {\"fault\":0,\"name\":\"Usage\",\"text\":\"error: argument 3 is no UTF-8…\"}\n";
+    is_told("no UTF-8 with JSON", json, wanted)?;
     for (longest, line, wanted) in LIMITS {
         fits(&rt, longest, line, wanted)?;
     }

@@ -19,7 +19,8 @@ use sdf_files::world::World;
 use sdf_json::fault_json;
 use sdf_options::WordFault;
 use sdf_plan::{Fault, fault_text, status};
-use sdf_words::{Batch, Task, Why, Words, words};
+use sdf_words::arguments::Given;
+use sdf_words::{Batch, Task, Why, Words};
 use std::alloc::{AllocError, Global};
 use std::io::{Read, Write};
 use std::thread::Threads;
@@ -273,8 +274,7 @@ fn line_of(alloc: Global, given: &[String]) -> Result<Vec<&str>, AllocError> {
     Ok(line)
 }
 
-/// Does what the words ask for, of which the first is the program's name, and gives the exit status. What a fault can
-/// be told by is left in `background`.
+/// Does what the given words ask for, and gives the exit status. What a fault can be told by is left in `background`.
 fn answer<
     S: Storage,
     T: Threads + AllocGlobal + Clock + Clone + Drop + Sync,
@@ -286,12 +286,12 @@ fn answer<
     stdin: &mut I,
     out: &mut O,
     err: &mut E,
-    given: &[String],
+    given: &Given,
     background: &mut Background,
 ) -> Result<u8, Fault> {
     let alloc = world.threads.alloc();
-    let line = line_of(alloc, given)?;
-    match words(alloc, line.as_slice()) {
+    let line = line_of(alloc, &given.words)?;
+    match given.read(alloc, line.as_slice()) {
         Ok(asked) => {
             background.asked(&asked, world.terminal);
             obey(world, stdin, out, err, asked, &mut background.sources)
@@ -333,7 +333,7 @@ pub fn serve<
     stdin: &mut I,
     out: &mut O,
     err: &mut E,
-    given: Result<Vec<String>, WordFault>,
+    given: Result<Given, WordFault>,
 ) -> u8 {
     let alloc = world.threads.alloc();
     let mut background = Background::new(alloc);

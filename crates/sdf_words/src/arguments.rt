@@ -1,9 +1,46 @@
 //! The words that the program was started with.
 
-use crate::command_line::mistake;
+ghost use Rattle.std.specs.Prelude.{IfOk, IfErr};
+ghost use Rattle.sdf_options.specs.Limits.{IsUsage};
+ghost use Rattle.sdf_words.specs.Limits.{IsWithinLimits};
+
+use crate::asked::Words;
+use crate::command_line::{mistake, words};
 use sdf_options::WordFault;
 use std::alloc::Global;
 use std::env::{Env, FillError};
+
+/// What a program was started with.
+#[derive(Drop)]
+pub struct Given {
+    /// The words, except those that are not UTF-8.
+    pub words: Vec<String>,
+    /// The number of the first word that is not UTF-8. The program's name has the number 0.
+    pub unread: Option<usize>,
+}
+
+/// Returns the mistake of a word that is not UTF-8, by its number.
+fn no_text(alloc: Global, number: usize) -> WordFault
+    ensures { IsUsage result }
+{
+    match format!(in alloc; "argument {number} is no UTF-8") {
+        Ok(text) => mistake(alloc, text.as_str()),
+        Err(_) => WordFault::OutOfMemory,
+    }
+}
+
+impl Given {
+    /// Reads the words that were given, which are those of `line`. A word that is not UTF-8 is a mistake.
+    pub fn read<'a>(&self, alloc: Global, line: &'a [&'a str]) -> Result<Words<'a>, WordFault>
+        ensures within { IfOk result IsWithinLimits }
+        ensures usage { IfErr result IsUsage }
+    {
+        match self.unread {
+            Some(number) => Err(no_text(alloc, number)),
+            None => words(alloc, line),
+        }
+    }
+}
 
 /// The bytes of an argument, if there are so many.
 fn argument(env: &impl Env, alloc: Global, number: usize) -> Result<Option<Vec<u8>>, WordFault> {
@@ -23,20 +60,21 @@ fn argument(env: &impl Env, alloc: Global, number: usize) -> Result<Option<Vec<u
     Err(WordFault::OutOfMemory)
 }
 
-/// All arguments, the program's name first. One that is no UTF-8 is a mistake, told by its number.
-pub fn arguments(env: &impl Env, alloc: Global) -> Result<Vec<String>, WordFault> {
-    let mut words = Vec::new(alloc);
+/// Returns the words that the program was started with, its own name first.
+pub fn arguments(env: &impl Env, alloc: Global) -> Result<Given, WordFault> {
+    let mut given = Given {
+        words: Vec::new(alloc),
+        unread: None,
+    };
     for number in 0..usize::MAX {
         let Some(bytes) = argument(env, alloc, number)? else {
             break;
         };
         match String::from_utf8(bytes) {
-            Ok(word) => words.push(word)?,
-            Err(_) => {
-                let text = format!(in alloc; "argument {number} is no UTF-8")?;
-                return Err(mistake(alloc, text.as_str()));
-            }
+            Ok(word) => given.words.push(word)?,
+            Err(_) if given.unread.is_none() => given.unread = Some(number),
+            Err(_) => {}
         }
     }
-    Ok(words)
+    Ok(given)
 }

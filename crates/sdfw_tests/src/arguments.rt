@@ -36,20 +36,16 @@ impl Env for Given<'_> {
     }
 }
 
-/// How many words are read, the first, and whether all are as they were given; or whether the fault begins by its line,
-/// and its exit status.
+/// How many words are read, the first, whether all are as they were given, and which was the first that is not UTF-8.
 fn told<'a>(alloc: Global, words: &'a [&'a [u8]]) -> Result<String, Fail> {
     match arguments(&Given { words }, alloc) {
         Ok(read) => {
-            let first = read.first();
-            let same = are_read(&read, words);
-            Ok(format!(in alloc; "{} {first:?} {same}", read.len())?)
+            let first = read.words.first();
+            let same = are_read(&read.words, words);
+            let unread = read.unread;
+            Ok(format!(in alloc; "{} {first:?} {same} {unread:?}", read.words.len())?)
         }
-        Err(fault) => {
-            let text = fault.to_string(alloc)?;
-            let begins = text.starts_with("error: argument 1 is no UTF-8\n");
-            Ok(format!(in alloc; "{begins} {}", status(&Fault::from(fault)))?)
-        }
+        Err(fault) => Ok(format!(in alloc; "{}", status(&Fault::from(fault)))?),
     }
 }
 
@@ -73,14 +69,32 @@ fn many_told(alloc: Global) -> Result<String, Fail> {
     told(alloc, &words)
 }
 
-/// Refuses words behind an empty one that are not read, and a long one for which no memory is asked.
+/// Refuses words behind an empty one that are not read, a long one for which no memory is asked, and words behind one
+/// that is not UTF-8 that are not read, or of which the last is named.
 #[test]
 fn arguments_are_text(rt: HostRuntime) -> Result<(), Fail> {
     let alloc = rt.alloc();
     let long = vec![in alloc; b'x'; 1000]?;
     let words = [b"sdfw".as_slice(), &long];
-    row_says("a long word", told(alloc, &words), "2 Some(\"sdfw\") true")?;
-    row_says("many words", many_told(alloc), "23 Some(\"word\") true")?;
-    let words = [b"sdfw".as_slice(), b"a\xFF".as_slice()];
-    row_says("no text", told(alloc, &words), "true 2")
+    row_says(
+        "a long word",
+        told(alloc, &words),
+        "2 Some(\"sdfw\") true None",
+    )?;
+    row_says(
+        "many words",
+        many_told(alloc),
+        "23 Some(\"word\") true None",
+    )?;
+    let words = [
+        b"sdfw".as_slice(),
+        b"a\xFF".as_slice(),
+        b"\xFE".as_slice(),
+        b"--json".as_slice(),
+    ];
+    row_says(
+        "no text",
+        told(alloc, &words),
+        "2 Some(\"sdfw\") false Some(1)",
+    )
 }
