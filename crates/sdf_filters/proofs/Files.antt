@@ -1,5 +1,5 @@
 -- One coefficient file more.
-use Rattle.std.proofs.Common.{◌≡◌, ℕ, suc, ◌+◌, ◌/◌, ◌<◌, ◌⊎◌, inl, inr, List, [], ◌∷◌, ◌++◌, length, Some}
+use Rattle.std.proofs.Common.{◌≡◌, ℕ, suc, ◌+◌, ◌/◌, ◌<◌, ◌^◌, ◌⊎◌, inl, inr, List, [], ◌∷◌, ◌++◌, length, Some}
 use Rattle.std.proofs.Common.{slice_get}
 use Rattle.std.proofs.Common.{refl, sym, ap, subst, ◌∙◌, arith}
 use Rattle.std.proofs.lemmas.Bool.{cases_eq}
@@ -9,6 +9,8 @@ use Rattle.sdf_filters.specs.declared.stage.Stage.{Stage}
 use Rattle.sdf_filters.specs.declared.wanted.Wanted.{Wanted}
 use Rattle.sdf_filters.specs.declared.converter.StageFile.{StageFile}
 use Rattle.sdf_filters.specs.declared.fault.FilterFault.{FilterFault}
+use Rattle.sdf_filters.specs.declared.fault.FilterFault.TheVariants.{OutOfMemory}
+use Rattle.sdf_filters.specs.Wanted.{IsFault}
 use Rattle.sdf_filters.specs.Converters.{put, rate_at, stage_wanted, IsStageFile, IsFileOf, AreFilesTo, IsStageFault}
 use Rattle.sdf_filters.specs.Converters.{IsStagesFault}
 
@@ -85,3 +87,17 @@ stage_fails from pass attenuation stages xs n rate s fault is_rate before got is
   before = before;
   fault_is = subst (λ r. IsStageFault r pass attenuation s fault) is_rate is;
 }
+
+-- a fault of the filter of a stage is one of the stage
+pub filter_fails : (rate pass attenuation : ℕ) (s : Stage) (w : Wanted) (fault : FilterFault) →
+    w ≡ stage_wanted rate pass attenuation s → w.rate < 2 ^ 32 → IsFault w fault →
+    IsStageFault rate pass attenuation s fault
+filter_fails rate pass attenuation s w fault is small has =
+    inr (subst (λ (v : Wanted). (v.rate < 2 ^ 32) × IsFault v fault) is (small, has))
+
+-- a stage with a file may be left without memory
+pub memory_fails : (rate pass attenuation number : ℕ) (s : Stage) (w : Wanted) (f : StageFile) →
+    w ≡ stage_wanted rate pass attenuation s → IsStageFile w number f →
+    IsStageFault rate pass attenuation s OutOfMemory
+memory_fails rate pass attenuation number s w f is file =
+    filter_fails rate pass attenuation s w OutOfMemory is file.rate (inr (file.texts.are.passed, inr tt))

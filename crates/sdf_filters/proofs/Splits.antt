@@ -125,13 +125,15 @@ too_large_of_all up down up_left down_left factor stages split large =
     of (inr e) = inr (multiple (downs stages) down_left down split.down_is e)
 
 -- stages of the ratio in lowest terms come to the ratio
-pub split_is : (from to up down : ℕ) (stages : List Stage) → IsLowest from to up down → IsSplitOf up down 1 1 stages →
-    IsSplit from to stages
-split_is from to up down stages lowest split =
+pub split_is : (from to up down : ℕ) (stages : List Stage) → 0 < from → 0 < to → IsLowest from to up down →
+    IsSplitOf up down 1 1 stages → IsSplit from to stages
+split_is from to up down stages from_some to_some lowest split =
     let u : ups stages ≡ up = omega (arith, split.up_is) in
     let d : downs stages ≡ down = omega (arith, split.down_is) in
     let turned : up * (lowest.common * down) ≡ down * (lowest.common * up) = omega arith in
     record {
+      from_some = from_some;
+      to_some = to_some;
       product = ap (λ m. m * from) u ∙ (ap (λ m. up * m) lowest.from_is
           ∙ (turned ∙ (ap (λ m. down * m) (sym lowest.to_is) ∙ ap (λ m. m * to) (sym d))));
       each = split.each;
@@ -181,21 +183,21 @@ fault_of_all up down up_left down_left stages split (RateTooLarge n) h = absurd 
 fault_of_all up down up_left down_left stages split (Channels n) h = absurd h
 
 -- and one of the rates
-pub fault_of_rates : (from to up down : ℕ) → IsLowest from to up down → (e : FilterFault) → IsPartFault up down e →
-    IsSplitFault from to e
-fault_of_rates from to up down lowest OutOfMemory h = tt
-fault_of_rates from to up down lowest (FactorTooLarge factor) h = (up, down, lowest, h)
-fault_of_rates from to up down lowest (Up n) h = absurd h
-fault_of_rates from to up down lowest (Shift n) h = absurd h
-fault_of_rates from to up down lowest (Attenuation n) h = absurd h
-fault_of_rates from to up down lowest (PassNotBelowStop m n) h = absurd h
-fault_of_rates from to up down lowest (StopOverHalf m n) h = absurd h
-fault_of_rates from to up down lowest (TooManyTaps n) h = absurd h
-fault_of_rates from to up down lowest (TapTooLarge n) h = absurd h
-fault_of_rates from to up down lowest NoRate h = absurd h
-fault_of_rates from to up down lowest (StopNotBelowPass m n) h = absurd h
-fault_of_rates from to up down lowest (PassOverHalf m n) h = absurd h
-fault_of_rates from to up down lowest (NothingPasses m n) h = absurd h
-fault_of_rates from to up down lowest (UpOfHighpass n) h = absurd h
-fault_of_rates from to up down lowest (RateTooLarge n) h = absurd h
-fault_of_rates from to up down lowest (Channels n) h = absurd h
+pub fault_of_rates : (from to up down : ℕ) → 0 < from → 0 < to → IsLowest from to up down → (e : FilterFault) →
+    IsPartFault up down e → IsSplitFault from to e
+fault_of_rates from to up down from_some to_some lowest OutOfMemory h = (from_some, to_some)
+fault_of_rates from to up down from_some to_some lowest (FactorTooLarge factor) h = (up, down, lowest, h)
+fault_of_rates from to up down from_some to_some lowest (Up n) h = absurd h
+fault_of_rates from to up down from_some to_some lowest (Shift n) h = absurd h
+fault_of_rates from to up down from_some to_some lowest (Attenuation n) h = absurd h
+fault_of_rates from to up down from_some to_some lowest (PassNotBelowStop m n) h = absurd h
+fault_of_rates from to up down from_some to_some lowest (StopOverHalf m n) h = absurd h
+fault_of_rates from to up down from_some to_some lowest (TooManyTaps n) h = absurd h
+fault_of_rates from to up down from_some to_some lowest (TapTooLarge n) h = absurd h
+fault_of_rates from to up down from_some to_some lowest NoRate h = absurd h
+fault_of_rates from to up down from_some to_some lowest (StopNotBelowPass m n) h = absurd h
+fault_of_rates from to up down from_some to_some lowest (PassOverHalf m n) h = absurd h
+fault_of_rates from to up down from_some to_some lowest (NothingPasses m n) h = absurd h
+fault_of_rates from to up down from_some to_some lowest (UpOfHighpass n) h = absurd h
+fault_of_rates from to up down from_some to_some lowest (RateTooLarge n) h = absurd h
+fault_of_rates from to up down from_some to_some lowest (Channels n) h = absurd h

@@ -39,8 +39,9 @@ stage_wanted rate pass attenuation s = record {
   shift = STAGE_SHIFT;
 }
 
--- the coefficient file of a stage: the taps of its filter
+-- the coefficient file of a stage: the taps of its filter, whose rate has 32 bits
 pub record IsStageFile (w : Wanted) (number : ℕ) (f : StageFile) : Type 0 where
+  pub rate : w.rate < 2 ^ 32
   pub name : string_bytes f.name ≡ stage_name number ++ codes ".toml"
   pub texts : AreFilterTexts w (string_bytes f.text) (string_bytes f.told)
 
@@ -60,26 +61,29 @@ pub record AreStageFiles (from pass attenuation : ℕ) (stages : List Stage) (fi
   pub all : length files ≡ length stages
   pub each : AreFilesTo from pass attenuation stages files (length stages)
 
--- the graph file and the coefficient files are those of stages whose product is the ratio of the rates
+-- whether there may be so many channels
+abbrev pub channels_test : ℕ → Result (Unit {0}) FilterFault
+channels_test channels = tested (nat_le 1 channels && nat_le channels (MOST_CHANNEL + 1)) (Channels channels) (Ok tt)
+
+-- The channels are 1 to 8, and the graph file and the coefficient files are those of stages whose product is the ratio
+-- of the rates.
 pub record IsConverter (from to channels attenuation : ℕ) (graph : List ℕ) (files : List StageFile) : Type 0 where
+  pub allowed : channels_test channels ≡ Ok tt
   pub stages : List Stage
   pub split : IsSplit from to stages
   pub graph_is : graph ≡ graph_text from to channels stages
   pub files_are : AreStageFiles from (passed from to) attenuation stages files
-
--- whether there may be so many channels
-abbrev pub channels_test : ℕ → Result (Unit {0}) FilterFault
-channels_test channels = tested (nat_le 1 channels && nat_le channels (MOST_CHANNEL + 1)) (Channels channels) (Ok tt)
 
 -- a rate has over 32 bits
 pub record IsRateFault (rate : ℕ) (fault : FilterFault) : Type 0 where
   pub large : 2 ^ 32 ≤ rate
   pub is : fault ≡ RateTooLarge rate
 
--- why there is no file of a stage that takes this rate: its filter's rate is too large, or the filter has no taps
+-- why there is no file of a stage that takes this rate: its filter's rate is too large, or else the filter has no taps
 abbrev pub IsStageFault : ℕ → ℕ → ℕ → Stage → FilterFault → Type 0
 IsStageFault rate pass attenuation s fault =
-    IsRateFault (rate * s.up) fault ⊎ IsFault (stage_wanted rate pass attenuation s) fault
+    IsRateFault (rate * s.up) fault
+    ⊎ ((rate * s.up < 2 ^ 32) × IsFault (stage_wanted rate pass attenuation s) fault)
 
 -- the stage at a place has no file, and all before it have theirs
 pub record IsStagesFault (from pass attenuation : ℕ) (stages : List Stage) (fault : FilterFault) : Type 0 where
@@ -91,8 +95,10 @@ pub record IsStagesFault (from pass attenuation : ℕ) (stages : List Stage) (fa
   pub fault_is : IsStageFault (rate_at from stages place) pass attenuation stage fault
 
 -- why there is no design: the channels, then the ratio of the rates, then a stage. Memory may be refused at any place
+-- behind the tests of these
 pub data IsConverterFault (from to channels attenuation : ℕ) (fault : FilterFault) : Type 0 where
-  memory : fault ≡ OutOfMemory → IsConverterFault from to channels attenuation fault
+  memory : channels_test channels ≡ Ok tt → 0 < from → 0 < to → fault ≡ OutOfMemory →
+      IsConverterFault from to channels attenuation fault
   channels : channels_test channels ≡ Err fault → IsConverterFault from to channels attenuation fault
   split : channels_test channels ≡ Ok tt → IsSplitFault from to fault →
       IsConverterFault from to channels attenuation fault

@@ -21,8 +21,10 @@ downs (s ∷ ss) = s.down * downs ss
 abbrev pub DoesSomething : Stage → Type 0
 DoesSomething s = 2 < s.up + s.down
 
--- the stages come to to / from, and each does something
+-- the stages come to to / from, neither of which is 0, and each does something
 pub record IsSplit (from to : ℕ) (stages : List Stage) : Type 0 where
+  pub from_some : 0 < from
+  pub to_some : 0 < to
   pub product : ups stages * from ≡ downs stages * to
   pub each : All DoesSomething stages
 
@@ -70,9 +72,9 @@ IsPartFault up down OutOfMemory = Unit {0}
 IsPartFault up down (FactorTooLarge factor) = IsTooLarge up down factor
 IsPartFault up down fault = ⊥
 
--- a rate is 0, or their ratio in lowest terms has such a factor
+-- a rate is 0; or none is, and their ratio in lowest terms has such a factor, or memory was refused
 abbrev pub IsSplitFault : ℕ → ℕ → FilterFault → Type 0
-IsSplitFault from to OutOfMemory = Unit {0}
+IsSplitFault from to OutOfMemory = (0 < from) × (0 < to)
 IsSplitFault from to NoRate = (from ≡ 0) ⊎ (to ≡ 0)
 IsSplitFault from to (FactorTooLarge factor) =
     (up : ℕ) × (down : ℕ) × IsLowest from to up down × IsTooLarge up down factor

@@ -1,5 +1,6 @@
 -- The taps of a filter that is asked for in plain numbers, and why there are none.
 use Rattle.std.specs.Prelude.{◌≡◌, ℕ, ◌*◌, ◌%◌, ◌≤◌, ◌⊎◌, ◌==◌, nat_lt, nat_le, ℤ, List, Result, Ok, Err}
+use Rattle.std.specs.Result.{result_and}
 use Rattle.sdf_limits.specs.declared.TheConstants.{MOST_TAPS}
 use Rattle.sdf_filters.specs.declared.fault.FilterFault.{FilterFault}
 use Rattle.sdf_filters.specs.declared.fault.FilterFault.TheVariants.{StopNotBelowPass, PassOverHalf, NothingPasses}
@@ -40,9 +41,6 @@ AreTapsOf w (Low pass stop) h = AreLowTaps (low w pass stop) h
 AreTapsOf w (High stop pass) h = AreHighTaps (low w stop pass) h
 AreTapsOf w (Middle low_stop low_pass pass stop) h = AreMiddleTaps (low w pass stop) (low w low_stop low_pass) h
 
-abbrev pub AreTaps : Wanted → List ℤ → Type 0
-AreTaps w h = AreTapsOf w w.band h
-
 -- what a high-pass wants beside what its low-pass does, or the first fault
 abbrev pub high_tests : Wanted → ℕ → ℕ → Result (Unit {0}) FilterFault
 high_tests w stop pass =
@@ -56,17 +54,24 @@ middle_tests low_stop low_pass pass =
     tested (nat_lt low_stop low_pass) (StopNotBelowPass low_stop low_pass)
     (tested (nat_lt low_pass pass) (NothingPasses low_pass pass) (Ok tt))
 
--- why there are no taps of a low-pass: it can't be asked for, or has too many taps or too large ones
-abbrev pub IsLowFault : Asked → FilterFault → Type 0
-IsLowFault f fault = (lowpass_of f ≡ Err fault) ⊎ (IsCountFault fault ⊎ IsTapFault fault)
+-- what the low-pass between these frequencies wants, or the first fault
+abbrev pub low_tests : Wanted → ℕ → ℕ → Result (Unit {0}) FilterFault
+low_tests w pass stop = result_and (lowpass_of (low w pass stop)) (Ok tt)
 
--- why there are no taps of a filter
-abbrev pub IsFaultOf : Wanted → Band → FilterFault → Type 0
-IsFaultOf w (Low pass stop) fault = IsLowFault (low w pass stop) fault
-IsFaultOf w (High stop pass) fault = (high_tests w stop pass ≡ Err fault) ⊎ IsLowFault (low w stop pass) fault
-IsFaultOf w (Middle low_stop low_pass pass stop) fault =
-    (middle_tests low_stop low_pass pass ≡ Err fault)
-    ⊎ (IsLowFault (low w pass stop) fault ⊎ IsLowFault (low w low_stop low_pass) fault)
+-- the tests of a filter in their order: the first fault, if there is one
+abbrev pub tests_of : Wanted → Band → Result (Unit {0}) FilterFault
+tests_of w (Low pass stop) = low_tests w pass stop
+tests_of w (High stop pass) = result_and (high_tests w stop pass) (low_tests w stop pass)
+tests_of w (Middle low_stop low_pass pass stop) =
+    result_and (middle_tests low_stop low_pass pass)
+    (result_and (low_tests w pass stop) (low_tests w low_stop low_pass))
 
+-- each test of the filter passed, and these are its taps
+pub record AreTaps (w : Wanted) (h : List ℤ) : Type 0 where
+  pub passed : tests_of w w.band ≡ Ok tt
+  pub taps : AreTapsOf w w.band h
+
+-- why there are no taps: the first test that fails, or where all passed, too many taps, too large ones, or no memory
 abbrev pub IsFault : Wanted → FilterFault → Type 0
-IsFault w fault = IsFaultOf w w.band fault
+IsFault w fault =
+    (tests_of w w.band ≡ Err fault) ⊎ ((tests_of w w.band ≡ Ok tt) × (IsCountFault fault ⊎ IsTapFault fault))

@@ -4,7 +4,7 @@ ghost use Rattle.std.specs.Prelude.{◌≡◌, ◌%◌, ◌≤◌, ◌⊎◌, If
 ghost use Rattle.sdf_limits.specs.declared.TheConstants.{MOST_TAPS};
 ghost use Rattle.sdf_filters.specs.Lowpass.{lowpass_of, IsCountFault, IsTapFault};
 ghost use Rattle.sdf_filters.specs.Wanted.{low, high_tests, middle_tests, AreLowTaps, AreHighTaps, AreMiddleTaps};
-ghost use Rattle.sdf_filters.specs.Wanted.{AreTaps, IsLowFault, IsFault};
+ghost use Rattle.sdf_filters.specs.Wanted.{AreTaps, IsFault};
 
 use crate::fault::{FilterFault, test};
 use crate::lowpass::{Lowpass, test_few, whole_phases};

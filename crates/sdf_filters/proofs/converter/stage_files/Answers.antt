@@ -1,10 +1,8 @@
-use Rattle.std.proofs.Common.{rules, ap, refl, length, inl, inr, subst}
+use Rattle.std.proofs.Common.{rules, arith, ap, refl, length, inl, ◌+◌}
 use Rattle.std.proofs.lemmas.Option.{slice_get_read}
 use Rattle.std.proofs.lemmas.Result.{err_from_is_err_and}
 use Rattle.sdf_filters.specs.declared.fault.FilterFault.TheVariants.{OutOfMemory}
-use Rattle.sdf_filters.specs.declared.wanted.Wanted.{Wanted}
-use Rattle.sdf_filters.specs.Wanted.{IsFault}
-use Rattle.sdf_filters.proofs.Files.{no_files, file_added, stage_fails}
+use Rattle.sdf_filters.proofs.Files.{no_files, file_added, stage_fails, filter_fails, memory_fails}
 use Rattle.sdf_filters.proofs.converter.stage_files.Goals as goal
 
 pub loop-place-init : goal.loop-place-init
@@ -39,7 +37,8 @@ returns-in_err-file c =
     c.loop-place.invariant.1.0 c.loop-place.invariant.1.1
     (slice_get_read c.args.stages.now (length c.args.stages.now) c.loop-place.place c.index-stages-place.result refl
     (search rules) c.index-stages-place.is)
-    (inr (subst (λ (w : Wanted). IsFault w c.in_err-file.field-0.0) c.in_ok-wanted.ensures c.in_err-file.ensures)))
+    (filter_fails c.loop-place.rate c.args.pass c.args.attenuation c.index-stages-place.result c.in_ok-wanted.wanted
+    c.in_err-file.field-0.0 c.in_ok-wanted.ensures (omega arith) c.in_err-file.ensures))
 
 pub returns-in_err-add_file : goal.returns-in_err-add_file
 returns-in_err-add_file c =
@@ -49,4 +48,5 @@ returns-in_err-add_file c =
     c.loop-place.invariant.1.0 c.loop-place.invariant.1.1
     (slice_get_read c.args.stages.now (length c.args.stages.now) c.loop-place.place c.index-stages-place.result refl
     (search rules) c.index-stages-place.is)
-    (inr (inr (inr tt))))
+    (memory_fails c.loop-place.rate c.args.pass c.args.attenuation (c.loop-place.place + 1)
+    c.index-stages-place.result c.in_ok-wanted.wanted c.in_ok-file.file c.in_ok-wanted.ensures c.in_ok-file.ensures))
