@@ -6,8 +6,8 @@ use std::thread::{Threads, available_parallelism};
 use std::time::Clock;
 use test_texts::says;
 
-/// A parallel run writes what one thread writes. The filter of `kept` keeps five inputs, and the loop of `lasting`
-/// keeps its samples for ever.
+/// A parallel run writes what one thread writes. Of `stretched` a worker has two periods at a time, so sixteen keep
+/// five workers busy. The filter of `kept` keeps five inputs, and the loop of `lasting` keeps its samples for ever.
 const PARALLEL: &[Row] = &[
     (
         "heavy parallel 2",
@@ -25,6 +25,12 @@ const PARALLEL: &[Row] = &[
         "run wider.toml silence.wav out.wav --parallel 16 --why",
         "0\n--\n16 workers, each on its own part of the sound after 0 periods (0 samples) of warm-up\n\
          output 0: 16 frames, no peak, 0 samples at full scale\n--\n<another sound>",
+    ),
+    (
+        "stretched parallel 5 why",
+        "run stretched.toml silence.wav out.wav --parallel 5 --why",
+        "0\n--\n5 workers, each on its own part of the sound after 0 periods (0 samples) of warm-up\n\
+         output 0: 524288 frames, no peak, 0 samples at full scale\n--\n<another sound>",
     ),
     (
         "kept parallel 3 why",

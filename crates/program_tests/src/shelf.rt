@@ -65,6 +65,14 @@ link = [{ from = "in", to = "fork" }, { from = "fork:0", to = "up" }, { from = "
     { from = "same", to = "add:0" }, { from = "none", to = "add:1" }, { from = "nothing", to = "add:2" },
     { from = "add", to = "out" }]"#;
 
+/// 32,768 samples of each.
+const STRETCHED: &str = r#"format = 1
+actor = [{ name = "in", kind = "input", channel = 0 }, { name = "first", kind = "interpolate", factor = 64 },
+    { name = "second", kind = "interpolate", factor = 64 }, { name = "third", kind = "interpolate", factor = 8 },
+    { name = "out", kind = "output", channel = 0 }]
+link = [{ from = "in", to = "first" }, { from = "first", to = "second" }, { from = "second", to = "third" },
+    { from = "third", to = "out" }]"#;
+
 /// A filter that keeps five inputs and hands on the newest.
 const KEPT: &str = r#"format = 1
 actor = [{ name = "in", kind = "input", channel = 0 },
@@ -182,7 +190,7 @@ values = [1]
 ";
 
 /// The graph files and coefficient files of the tests.
-const TEXTS: [(&str, &str); 41] = [
+const TEXTS: [(&str, &str); 42] = [
     ("plain.toml", PLAIN),
     ("-", PLAIN),
     ("commented.toml", COMMENTED),
@@ -190,6 +198,7 @@ const TEXTS: [(&str, &str); 41] = [
     ("branches.toml", BRANCHES),
     ("heavy.toml", HEAVY),
     ("wider.toml", WIDER),
+    ("stretched.toml", STRETCHED),
     ("steep.toml", STEEP),
     ("kept.toml", KEPT),
     ("lasting.toml", LASTING),
