@@ -4,11 +4,12 @@ use Rattle.sdf_file.specs.Designs.{DesignValue}
 use Rattle.sdf_plan.specs.declared.fault.Fault.{Fault}
 use Rattle.sdf_plan.specs.Plans.{PlanValue, Suits}
 use Rattle.sdf_process.specs.Run.{IsRun}
-use Rattle.sdf_profile.specs.Profiles.{HasRunOn, IsRunFault}
+use Rattle.sdf_profile.specs.Profiles.{HasRunOn, IsRunFault, unfailed_reader, unfailed_writer}
 
 pub ran : (d : DesignValue) (p : PlanValue) (input : List ℕ) (left before after : Option (List ℕ))
     (result : Result (Unit {0}) Fault) → Suits d.net p →
-    IsRun d.net p.period.repetitions (Some input) left before after 0 0 0 0 result →
+    IsRun d.net p.period.repetitions (unfailed_reader (Some input)) (unfailed_reader left) (unfailed_writer before)
+    (unfailed_writer after) result →
     MatchResult result (λ _. HasRunOn d input) (IsRunFault d input)
 ran d p input left before after (Ok x) suits run =
     let is = run.runs input refl in

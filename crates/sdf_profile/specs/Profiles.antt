@@ -14,6 +14,7 @@ use Rattle.sdf_wav.specs.Sound.{Sound}
 use Rattle.sdf_plan.specs.declared.fault.Fault.{Fault}
 use Rattle.sdf_plan.specs.declared.fault.Fault.TheVariants.{OutOfMemory}
 use Rattle.sdf_plan.specs.Plans.{PlanValue, Suits, ArePassed, IsPlanFault}
+use Rattle.sdf_wav.specs.Device.{ReaderState, WriterState}
 use Rattle.sdf_process.specs.Run.{HasOutput, IsRun}
 use Rattle.sdf_profile.specs.declared.measuring.Measured.{Measured}
 use Rattle.sdf_profile.specs.declared.stopwatch.Spent.{Spent}
@@ -46,6 +47,13 @@ pub record AreProfileOptions (d : DesignValue) (o : Options) : Type 0 where
   pub patience : o.patience ≡ MOST_PATIENCE
   pub blocking : (q : List ℕ) → IsLeastPeriod (rates (graph_of kit_steps d.net)) q → o.blocking ≡ blocking_of (sum q)
 
+-- devices that never failed
+abbrev pub unfailed_reader : Option (List ℕ) → ReaderState
+unfailed_reader remaining = record { remaining = remaining; failures = 0 }
+
+abbrev pub unfailed_writer : Option (List ℕ) → WriterState
+unfailed_writer contents = record { contents = contents; failures = 0 }
+
 -- a run of the design on the input, by devices that never fail, answers the fault
 pub record IsRunFault (d : DesignValue) (input : List ℕ) (f : Fault) : Type 0 where
   pub plan : PlanValue
@@ -53,7 +61,8 @@ pub record IsRunFault (d : DesignValue) (input : List ℕ) (f : Fault) : Type 0 
   pub left : Option (List ℕ)
   pub before : Option (List ℕ)
   pub after : Option (List ℕ)
-  pub run : IsRun d.net plan.period.repetitions (Some input) left before after 0 0 0 0 (Err f)
+  pub run : IsRun d.net plan.period.repetitions (unfailed_reader (Some input)) (unfailed_reader left)
+      (unfailed_writer before) (unfailed_writer after) (Err f)
 
 -- memory was refused, or a run answers the fault
 abbrev pub IsMeasuringFault : DesignValue → List ℕ → Fault → Type 0
