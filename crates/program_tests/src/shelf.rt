@@ -39,6 +39,12 @@ actor = [{ name = "in", kind = "input", channel = 0 }, { name = "fork", kind = "
 link = [{ from = "in", to = "fork" }, { from = "fork:0", to = "same" }, { from = "fork:1", to = "none" },
     { from = "same", to = "add:0" }, { from = "none", to = "add:1" }, { from = "add", to = "out" }]"#;
 
+/// Two channels as they are.
+const BOTH: &str = r#"format = 1
+actor = [{ name = "left", kind = "input", channel = 0 }, { name = "right", kind = "input", channel = 1 },
+    { name = "low", kind = "output", channel = 0 }, { name = "high", kind = "output", channel = 1 }]
+link = [{ from = "left", to = "low" }, { from = "right", to = "high" }]"#;
+
 /// The same branches, each of 64 samples a frame and back.
 const HEAVY: &str = r#"format = 1
 actor = [{ name = "in", kind = "input", channel = 0 }, { name = "fork", kind = "fork", ways = 2 },
@@ -190,12 +196,13 @@ values = [1]
 ";
 
 /// The graph files and coefficient files of the tests.
-const TEXTS: [(&str, &str); 42] = [
+const TEXTS: [(&str, &str); 43] = [
     ("plain.toml", PLAIN),
     ("-", PLAIN),
     ("commented.toml", COMMENTED),
     ("begun.toml", BEGUN),
     ("branches.toml", BRANCHES),
+    ("both.toml", BOTH),
     ("heavy.toml", HEAVY),
     ("wider.toml", WIDER),
     ("stretched.toml", STRETCHED),

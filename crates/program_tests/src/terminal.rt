@@ -235,8 +235,9 @@ const OPEN_ENDED: &[(&[u8], &str, &str)] = &[
     ),
     (
         b"RIFF\x28\0\0\0WAVEfmt \x10\0\0\0\x01\0\x01\0\x44\xAC\0\0\x88\x58\x01\0\x02\0\x10\0data\0\xF0\xFF\x7F\x05\0\xFB\xFF",
-        "run plain.toml - out.wav",
-        "4\n--\nsdfw: 43 Truncated\n--\n<another sound>",
+        "run plain.toml - out.wav --why",
+        "4\n--\nsdfw: 43 Truncated\n  \"-\": ends after 48 bytes, wants 2147479596; `run --open-ended` reads to the \
+         end\n--\n<another sound>",
     ),
 ];
 
@@ -247,4 +248,23 @@ fn sounds_to_the_end(rt: HostRuntime) -> Result<(), Fail> {
         is_told(line, told_around(&rt, &around, line), wanted)?;
     }
     Ok(())
+}
+
+/// Two frames of two channels: 32,767 and -32,768, then 5 and 32,767.
+const LOUD: &[u8] =
+    b"RIFF\x2C\0\0\0WAVEfmt \x10\0\0\0\x01\0\x02\0\x44\xAC\0\0\x10\xB1\x02\0\x04\0\x10\0data\x08\0\0\0\xFF\x7F\0\x80\x05\0\xFF\x7F";
+
+/// Refuses a program that counts no sample at full scale, those of all outputs together, or of one sign alone.
+#[test]
+fn samples_at_full_scale(rt: HostRuntime) -> Result<(), Fail> {
+    let around = Around {
+        stdin: LOUD,
+        ..OPEN
+    };
+    is_told(
+        "levels",
+        told_around(&rt, &around, "run both.toml - out.wav --why"),
+        "0\n--\noutput 0: 2 frames, peak 0.0 dB, 1 samples at full scale\n\
+         output 1: 2 frames, peak 0.0 dB, 2 samples at full scale\n--\n<another sound>",
+    )
 }

@@ -181,12 +181,20 @@ fn align_text(alloc: Global, front: Front<'_>) -> Result<String, AllocError> {
     format!(in alloc; "has frames of {align} bytes, wants {wanted} for {channels} channels")
 }
 
+/// A size that programs write which do not know it yet, or a greater one.
+const STREAMED: u32 = 0x7FFF_F000;
+
 /// Returns the text of a sound that ends too early.
 fn end_text(alloc: Global, front: Front<'_>, bytes: u64) -> Result<String, AllocError> {
     match front.data() {
         Some(Chunk { at, size }) if size != UNKNOWN => {
             let whole = (at as u64).saturating_add(u64::from(size));
-            format!(in alloc; "ends after {bytes} bytes, wants {whole}")
+            let hint = if size < STREAMED {
+                ""
+            } else {
+                "; `run --open-ended` reads to the end"
+            };
+            format!(in alloc; "ends after {bytes} bytes, wants {whole}{hint}")
         }
         _ => format!(in alloc; "ends after {bytes} bytes"),
     }
@@ -212,7 +220,10 @@ fn length_text(alloc: Global, front: Front<'_>, bytes: u64) -> Result<String, Al
             format!(in alloc; "has {size} bytes of samples")
         }
         Some(_) => format!(in alloc; "has more than {bytes} bytes"),
-        None => String::from_str(alloc, "has over 65,536 parts before its samples"),
+        None => String::from_str(
+            alloc,
+            "has too many bytes of samples, or over 65,536 parts before them",
+        ),
     }
 }
 

@@ -1,5 +1,5 @@
 -- What is told of an actor, by its table.
-use Rattle.std.specs.Prelude.{ℕ, List, [], ◌++◌, codes, Option, option_and_then}
+use Rattle.std.specs.Prelude.{ℕ, List, [], ◌++◌, codes, Option, None, option_and_then}
 use Rattle.std.specs.Option.{option_map_or}
 use Rattle.toml.specs.Data.{Data, get}
 use Rattle.sdf_limits.specs.declared.TheConstants.{MOST_ACTORS}
@@ -28,6 +28,10 @@ actor_key_is kinds a key d = actor_is a d ++ key_line key (get key d) (actor_lim
 -- actor a, and what stands at a key of its table
 unfoldable pub actor_key : List ℕ → ℕ → List ℕ → Data → List ℕ
 actor_key kinds a key d = lines_of (actor_key_is kinds a key) (entry (codes "actor") a d)
+
+-- actor a, and what stands at a key of its table, but not what the key wants
+unfoldable pub actor_value : ℕ → List ℕ → Data → List ℕ
+actor_value a key d = lines_of (λ t. actor_is a t ++ key_line key (get key t) None) (entry (codes "actor") a d)
 
 -- the first actor that has this text at a key
 unfoldable pub first_told : List ℕ → List ℕ → Data → List ℕ

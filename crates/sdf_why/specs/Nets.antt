@@ -11,22 +11,22 @@ use Rattle.sdf_actor.specs.declared.fault.NetFault.{NetFault}
 use Rattle.sdf_actor.specs.declared.fault.NetFault.TheVariants.{OutOfMemory, Graph, NoPort, PortTwice, PortOpen}
 use Rattle.sdf_actor.specs.declared.fault.NetFault.TheVariants.{ExtTwice, InputRates, OutputRates, NoInput, NoOutput}
 use Rattle.sdf_why.specs.Tables.{entry, actor_text, says, first_saying}
-use Rattle.sdf_why.specs.Actors.{lines_of, actor_told, actor_key}
+use Rattle.sdf_why.specs.Actors.{lines_of, actor_told, actor_value}
 use Rattle.sdf_why.specs.Links.{link_told, link_key, ends_told, first_meeting}
 
 -- ---- actors that are compared
 
 -- the first actor of a kind, and what stands at a key of its table
-unfoldable pub first_of : List ℕ → List ℕ → List ℕ → Data → List ℕ
-first_of kinds kind key d = lines_of (λ a. actor_key kinds a key d) (first_saying (codes "kind") kind d MOST_ACTORS)
+unfoldable pub first_of : List ℕ → List ℕ → Data → List ℕ
+first_of kind key d = lines_of (λ a. actor_value a key d) (first_saying (codes "kind") kind d MOST_ACTORS)
 
 -- actor a where it is of a kind, and what stands at a key of its table
-unfoldable pub one_of : List ℕ → List ℕ → List ℕ → Data → ℕ → List ℕ
-one_of kinds kind key d a = if says (codes "kind") kind d a then actor_key kinds a key d else []
+unfoldable pub one_of : List ℕ → List ℕ → Data → ℕ → List ℕ
+one_of kind key d a = if says (codes "kind") kind d a then actor_value a key d else []
 
 -- all actors of a kind
-unfoldable pub all_of : List ℕ → List ℕ → List ℕ → Data → List ℕ
-all_of kinds kind key d = flat_map (one_of kinds kind key d) (range_with_len 0 MOST_ACTORS)
+unfoldable pub all_of : List ℕ → List ℕ → Data → List ℕ
+all_of kind key d = flat_map (one_of kind key d) (range_with_len 0 MOST_ACTORS)
 
 -- the whole number at a key of actor a
 unfoldable pub number_at : List ℕ → Data → ℕ → Option ℤ
@@ -54,12 +54,12 @@ first_rival d a n = find (rival d a) (range_with_len 0 n)
 -- ---- by fault
 
 -- actor a, its channel, and the earlier actor that has the same
-unfoldable pub rivals : List ℕ → Data → ℕ → List ℕ
-rivals kinds d a = actor_key kinds a (codes "channel") d ++ lines_of (actor_told d) (first_rival d a a)
+unfoldable pub rivals : Data → ℕ → List ℕ
+rivals d a = actor_value a (codes "channel") d ++ lines_of (actor_told d) (first_rival d a a)
 
 -- actor a, its block, and the first actor of its kind
-unfoldable pub beside_first : List ℕ → List ℕ → Data → ℕ → List ℕ
-beside_first kinds kind d a = actor_key kinds a (codes "block") d ++ first_of kinds kind (codes "block") d
+unfoldable pub beside_first : List ℕ → Data → ℕ → List ℕ
+beside_first kind d a = actor_value a (codes "block") d ++ first_of kind (codes "block") d
 
 -- link c, and the first before it that shares an end with it
 unfoldable pub meeting : Data → ℕ → List ℕ
@@ -82,14 +82,14 @@ graph_told (graph.NotConnected a) d = []
 graph_told (graph.Inconsistent c m) d = ends_told d c
 graph_told graph.PeriodTooLong d = []
 
-abbrev pub net_told : List ℕ → NetFault → Data → List ℕ
-net_told kinds OutOfMemory d = []
-net_told kinds (Graph fault) d = graph_told fault d
-net_told kinds (NoPort c) d = ends_told d c
-net_told kinds (PortTwice c) d = meeting d c
-net_told kinds (PortOpen a side port) d = actor_key kinds a (codes "ways") d
-net_told kinds (ExtTwice a) d = rivals kinds d a
-net_told kinds (InputRates a) d = beside_first kinds (codes "input") d a
-net_told kinds (OutputRates a) d = beside_first kinds (codes "output") d a
-net_told kinds NoInput d = []
-net_told kinds (NoOutput e) d = all_of kinds (codes "output") (codes "channel") d
+abbrev pub net_told : NetFault → Data → List ℕ
+net_told OutOfMemory d = []
+net_told (Graph fault) d = graph_told fault d
+net_told (NoPort c) d = ends_told d c
+net_told (PortTwice c) d = meeting d c
+net_told (PortOpen a side port) d = actor_value a (codes "ways") d
+net_told (ExtTwice a) d = rivals d a
+net_told (InputRates a) d = beside_first (codes "input") d a
+net_told (OutputRates a) d = beside_first (codes "output") d a
+net_told NoInput d = []
+net_told (NoOutput e) d = all_of (codes "output") (codes "channel") d

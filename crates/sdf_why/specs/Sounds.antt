@@ -12,9 +12,9 @@ unfoldable pub has_text : ℕ → List ℕ
 has_text channels = codes ", the sound has " ++ decimal channels ++ end
 
 -- and which inputs read them
-unfoldable pub channels_told : List ℕ → Data → ℕ → ℕ → List ℕ
-channels_told kinds d wanted channels =
-    reads_text wanted ++ has_text channels ++ all_of kinds (codes "input") (codes "channel") d
+unfoldable pub channels_told : Data → ℕ → ℕ → List ℕ
+channels_told d wanted channels =
+    reads_text wanted ++ has_text channels ++ all_of (codes "input") (codes "channel") d
 
 -- how a rate comes of another one
 unfoldable pub product_text : ℕ → ℕ → ℕ → List ℕ

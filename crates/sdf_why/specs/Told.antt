@@ -10,7 +10,6 @@ use Rattle.sdf_actor.specs.Graphs.{graph_of}
 use Rattle.sdf_kit.specs.Kit.{kit_steps}
 use Rattle.sdf_document.specs.Fault.{fault_view}
 use Rattle.sdf_document.specs.Lists.{Files}
-use Rattle.sdf_document.specs.Listing.{kinds_text}
 use Rattle.sdf_file.specs.declared.fault.FileFault.{FileFault}
 use Rattle.sdf_file.specs.declared.fault.FileFault.TheVariants.{OutOfMemory, Document, Net}
 use Rattle.sdf_file.specs.Designs.{DesignValue, IsDesignOf, IsFileFault}
@@ -27,7 +26,7 @@ use Rattle.sdf_why.specs.Blocks.{block_line}
 
 -- of a net that is refused, by its tables
 unfoldable pub net_text : NetFault → List ℕ → List ℕ
-net_text fault graph = lines_of (net_told kinds_text fault) (root graph)
+net_text fault graph = lines_of (net_told fault) (root graph)
 
 -- and what more is told
 pub record IsNetText (fault : NetFault) (graph : List ℕ) (files : Files) (text : List ℕ) : Type 0 where
@@ -77,7 +76,7 @@ IsStallText graph files halts text =
 abbrev pub IsChannelsText : List ℕ → Files → Header → List ℕ → Type 0
 IsChannelsText graph files header text =
     IsDesignText graph files
-    (λ document d. text ≡ channels_told kinds_text document (list_count Inputs d.net.nodes) header.channels) text
+    (λ document d. text ≡ channels_told document (list_count Inputs d.net.nodes) header.channels) text
 
 -- the rate that would come of a sound
 abbrev pub IsRateOf : DesignValue → Header → List ℕ → Type 0

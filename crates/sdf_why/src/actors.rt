@@ -2,7 +2,7 @@
 
 ghost use Rattle.std.specs.Prelude.{◌≡◌, ◌++◌, OnOk, option_map, string_bytes};
 ghost use Rattle.toml.specs.View.{view};
-ghost use Rattle.sdf_why.specs.Actors.{actor_is, actor_told, actor_limits, actor_key, first_told};
+ghost use Rattle.sdf_why.specs.Actors.{actor_is, actor_told, actor_limits, actor_key, actor_value, first_told};
 
 use crate::limits::limits_of;
 use crate::tables::{Source, entry, first_saying, text_at, value_at};
@@ -71,6 +71,25 @@ pub(crate) fn push_actor_key(
     push_actor_table(alloc, text, number, actor)?;
     let limits = actor_limits(source.kinds, key, actor);
     push_key(alloc, text, key, value_at(actor, key), limits)
+}
+
+/// Adds an actor, and what stands at a key of its table, but not what the key wants.
+#[tactic(auto, unfolding(crate::specs::Actors::actor_value))]
+pub(crate) fn push_actor_value(
+    alloc: Global,
+    text: &mut String,
+    graph: &Value,
+    number: usize,
+    key: &str,
+) -> Result<(), AllocError>
+    ensures { OnOk result (string_bytes text.new ≡ string_bytes text.old
+        ++ actor_value number key.now (view graph.now)) }
+{
+    let Some(actor) = entry(graph, "actor", number) else {
+        return Ok(());
+    };
+    push_actor_table(alloc, text, number, actor)?;
+    push_key(alloc, text, key, value_at(actor, key), None)
 }
 
 /// Adds the first actor that has this text at a key.

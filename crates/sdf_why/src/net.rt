@@ -5,9 +5,9 @@ ghost use Rattle.toml.specs.View.{view};
 ghost use Rattle.sdf_why.specs.Nets.{first_of, one_of, all_of, number_at, same_number, same_text, rival, first_rival};
 ghost use Rattle.sdf_why.specs.Nets.{rivals, beside_first, meeting, begun, graph_told, net_told};
 
-use crate::actors::{push_actor_key, push_actor_of};
+use crate::actors::{push_actor_of, push_actor_value};
 use crate::links::{first_meeting, push_ends, push_link_key, push_link_of};
-use crate::tables::{Source, actor_text, entry, first_saying, says, value_at};
+use crate::tables::{actor_text, entry, first_saying, says, value_at};
 use sdf_actor::NetFault;
 use sdf_graph::GraphFault;
 use sdf_limits::{MOST_ACTORS, MOST_INITIAL};
@@ -19,15 +19,15 @@ use toml::Value;
 fn push_first_of(
     alloc: Global,
     text: &mut String,
-    source: Source<'_>,
+    graph: &Value,
     kind: &str,
     key: &str,
 ) -> Result<(), AllocError>
     ensures { OnOk result (string_bytes text.new ≡ string_bytes text.old
-        ++ first_of source.entry.kinds.now kind.now key.now (view source.entry.graph.now)) }
+        ++ first_of kind.now key.now (view graph.now)) }
 {
-    match first_saying(source.graph, "kind", kind, MOST_ACTORS) {
-        Some(actor) => push_actor_key(alloc, text, source, actor, key),
+    match first_saying(graph, "kind", kind, MOST_ACTORS) {
+        Some(actor) => push_actor_value(alloc, text, graph, actor, key),
         None => Ok(()),
     }
 }
@@ -37,16 +37,16 @@ fn push_first_of(
 fn push_one_of(
     alloc: Global,
     text: &mut String,
-    source: Source<'_>,
+    graph: &Value,
     kind: &str,
     key: &str,
     actor: usize,
 ) -> Result<(), AllocError>
     ensures { OnOk result (string_bytes text.new ≡ string_bytes text.old
-        ++ one_of source.entry.kinds.now kind.now key.now (view source.entry.graph.now) actor) }
+        ++ one_of kind.now key.now (view graph.now) actor) }
 {
-    if says(source.graph, "kind", kind, actor) {
-        push_actor_key(alloc, text, source, actor, key)
+    if says(graph, "kind", kind, actor) {
+        push_actor_value(alloc, text, graph, actor, key)
     } else {
         Ok(())
     }
@@ -57,15 +57,15 @@ fn push_one_of(
 pub(crate) fn push_all_of(
     alloc: Global,
     text: &mut String,
-    source: Source<'_>,
+    graph: &Value,
     kind: &str,
     key: &str,
 ) -> Result<(), AllocError>
     ensures { OnOk result (string_bytes text.new ≡ string_bytes text.old
-        ++ all_of source.entry.kinds.now kind.now key.now (view source.entry.graph.now)) }
+        ++ all_of kind.now key.now (view graph.now)) }
 {
     for actor in 0..MOST_ACTORS {
-        push_one_of(alloc, text, source, kind, key, actor)?;
+        push_one_of(alloc, text, graph, kind, key, actor)?;
     }
     Ok(())
 }
@@ -123,15 +123,15 @@ fn first_rival(graph: &Value, actor: usize, actors: usize) -> Option<usize>
 fn push_rivals(
     alloc: Global,
     text: &mut String,
-    source: Source<'_>,
+    graph: &Value,
     actor: usize,
 ) -> Result<(), AllocError>
     ensures { OnOk result (string_bytes text.new ≡ string_bytes text.old
-        ++ rivals source.entry.kinds.now (view source.entry.graph.now) actor) }
+        ++ rivals (view graph.now) actor) }
 {
-    push_actor_key(alloc, text, source, actor, "channel")?;
-    match first_rival(source.graph, actor, actor) {
-        Some(earlier) => push_actor_of(alloc, text, source.graph, earlier),
+    push_actor_value(alloc, text, graph, actor, "channel")?;
+    match first_rival(graph, actor, actor) {
+        Some(earlier) => push_actor_of(alloc, text, graph, earlier),
         None => Ok(()),
     }
 }
@@ -141,15 +141,15 @@ fn push_rivals(
 fn push_beside_first(
     alloc: Global,
     text: &mut String,
-    source: Source<'_>,
+    graph: &Value,
     kind: &str,
     actor: usize,
 ) -> Result<(), AllocError>
     ensures { OnOk result (string_bytes text.new ≡ string_bytes text.old
-        ++ beside_first source.entry.kinds.now kind.now (view source.entry.graph.now) actor) }
+        ++ beside_first kind.now (view graph.now) actor) }
 {
-    push_actor_key(alloc, text, source, actor, "block")?;
-    push_first_of(alloc, text, source, kind, "block")
+    push_actor_value(alloc, text, graph, actor, "block")?;
+    push_first_of(alloc, text, graph, kind, "block")
 }
 
 /// Adds a link, and the first before it that shares an end with it.
@@ -211,23 +211,23 @@ fn push_graph(
 pub(crate) fn push_net(
     alloc: Global,
     text: &mut String,
-    source: Source<'_>,
+    graph: &Value,
     fault: NetFault,
 ) -> Result<(), AllocError>
     ensures { OnOk result (string_bytes text.new ≡ string_bytes text.old
-        ++ net_told source.entry.kinds.now fault (view source.entry.graph.now)) }
+        ++ net_told fault (view graph.now)) }
 {
     match fault {
         NetFault::OutOfMemory | NetFault::NoInput => Ok(()),
-        NetFault::Graph(fault) => push_graph(alloc, text, source.graph, fault),
-        NetFault::NoPort { link } => push_ends(alloc, text, source.graph, link),
-        NetFault::PortTwice { link } => push_meeting(alloc, text, source.graph, link),
-        NetFault::PortOpen { actor, .. } => push_actor_key(alloc, text, source, actor, "ways"),
-        NetFault::ExtTwice { actor } => push_rivals(alloc, text, source, actor),
-        NetFault::InputRates { actor } => push_beside_first(alloc, text, source, "input", actor),
+        NetFault::Graph(fault) => push_graph(alloc, text, graph, fault),
+        NetFault::NoPort { link } => push_ends(alloc, text, graph, link),
+        NetFault::PortTwice { link } => push_meeting(alloc, text, graph, link),
+        NetFault::PortOpen { actor, .. } => push_actor_value(alloc, text, graph, actor, "ways"),
+        NetFault::ExtTwice { actor } => push_rivals(alloc, text, graph, actor),
+        NetFault::InputRates { actor } => push_beside_first(alloc, text, graph, "input", actor),
         NetFault::OutputRates { actor } => {
-            push_beside_first(alloc, text, source, "output", actor)
+            push_beside_first(alloc, text, graph, "output", actor)
         }
-        NetFault::NoOutput { .. } => push_all_of(alloc, text, source, "output", "channel"),
+        NetFault::NoOutput { .. } => push_all_of(alloc, text, graph, "output", "channel"),
     }
 }

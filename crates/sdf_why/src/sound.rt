@@ -6,8 +6,8 @@ ghost use Rattle.sdf_limits.specs.declared.TheConstants.{MOST_PERIOD, MOST_RATE}
 ghost use Rattle.sdf_why.specs.Sounds.{reads_text, has_text, channels_told, product_text, quotient_text, rate_line};
 
 use crate::net::push_all_of;
-use crate::tables::Source;
 use std::alloc::{AllocError, Global};
+use toml::Value;
 
 /// What the header of a sound says.
 #[derive(Clone, Copy, Debug, PartialEq, Eq)]
@@ -39,16 +39,16 @@ fn push_has(text: &mut String, channels: u32) -> Result<(), AllocError>
 pub(crate) fn push_channels(
     alloc: Global,
     text: &mut String,
-    source: Source<'_>,
+    graph: &Value,
     wanted: usize,
     header: Header,
 ) -> Result<(), AllocError>
     ensures { OnOk result (string_bytes text.new ≡ string_bytes text.old
-        ++ channels_told source.entry.kinds.now (view source.entry.graph.now) wanted header.channels) }
+        ++ channels_told (view graph.now) wanted header.channels) }
 {
     push_reads(text, wanted)?;
     push_has(text, header.channels)?;
-    push_all_of(alloc, text, source, "input", "channel")
+    push_all_of(alloc, text, graph, "input", "channel")
 }
 
 /// Adds how a rate comes of another one.

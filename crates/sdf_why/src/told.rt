@@ -3,7 +3,6 @@
 ghost use Rattle.std.specs.Prelude.{◌≡◌, ◌++◌, None, IfOk, OnOk, MatchOption, string_bytes};
 ghost use Rattle.toml.specs.View.{view};
 ghost use Rattle.sdf_document.specs.Lists.{files_view};
-ghost use Rattle.sdf_document.specs.Listing.{kinds_text};
 ghost use Rattle.sdf_file.specs.declared.fault.FileFault.TheVariants.{OutOfMemory};
 ghost use Rattle.sdf_file.specs.Designs.{IsDesignOf};
 ghost use Rattle.sdf_actor.specs.declared.sides.Lists.TheVariants.{Inputs};
@@ -23,9 +22,8 @@ use crate::document::{document_text, push_counted};
 use crate::more::more_text;
 use crate::net::push_net;
 use crate::sound::{Header, push_channels, push_rate};
-use crate::tables::{Source, entry, root};
+use crate::tables::{entry, root};
 use sdf_actor::NetFault;
-use sdf_document::kinds_text;
 use sdf_file::{Design, FileFault, read_design};
 use std::alloc::{AllocError, Global};
 use toml::Value;
@@ -43,14 +41,8 @@ fn tables_text(alloc: Global, fault: NetFault, graph: &[u8]) -> Result<String, A
     ensures { IfOk result (λ text. string_bytes text ≡ net_text fault graph.now) }
 {
     let mut text = String::new(alloc);
-    let kinds = kinds_text(alloc)?;
     if let Some(graph) = root(alloc, graph)? {
-        let source = Source {
-            graph: &graph,
-            files: &[],
-            kinds: kinds.as_str(),
-        };
-        push_net(alloc, &mut text, source, fault)?;
+        push_net(alloc, &mut text, &graph, fault)?;
     }
     Ok(text)
 }
@@ -211,17 +203,11 @@ fn channels_of(
     document: &Value,
     design: &Design,
 ) -> Result<String, AllocError>
-    ensures { IfOk result (λ text. string_bytes text ≡ channels_told kinds_text (view document.now)
+    ensures { IfOk result (λ text. string_bytes text ≡ channels_told (view document.now)
         (list_count Inputs design.now.net.nodes) header.channels) }
 {
     let mut text = String::new(alloc);
-    let kinds = kinds_text(alloc)?;
-    let source = Source {
-        graph: document,
-        files: &[],
-        kinds: kinds.as_str(),
-    };
-    push_channels(alloc, &mut text, source, design.net().inputs(), header)?;
+    push_channels(alloc, &mut text, document, design.net().inputs(), header)?;
     Ok(text)
 }
 

@@ -61,20 +61,20 @@ static ROWS: [Row; 9] = [
         actors: FORKED,
         links: "{ from = \"in\", to = \"two\" }, { from = \"two:0\", to = \"out\" }",
         told: "22 PortOpen actor 1 output 1\n  \
-            actor 1 is \"two\", a fork\n  ways = 2, wants 2..16\n",
+            actor 1 is \"two\", a fork\n  ways = 2\n",
     },
     Row {
         actors: RIVALS,
         links: "{ from = \"in\", to = \"two\" }, { from = \"two:0\", to = \"out\" },
             { from = \"two:1\", to = \"again\" }",
         told: "23 ExtTwice actor 3\n  \
-            actor 3 is \"again\", an output\n  channel = 0, wants 0..7\n  actor 2 is \"out\", an output\n",
+            actor 3 is \"again\", an output\n  channel = 0\n  actor 2 is \"out\", an output\n",
     },
     Row {
         actors: SECOND,
         links: "{ from = \"in\", to = \"out\" }",
         told: "27 NoOutput channel 0\n  \
-            actor 1 is \"out\", an output\n  channel = 1, wants 0..7\n",
+            actor 1 is \"out\", an output\n  channel = 1\n",
     },
     Row {
         actors: PAIRS,

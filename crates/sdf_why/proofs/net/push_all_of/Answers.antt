@@ -6,6 +6,6 @@ use Rattle.sdf_why.proofs.net.push_all_of.Goals as goal
 
 pub loop-actor-preserved : goal.loop-actor-preserved
 loop-actor-preserved c =
-    line_added (one_of c.args.source.kinds.now c.args.kind.now c.args.key.now (view c.args.source.graph.now))
+    line_added (one_of c.args.kind.now c.args.key.now (view c.args.graph.now))
     c.loop-actor.actor (string_bytes c.args.text.now) (string_bytes c.loop-actor.text)
     _ c.loop-actor.invariant c.in_ok-push_one_of.ensures

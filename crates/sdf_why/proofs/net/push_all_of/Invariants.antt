@@ -6,4 +6,4 @@ use Rattle.sdf_why.proofs.net.push_all_of.Given as goal
 
 abbrev pub invariant-loop-actor : goal.invariant-loop-actor
 invariant-loop-actor l = string_bytes l.text ≡ string_bytes l.initial.text
-    ++ flat_map (one_of l.source.kinds.now l.kind l.key (view l.source.graph.now)) (range_with_len 0 l.actor)
+    ++ flat_map (one_of l.kind l.key (view l.graph)) (range_with_len 0 l.actor)
