@@ -1,6 +1,6 @@
 -- What the two ends of a run say: the header that is written, and the content that is read.
 use Rattle.std.proofs.Common.{◌≡◌, ◌≢◌, inl, inr, ℕ, ◌+◌, ◌-◌, ◌*◌, ◌++◌, min, ◌%◌, ◌≤◌, ◌<◌, ℤ, List, [], length}
-use Rattle.std.proofs.Common.{Option, Some, None, Result, Ok, Err, refl, sym, ap, ◌∙◌, subst, arith}
+use Rattle.std.proofs.Common.{Some, None, Result, Ok, Err, refl, sym, ap, ◌∙◌, subst, arith}
 use Rattle.std.specs.Prelude.{IsErrAnd}
 use Rattle.std.specs.declared.vec.Vec.{Vec}
 use Rattle.sdf_wav.specs.Sound.{Sound, sound_of}

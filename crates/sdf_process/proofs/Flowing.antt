@@ -1,5 +1,5 @@
 -- A run that takes and writes as it goes: what it may take, what it took, and where it stops.
-use Rattle.std.proofs.Common.{◌≡◌, ◌≢◌, inr, Ok, Err, ℕ, ◌+◌, ◌-◌, ◌*◌, ◌≤◌, ℤ, List, ◌++◌, length, Option, None}
+use Rattle.std.proofs.Common.{◌≡◌, ◌≢◌, inr, Ok, Err, ℕ, ◌+◌, ◌-◌, ◌*◌, ◌≤◌, ℤ, List, ◌++◌, length, None}
 use Rattle.std.proofs.Common.{sym, ap, ◌∙◌, subst, arith}
 use Rattle.std.proofs.Math.Nat.{mul-le-mul_right}
 use Rattle.std.proofs.lemmas.List.{length-append}

@@ -1,6 +1,6 @@
 -- A run before it takes its first frame.
 use Rattle.std.proofs.Common.{◌≡◌, ℕ, ◌-◌, ◌*◌, ◌≤◌, ◌<◌, ℤ, List, [], false}
-use Rattle.std.proofs.Common.{Option, refl, sym, ap, ◌∙◌, subst, arith}
+use Rattle.std.proofs.Common.{refl, sym, ap, ◌∙◌, subst, arith}
 use Rattle.std.proofs.Math.Seq.{drop-nil}
 use Rattle.sdf_actor.specs.Nets.{Netlist}
 use Rattle.sdf_actor.specs.Wires.{lists as items_of}

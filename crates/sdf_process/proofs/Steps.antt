@@ -1,6 +1,6 @@
 -- A step of a run: its next blocks are run, what is made is written, and the next frames are taken.
 use Rattle.std.proofs.Common.{◌≡◌, Result, Ok, Err, ℕ, ◌+◌, ◌-◌, ◌*◌, ◌%◌, ◌≤◌, ◌<◌, ℤ, List, [], ◌++◌, length, drop}
-use Rattle.std.proofs.Common.{Option, false, true, refl, sym}
+use Rattle.std.proofs.Common.{false, true, refl, sym}
 use Rattle.std.specs.Prelude.{IfOk, MatchResult}
 use Rattle.std.specs.Int.{div_ceil}
 use Rattle.std.proofs.Math.Nat.{mul-mod_left}

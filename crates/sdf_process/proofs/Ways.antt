@@ -1,5 +1,5 @@
 -- How a run begins in the way of its plan: by a session, or by a player, whose sound may be taken whole before.
-use Rattle.std.proofs.Common.{◌≡◌, ◌≢◌, ℕ, ℤ, ◌*◌, ◌≤◌, ◌<◌, List, [], length, sum, Option, Result, Ok, sym, ap}
+use Rattle.std.proofs.Common.{◌≡◌, ◌≢◌, ℕ, ℤ, ◌*◌, ◌≤◌, ◌<◌, List, [], length, sum, Result, Ok, sym, ap}
 use Rattle.std.proofs.Common.{mul-le-mul_left, subst, arith}
 use Rattle.std.proofs.lemmas.List.Sums.{get_or-le-sum_by}
 use Rattle.sdf_limits.specs.declared.TheConstants.{MOST_BLOCK}

@@ -19,7 +19,7 @@ use std::thread::Threads;
 /// written, and the content read (43). Where that size is not filled in, the content comes first (45, 44), then the
 /// tests of the output and its header. Memory (1) and the devices (47, 48) may fail at any place.
 ///
-/// A runner with workers calls the gate before each firing; the runner on one thread calls none.
+/// Workers by rows and over rings call the gate before each firing; a run on one thread or in parts calls none.
 pub fn process_with<T: Threads + AllocGlobal + Sync, R: Reader, W: Writer, G: Gate>(
     rt: &T,
     reader: &mut R,

@@ -1,6 +1,5 @@
-use Rattle.std.proofs.Common.{◌≡◌, ◌+◌, ◌*◌, ◌%◌, ◌≤◌, ◌<◌, ℕ, length, Result, refl, sym, ap, subst, ◌∙◌, arith}
+use Rattle.std.proofs.Common.{◌≡◌, ◌*◌, ◌%◌, length, Result, refl, sym, ap, subst, ◌∙◌, arith}
 use Rattle.std.proofs.Math.Facts.{Fits-of_lt}
-use Rattle.std.proofs.lemmas.Grind.{div_ceil_times}
 use Rattle.sdf_plan.specs.declared.fault.Fault.{Fault}
 use Rattle.sdf_actor.specs.Wires.{lists as items_of}
 use Rattle.sdf_wav.specs.Canonical.{sample_bytes}
@@ -14,7 +13,6 @@ use Rattle.sdf_process.specs.Output.{in_turn}
 use Rattle.sdf_process.specs.Stages.{PutsHeader}
 use Rattle.sdf_process.specs.Streams.{Makes, left_by}
 use Rattle.sdf_process.proofs.Ahead.{can_write}
-use Rattle.sdf_process.proofs.Contents.{sound_made, sound_refused}
 use Rattle.sdf_process.proofs.Ending.{ended, ended_whole, last_short, single}
 use Rattle.sdf_process.proofs.Flowing.{memory_refused}
 use Rattle.sdf_process.proofs.Pieces.{run_fails}

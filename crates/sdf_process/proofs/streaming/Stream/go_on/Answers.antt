@@ -1,12 +1,9 @@
-use Rattle.std.proofs.Common.{◌≡◌, ◌/◌, ◌%◌, ◌*◌, ◌≤◌, ℕ, length, drop, refl, sym, ap, subst, ◌∙◌, arith}
+use Rattle.std.proofs.Common.{◌/◌, ◌*◌, ◌≤◌, ℕ, length, drop, refl, ap, ◌∙◌, arith}
 use Rattle.std.proofs.Math.Facts.{Fits-of_lt}
 use Rattle.std.proofs.Math.Nat.{div-mul-le_self}
 use Rattle.sdf_plan.specs.declared.fault.Fault.TheVariants.{OutOfMemory}
 use Rattle.sdf_wav.specs.Sound.{Sound}
-use Rattle.sdf_process.specs.declared.exchange.Exchange.{Exchange}
 use Rattle.sdf_process.specs.declared.flow.Flow.{Flow}
-use Rattle.sdf_process.specs.Flows.{exchange_in, reading_in}
-use Rattle.sdf_process.proofs.Contents.{sound_made, sound_refused}
 use Rattle.sdf_process.proofs.Flowing.{memory_refused}
 use Rattle.sdf_process.proofs.Refusals.{fails_by}
 use Rattle.sdf_process.proofs.Sizes.{frames_small, periods_small}
