@@ -6,8 +6,9 @@ use std::thread::{Threads, available_parallelism};
 use std::time::Clock;
 use test_texts::says;
 
-/// A parallel run writes what one thread writes. Of `stretched` a worker has two periods at a time, so sixteen keep
-/// five workers busy. The filter of `kept` keeps five inputs, and the loop of `lasting` keeps its samples for ever.
+/// A parallel run writes what one thread writes. A worker runs two periods of `stretched` at a time, so sixteen
+/// keep five workers busy. The filter of `kept` keeps five inputs, and the loop of `lasting` keeps its samples for
+/// ever.
 const PARALLEL: &[Row] = &[
     (
         "heavy parallel 2",

@@ -71,7 +71,7 @@ link = [{ from = "in", to = "fork" }, { from = "fork:0", to = "up" }, { from = "
     { from = "same", to = "add:0" }, { from = "none", to = "add:1" }, { from = "nothing", to = "add:2" },
     { from = "add", to = "out" }]"#;
 
-/// 32,768 samples of each.
+/// Makes 32,768 samples of each one.
 const STRETCHED: &str = r#"format = 1
 actor = [{ name = "in", kind = "input", channel = 0 }, { name = "first", kind = "interpolate", factor = 64 },
     { name = "second", kind = "interpolate", factor = 64 }, { name = "third", kind = "interpolate", factor = 8 },

@@ -186,7 +186,8 @@ fault_of_all up down up_left down_left stages split (Channels n) h = absurd h
 pub fault_of_rates : (from to up down : ℕ) → 0 < from → 0 < to → IsLowest from to up down → (e : FilterFault) →
     IsPartFault up down e → IsSplitFault from to e
 fault_of_rates from to up down from_some to_some lowest OutOfMemory h = (from_some, to_some)
-fault_of_rates from to up down from_some to_some lowest (FactorTooLarge factor) h = (up, down, lowest, h)
+fault_of_rates from to up down from_some to_some lowest (FactorTooLarge factor) h =
+    (from_some, to_some, up, down, lowest, h)
 fault_of_rates from to up down from_some to_some lowest (Up n) h = absurd h
 fault_of_rates from to up down from_some to_some lowest (Shift n) h = absurd h
 fault_of_rates from to up down from_some to_some lowest (Attenuation n) h = absurd h

@@ -39,7 +39,7 @@ stage_wanted rate pass attenuation s = record {
   shift = STAGE_SHIFT;
 }
 
--- the coefficient file of a stage: the taps of its filter, whose rate has 32 bits
+-- the coefficient file of a stage: the taps of its filter, whose rate fits in 32 bits
 pub record IsStageFile (w : Wanted) (number : ℕ) (f : StageFile) : Type 0 where
   pub rate : w.rate < 2 ^ 32
   pub name : string_bytes f.name ≡ stage_name number ++ codes ".toml"
@@ -94,8 +94,8 @@ pub record IsStagesFault (from pass attenuation : ℕ) (stages : List Stage) (fa
   pub before : AreFilesTo from pass attenuation stages files place
   pub fault_is : IsStageFault (rate_at from stages place) pass attenuation stage fault
 
--- why there is no design: the channels, then the ratio of the rates, then a stage. Memory may be refused at any place
--- behind the tests of these
+-- why there is no design: the channels, then the ratio of the rates, then a stage. Memory may be refused once the
+-- channels are 1 to 8 and no rate is 0
 pub data IsConverterFault (from to channels attenuation : ℕ) (fault : FilterFault) : Type 0 where
   memory : channels_test channels ≡ Ok tt → 0 < from → 0 < to → fault ≡ OutOfMemory →
       IsConverterFault from to channels attenuation fault

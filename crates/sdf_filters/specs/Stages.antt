@@ -77,5 +77,5 @@ abbrev pub IsSplitFault : ℕ → ℕ → FilterFault → Type 0
 IsSplitFault from to OutOfMemory = (0 < from) × (0 < to)
 IsSplitFault from to NoRate = (from ≡ 0) ⊎ (to ≡ 0)
 IsSplitFault from to (FactorTooLarge factor) =
-    (up : ℕ) × (down : ℕ) × IsLowest from to up down × IsTooLarge up down factor
+    (0 < from) × (0 < to) × (up : ℕ) × (down : ℕ) × IsLowest from to up down × IsTooLarge up down factor
 IsSplitFault from to fault = ⊥

@@ -54,7 +54,7 @@ middle_tests low_stop low_pass pass =
     tested (nat_lt low_stop low_pass) (StopNotBelowPass low_stop low_pass)
     (tested (nat_lt low_pass pass) (NothingPasses low_pass pass) (Ok tt))
 
--- what the low-pass between these frequencies wants, or the first fault
+-- the tests of the low-pass between these frequencies: the first fault, if there is one
 abbrev pub low_tests : Wanted → ℕ → ℕ → Result (Unit {0}) FilterFault
 low_tests w pass stop = result_and (lowpass_of (low w pass stop)) (Ok tt)
 

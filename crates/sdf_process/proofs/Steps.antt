@@ -22,7 +22,7 @@ use Rattle.sdf_process.specs.Flows.{Flows, GoesOn, IsAhead, IsReady, IsStep, IsU
 use Rattle.sdf_process.specs.Flows.{blocks_on}
 use Rattle.sdf_process.specs.Flows.{exchange_in, reading_in, samples_on, samples_run}
 use Rattle.sdf_process.specs.Output.{in_turn}
-use Rattle.sdf_process.specs.Streams.{CanRun, CanRunNext, GoesBy, Makes, RunsNext, is_at_once, left_by}
+use Rattle.sdf_process.specs.Streams.{CanRun, CanRunNext, GoesBy, Makes, RunsNext, is_cut, left_by}
 use Rattle.sdf_process.proofs.Ahead.{made_ahead, none_ahead, none_left}
 use Rattle.sdf_process.proofs.Flowing.{within_size}
 use Rattle.sdf_process.proofs.Sizes.{minus, positive}
@@ -41,7 +41,7 @@ where_ok (Err e) P Q E go h = tt
 
 -- a run that is ready is so with another runner of its net, and another flow
 pub ready_on : (b : Start) (t : Stream) → IsReady b t → (v : Runner) (f : Flow) → GoesBy b.net b.period b.blocking v →
-    f.most ≡ t.flow.most → (is_at_once v ≡ false → items_of f.made.items ≡ []) → IsReady b (record {
+    f.most ≡ t.flow.most → (is_cut v ≡ false → items_of f.made.items ≡ []) → IsReady b (record {
       runner = v;
       flow = f;
       exchange = t.exchange;
@@ -141,7 +141,7 @@ module _ (b : Start) (g : Progress) (blocks : ℕ) (t : Stream) (y : Portion) {r
     )
 
     -- the frames before were written meanwhile, and more was taken
-    pub beside_on : is_at_once v ≡ true → (f f' : Flow) {r' : ReaderState} {w' : WriterState} →
+    pub beside_on : is_cut v ≡ true → (f f' : Flow) {r' : ReaderState} {w' : WriterState} →
         Turns b g t.flow f r' w' → items_of f'.made.items ≡ made → f'.left ≡ f.left →
         f'.source ≡ f.source → f'.output ≡ f.output → f'.kept ≡ f.kept → f'.most ≡ f.most → GoesOn b (record {
           runner = v;
@@ -268,7 +268,7 @@ module _ (b : Start) (g : Progress) (t : Stream) {r : ReaderState} {w : WriterSt
     there_more = omega (arith, past, some, kept_long, under.ahead.came.there)
 
     pub step_by : (v : Runner) (f : Flow) (y : Portion) (rest : List ℤ) → left_by v ≡ left_by t.runner →
-        GoesBy b.net b.period b.blocking v → is_at_once v ≡ is_at_once t.runner → f.left ≡ t.flow.left →
+        GoesBy b.net b.period b.blocking v → is_cut v ≡ is_cut t.runner → f.left ≡ t.flow.left →
         f.source ≡ t.flow.source →
         f.output ≡ t.flow.output → f.made ≡ t.flow.made → f.most ≡ t.flow.most →
         f.kept.items ≡ drop (blocks * k) t.flow.kept.items → y.exchange ≡ t.exchange →

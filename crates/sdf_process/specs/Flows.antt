@@ -26,7 +26,7 @@ use Rattle.sdf_process.specs.declared.streaming.Opened.{Opened}
 use Rattle.sdf_process.specs.declared.streaming.Stream.{Stream}
 use Rattle.sdf_process.specs.Output.{exchange_of, in_turn, periods_for, IsExchange}
 use Rattle.sdf_process.specs.Sources.{reading_of, source_behind, Takes}
-use Rattle.sdf_process.specs.Streams.{AreWhole, Follows, GoesBy, StandsWhole, Streams, is_at_once, left_by}
+use Rattle.sdf_process.specs.Streams.{AreWhole, Follows, GoesBy, StandsWhole, Streams, is_cut, left_by}
 
 -- What a run was begun with: its net, a period and how many of these make a block; the source of its sound, how many
 -- frames that has and how many are made of it; the reader and the writer.
@@ -159,7 +159,7 @@ pub record Turns (b : Start) (g : Progress) (f f' : Flow) (r : ReaderState) (w :
   pub left : f'.left ≡ f.left - min f.most f.left
   pub most : f'.most ≡ f.most
 
--- frames can be written and taken: a run came so far
+-- some run came so far, and can write its frames and take the next ones
 abbrev pub CanTurn : Flow → ReaderState → WriterState → Type 0
 CanTurn f r w = (b : Start) × (g : Progress) × CanFlow b × IsAhead b g f r w
 
@@ -183,7 +183,7 @@ pub record IsReady (b : Start) (t : Stream) : Type 0 where
   pub limits : IsExchange t.exchange
   pub piece : 0 < t.flow.most
   -- frames wait to be written only while parts are run
-  pub waits : is_at_once t.runner ≡ false → items_of t.flow.made.items ≡ []
+  pub waits : is_cut t.runner ≡ false → items_of t.flow.made.items ≡ []
 
 -- it came as far as this, and keeps the samples behind it
 pub record IsUnderWay (b : Start) (g : Progress) (t : Stream) (r : ReaderState) (w : WriterState) : Type 0 where
@@ -195,13 +195,13 @@ pub record IsUnderWay (b : Start) (g : Progress) (t : Stream) (r : ReaderState) 
 abbrev pub GoesOn : Start → Stream → ReaderState → WriterState → Type 0
 GoesOn b t r w = (g : Progress) × IsUnderWay b g t r w
 
--- whatever run came so far, it goes on; or it ends by a fault
-abbrev pub ComesOn : Stream → Stream → ReaderState → ReaderState → WriterState → WriterState →
+-- every run that came so far goes on, or ends by a fault
+abbrev pub KeepsGoing : Stream → Stream → ReaderState → ReaderState → WriterState → WriterState →
     Result (Unit {0}) Fault → Type 0
-ComesOn t t' r r' w w' result = (b : Start) → GoesOn b t r w →
+KeepsGoing t t' r r' w w' result = (b : Start) → GoesOn b t r w →
     MatchResult result (λ x. GoesOn b t' r' w') (λ e. StreamsFrom b r' w' (Err e))
 
--- of the frames that are left as many were taken as may be taken at a time
+-- up to `most` of the frames that are left were taken
 abbrev pub TakesMost : Flow → Flow → Result (Unit {0}) Fault → Type 0
 TakesMost f f' result = IfOk result (λ x. f'.left ≡ f.left - min f.most f.left)
 
@@ -223,11 +223,11 @@ pub record IsStep (b : Start) (g : Progress) (blocks : ℕ) (t : Stream) (y : Po
   pub next : IsNext b g blocks t y
   pub kept : t.flow.kept.items ≡ drop (samples_run b (g.blocks + blocks)) g.samples
 
--- there is such a run
+-- some run can take this step
 abbrev pub CanStep : Stream → Portion → ReaderState → WriterState → Type 0
 CanStep t y r w = (b : Start) × (g : Progress) × (blocks : ℕ) × IsStep b g blocks t y r w
 
--- whatever run it is, it goes on; or it ends by a fault
+-- every run that can take this step goes on, or ends by a fault
 abbrev pub StepsOn : Stream → Stream → Portion → ReaderState → ReaderState → WriterState → WriterState →
     Result (Unit {0}) Fault → Type 0
 StepsOn t t' y r r' w w' result = (b : Start) (g : Progress) (blocks : ℕ) → IsStep b g blocks t y r w →

@@ -213,8 +213,8 @@ Refuses None (Err e) = IsFromOutside e
 Refuses (Some f) (Ok x) = ⊥
 Refuses (Some f) (Err e) = (e ≡ f) ⊎ IsFromOutside e
 
--- All that the answer says of a run of net n of period vector q, which found the reader and the writer in the first of
--- two states each, and left them in the second.
+-- all that the answer of a run says: net n, repetition vector q, the reader before (r) and after (r'), the writer
+-- before (w) and after (w')
 pub record IsRun (n : Netlist Kit ℤ) (q : List ℕ) (r r' : ReaderState) (w w' : WriterState)
     (result : Result (Unit {0}) Fault) : Type 0 where
   -- what is answered is so, where the reader's bytes are known

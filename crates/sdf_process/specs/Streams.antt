@@ -78,9 +78,9 @@ left_by (runner.Session v) = v.rest
 left_by (runner.Player v) = Some v.rest
 
 -- frames are written and taken while parts are run at once
-abbrev pub is_at_once : Runner → Bool
-is_at_once (runner.Session v) = false
-is_at_once (runner.Player v) = is_some v.cut
+abbrev pub is_cut : Runner → Bool
+is_cut (runner.Session v) = false
+is_cut (runner.Player v) = is_some v.cut
 
 -- of a player all frames are written that it makes
 abbrev pub WritesOf : Runner → ℕ → ℕ → Type 0
@@ -160,7 +160,7 @@ RunsNext v now y made = (n : Netlist Kit ℤ) (p : Schedule) (j : ℕ) (s : Soun
 -- nothing of it changes but its memory
 abbrev pub StaysRunner : Runner → Runner → Type 0
 StaysRunner v w = (left_by w ≡ left_by v) × ((n : Netlist Kit ℤ) (p : Schedule) (j : ℕ) → GoesBy n p j v →
-    GoesBy n p j w) × (is_at_once w ≡ is_at_once v)
+    GoesBy n p j w) × (is_cut w ≡ is_cut v)
 
 -- the same of a session
 abbrev pub FeedsNext : SessionValue Kit (List ℤ) ℤ → SessionValue Kit (List ℤ) ℤ → Portion → List (List ℤ) → Type 0

@@ -46,10 +46,11 @@ pub(crate) fn piece_periods(exchange: Exchange, cut: Option<Cut>) -> u32
     }
 }
 
-/// Returns how many parts of a sound are run at once, if the design makes `frames` frames of it, by up to `workers`
-/// workers after `warm` periods of warm-up.
+/// Returns the most parts of a sound that `workers` workers run at once, if `design` makes `frames` frames and a part
+/// needs `warm` periods of warm-up. If the last period is not whole, it is run alone.
 pub fn parts_at_once(design: &Design, workers: u32, warm: u32, frames: u64) -> u32
-    ensures { result ≤ max 1 workers }
+    ensures some { 0 < frames → 0 < result }
+    ensures few { result ≤ max 1 workers }
 {
     let exchange = Exchange::of_net(design.net());
     let cut = Cut {

@@ -8,7 +8,7 @@ ghost use Rattle.sdf_kit.specs.declared.kit.Kit.{Kit as KitValue};
 ghost use Rattle.sdf_plan.specs.declared.fault.Fault.TheVariants.{OutOfMemory};
 ghost use Rattle.sdf_sched.specs.Period.{Schedule};
 ghost use Rattle.sdf_process.specs.Streams.{CanRun, CanRunNext, FeedsBy, FeedsNext, IsFollowed, RunsNext, StaysRunner};
-ghost use Rattle.sdf_process.specs.Streams.{is_at_once};
+ghost use Rattle.sdf_process.specs.Streams.{is_cut};
 
 use crate::playing::Player;
 use crate::portion::Portion;
@@ -31,7 +31,7 @@ pub(crate) enum Runner<'a> {
 impl<'a> Runner<'a> {
     /// Returns whether it runs parts at once.
     pub(crate) fn is_cut(&self) -> bool
-        ensures { result ≡ is_at_once self.now }
+        ensures { result ≡ is_cut self.now }
     {
         match self {
             Runner::Session(_) => false,
@@ -72,7 +72,7 @@ impl<'a> Runner<'a> {
 }
 
 /// Feeds a portion of whole blocks to a session, and makes the first frames of what it makes.
-pub(crate) fn run_fed<T: Threads + AllocGlobal + Sync, G: Gate>(
+fn run_fed<T: Threads + AllocGlobal + Sync, G: Gate>(
     rt: &T,
     gate: &G,
     session: &mut Session<'_, Kit>,

@@ -4,10 +4,10 @@ ghost use Rattle.std.specs.Prelude.{◌≡◌, ◌*◌, ◌≤◌, [], length, d
 ghost use Rattle.sdf_actor.specs.Wires.{lists as items_of};
 ghost use Rattle.sdf_answer.specs.declared.fault.RunFault.TheVariants as run;
 ghost use Rattle.sdf_wav.specs.Device.{ReaderState};
-ghost use Rattle.sdf_process.specs.Flows.{CanStep, CanTurn, ComesOn, GoesOn, Start, StepsOn, StreamsFrom, TakesMost};
+ghost use Rattle.sdf_process.specs.Flows.{CanStep, CanTurn, KeepsGoing, GoesOn, Start, StepsOn, StreamsFrom, TakesMost};
 ghost use Rattle.sdf_process.specs.Flows.{TurnsAll};
 ghost use Rattle.sdf_process.specs.Streams.{CanPlayNext, IsOpened, PlaysNext, StaysPlayer, Streams};
-ghost use Rattle.sdf_process.specs.Streams.{is_at_once};
+ghost use Rattle.sdf_process.specs.Streams.{is_cut};
 ghost use Rattle.sdf_process.specs.Tasks.{IsBegun, IsPlayer};
 
 use crate::begun::Begun;
@@ -24,7 +24,7 @@ use sdf_plan::Fault;
 use sdf_run::Gate;
 use sdf_run::laws::{nets_have_periods, runs_go_on};
 use sdf_sched::Period;
-use sdf_wav::{Reader, Wav, Writer};
+use sdf_wav::{Reader, Writer};
 use std::alloc::{AllocError, Global};
 use std::mem;
 use std::thread::Threads;
@@ -94,7 +94,7 @@ impl<'a> Stream<'a> {
         portion: Portion<'_>,
     ) -> Result<(), Fault>
         requires step { CanStep self.old portion (R.state reader.old) (W.state writer.old) }
-        requires parts { is_at_once self.old.runner ≡ true }
+        requires parts { is_cut self.old.runner ≡ true }
         ensures goes { StepsOn self.old self.new portion.entry (R.state reader.old) (R.state reader.new)
             (W.state writer.old) (W.state writer.new) result }
         ensures left { TakesMost self.old.flow self.new.flow result }
@@ -138,7 +138,7 @@ impl<'a> Stream<'a> {
         gate: &G,
     ) -> Result<(), Fault>
         requires on { (b : Start) × GoesOn b self.old (R.state reader.old) (W.state writer.old) }
-        ensures goes { ComesOn self.old self.new (R.state reader.old) (R.state reader.new) (W.state writer.old)
+        ensures goes { KeepsGoing self.old self.new (R.state reader.old) (R.state reader.new) (W.state writer.old)
             (W.state writer.new) result }
         ensures left { TakesMost self.old.flow self.new.flow result }
     {

@@ -47,10 +47,11 @@ pub record AreProfileOptions (d : DesignValue) (o : Options) : Type 0 where
   pub patience : o.patience ≡ MOST_PATIENCE
   pub blocking : (q : List ℕ) → IsLeastPeriod (rates (graph_of kit_steps d.net)) q → o.blocking ≡ blocking_of (sum q)
 
--- devices that never failed
+-- a reader that never failed
 abbrev pub unfailed_reader : Option (List ℕ) → ReaderState
 unfailed_reader remaining = record { remaining = remaining; failures = 0 }
 
+-- a writer that never failed
 abbrev pub unfailed_writer : Option (List ℕ) → WriterState
 unfailed_writer contents = record { contents = contents; failures = 0 }
 

@@ -1,6 +1,7 @@
 //! The words that the program was started with.
 
-ghost use Rattle.std.specs.Prelude.{IfOk, IfErr};
+ghost use Rattle.std.specs.Prelude.{ℕ, IfOk, IfErr, IfSome};
+ghost use Rattle.std.specs.Result.{IsErr};
 ghost use Rattle.sdf_options.specs.Limits.{IsUsage};
 ghost use Rattle.sdf_words.specs.Limits.{IsWithinLimits};
 
@@ -32,6 +33,7 @@ fn no_text(alloc: Global, number: usize) -> WordFault
 impl Given {
     /// Reads the words that were given, which are those of `line`. A word that is not UTF-8 is a mistake.
     pub fn read<'a>(&self, alloc: Global, line: &'a [&'a str]) -> Result<Words<'a>, WordFault>
+        ensures unread { IfSome self.now.unread (λ (number : ℕ). IsErr result) }
         ensures within { IfOk result IsWithinLimits }
         ensures usage { IfErr result IsUsage }
     {

@@ -9,11 +9,11 @@ use test_texts::row_says;
 
 /// The words of a program, of which the first is its name.
 #[derive(Clone, Copy)]
-struct Given<'a> {
+struct Environment<'a> {
     words: &'a [&'a [u8]],
 }
 
-impl Env for Given<'_> {
+impl Env for Environment<'_> {
     fn arg(&self, i: usize, buf: &mut [u8]) -> Result<usize, FillError> {
         let Some(word) = self.words.get(i) else {
             return Err(FillError::NotPresent);
@@ -38,7 +38,7 @@ impl Env for Given<'_> {
 
 /// How many words are read, the first, whether all are as they were given, and which was the first that is not UTF-8.
 fn told<'a>(alloc: Global, words: &'a [&'a [u8]]) -> Result<String, Fail> {
-    match arguments(&Given { words }, alloc) {
+    match arguments(&Environment { words }, alloc) {
         Ok(read) => {
             let first = read.words.first();
             let same = are_read(&read.words, words);

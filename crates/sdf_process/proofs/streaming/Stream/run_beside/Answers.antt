@@ -2,7 +2,7 @@ use Rattle.std.proofs.Common.{◌≡◌, IfOk, refl, subst, sym, ap, ◌∙◌, 
 use Rattle.std.specs.Prelude.{is_some}
 use Rattle.sdf_actor.specs.Wires.{lists as items_of}
 use Rattle.sdf_process.specs.declared.runner.Runner.TheVariants as runner
-use Rattle.sdf_process.specs.Streams.{PlaysNext, RunsNext, is_at_once}
+use Rattle.sdf_process.specs.Streams.{PlaysNext, RunsNext, is_cut}
 use Rattle.sdf_process.proofs.Flowing.{memory_refused}
 use Rattle.sdf_process.proofs.Refusals.{at_err, at_ok, fails_by}
 use Rattle.sdf_process.proofs.Runs.{player_runs}
@@ -33,8 +33,8 @@ returns-clause-goes g c = λ b p blocks step.
     player_runs c.args.self.now.runner v plays.new.player c.args.portion made c.in-Player.is plays.ensures.stays
     (subst (λ z. IfOk z (λ l. PlaysNext v plays.new.player c.args.portion (items_of l.items)))
     c.in_ok-self.ensures.played plays.ensures.plays) in
-    let still : is_at_once (runner.Player plays.new.player) ≡ true =
-    ap is_some plays.ensures.stays.2 ∙ (sym (ap is_at_once c.in-Player.is) ∙ c.requires.parts) in
+    let still : is_cut (runner.Player plays.new.player) ≡ true =
+    ap is_some plays.ensures.stays.2 ∙ (sym (ap is_cut c.in-Player.is) ∙ c.requires.parts) in
     beside_on b p blocks c.args.self.now c.args.portion step (runner.Player plays.new.player) made
     runs still plays.new.flow
     (record plays.new.flow { made = c.in_ok-self.field-0 }) turns refl refl refl refl refl refl
