@@ -277,7 +277,6 @@ def broken_answers(program):
 
 # Mistakes on the command line. The last one has the byte 0xFF in a path.
 MISTAKES = [
-    ["check"],
     ["check", "examples/gain/gain.toml", "--wyh"],
     ["schedule", "examples/gain/gain.toml", "--workers", "17"],
     ["analyze", "--compare", "--policy", "none", "examples/gain/gain.toml"],
