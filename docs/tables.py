@@ -8,7 +8,8 @@
   the list of crates in docs/ARCHITECTURE.md.
 - What an edit of must-fail/ or mutants/ is to replace stands once in its file.
 - Blocks whose first line is a comment with a path, `# examples/..` or `// crates/..`, in each document: the file at
-  that path is the block, but for its comments. A block for `build/` is written there, for the commands below it.
+  that path is the block, except for comments. Each block of TOML has such a line. A block for `build/` is written
+  there, for the commands below it.
 - Blocks marked `console`, in each document: each command, run at the top of the repository, prints what stands below.
 - The JSON schemas in docs/ describe graph files and what `--json` prints (`schemas.py`).
 - A path that a document names is there, but in CHANGELOG.md. README.md names each document, examples/README.md each
@@ -256,11 +257,12 @@ def without_comments(text):
     return [line for line in text.splitlines() if line.strip() and not line.lstrip().startswith(("#:", "# ", "//"))]
 
 
-def named_block(text):
-    """What is wrong with a block whose first line names a file. A file of build/ is written."""
+def named_block(mark, text):
+    """What is wrong with a block whose first line names a file, as each block of TOML does. A file of build/ is
+    written."""
     found = re.match(r"(?:#|//) ((?:build|examples|crates)/\S+)\n", text)
     if not found:
-        return []
+        return [f"this block of TOML names no file in its first line:\n{text}"] if mark == "toml" else []
     file = TOP / found[1]
     if found[1].startswith("build/"):
         file.parent.mkdir(parents=True, exist_ok=True)
@@ -291,7 +293,7 @@ def sessions(program, write):
     for paper in PAPERS:
         page = paper.read_text()
         for mark, block in re.findall(r"^```(\w*)\n(.*?)^```$", page, re.M | re.S):
-            wrong += [f"{paper.relative_to(TOP)}: {mistake}" for mistake in named_block(block)]
+            wrong += [f"{paper.relative_to(TOP)}: {mistake}" for mistake in named_block(mark, block)]
             made = session(program, block) if mark == "console" else []
             if write and made:
                 page = page.replace(f"```console\n{block}```", f"```console\n{''.join(made)}```")
