@@ -65,15 +65,16 @@ packages: build
 	scripts/packages
 
 # Whether the documents say what the program and the sources say: kinds, faults, JSON schemas, what commands print,
-# functions without an edit, pages, the pictures of the examples.
+# functions without an edit, pages, the pictures of the examples. Whether all that they name is installed with them.
 documents: build
 	python3 docs/tables.py
 	scripts/pages --check
+	scripts/packages
 	for it in $(filter-out examples/stuck/%,$(wildcard examples/*/graph.toml)); do \
 		build/sdfw draw $$it --workers 2 | cmp - $${it%.toml}.svg || exit 1; done
 
-# Whether each design of examples/ makes the bytes that Python's own arithmetic makes (needs python3.11; about a
-# minute).
+# Whether each design of examples/, and designs that seeds make, make the bytes that Python's own arithmetic makes, also
+# in parts (needs python3.11; about a minute).
 examples: build
 	scripts/examples
 	scripts/pipes
