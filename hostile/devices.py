@@ -4,7 +4,7 @@ import threading
 
 from judges import NO_READ, NO_WRITE, NO_WRITE_IN_JSON, ample_or, behind, only, printed_or, timed
 from machine import HERE, SOUNDS, Folder, describe, run
-from words import COSTED, MADE, PRINTED, RUNNERS, RUNS, SDFW, run_words, stream_words
+from words import COSTED, MADE, PRINTED, RUNS, SDFW, WAYS, run_words, stream_words, way_words
 
 MEGABYTE = 1 << 20
 
@@ -14,7 +14,7 @@ def reads_of_sdfw(lists):
         lists.refuse(f"sdfw {name}: failing reads", [SDFW, *words], "read", only(NO_READ))
         lists.refuse(f"sdfw {name}: failing reads of a byte", [SDFW, *words], "read", only(NO_READ), one=True)
         lists.refuse(f"sdfw {name}: interrupted reads", [SDFW, *words], "read", ample_or(NO_READ), how="interrupt")
-    for runner in RUNNERS:
+    for runner in WAYS:
         name, design, sound, more, period = RUNS[0]
         words = run_words(design, sound, runner, *more)
         lists.refuse(f"sdfw run {runner}: failing reads", words, "read", only(NO_READ, period))
@@ -25,6 +25,48 @@ def reads_of_sdfw(lists):
         lists.refuse(f"sdfw run {name} {runner}: failing reads", words, "read", only(NO_READ, period))
         words = stream_words(design, runner, *more)
         lists.refuse(f"sdfw run - - {runner}: failing reads", words, "read", only(NO_READ, period), sound=sound)
+
+
+# The bytes that two workers make of a piece: two parts of 65,536 frames of one channel.
+PIECE = 2 * 65536 * 2
+
+
+def pieces_of_sdfw(lists):
+    """A parallel run of a sound of two whole pieces and some frames. While a piece is run, the one before it is written
+    and the next one is read. So a read that fails leaves all whole pieces but the last, and a write a front."""
+    name, words = "sdfw run three pieces parts", run_words("pieces.toml", "longest.wav", "parts")
+    allowed, left = only(NO_READ, PIECE), set()
+
+    def judge(ended, ample, at):
+        left.add(len(ended.output or b""))
+        return allowed(ended, ample, at)
+
+    lists.refuse(f"{name}: failing reads", words, "read", judge)
+    if left:
+        lists.cases(f"{name}: failing reads, in each piece", [
+            (f"{size} bytes are left", lambda size=size: size in left or f"only {sorted(left)}")
+            for size in (0, 44, 44 + PIECE)])
+    for how in ("error", "zero", "interrupt"):
+        lists.refuse(f"{name}: writes, {how}", words, "write", only(NO_WRITE, text=False), how=how)
+    cases = []
+    for frames, pieces in ((0, 0), (140000, 0), (290000, 1)):
+        data = SOUNDS["longest.wav"][:44 + 2 * frames]
+        for sound in (None, "cut.wav"):
+            place = "standard input" if sound else "IN"
+            cases.append((f"{place} is a FIFO of {frames} frames",
+                          lambda given=(data, sound, 44 + PIECE * pieces): cut_off(*given)))
+    lists.cases(f"{name}: a sound that ends too soon", cases)
+
+
+def cut_off(data, sound, size):
+    """Whether a run from a FIFO that ends within the samples leaves a front of so many bytes, as one from a file."""
+    words = stream_words("pieces.toml", "parts") if sound else run_words("pieces.toml", "cut.wav", "parts")
+    whole = run(run_words("pieces.toml", "longest.wav", "parts")).output
+    same = from_fifo(words, "cut.wav", data, sound)
+    (Folder.here() / "cut.wav").write_bytes(data)
+    left = fails(run(words, sound=sound), (4, b"sdfw: 43 Truncated\n"), text=whole[:size])
+    (Folder.here() / "cut.wav").unlink()
+    return left if same is True else same
 
 
 def interrupted(period):
@@ -53,7 +95,7 @@ def writes_of_sdfw(lists):
             lists.refuse(f"sdfw {name}: writes, {how}", [SDFW, *words], "write", behind(NO_WRITE, ample_too), how=how)
         lists.refuse(f"sdfw check: writes of a byte, {how}", [SDFW, "check", "chain.toml"], "write",
                      printed_or(NO_WRITE, ample_too), how=how, one=True)
-        for runner in RUNNERS:
+        for runner in WAYS:
             name, design, sound, more, period = RUNS[0]
             words = run_words(design, sound, runner, *more)
             allowed = only(NO_WRITE, text=False)
@@ -99,14 +141,14 @@ def same_by_streams(design, sound, runner, *more):
 
 def bytes_of_sdfw(lists):
     cases = [(name, lambda words=words: same_by_bytes([SDFW, *words])) for name, words in PRINTED]
-    for runner in RUNNERS:
+    for runner in WAYS:
         for name, design, sound, more, _ in RUNS:
             words = run_words(design, sound, runner, *more)
             cases.append((f"run {name} {runner}", lambda words=words: same_by_bytes(words)))
             cases.append((f"run - - {name} {runner}",
                           lambda given=(design, sound, runner, *more): same_by_streams(*given)))
         for sound in LIES:
-            words = run_words("loop.toml", sound, runner)
+            words = run_words(lying_design(runner), sound, runner)
             cases.append((f"run {sound} {runner}", lambda words=words: same_by_bytes(words)))
     lists.cases("sdfw: a byte a call", cases)
 
@@ -120,6 +162,11 @@ LIES = {
     "list.wav": (b"43 Truncated", 0),
     "format.wav": (b"43 Truncated", 0),
 }
+
+
+def lying_design(runner):
+    """A design that makes a frame of each: one that forgets, for a run in parts."""
+    return "heavy.toml" if runner == "parts" else "loop.toml"
 
 
 def fails(ended, fault, *, text=b""):
@@ -140,9 +187,9 @@ def small(words, fault, text):
 
 def sizes_of_sdfw(lists):
     cases = []
-    for runner in RUNNERS:
+    for runner in WAYS:
         for sound, (fault, text) in LIES.items():
-            words = run_words("loop.toml", sound, runner)
+            words = run_words(lying_design(runner), sound, runner)
             cases.append((f"{sound} {runner}", lambda given=(words, fault, text): small(*given)))
     lists.cases("sdfw: sizes that lie ask for less than 1 MB", cases)
 
@@ -216,10 +263,10 @@ def devices_of_sdfw(lists):
             cases.append((f"{name} to {place}", judged))
     untold = [SDFW, "check", "none.toml"]
     cases.append(("a fault told to a closed pipe", lambda: to_closed_pipe(untold, "told").status == 5))
-    for runner in RUNNERS:
-        more = RUNNERS[runner]
+    for runner in WAYS:
+        more = way_words(runner)
         full = [SDFW, "run", "chain.toml", "short.wav", "/dev/full", *more]
-        pipe = [SDFW, "run", "pieces.toml", "longer.wav", "pipe.wav", "--blocking", "4", *more]
+        pipe = [SDFW, "run", "pieces.toml", "longer.wav", "pipe.wav", *way_words(runner, "--blocking", "4")]
         for name, words, fault in (
             ("OUT is /dev/full", full, NO_WRITE),
             ("GRAPH is a folder", [SDFW, "run", ".", "short.wav", "out.wav", *more], NO_READ),
@@ -250,6 +297,7 @@ def devices_of_sdfw(lists):
 
 def all_lists(lists):
     reads_of_sdfw(lists)
+    pieces_of_sdfw(lists)
     writes_of_sdfw(lists)
     bytes_of_sdfw(lists)
     sizes_of_sdfw(lists)

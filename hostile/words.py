@@ -8,22 +8,30 @@ RUNNERS = {
     "rings": ["--runner", "rings", "--workers", "2", "--patience", "0"],
 }
 
+# How the lists of devices run designs: by each runner, and in two parts of the sound.
+WAYS = [*RUNNERS, "parts"]
 
-def run_words(design, sound, runner, *more):
-    return [SDFW, "run", design, sound, "out.wav", *RUNNERS[runner], *more]
+
+def way_words(way, *more):
+    """The options of a way to run; a run in parts takes no others."""
+    return ["--parallel", "2"] if way == "parts" else [*RUNNERS[way], *more]
 
 
-def stream_words(design, runner, *more):
+def run_words(design, sound, way, *more):
+    return [SDFW, "run", design, sound, "out.wav", *way_words(way, *more)]
+
+
+def stream_words(design, way, *more):
     """The words of a run from standard input to standard output."""
-    return [SDFW, "run", design, "-", "-", *RUNNERS[runner], *more]
+    return [SDFW, "run", design, "-", "-", *way_words(way, *more)]
 
 
 # The runs of designs: a name, a design, a sound, further options, and the bytes of a period of the output.
 RUNS = [("chain", "chain.toml", "short.wav", [], 320), ("loop", "loop.toml", "few.wav", [], 2),
         ("pieces", "pieces.toml", "long.wav", ["--blocking", "4"], 2048)]
 
-# That of a design with two heavy branches.
-SPREAD = [("heavy", "heavy.toml", "long.wav", [], 2)]
+# Those that threads are refused in parallel runs of: a design with two heavy branches, and one with a warm-up.
+SPREAD = [("heavy", "heavy.toml", "long.wav", [], 2), ("filter", "filter.toml", "long.wav", [], 2)]
 
 # What writes measured costs into a file.
 COSTED = [SDFW, "profile", "tables.toml", "few.wav", "--write", "out.wav"]
