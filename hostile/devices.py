@@ -166,7 +166,7 @@ LIES = {
 
 def lying_design(runner):
     """A design that makes a frame of each: one that forgets, for a run in parts."""
-    return "heavy.toml" if runner == "parts" else "loop.toml"
+    return "fork.toml" if runner == "parts" else "loop.toml"
 
 
 def fails(ended, fault, *, text=b""):
