@@ -39,11 +39,13 @@ actor = [{ name = "in", kind = "input", channel = 0 }, { name = "fork", kind = "
 link = [{ from = "in", to = "fork" }, { from = "fork:0", to = "same" }, { from = "fork:1", to = "none" },
     { from = "same", to = "add:0" }, { from = "none", to = "add:1" }, { from = "add", to = "out" }]"#;
 
-/// Two channels as they are.
-const BOTH: &str = r#"format = 1
+/// Two channels as they are, gathered in one between.
+const BOTH: &str = r#"format = 2
 actor = [{ name = "left", kind = "input", channel = 0 }, { name = "right", kind = "input", channel = 1 },
+    { name = "one", kind = "gather", ways = 2 }, { name = "two", kind = "deal", ways = 2 },
     { name = "low", kind = "output", channel = 0 }, { name = "high", kind = "output", channel = 1 }]
-link = [{ from = "left", to = "low" }, { from = "right", to = "high" }]"#;
+link = [{ from = "left", to = "one:0" }, { from = "right", to = "one:1" }, { from = "one", to = "two" },
+    { from = "two:0", to = "low" }, { from = "two:1", to = "high" }]"#;
 
 /// The same branches, each of 64 samples a frame and back.
 const HEAVY: &str = r#"format = 1
