@@ -4,10 +4,11 @@ use crate::TURNS;
 use crate::files::Sources;
 use anyhow::Result;
 use indexmap::IndexSet;
+use sdf_faults::Fault;
 use sdf_file::{Design, FileFault, check_text, design_files, read_design};
 use sdf_options::Options;
+use sdf_plan::Plan;
 use sdf_plan::planning::plan;
-use sdf_plan::{Fault, Plan};
 use sdf_prec::Table;
 
 fn show_names(rt: &impl Print, answer: Result<IndexSet<String>, FileFault>) -> Result<()> {

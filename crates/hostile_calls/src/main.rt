@@ -10,10 +10,10 @@
 //! `hostile_calls count RUNNER WORKERS PERIODS BLOCKS`, or a policy in place of the runner, makes one run or one
 //! schedule between two lines, for `scripts/allocations`.
 //!
-//! It stands on `sdf_words`, `sdf_options`, `sdf_plan`, `sdf_process`, `sdf_file`, `sdf_wav`, `sdf_run`, `sdf_rings`,
-//! `sdf_answer`, `sdf_prec`, `sdf_sched`, `sdf_kit`, `sdf_actor` and `sdf_graph`. Begin at `main`, then `calls`, which
-//! names them: `designs` has those that end in a design or a plan, `runs`, `sessions`, `by_hand` and `sounds` those
-//! that begin with a plan; `disturbing` has the gates, and `counting` what is counted.
+//! It stands on `sdf_words`, `sdf_options`, `sdf_plan`, `sdf_faults`, `sdf_process`, `sdf_file`, `sdf_wav`, `sdf_run`,
+//! `sdf_rings`, `sdf_answer`, `sdf_prec`, `sdf_sched`, `sdf_kit`, `sdf_actor` and `sdf_graph`. Begin at `main`, then
+//! `calls`, which names them: `designs` has those that end in a design or a plan, `runs`, `sessions`, `by_hand` and
+//! `sounds` those that begin with a plan; `disturbing` has the gates, and `counting` what is counted.
 #![tactic(auto)]
 
 mod by_hand;

@@ -4,8 +4,9 @@ ghost use Rattle.sdf_plan.specs.Plans.{Suits};
 
 use crate::TURNS;
 use anyhow::Result;
+use sdf_faults::Fault;
 use sdf_file::Design;
-use sdf_plan::{Fault, Plan};
+use sdf_plan::Plan;
 use sdf_process::process::process;
 use sdf_wav::{FromRead, ToWrite};
 use std::io;

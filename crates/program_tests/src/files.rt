@@ -2,10 +2,10 @@
 
 use crate::commands::{Served, Stream, is_told, status_of};
 use crate::shelf::SOUND;
+use sdf_faults::fault_text;
 use sdf_files::files::{MOST_BYTES, load, read_all};
 use sdf_files::storage::{Disk, Storage};
 use sdf_files::world::World;
-use sdf_plan::fault_text;
 use std::alloc::Global;
 use std::io::{self, Error, ErrorKind, Read};
 use std::rt::Files;

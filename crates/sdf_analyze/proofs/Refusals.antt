@@ -5,9 +5,9 @@ use Rattle.sdf_prec.specs.declared.fault.PrecFault.{PrecFault}
 use Rattle.sdf_prec.specs.declared.fault.PrecFault.TheVariants.{OutOfMemory}
 use Rattle.sdf_file.specs.Designs.{DesignValue}
 use Rattle.sdf_options.specs.declared.options.Options.{Options}
-use Rattle.sdf_plan.specs.declared.fault.Fault.{Fault}
-use Rattle.sdf_plan.specs.declared.fault.Fault.TheVariants as fault
-use Rattle.sdf_plan.specs.Faults.{of_prec}
+use Rattle.sdf_faults.specs.declared.fault.Fault.{Fault}
+use Rattle.sdf_faults.specs.declared.fault.Fault.TheVariants as fault
+use Rattle.sdf_faults.specs.Faults.{of_prec}
 use Rattle.sdf_plan.specs.Plans.{AreSizes, IsScheduleFault}
 use Rattle.sdf_plan.specs.Schedules.{IsShowFault}
 use Rattle.sdf_analyze.specs.declared.columns.Outcome.{Outcome}

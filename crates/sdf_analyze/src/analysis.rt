@@ -11,9 +11,9 @@ ghost use Rattle.sdf_analyze.specs.Analyses.{IsFigured, IsAnalysis};
 
 use crate::figures::Figures;
 use crate::lines::analysis_text;
+use sdf_faults::Fault;
 use sdf_file::Design;
 use sdf_options::Options;
-use sdf_plan::Fault;
 use sdf_plan::schedule::scheduled;
 use sdf_prec::Table;
 use sdf_sched::Period;

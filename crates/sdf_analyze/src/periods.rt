@@ -4,9 +4,9 @@ ghost use Rattle.std.specs.Prelude.{◌≡◌, MatchResult};
 ghost use Rattle.sdf_plan.specs.Plans.{IsScheduleFault};
 ghost use Rattle.sdf_analyze.specs.Periods.{period_in, AreByPolicies};
 
+use sdf_faults::Fault;
 use sdf_file::Design;
 use sdf_options::Policy;
-use sdf_plan::Fault;
 use sdf_plan::planning::period_by;
 use sdf_sched::Period;
 use std::alloc::Global;

@@ -1,13 +1,13 @@
 //! The commands that make filters and converters.
 
 use crate::printing::{show, test_plan};
+use sdf_faults::Fault;
 use sdf_file::{Design, read_design};
 use sdf_files::files::{Refused, Sources, refuse, write_at};
 use sdf_files::overwriting::{keep_file, only_path};
 use sdf_files::storage::Storage;
 use sdf_files::world::World;
 use sdf_filters::{ConverterTexts, FilterFault, Wanted, converter_texts, filter_texts};
-use sdf_plan::Fault;
 use sdf_words::{Conversion, mistake};
 use std::alloc::Global;
 use std::io::{ErrorKind, Write};

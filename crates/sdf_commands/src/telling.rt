@@ -2,11 +2,11 @@
 
 use crate::sounds::{format_text, header_of, unsuited_text};
 use sdf_document::DocumentFault;
+use sdf_faults::{Fault, Stalled};
 use sdf_file::FileFault;
 use sdf_files::files::Sources;
 use sdf_files::input::InputTrace;
 use sdf_options::Options;
-use sdf_plan::{Fault, Stalled};
 use sdf_prec::PrecFault;
 use sdf_why::{
     Halt, block_text, channels_text, device_text, file_text, home_text, rate_text, stall_text,

@@ -6,7 +6,7 @@ use Rattle.sdf_prec.specs.declared.fault.PrecFault.TheVariants.{OutOfMemory}
 use Rattle.sdf_prec.specs.Tables.{Tabled, IsTable}
 use Rattle.sdf_file.specs.Designs.{DesignValue, IsDesign}
 use Rattle.sdf_options.specs.declared.options.Options.{Options}
-use Rattle.sdf_plan.specs.Faults.{of_prec}
+use Rattle.sdf_faults.specs.Faults.{of_prec}
 use Rattle.sdf_plan.specs.Placements.{rates_of, firings_of}
 use Rattle.sdf_plan.specs.Schedules.{IsShowFault}
 use Rattle.sdf_analyze.specs.Figures.{Figured, AreFiguresOf}

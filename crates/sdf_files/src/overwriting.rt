@@ -3,8 +3,8 @@
 
 use crate::storage::Storage;
 use crate::world::STANDARD;
+use sdf_faults::Fault;
 use sdf_options::printable::printable;
-use sdf_plan::Fault;
 use sdf_words::mistake;
 use std::alloc::{AllocError, Global};
 use std::io::ErrorKind;

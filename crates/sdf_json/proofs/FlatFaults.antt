@@ -5,9 +5,9 @@ use Rattle.serde_json.specs.Data.{Data, no_members, depth, string}
 use Rattle.serde_json.specs.Read.{max_depth}
 use Rattle.sdf_options.specs.declared.fault.WordFault.{WordFault}
 use Rattle.sdf_options.specs.declared.fault.WordFault.TheVariants as words
-use Rattle.sdf_plan.specs.declared.fault.Progress.{Progress}
-use Rattle.sdf_plan.specs.declared.fault.Fault.{Fault}
-use Rattle.sdf_plan.specs.declared.fault.Fault.TheVariants as fault
+use Rattle.sdf_faults.specs.declared.fault.Progress.{Progress}
+use Rattle.sdf_faults.specs.declared.fault.Fault.{Fault}
+use Rattle.sdf_faults.specs.declared.fault.Fault.TheVariants as fault
 use Rattle.sdf_json.specs.Values.{natural, perhaps, list_of}
 use Rattle.sdf_json.specs.Told.{plain}
 use Rattle.sdf_json.specs.Faults.{progress_value, stalled_value, usage_value, IsWordsValue, IsFaultValue}

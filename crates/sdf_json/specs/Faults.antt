@@ -3,9 +3,9 @@ use Rattle.std.specs.Prelude.{◌≡◌, ℕ, List, [], ◌∷◌, map, codes, s
 use Rattle.serde_json.specs.Data.{Data, string}
 use Rattle.sdf_options.specs.declared.fault.WordFault.{WordFault}
 use Rattle.sdf_options.specs.declared.fault.WordFault.TheVariants as words
-use Rattle.sdf_plan.specs.declared.fault.Progress.{Progress}
-use Rattle.sdf_plan.specs.declared.fault.Fault.{Fault}
-use Rattle.sdf_plan.specs.declared.fault.Fault.TheVariants as fault
+use Rattle.sdf_faults.specs.declared.fault.Progress.{Progress}
+use Rattle.sdf_faults.specs.declared.fault.Fault.{Fault}
+use Rattle.sdf_faults.specs.declared.fault.Fault.TheVariants as fault
 use Rattle.sdf_json.specs.Values.{natural, perhaps, object_of, list_of, IsLineOf}
 use Rattle.sdf_json.specs.Told.{told, plain}
 use Rattle.sdf_json.specs.DesignFaults.{file_value}

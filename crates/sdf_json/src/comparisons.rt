@@ -10,9 +10,9 @@ ghost use Rattle.sdf_json.specs.Comparisons.{IsComparisonJson};
 use crate::schedules::asked;
 use crate::values::{Members, line_of, put_number};
 use sdf_analyze::{Entry, Measures, Outcome, compared};
+use sdf_faults::Fault;
 use sdf_file::Design;
 use sdf_options::Options;
-use sdf_plan::Fault;
 use serde_json::Value;
 use std::alloc::{AllocError, Global};
 

@@ -11,8 +11,8 @@ use crate::design_faults::file_value;
 use crate::run_faults::{format_value, prec_value};
 use crate::told::{begun, plain};
 use crate::values::{line_of, perhaps, put_number, put_text};
+use sdf_faults::{Fault, Progress, Stalled};
 use sdf_options::WordFault;
-use sdf_plan::{Fault, Progress, Stalled};
 use serde_json::{Map, Value, put};
 use std::alloc::{AllocError, Global};
 

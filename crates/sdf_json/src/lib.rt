@@ -1,8 +1,8 @@
 //! What the commands print as JSON: a design, its schedule, its analysis, schedules beside one another, the kinds of
 //! actors, and a fault.
 //!
-//! It stands on `sdf_plan`, which schedules a design by options and has the faults, on `sdf_analyze` for what
-//! schedules do, on `sdf_file` and `sdf_document` for the design and its faults, and on `sdf_options`, `sdf_wav`,
+//! It stands on `sdf_plan`, which schedules a design by options, on `sdf_faults`, on `sdf_analyze` for what schedules
+//! do, on `sdf_file` and `sdf_document` for the design and what is wrong with it, and on `sdf_options`, `sdf_wav`,
 //! `sdf_kit`, `sdf_actor`, `sdf_prec`, `sdf_sched` and `sdf_graph` for what these are of. Begin at `designs`, then
 //! `schedules`, `analyses`, `comparisons`, `kinds` and `faults`. The values are in `specs/Designs.antt`,
 //! `specs/Schedules.antt`, `specs/Analyses.antt`, `specs/Comparisons.antt`, `specs/Kinds.antt`, `specs/Ports.antt` and

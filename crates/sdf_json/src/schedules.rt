@@ -10,9 +10,9 @@ ghost use Rattle.sdf_json.specs.Schedules.{asked, schedule_value, IsScheduleJson
 use crate::tables::{capacities, homed_actors, order_items, rows};
 use crate::values::{Members, line_of, put_number, put_text};
 use sdf_analyze::{placement_word, policy_word};
+use sdf_faults::Fault;
 use sdf_file::Design;
 use sdf_options::Options;
-use sdf_plan::Fault;
 use sdf_plan::schedule::scheduled;
 use sdf_prec::Table;
 use sdf_sched::Period;

@@ -14,8 +14,8 @@ use Rattle.sdf_sched.specs.declared.fault.SchedFault.TheVariants.{Deadlock}
 use Rattle.sdf_sched.proofs.Theorems.{period_or_deadlock}
 use Rattle.sdf_file.specs.Designs.{DesignValue}
 use Rattle.sdf_options.specs.declared.options.Options.{Options}
-use Rattle.sdf_plan.specs.declared.fault.Fault.{Fault}
-use Rattle.sdf_plan.specs.declared.fault.Fault.TheVariants as fault
+use Rattle.sdf_faults.specs.declared.fault.Fault.{Fault}
+use Rattle.sdf_faults.specs.declared.fault.Fault.TheVariants as fault
 use Rattle.sdf_plan.specs.Plans.{PlanValue, ArePassed, IsPlanOf, IsPlanFault, IsLive, Decides, IsStuckFault}
 use Rattle.sdf_plan.specs.Plans.{IsDeadlockOf, ProgressValue, progress_of}
 

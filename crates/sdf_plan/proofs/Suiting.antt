@@ -5,7 +5,7 @@ use Rattle.sdf_sched.specs.Period.{Schedule}
 use Rattle.sdf_prec.specs.Tables.{Tabled, IsTable}
 use Rattle.sdf_answer.specs.Rows.{IsTableOf}
 use Rattle.sdf_file.specs.Designs.{DesignValue}
-use Rattle.sdf_plan.specs.declared.fault.Fault.{Fault}
+use Rattle.sdf_faults.specs.declared.fault.Fault.{Fault}
 use Rattle.sdf_options.specs.declared.options.Options.{Options}
 use Rattle.sdf_options.specs.declared.options.Placement.{Placement}
 use Rattle.sdf_options.specs.declared.options.Placement.TheVariants.{Hu, Homed, File, Spread}

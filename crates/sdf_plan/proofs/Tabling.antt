@@ -5,8 +5,8 @@ use Rattle.sdf_kit.specs.Kit.{kit_steps}
 use Rattle.sdf_sched.specs.Period.{Schedule}
 use Rattle.sdf_file.specs.Designs.{DesignValue}
 use Rattle.sdf_options.specs.declared.options.Options.{Options}
-use Rattle.sdf_plan.specs.declared.fault.Fault.{Fault}
-use Rattle.sdf_plan.specs.declared.fault.Fault.TheVariants as fault
+use Rattle.sdf_faults.specs.declared.fault.Fault.{Fault}
+use Rattle.sdf_faults.specs.declared.fault.Fault.TheVariants as fault
 use Rattle.sdf_plan.specs.Placements.{ArePeriodsOf}
 use Rattle.sdf_plan.specs.Plans.{ArePassed, IsPlanFault, IsScheduleBy, IsTableFault}
 

@@ -1,5 +1,3 @@
-pub mod Faults
-pub mod Statuses
 pub mod Weights
 pub mod Placements
 pub mod Plans

@@ -30,10 +30,10 @@ use Rattle.sdf_options.specs.declared.options.Policy.{Policy}
 use Rattle.sdf_options.specs.declared.options.Policy.TheVariants as policies
 use Rattle.sdf_options.specs.declared.options.Runner.{Runner}
 use Rattle.sdf_options.specs.declared.options.Runner.TheVariants.{One, Rows, Rings}
-use Rattle.sdf_plan.specs.declared.fault.Progress.{Progress}
-use Rattle.sdf_plan.specs.declared.fault.Fault.{Fault}
-use Rattle.sdf_plan.specs.declared.fault.Fault.TheVariants.{OutOfMemory, Patience, BlockingFactor, WorkerCount}
-use Rattle.sdf_plan.specs.declared.fault.Fault.TheVariants.{Deadlock, Table, NotHomed}
+use Rattle.sdf_faults.specs.declared.fault.Progress.{Progress}
+use Rattle.sdf_faults.specs.declared.fault.Fault.{Fault}
+use Rattle.sdf_faults.specs.declared.fault.Fault.TheVariants.{OutOfMemory, Patience, BlockingFactor, WorkerCount}
+use Rattle.sdf_faults.specs.declared.fault.Fault.TheVariants.{Deadlock, Table, NotHomed}
 use Rattle.sdf_plan.specs.Placements.{ArePeriodsOf, IsTableBy, IsPlaceFault}
 
 -- what runs a design, the periods of a block, how often a worker repeats its tests over rings, how many parts of a

@@ -7,9 +7,9 @@ use Rattle.sdf_prec.specs.Tables.{Tabled}
 use Rattle.sdf_file.specs.Designs.{DesignValue}
 use Rattle.sdf_file.specs.Schedules.{IsScheduleText}
 use Rattle.sdf_options.specs.declared.options.Options.{Options}
-use Rattle.sdf_plan.specs.declared.fault.Fault.{Fault}
-use Rattle.sdf_plan.specs.declared.fault.Fault.TheVariants.{OutOfMemory, BlockingFactor, WorkerCount, Deadlock}
-use Rattle.sdf_plan.specs.declared.fault.Fault.TheVariants.{Table}
+use Rattle.sdf_faults.specs.declared.fault.Fault.{Fault}
+use Rattle.sdf_faults.specs.declared.fault.Fault.TheVariants.{OutOfMemory, BlockingFactor, WorkerCount, Deadlock}
+use Rattle.sdf_faults.specs.declared.fault.Fault.TheVariants.{Table}
 use Rattle.sdf_plan.specs.Placements.{ArePeriodsOf, IsTableBy}
 use Rattle.sdf_plan.specs.Plans.{AreSizes, IsSizeFault, IsScheduleBy, IsScheduleFault, IsUnplaced}
 

@@ -2,13 +2,11 @@
 //!
 //! It stands on `sdf_options` for the options, on `sdf_file`, `sdf_kit`, `sdf_actor` and `sdf_graph` for the design, on
 //! `sdf_sched` and `sdf_prec` for the order of a period and the table of a block, on `sdf_fission` for the warm-up of a
-//! part, and on `sdf_answer` for what workers follow. It runs nothing. `fault` gathers the faults of the program, those
-//! of a run (`sdf_answer`) and of WAV files (`sdf_wav`) too, with their texts and exit statuses. Begin at `planning`;
-//! then `parallel` and `schedule`. The definitions are in `specs/Plans.antt`, `specs/Placements.antt`,
+//! part, on `sdf_answer` for what workers follow, and on `sdf_faults` for why there is no plan. It runs nothing. Begin
+//! at `planning`; then `parallel` and `schedule`. The definitions are in `specs/Plans.antt`, `specs/Placements.antt`,
 //! `specs/Paces.antt` and `specs/Schedules.antt`.
 #![tactic(auto)]
 
-mod fault;
 pub mod parallel;
 mod placement;
 mod plan;
@@ -16,5 +14,4 @@ pub mod planning;
 pub mod schedule;
 mod weights;
 
-pub use fault::{Fault, Progress, Stalled, fault_text, status};
 pub use plan::{Plan, Way};

@@ -6,9 +6,9 @@ ghost use Rattle.sdf_fission.specs.WarmUps.{WarmsIn};
 ghost use Rattle.sdf_plan.specs.Paces.{one_thread, IsPaced};
 ghost use Rattle.sdf_plan.specs.Plans.{IsPlanOf, IsPlanFault, IsWorkers, Suits};
 
-use crate::fault::Fault;
 use crate::plan::Plan;
 use crate::planning::plan;
+use sdf_faults::Fault;
 use sdf_file::Design;
 use sdf_fission::warm_up::warm_up;
 use sdf_options::Options;

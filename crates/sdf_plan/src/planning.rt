@@ -13,10 +13,10 @@ ghost use Rattle.sdf_plan.specs.Plans.{IsRunBy, IsTableFault, Suits, Decides, Is
 ghost use Rattle.sdf_plan.specs.Plans.{IsScheduleFault, progress_of, progress_view, short_of};
 ghost use Rattle.sdf_plan.specs.Ways.{plan_by};
 
-use crate::fault::{Fault, Progress, Stalled};
 use crate::placement::{blocking_by, table_by};
 use crate::plan::{Plan, Way};
 use sdf_answer::BlockTable;
+use sdf_faults::{Fault, Progress, Stalled};
 use sdf_file::Design;
 use sdf_graph::{Graph, Repetitions};
 use sdf_limits::{MOST_BLOCKING, MOST_PATIENCE, MOST_WORKERS};

@@ -9,9 +9,9 @@ ghost use Rattle.sdf_prec.specs.Long.{IsLongSize};
 ghost use Rattle.sdf_plan.specs.Plans.{AreSizes, IsScheduleBy};
 ghost use Rattle.sdf_plan.specs.Schedules.{IsScheduled, IsShown, IsShowFault};
 
-use crate::fault::Fault;
 use crate::placement::{blocking_by, table_by};
 use crate::planning::{period_by, size_fault};
+use sdf_faults::Fault;
 use sdf_file::{Design, schedule_text};
 use sdf_options::Options;
 use sdf_prec::Table;

@@ -18,8 +18,8 @@ use Rattle.sdf_wav.specs.PiecesIn.{Reading, IsReading, IsWithin, sound_read}
 use Rattle.sdf_wav.specs.Sound.{Sound}
 use Rattle.sdf_process.specs.declared.exchange.Announced.{Announced}
 use Rattle.sdf_process.specs.declared.exchange.Exchange.{Exchange}
-use Rattle.sdf_plan.specs.declared.fault.Fault.{Fault}
-use Rattle.sdf_plan.specs.declared.fault.Fault.TheVariants.{ChannelsMissing, OutOfMemory}
+use Rattle.sdf_faults.specs.declared.fault.Fault.{Fault}
+use Rattle.sdf_faults.specs.declared.fault.Fault.TheVariants.{ChannelsMissing, OutOfMemory}
 use Rattle.sdf_process.specs.declared.source.Source.{Source}
 use Rattle.sdf_process.specs.Output.{announced_fault, exchange_of, interleaved, lists_to}
 use Rattle.sdf_process.specs.Sources.{TakesAll}

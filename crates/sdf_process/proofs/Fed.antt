@@ -27,8 +27,8 @@ use Rattle.sdf_split.proofs.Lists.{joined_is, joined_long}
 use Rattle.sdf_wav.specs.Sound.{Sound}
 use Rattle.sdf_process.specs.declared.exchange.Exchange.{Exchange}
 use Rattle.sdf_process.specs.declared.portion.Portion.{Portion}
-use Rattle.sdf_plan.specs.declared.fault.Fault.TheVariants.{OutOfMemory}
-use Rattle.sdf_plan.specs.Faults.{of_run}
+use Rattle.sdf_faults.specs.declared.fault.Fault.TheVariants.{OutOfMemory}
+use Rattle.sdf_faults.specs.Faults.{of_run}
 use Rattle.sdf_process.specs.Output.{channel_samples, exchange_of, interleaved, lists_from, lists_to}
 use Rattle.sdf_process.specs.Stages.{SamplesJoin}
 use Rattle.sdf_process.specs.Streams.{CanRun, FeedsBy, Follows, Makes, StandsAt}

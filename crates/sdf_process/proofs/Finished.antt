@@ -14,8 +14,8 @@ use Rattle.sdf_wav.specs.PiecesIn.{Reading, known_frames, sound_read}
 use Rattle.sdf_wav.specs.PiecesOut.{Owed, file_header}
 use Rattle.sdf_process.specs.declared.exchange.Exchange.{Exchange}
 use Rattle.sdf_process.specs.declared.exchange.Extent.{Extent}
-use Rattle.sdf_plan.specs.declared.fault.Fault.{Fault}
-use Rattle.sdf_plan.specs.declared.fault.Fault.TheVariants.{OutOfMemory, Write}
+use Rattle.sdf_faults.specs.declared.fault.Fault.{Fault}
+use Rattle.sdf_faults.specs.declared.fault.Fault.TheVariants.{OutOfMemory, Write}
 use Rattle.sdf_process.specs.Output.{announced_by, exchange_of, interleaved, input_lists, output_frames, output_fault}
 use Rattle.sdf_process.specs.Output.{output_header, output_of, periods_of, IsExchange, IsExtent}
 use Rattle.sdf_process.specs.Run.{AreFrames, HasOutput, IsRun, IsText, Refuses}

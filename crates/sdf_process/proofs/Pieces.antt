@@ -12,8 +12,8 @@ use Rattle.sdf_wav.specs.Device.{WriterState, failures_after, one_more}
 use Rattle.sdf_wav.specs.PiecesOut.{Owed, Puts}
 use Rattle.sdf_wav.specs.declared.fault.WavFault.{WavFault}
 use Rattle.sdf_wav.specs.declared.fault.WavFault.TheVariants as wav
-use Rattle.sdf_plan.specs.declared.fault.Fault.{Fault}
-use Rattle.sdf_plan.specs.Faults.{of_wav}
+use Rattle.sdf_faults.specs.declared.fault.Fault.{Fault}
+use Rattle.sdf_faults.specs.Faults.{of_wav}
 use Rattle.sdf_process.specs.Output.{frame, interleaved_from}
 use Rattle.sdf_process.specs.Stages.{PutsHeader, SamplesJoin}
 use Rattle.sdf_process.proofs.Outcomes.{front_join}

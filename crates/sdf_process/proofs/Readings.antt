@@ -9,8 +9,8 @@ use Rattle.sdf_wav.specs.PiecesIn.{Reading, AnswersBy, IsPiece, IsReadTo, IsSize
 use Rattle.sdf_wav.specs.declared.fault.FormatFault.{FormatFault}
 use Rattle.sdf_wav.specs.declared.fault.WavFault.{WavFault}
 use Rattle.sdf_wav.specs.declared.fault.WavFault.TheVariants as wav
-use Rattle.sdf_plan.specs.declared.fault.Fault.{Fault}
-use Rattle.sdf_plan.specs.Faults.{of_wav}
+use Rattle.sdf_faults.specs.declared.fault.Fault.{Fault}
+use Rattle.sdf_faults.specs.Faults.{of_wav}
 use Rattle.sdf_process.specs.Stages.{ReadsContent}
 use Rattle.sdf_process.specs.Sources.{ReadsBy, ReadsMore}
 use Rattle.sdf_process.proofs.Outcomes.{lost_twice}

@@ -17,10 +17,10 @@ use Rattle.sdf_wav.specs.declared.fault.WavFault.{WavFault}
 use Rattle.sdf_wav.specs.declared.fault.WavFault.TheVariants as wav
 use Rattle.sdf_wav.specs.declared.format.Format.{Format}
 use Rattle.sdf_process.specs.declared.exchange.Announced.{Announced}
-use Rattle.sdf_plan.specs.declared.fault.Fault.{Fault}
-use Rattle.sdf_plan.specs.declared.fault.Fault.TheVariants.{OutOfMemory, Wav, Read, Write, ChannelsMissing}
-use Rattle.sdf_plan.specs.declared.fault.Fault.TheVariants.{RateNotWhole}
-use Rattle.sdf_plan.specs.Faults.{of_wav}
+use Rattle.sdf_faults.specs.declared.fault.Fault.{Fault}
+use Rattle.sdf_faults.specs.declared.fault.Fault.TheVariants.{OutOfMemory, Wav, Read, Write, ChannelsMissing}
+use Rattle.sdf_faults.specs.declared.fault.Fault.TheVariants.{RateNotWhole}
+use Rattle.sdf_faults.specs.Faults.{of_wav}
 use Rattle.sdf_process.specs.Output.{announced_by, announced_fault, exchange_of, output_fault}
 use Rattle.sdf_process.specs.Run.{Announces, announced_size, HasOutputFault, Handles, IsAllowed, IsRun, IsText}
 use Rattle.sdf_process.specs.Run.{IsUnsized, ReadsAnnounced, ReadsInto, Refuses, Runs, WritesFile, WritesSome}

@@ -14,8 +14,8 @@ use Rattle.sdf_actor.specs.declared.sides.Lists.TheVariants.{Inputs, Outputs}
 use Rattle.sdf_process.specs.declared.exchange.Announced.{Announced}
 use Rattle.sdf_process.specs.declared.exchange.Exchange.{Exchange}
 use Rattle.sdf_process.specs.declared.exchange.Extent.{Extent}
-use Rattle.sdf_plan.specs.declared.fault.Fault.{Fault}
-use Rattle.sdf_plan.specs.declared.fault.Fault.TheVariants.{Wav, ChannelsMissing, RateNotWhole}
+use Rattle.sdf_faults.specs.declared.fault.Fault.{Fault}
+use Rattle.sdf_faults.specs.declared.fault.Fault.TheVariants.{Wav, ChannelsMissing, RateNotWhole}
 
 -- what a net of least period vector q exchanges with files in a period
 abbrev pub exchange_of : {A : Type 0} → Netlist A ℤ → List ℕ → Exchange

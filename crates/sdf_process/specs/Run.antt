@@ -19,9 +19,9 @@ use Rattle.sdf_wav.specs.declared.fault.FormatFault.TheVariants.{Truncated}
 use Rattle.sdf_wav.specs.declared.format.Format.{Format}
 use Rattle.sdf_process.specs.declared.exchange.Announced.{Announced}
 use Rattle.sdf_process.specs.declared.exchange.Exchange.{Exchange}
-use Rattle.sdf_plan.specs.declared.fault.Fault.{Fault}
-use Rattle.sdf_plan.specs.declared.fault.Fault.TheVariants.{OutOfMemory, Wav, Read, Write, ChannelsMissing}
-use Rattle.sdf_plan.specs.declared.fault.Fault.TheVariants.{RateNotWhole}
+use Rattle.sdf_faults.specs.declared.fault.Fault.{Fault}
+use Rattle.sdf_faults.specs.declared.fault.Fault.TheVariants.{OutOfMemory, Wav, Read, Write, ChannelsMissing}
+use Rattle.sdf_faults.specs.declared.fault.Fault.TheVariants.{RateNotWhole}
 
 -- the sound that a net of period vector q makes of a sound: that of the lists that reach the sinks, in the histories of
 -- as many periods as it takes to read the sound. By the law of histories there is only one

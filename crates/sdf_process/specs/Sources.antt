@@ -3,8 +3,8 @@ use Rattle.std.specs.Prelude.{◌≡◌, ℕ, ◌+◌, ◌*◌, ℤ, List, [], �
 use Rattle.sdf_wav.specs.Device.{Known, LosesFront, ReaderState}
 use Rattle.sdf_wav.specs.PiecesIn.{Reading, IsReadTo}
 use Rattle.sdf_wav.specs.Sound.{Sound}
-use Rattle.sdf_plan.specs.declared.fault.Fault.{Fault}
-use Rattle.sdf_plan.specs.declared.fault.Fault.TheVariants.{OutOfMemory}
+use Rattle.sdf_faults.specs.declared.fault.Fault.{Fault}
+use Rattle.sdf_faults.specs.declared.fault.Fault.TheVariants.{OutOfMemory}
 use Rattle.sdf_process.specs.declared.source.Source.{Source}
 use Rattle.sdf_process.specs.declared.source.Source.TheVariants.{Content, Heard}
 use Rattle.sdf_process.specs.Stages.{ReadsContent}

@@ -19,8 +19,8 @@ use Rattle.sdf_wav.specs.declared.fault.FormatFault.TheVariants.{Truncated}
 use Rattle.sdf_wav.specs.declared.wav.TheConstants.{MOST_CHANNELS}
 use Rattle.sdf_process.specs.declared.exchange.Exchange.{Exchange}
 use Rattle.sdf_process.specs.declared.exchange.Extent.{Extent}
-use Rattle.sdf_plan.specs.declared.fault.Fault.{Fault}
-use Rattle.sdf_plan.specs.declared.fault.Fault.TheVariants.{OutOfMemory, Wav, Read, Write}
+use Rattle.sdf_faults.specs.declared.fault.Fault.{Fault}
+use Rattle.sdf_faults.specs.declared.fault.Fault.TheVariants.{OutOfMemory, Wav, Read, Write}
 use Rattle.sdf_process.specs.Output.{announced_by, exchange_of, input_lists, interleaved, output_frames}
 use Rattle.sdf_process.specs.Output.{output_header, periods_of, IsExtent}
 use Rattle.sdf_process.specs.Run.{Announces, AreFrames, IsAllowed, IsRun}

@@ -22,8 +22,8 @@ use Rattle.sdf_wav.specs.Device.{AppendsFront, one_more, ReaderState, WriterStat
 use Rattle.sdf_wav.specs.PiecesIn.{Reading, sound_read}
 use Rattle.sdf_wav.specs.Sound.{Sound, frames_of}
 use Rattle.sdf_wav.specs.declared.wav.TheConstants.{MOST_CHANNELS}
-use Rattle.sdf_plan.specs.declared.fault.Fault.{Fault}
-use Rattle.sdf_plan.specs.declared.fault.Fault.TheVariants.{Write}
+use Rattle.sdf_faults.specs.declared.fault.Fault.{Fault}
+use Rattle.sdf_faults.specs.declared.fault.Fault.TheVariants.{Write}
 use Rattle.sdf_process.specs.declared.playing.Player.{Player}
 use Rattle.sdf_process.specs.declared.portion.Portion.{Portion}
 use Rattle.sdf_process.specs.declared.source.Source.{Source}

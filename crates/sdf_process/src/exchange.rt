@@ -11,8 +11,8 @@ ghost use Rattle.sdf_process.specs.Output.{exchange_of, announced_by, announced_
 ghost use Rattle.sdf_process.specs.Output.{IsExchange, IsExtent};
 
 use sdf_actor::Net;
+use sdf_faults::Fault;
 use sdf_kit::Kit;
-use sdf_plan::Fault;
 use sdf_wav::{FormatFault, MOST_CHANNELS, Wav};
 
 /// The channels and samples that a net moves in a period.

@@ -8,7 +8,7 @@ ghost use Rattle.sdf_process.specs.Flows.{TurnsAll, Writes};
 
 use crate::putting::put_in_turn;
 use crate::source::Source;
-use sdf_plan::Fault;
+use sdf_faults::Fault;
 use sdf_wav::{ContentOut, Reader, Wav, Writer};
 use std::alloc::Global;
 use std::mem;

@@ -6,7 +6,7 @@ ghost use Rattle.sdf_process.specs.Output.{IsExchange};
 ghost use Rattle.sdf_process.specs.Stages.{PutsHeader, ReadsContent};
 
 use crate::exchange::{Exchange, Extent};
-use sdf_plan::Fault;
+use sdf_faults::Fault;
 use sdf_wav::{ContentIn, ContentOut, Reader, Wav, Writer};
 use std::alloc::Global;
 

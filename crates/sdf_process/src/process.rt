@@ -5,8 +5,9 @@ ghost use Rattle.sdf_process.specs.Run.{IsRun};
 
 use crate::running::run_net;
 use crate::task::Task;
+use sdf_faults::Fault;
 use sdf_file::Design;
-use sdf_plan::{Fault, Plan};
+use sdf_plan::Plan;
 use sdf_run::{Gate, NoGate};
 use sdf_wav::{Reader, Writer};
 use std::thread::Threads;

@@ -6,7 +6,7 @@ ghost use Rattle.sdf_wav.specs.Canonical.{sample_bytes};
 ghost use Rattle.sdf_process.specs.Output.{in_turn};
 ghost use Rattle.sdf_process.specs.Stages.{PutsHeader};
 
-use sdf_plan::Fault;
+use sdf_faults::Fault;
 use sdf_wav::{ContentOut, Writer};
 
 /// Writes frames that are made, one list of them behind the other.

@@ -5,7 +5,7 @@ ghost use Rattle.sdf_actor.specs.Nets.{Netlist};
 ghost use Rattle.sdf_actor.specs.Wires.{lists as items_of};
 ghost use Rattle.sdf_answer.specs.declared.fault.RunFault.TheVariants as run;
 ghost use Rattle.sdf_kit.specs.declared.kit.Kit.{Kit as KitValue};
-ghost use Rattle.sdf_plan.specs.declared.fault.Fault.TheVariants.{OutOfMemory};
+ghost use Rattle.sdf_faults.specs.declared.fault.Fault.TheVariants.{OutOfMemory};
 ghost use Rattle.sdf_sched.specs.Period.{Schedule};
 ghost use Rattle.sdf_process.specs.Streams.{CanRun, CanRunNext, FeedsBy, FeedsNext, IsFollowed, RunsNext, StaysRunner};
 ghost use Rattle.sdf_process.specs.Streams.{is_cut};
@@ -14,8 +14,8 @@ use crate::playing::Player;
 use crate::portion::Portion;
 use crate::samples::make_frames;
 use sdf_answer::RunFault;
+use sdf_faults::Fault;
 use sdf_kit::Kit;
-use sdf_plan::Fault;
 use sdf_run::{Gate, Session};
 use std::thread::Threads;
 

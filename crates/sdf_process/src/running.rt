@@ -11,7 +11,7 @@ use crate::exchange::{Announced, Exchange};
 use crate::hearing::{begin, read_content};
 use crate::source::Source;
 use crate::task::Task;
-use sdf_plan::Fault;
+use sdf_faults::Fault;
 use sdf_run::Gate;
 use sdf_wav::{ContentIn, Reader, Writer};
 use std::thread::Threads;

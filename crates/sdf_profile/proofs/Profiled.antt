@@ -1,7 +1,7 @@
 -- What a run says of a profile.
 use Rattle.std.proofs.Common.{ℕ, List, Option, Some, Result, Ok, Err, MatchResult, refl}
 use Rattle.sdf_file.specs.Designs.{DesignValue}
-use Rattle.sdf_plan.specs.declared.fault.Fault.{Fault}
+use Rattle.sdf_faults.specs.declared.fault.Fault.{Fault}
 use Rattle.sdf_plan.specs.Plans.{PlanValue, Suits}
 use Rattle.sdf_process.specs.Run.{IsRun}
 use Rattle.sdf_profile.specs.Profiles.{HasRunOn, IsRunFault, unfailed_reader, unfailed_writer}

@@ -11,8 +11,8 @@ use Rattle.sdf_options.specs.declared.options.Policy.TheVariants.{Runs}
 use Rattle.sdf_options.specs.declared.options.Placement.TheVariants.{Homed}
 use Rattle.sdf_file.specs.Designs.{DesignValue}
 use Rattle.sdf_wav.specs.Sound.{Sound}
-use Rattle.sdf_plan.specs.declared.fault.Fault.{Fault}
-use Rattle.sdf_plan.specs.declared.fault.Fault.TheVariants.{OutOfMemory}
+use Rattle.sdf_faults.specs.declared.fault.Fault.{Fault}
+use Rattle.sdf_faults.specs.declared.fault.Fault.TheVariants.{OutOfMemory}
 use Rattle.sdf_plan.specs.Plans.{PlanValue, Suits, ArePassed, IsPlanFault}
 use Rattle.sdf_wav.specs.Device.{ReaderState, WriterState}
 use Rattle.sdf_process.specs.Run.{HasOutput, IsRun}

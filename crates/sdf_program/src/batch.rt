@@ -2,19 +2,19 @@
 
 ghost use Rattle.std.specs.Prelude.{◌≡◌, ◌≤◌, ◌<◌, IfSome, MatchResult, length};
 ghost use Rattle.sdf_plan.specs.Plans.{Suits};
-ghost use Rattle.sdf_plan.specs.Statuses.{status_of};
+ghost use Rattle.sdf_faults.specs.Statuses.{status_of};
 ghost use Rattle.sdf_words.specs.Limits.{IsCrew};
 
 use crate::items::{Item, items_of, settle};
 use crate::running::{Planned, Prepared, Running, plan_of, run_planned, workers_of};
 use sdf_commands::making::make_folder;
 use sdf_commands::telling::why;
+use sdf_faults::{Fault, fault_text, status};
 use sdf_files::files::{Loaded, Sources, put};
 use sdf_files::overwriting::{Paths, keep_what_is_read};
 use sdf_files::storage::Storage;
 use sdf_files::world::{STANDARD, World};
 use sdf_options::printable::printable;
-use sdf_plan::{Fault, fault_text, status};
 use sdf_words::{Batch, Crew, Run};
 use std::alloc::{AllocError, Global};
 use std::io::Write;

@@ -1,10 +1,10 @@
 //! The files of a batch: where each is written.
 
+use sdf_faults::Fault;
 use sdf_files::files::{Refused, refuse};
 use sdf_files::storage::Storage;
 use sdf_files::world::STANDARD;
 use sdf_options::printable::printable;
-use sdf_plan::Fault;
 use sdf_words::{Batch, mistake};
 use std::alloc::{AllocError, Global};
 use std::path::Path;

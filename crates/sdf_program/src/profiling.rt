@@ -1,11 +1,11 @@
 //! The command that measures a run.
 
 use sdf_commands::printing::show;
+use sdf_faults::Fault;
 use sdf_files::files::{Loaded, Refused, Sources, bytes_of, put, read_at, refuse, write_at};
 use sdf_files::overwriting::{Paths, keep_what_is_read};
 use sdf_files::storage::Storage;
 use sdf_files::world::{STANDARD, World};
-use sdf_plan::Fault;
 use sdf_profile::{Measured, Unwritten, costed_text, profile};
 use sdf_words::mistake;
 use std::alloc::{AllocError, Global};

@@ -1,8 +1,8 @@
 //! The whole program, over what it works on.
 
 ghost use Rattle.std.specs.Prelude.{◌≡◌, ◌⊎◌, IfSome};
-ghost use Rattle.sdf_plan.specs.Statuses.{status_of};
-ghost use Rattle.sdf_plan.specs.declared.fault.Fault.TheVariants.{OutOfMemory};
+ghost use Rattle.sdf_faults.specs.Statuses.{status_of};
+ghost use Rattle.sdf_faults.specs.declared.fault.Fault.TheVariants.{OutOfMemory};
 ghost use Rattle.sdf_words.specs.Limits.{IsCrew, IsTaskWithinLimits, IsWithinLimits};
 
 use crate::batch::{Batching, run_batch};
@@ -13,12 +13,12 @@ use sdf_commands::printing::{
     analyzed, checked, drawn, print_kinds, print_meaning, scheduled, show, show_made,
 };
 use sdf_commands::telling::Background;
+use sdf_faults::{Fault, fault_text, status};
 use sdf_files::files::{Loaded, Sources, load_into};
 use sdf_files::storage::Storage;
 use sdf_files::world::World;
 use sdf_json::fault_json;
 use sdf_options::WordFault;
-use sdf_plan::{Fault, fault_text, status};
 use sdf_words::arguments::Given;
 use sdf_words::{Batch, Task, Why, Words};
 use std::alloc::{AllocError, Global};

@@ -5,6 +5,7 @@ ghost use Rattle.sdf_limits.specs.declared.TheConstants.{MOST_WORKERS};
 ghost use Rattle.sdf_plan.specs.Plans.{Suits};
 ghost use Rattle.sdf_words.specs.Limits.{IsCrew};
 
+use sdf_faults::Fault;
 use sdf_file::Design;
 use sdf_files::Levels;
 use sdf_files::files::{Loaded, Refused, Sources, refuse, refuse_kind};
@@ -15,9 +16,9 @@ use sdf_files::progress::Progress;
 use sdf_files::storage::Storage;
 use sdf_files::world::{STANDARD, World};
 use sdf_limits::MOST_WORKERS;
+use sdf_plan::Plan;
 use sdf_plan::parallel::{Pace, Paced, parallel_plan};
 use sdf_plan::planning::plan;
-use sdf_plan::{Fault, Plan};
 use sdf_process::cut::parts_at_once;
 use sdf_process::process::process;
 use sdf_wav::{FromRead, ToWrite};

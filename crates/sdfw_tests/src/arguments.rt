@@ -1,6 +1,6 @@
 //! The words that a program is started with.
 
-use sdf_plan::{Fault, status};
+use sdf_faults::{Fault, status};
 use sdf_words::arguments::arguments;
 use std::alloc::Global;
 use std::env::{Env, FillError};

@@ -1,9 +1,9 @@
 //! Lists as long as they may be, in a graph file or in a coefficient file, and longer by one value.
 
 use crate::running::{fault_told, file_of};
+use sdf_faults::Fault;
 use sdf_file::read_design;
 use sdf_options::Options;
-use sdf_plan::Fault;
 use sdf_plan::planning::plan;
 use sdf_process::process::process;
 use sdf_wav::{FromRead, ToWrite, Wav, read_wav};

@@ -5,8 +5,8 @@ use crate::designs::{
     STUCK, SWAP, THREE_FOR_TWO, TURNED, TURNED_ORDER, TWICE, UNEVEN,
 };
 use crate::running::{Samples, end_of, file_of, row_makes, run_file, sound};
+use sdf_faults::Fault;
 use sdf_options::{Options, Placement, Runner};
-use sdf_plan::Fault;
 use sdf_wav::{FromRead, Wav, read_wav};
 use std::test::Fail;
 use std::thread::Threads;

@@ -1,9 +1,9 @@
 //! Designs run over memory, from bytes to bytes, and what is told of it.
 
+use sdf_faults::{Fault, fault_text, status};
 use sdf_file::read_design;
 use sdf_options::Options;
 use sdf_plan::planning::plan;
-use sdf_plan::{Fault, fault_text, status};
 use sdf_process::process::process_with;
 use sdf_run::{Gate, NoGate};
 use sdf_wav::{FromRead, Reader, ToWrite, Wav, Writer, write_wav};

@@ -2,10 +2,10 @@
 
 use crate::fault_rows::{ALL, At, Given, Row, Wrong};
 use crate::running::fault_told;
+use sdf_faults::{Fault, Progress, Stalled};
 use sdf_file::{DocumentFault, FileFault, Place};
 use sdf_options::WordFault;
 use sdf_options::printable::printable;
-use sdf_plan::{Fault, Progress, Stalled};
 use sdf_words::explained;
 use std::alloc::{AllocError, Global};
 use std::test::Fail;

@@ -1,8 +1,8 @@
 //! Which word of the command line means which field, words that stand at one command and not at another, and words
 //! behind the last one of a command.
 
+use sdf_faults::{Fault, status};
 use sdf_options::Options;
-use sdf_plan::{Fault, status};
 use sdf_words::{Run, Task, Why, Words, words};
 use std::alloc::Global;
 use std::test::Fail;

@@ -1,11 +1,11 @@
 //! The JSON of faults: rows of each kind of place, and the texts that a fault owns.
 
 use sdf_actor::{NetFault, Side};
+use sdf_faults::Fault;
 use sdf_file::{FileFault, read_design};
 use sdf_graph::GraphFault;
 use sdf_json::{fault_json, schedule_json};
 use sdf_options::Options;
-use sdf_plan::Fault;
 use sdf_prec::{Firing, PrecFault};
 use sdf_wav::FormatFault;
 use std::alloc::Global;

@@ -1,5 +1,5 @@
 use Rattle.std.proofs.Common.{ap}
-use Rattle.sdf_plan.specs.Faults.{of_run}
+use Rattle.sdf_faults.specs.Faults.{of_run}
 use Rattle.sdf_process.proofs.Fed.{opened_refused, stands_first}
 use Rattle.sdf_process.proofs.Refusals.{fails_by}
 use Rattle.sdf_process.proofs.begun.open_session.Goals as goal

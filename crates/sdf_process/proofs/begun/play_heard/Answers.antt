@@ -1,5 +1,5 @@
 use Rattle.std.proofs.Common.{Result, refl, rules}
-use Rattle.sdf_plan.specs.declared.fault.Fault.{Fault}
+use Rattle.sdf_faults.specs.declared.fault.Fault.{Fault}
 use Rattle.sdf_process.specs.Streams.{Streams}
 use Rattle.sdf_process.proofs.Came.{untaken}
 use Rattle.sdf_process.proofs.Pieces.{run_fails}

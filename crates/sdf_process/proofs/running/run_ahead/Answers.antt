@@ -1,6 +1,6 @@
 use Rattle.std.proofs.Common.{◌*◌, ◌≤◌, Result, false, refl, ap, sym, ◌∙◌, subst}
 use Rattle.sdf_process.specs.declared.exchange.Exchange.{Exchange}
-use Rattle.sdf_plan.specs.declared.fault.Fault.{Fault}
+use Rattle.sdf_faults.specs.declared.fault.Fault.{Fault}
 use Rattle.sdf_process.specs.Output.{announced_fault, IsExtent}
 use Rattle.sdf_process.specs.Stages.{RunsOn}
 use Rattle.sdf_process.proofs.Finished.{streamed}

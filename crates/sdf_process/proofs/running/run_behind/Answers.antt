@@ -2,7 +2,7 @@ use Rattle.std.proofs.Common.{◌*◌, false, ℕ, Result, ap, sym, ◌∙◌, s
 use Rattle.sdf_wav.specs.Device.{ReaderState}
 use Rattle.sdf_process.specs.declared.exchange.Announced.{Announced}
 use Rattle.sdf_process.specs.declared.exchange.Exchange.{Exchange}
-use Rattle.sdf_plan.specs.declared.fault.Fault.{Fault}
+use Rattle.sdf_faults.specs.declared.fault.Fault.{Fault}
 use Rattle.sdf_process.specs.Output.{announced_by, announced_fault, exchange_of, IsExchange, IsExtent}
 use Rattle.sdf_process.specs.Run.{IsRun}
 use Rattle.sdf_process.specs.Stages.{RunsOn}

@@ -1,6 +1,6 @@
 use Rattle.std.proofs.Common.{Result}
-use Rattle.sdf_plan.specs.Faults.{of_wav}
-use Rattle.sdf_plan.specs.declared.fault.Fault.{Fault}
+use Rattle.sdf_faults.specs.Faults.{of_wav}
+use Rattle.sdf_faults.specs.declared.fault.Fault.{Fault}
 use Rattle.sdf_process.specs.Run.{IsRun}
 use Rattle.sdf_process.proofs.Pieces.{run_fails}
 use Rattle.sdf_process.proofs.Refusals.{unopened}

@@ -1,5 +1,5 @@
 use Rattle.std.proofs.Common.{Result, refl, rules}
-use Rattle.sdf_plan.specs.declared.fault.Fault.{Fault}
+use Rattle.sdf_faults.specs.declared.fault.Fault.{Fault}
 use Rattle.sdf_process.specs.Flows.{StreamsFrom, start_of}
 use Rattle.sdf_process.proofs.Pieces.{run_fails}
 use Rattle.sdf_process.proofs.Starting.{goes_first}

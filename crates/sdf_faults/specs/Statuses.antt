@@ -4,8 +4,8 @@ use Rattle.clap.specs.Words.{kind_of}
 use Rattle.clap.specs.declared.error.kind.ErrorKind.{ErrorKind}
 use Rattle.clap.specs.declared.error.kind.ErrorKind.TheVariants.{DisplayHelp, DisplayVersion}
 use Rattle.sdf_options.specs.declared.fault.WordFault.TheVariants as words
-use Rattle.sdf_plan.specs.declared.fault.Fault.{Fault}
-use Rattle.sdf_plan.specs.declared.fault.Fault.TheVariants as fault
+use Rattle.sdf_faults.specs.declared.fault.Fault.{Fault}
+use Rattle.sdf_faults.specs.declared.fault.Fault.TheVariants as fault
 
 -- help and the version are answers
 abbrev pub usage_status : ErrorKind → ℕ

@@ -10,8 +10,8 @@ use Rattle.sdf_wav.specs.declared.fault.WavFault.{WavFault}
 use Rattle.sdf_wav.specs.declared.fault.WavFault.TheVariants as wav
 use Rattle.sdf_options.specs.declared.fault.WordFault.{WordFault}
 use Rattle.sdf_options.specs.declared.fault.WordFault.TheVariants as words
-use Rattle.sdf_plan.specs.declared.fault.Fault.{Fault}
-use Rattle.sdf_plan.specs.declared.fault.Fault.TheVariants as fault
+use Rattle.sdf_faults.specs.declared.fault.Fault.{Fault}
+use Rattle.sdf_faults.specs.declared.fault.Fault.TheVariants as fault
 use Rattle.sdf_options.specs.Printable.{printable_text}
 
 abbrev pub of_words : WordFault → Fault

@@ -1,9 +1,9 @@
 //! The faults of the program: their numbers, texts and exit statuses.
 
 ghost use Rattle.std.specs.Prelude.{◌≡◌, IfOk, string_bytes};
-ghost use Rattle.sdf_plan.specs.declared.fault.Fault.TheVariants.{OutOfMemory};
-ghost use Rattle.sdf_plan.specs.Faults.{IsFaultText};
-ghost use Rattle.sdf_plan.specs.Statuses.{status_of};
+ghost use Rattle.sdf_faults.specs.declared.fault.Fault.TheVariants.{OutOfMemory};
+ghost use Rattle.sdf_faults.specs.Faults.{IsFaultText};
+ghost use Rattle.sdf_faults.specs.Statuses.{status_of};
 
 use clap::error::ErrorKind;
 use sdf_answer::RunFault;
@@ -124,7 +124,7 @@ impl<T: Drop> From<AllocFailed<T>> for Fault {
 }
 
 impl From<WordFault> for Fault {
-    ghost use Rattle.sdf_plan.specs.Faults.{of_words};
+    ghost use Rattle.sdf_faults.specs.Faults.{of_words};
 
     ghost from_gives = { λ e f. f ≡ of_words e };
 
@@ -137,7 +137,7 @@ impl From<WordFault> for Fault {
 }
 
 impl From<PrecFault> for Fault {
-    ghost use Rattle.sdf_plan.specs.Faults.{of_prec};
+    ghost use Rattle.sdf_faults.specs.Faults.{of_prec};
 
     ghost from_gives = { λ e f. f ≡ of_prec e };
 
@@ -150,7 +150,7 @@ impl From<PrecFault> for Fault {
 }
 
 impl From<FileFault> for Fault {
-    ghost use Rattle.sdf_plan.specs.Faults.{of_file};
+    ghost use Rattle.sdf_faults.specs.Faults.{of_file};
 
     ghost from_gives = { λ e f. f ≡ of_file e };
 
@@ -163,7 +163,7 @@ impl From<FileFault> for Fault {
 }
 
 impl From<WavFault> for Fault {
-    ghost use Rattle.sdf_plan.specs.Faults.{of_wav};
+    ghost use Rattle.sdf_faults.specs.Faults.{of_wav};
 
     ghost from_gives = { λ e f. f ≡ of_wav e };
 
@@ -178,7 +178,7 @@ impl From<WavFault> for Fault {
 }
 
 impl From<RunFault> for Fault {
-    ghost use Rattle.sdf_plan.specs.Faults.{of_run};
+    ghost use Rattle.sdf_faults.specs.Faults.{of_run};
 
     ghost from_gives = { λ e f. f ≡ of_run e };
 
