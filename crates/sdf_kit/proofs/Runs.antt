@@ -74,6 +74,15 @@ module _ {A S : Type 0} (s : Steps A S ℤ) (x : A) (size : ℕ) (state : S) (af
       pub run_puts : puts_to s x j state taken many ≡ all many taken
       run_puts = (runs many (omega (arith, long, sums many))).1 ∙ ap (all many) whole_run
 
+-- one firing of a run puts what the firing by itself puts
+pub one_firing : {A S : Type 0} (s : Steps A S ℤ) (x : A) (size : ℕ) (state : S) (after : List ℤ → S)
+    (all : ℕ → List ℤ → List ℤ) → IsRun s x size state after all → (n : ℕ) (b : List ℤ) → length b ≡ size →
+    all 1 b ≡ s.puts x (phase s x n) state b
+one_firing s x size state after all is n b one =
+    sym (is.more n 0 [] b (sym (zero-mul size)) one) ∙ (
+    ap (λ ys. ys ++ s.puts x (phase s x n) (after []) b) is.none ∙
+    ap (λ z. s.puts x (phase s x n) z b) is.begins)
+
 -- what later samples don't change, and what a block more puts
 pub seam : (f g h : ℕ → ℤ) (a m total : ℕ) → total ≡ a + m → ((n : ℕ) → n < a → f n ≡ g n) →
     ((q : ℕ) → q < m → h q ≡ g (a + q)) →

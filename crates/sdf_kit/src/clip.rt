@@ -1,11 +1,9 @@
 //! Samples between two limits.
 
-ghost use Rattle.std.specs.Prelude.{◌≡◌, ◌≤ℤ◌, ◌∷◌, [], length, map};
-ghost use Rattle.sdf_kit.specs.Samples.{sample};
+ghost use Rattle.std.specs.Prelude.{◌≡◌, ◌≤ℤ◌, length, map};
 ghost use Rattle.sdf_kit.specs.Ports.{ArePorts};
 ghost use Rattle.sdf_kit.specs.Clip.{clip, limits_of, clipped};
 
-use crate::block::put_one;
 use crate::fault::{Key, Kind, KitFault, check, has_16_bits};
 use crate::ports::Ports;
 use std::marker::Model;
@@ -48,16 +46,7 @@ impl Clip {
         Ports::steady(1, 1, 1, 1)
     }
 
-    /// One firing.
-    pub fn fire(&self, taken: &[i32], put: &mut [i32])
-        requires taken { length taken.now ≡ 1 }
-        requires put { length put.old ≡ 1 }
-        ensures { put.new ≡ clipped self.now (sample taken.now 0) ∷ [] }
-    {
-        put_one(between(self.least, self.greatest, taken[0]), put);
-    }
-
-    /// Many firings, one after another.
+    /// One firing or many, one after another.
     pub fn run(&self, taken: &[i32], put: &mut [i32])
         requires { length put.old ≡ length taken.now }
         ensures { put.new ≡ map (clipped self.now) taken.now }

@@ -47,7 +47,7 @@ impl Gather {
     }
 
     /// One firing or many, at any phase: the samples of each are of the one port whose block is not empty.
-    pub fn fire(&self, taken: &[i32], put: &mut [i32])
+    pub fn run(&self, taken: &[i32], put: &mut [i32])
         requires { length put.old ≡ length taken.now }
         ensures { put.new ≡ taken.now }
     {

@@ -2,12 +2,13 @@
 //!
 //! A new kind is:
 //! 1. a file in `specs/` with its values, their limits, its ports, its step and its formula, as a `Behaviour`;
-//! 2. a module here with its struct, whose `new`, `ports` and `fire` have that as their contracts;
+//! 2. a module here with its struct, whose `new`, `ports` and `run` have that as their contracts; `run` fires once or
+//!   many times;
 //! 3. its name, and those of its new keys, in `fault.rt` and `specs/Fault.antt`;
 //! 4. a variant, a constructor and an arm of each `match` below, and a row of `specs/Kit.antt`;
 //! 5. a case in `specs/PutsFit.antt` (its blocks have their lengths) and in `proofs/Formulas.antt` (it puts its
 //!   formula);
-//! 6. a `run` of many firings in one call, its arm in `fire_at_once`, and its lemma in `proofs/KindRuns.antt`.
+//! 6. a lemma in `proofs/KindRuns.antt`: what its `run` puts is what so many firings put.
 
 ghost use Rattle.std.specs.Prelude.{◌≡◌, ◌≤◌};
 ghost use Rattle.sdf_actor.specs.Steps.{Steps, total_in, total_out, PutsFit};
@@ -220,17 +221,17 @@ impl Actor for Kit {
     fn fire(&self, _phase: u32, state: &mut Kept, taken: &[i32], put: &mut [i32]) {
         match self {
             Kit::Fir(f) => f.fire(state, taken, put),
-            Kit::Decimate(d) => d.fire(taken, put),
-            Kit::Interpolate(i) => i.fire(taken, put),
-            Kit::Add(a) => a.fire(taken, put),
-            Kit::Fork(f) => f.fire(taken, put),
-            Kit::Gain(g) => g.fire(taken, put),
-            Kit::Delay(d) => d.fire(state, taken, put),
-            Kit::Table(t) => t.fire(taken, put),
-            Kit::Deal(d) => d.fire(taken, put),
-            Kit::Gather(g) => g.fire(taken, put),
-            Kit::Clip(c) => c.fire(taken, put),
-            Kit::Offset(o) => o.fire(taken, put),
+            Kit::Decimate(d) => d.run(taken, put),
+            Kit::Interpolate(i) => i.run(taken, put),
+            Kit::Add(a) => a.run(taken, put),
+            Kit::Fork(f) => f.run(taken, put),
+            Kit::Gain(g) => g.run(taken, put),
+            Kit::Delay(d) => d.run(state, taken, put),
+            Kit::Table(t) => t.run(taken, put),
+            Kit::Deal(d) => d.run(taken, put),
+            Kit::Gather(g) => g.run(taken, put),
+            Kit::Clip(c) => c.run(taken, put),
+            Kit::Offset(o) => o.run(taken, put),
         }
     }
 
@@ -258,8 +259,8 @@ impl Actor for Kit {
             Kit::Offset(o) => o.run(taken, put),
             Kit::Add(a) => a.run(taken, put),
             Kit::Fork(f) => f.run(taken, put),
-            Kit::Deal(d) => d.fire(taken, put),
-            Kit::Gather(g) => g.fire(taken, put),
+            Kit::Deal(d) => d.run(taken, put),
+            Kit::Gather(g) => g.run(taken, put),
         }
         true
     }

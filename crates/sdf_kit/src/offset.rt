@@ -1,11 +1,9 @@
 //! Samples plus a value.
 
-ghost use Rattle.std.specs.Prelude.{◌≡◌, ◌∷◌, [], length, map};
-ghost use Rattle.sdf_kit.specs.Samples.{sample};
+ghost use Rattle.std.specs.Prelude.{◌≡◌, length, map};
 ghost use Rattle.sdf_kit.specs.Ports.{ArePorts};
 ghost use Rattle.sdf_kit.specs.Offset.{offset, value_of, raised};
 
-use crate::block::put_one;
 use crate::fault::{Key, Kind, KitFault, check, has_16_bits};
 use crate::ports::Ports;
 use std::marker::Model;
@@ -43,16 +41,7 @@ impl Offset {
         Ports::steady(1, 1, 1, 1)
     }
 
-    /// One firing.
-    pub fn fire(&self, taken: &[i32], put: &mut [i32])
-        requires taken { length taken.now ≡ 1 }
-        requires put { length put.old ≡ 1 }
-        ensures { put.new ≡ raised self.now (sample taken.now 0) ∷ [] }
-    {
-        put_one(raise(self.value, taken[0]), put);
-    }
-
-    /// Many firings, one after another.
+    /// One firing or many, one after another.
     pub fn run(&self, taken: &[i32], put: &mut [i32])
         requires { length put.old ≡ length taken.now }
         ensures { put.new ≡ map (raised self.now) taken.now }

@@ -183,13 +183,13 @@ returns-in-Fork-clause-put c =
     ∙ puts c.args.self.now (Fork c.in-Fork.f) c.in-Fork.is c.args._phase c.args.many
     (fork_run c.in-Fork.f c.args.state.now) c.args.taken.now c.requires.taken)
 
-pub fire-requires : goal.fire-requires
-fire-requires c =
+pub run-requires-in-Deal : goal.run-requires-in-Deal
+run-requires-in-Deal c =
     deals_all c.args.self.now c.in-Deal.d c.args._phase c.args.many (length c.args.taken.now) (length c.args.put.now)
     c.requires.phase c.requires.taken c.requires.put c.in-Deal.is
 
-pub fire-requires-in-Gather : goal.fire-requires-in-Gather
-fire-requires-in-Gather c =
+pub run-requires-in-Gather : goal.run-requires-in-Gather
+run-requires-in-Gather c =
     gathers_all c.args.self.now c.in-Gather.g c.args._phase c.args.many (length c.args.taken.now)
     (length c.args.put.now) c.requires.phase c.requires.taken c.requires.put c.in-Gather.is
 
@@ -200,7 +200,7 @@ returns-in-Deal-clause-state c =
 
 pub returns-in-Deal-clause-put : goal.returns-in-Deal-clause-put
 returns-in-Deal-clause-put c =
-    c.fire.ensures ∙ puts c.args.self.now (Deal c.in-Deal.d) c.in-Deal.is c.args._phase c.args.many
+    c.run-in-Deal.ensures ∙ puts c.args.self.now (Deal c.in-Deal.d) c.in-Deal.is c.args._phase c.args.many
     (deal_run c.in-Deal.d c.args.state.now (some_ways c.in-Deal.is c.requires.phase)) c.args.taken.now
     c.requires.taken
 
@@ -212,6 +212,6 @@ returns-in-Gather-clause-state c =
 
 pub returns-in-Gather-clause-put : goal.returns-in-Gather-clause-put
 returns-in-Gather-clause-put c =
-    c.fire-in-Gather.ensures ∙ puts c.args.self.now (Gather c.in-Gather.g) c.in-Gather.is c.args._phase c.args.many
+    c.run-in-Gather.ensures ∙ puts c.args.self.now (Gather c.in-Gather.g) c.in-Gather.is c.args._phase c.args.many
     (gather_run c.in-Gather.g c.args.state.now (some_ways c.in-Gather.is c.requires.phase)) c.args.taken.now
     c.requires.taken
