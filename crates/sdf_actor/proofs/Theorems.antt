@@ -1,5 +1,7 @@
--- What proofs of other crates cite of this one: laws of histories and nets, by their lemmas, for actors of any steps.
-use Rattle.std.proofs.Common.{◌∙◌, length, arith}
+-- What proofs of other crates cite of this one: laws of histories and nets, by their lemmas, for actors of any steps;
+-- and what they take with them of parts of lists.
+use Rattle.std.proofs.Common.{◌≡◌, ℕ, ◌+◌, ◌≤◌, ◌<◌, List, ◌++◌, ◌∙◌, length, get_or, take, drop, arith}
+use Rattle.std.specs.List.{flat_map, between}
 use Rattle.std.proofs.lemmas.List.{take_all}
 use Rattle.sdf_graph.proofs.Theorems.{graphs_have_periods}
 use Rattle.sdf_actor.specs.GoingOn.{HistoriesGoOn, RestsGoOn, ArrivalsGoOn, PeriodsAreWhole}
@@ -11,9 +13,12 @@ use Rattle.sdf_actor.specs.Steps.{Steps}
 use Rattle.sdf_actor.proofs.Agree.{taken_before_agrees}
 use Rattle.sdf_actor.proofs.Continuing.{history_goes_on, rest_goes_on, arrivals_go_on as arrivals_on}
 use Rattle.sdf_actor.proofs.Dealt.{put_is_dealt as is_dealt, put_agrees}
+use Rattle.sdf_actor.proofs.GoesOn.{between_past as part_past}
 use Rattle.sdf_actor.proofs.HistoryLaws.{history_is_unique as is_unique, histories_grow as all_grow}
 use Rattle.sdf_actor.proofs.Locals.{local_begins, local_grows, locals_are_history}
 use Rattle.sdf_actor.proofs.Netlists.{wired, to_port_is, from_port_is}
+use Rattle.sdf_actor.proofs.Pieces.{between_agree as parts_agree, take_on as front_goes_on}
+use Rattle.sdf_actor.proofs.Pieces.{flat_map_same as all_same, flat_map_apart as all_apart}
 use Rattle.sdf_actor.proofs.WholePeriods.{are_whole}
 
 pub history_is_unique : {A S T : Type 0} (s : Steps A S T) → HistoryIsUnique s
@@ -62,3 +67,27 @@ rests_go_on s r n m first later k i V U rest last h = rest_goes_on s r n m first
 
 pub arrivals_go_on : {A B S T : Type 0} (s : Steps A S T) (r : Steps B S T) → ArrivalsGoOn s r
 arrivals_go_on s r n m first later k i V U rest h = arrivals_on s r n m first later k i V U rest h
+
+-- a part within an equal beginning
+pub between_agree : {X : Type 0} (xs ys : List X) (n i j : ℕ) → take n xs ≡ take n ys → j ≤ n →
+    between i j xs ≡ between i j ys
+between_agree = parts_agree
+
+-- a beginning is a shorter one and the part after it
+pub take_on : {X : Type 0} (xs : List X) (i j : ℕ) → i ≤ j → take j xs ≡ take i xs ++ between i j xs
+take_on = front_goes_on
+
+-- a part behind the first n
+pub between_past : {X : Type 0} (xs : List X) (n i j : ℕ) → between (i + n) (j + n) xs ≡ between i j (drop n xs)
+between_past = part_past
+
+-- lists joined of equal pieces
+pub flat_map_same : {X : Type 0} (f g : ℕ → List X) (cs : List ℕ) →
+    ((n : ℕ) → n < length cs → f (get_or cs n 0) ≡ g (get_or cs n 0)) → flat_map f cs ≡ flat_map g cs
+flat_map_same = all_same
+
+-- equal lists joined of pieces of equal lengths have equal pieces
+pub flat_map_apart : {X : Type 0} (f g : ℕ → List X) (cs : List ℕ) →
+    ((n : ℕ) → n < length cs → length (f (get_or cs n 0)) ≡ length (g (get_or cs n 0))) →
+    flat_map f cs ≡ flat_map g cs → (n : ℕ) → n < length cs → f (get_or cs n 0) ≡ g (get_or cs n 0)
+flat_map_apart = all_apart
