@@ -1,4 +1,5 @@
 pub mod Output
+pub mod Cuts
 pub mod Run
 pub mod Stages
 pub mod Sources

@@ -1,9 +1,14 @@
 //! How a sound is cut in time.
 
-ghost use Rattle.std.specs.Prelude.{◌<◌, ◌≤◌, max};
+ghost use Rattle.std.specs.Prelude.{◌<◌, ◌≤◌, ℕ, List, max};
+ghost use Rattle.sdf_graph.specs.Periods.{IsLeastPeriod};
+ghost use Rattle.sdf_graph.specs.Rates.{rates};
+ghost use Rattle.sdf_actor.specs.Graphs.{graph_of};
+ghost use Rattle.sdf_kit.specs.Kit.{kit_steps};
 ghost use Rattle.sdf_fission.specs.Warm.{IsLeast};
 ghost use Rattle.sdf_split.specs.Sizes.{IsPartSize};
-ghost use Rattle.sdf_process.specs.Output.{IsExchange};
+ghost use Rattle.sdf_process.specs.Cuts.{AreAtOnce, IsPiece};
+ghost use Rattle.sdf_process.specs.Output.{IsExchange, exchange_of};
 
 use crate::exchange::Exchange;
 use sdf_file::Design;
@@ -35,7 +40,8 @@ impl Cut {
 /// Returns how many periods make a piece: for each worker a part of up to `PART` frames, or of eight warm-ups.
 pub(crate) fn piece_periods(exchange: Exchange, cut: Option<Cut>) -> u32
     requires { IsExchange exchange }
-    ensures { 0 < result }
+    ensures some { 0 < result }
+    ensures piece { IsPiece exchange cut result }
 {
     let most = exchange.taken.max(exchange.made);
     let piece = (PIECE / most).max(1) as u32;
@@ -51,6 +57,8 @@ pub(crate) fn piece_periods(exchange: Exchange, cut: Option<Cut>) -> u32
 pub fn parts_at_once(design: &Design, workers: u32, warm: u32, frames: u64) -> u32
     ensures some { 0 < frames → 0 < result }
     ensures few { result ≤ max 1 workers }
+    ensures parts { (q : List ℕ) → IsLeastPeriod (rates (graph_of kit_steps design.now.net)) q →
+        AreAtOnce (exchange_of design.now.net q) (record { parts = workers; warm = warm }) frames result }
 {
     let exchange = Exchange::of_net(design.net());
     let cut = Cut {
