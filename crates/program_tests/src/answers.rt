@@ -34,15 +34,15 @@ const COMPARED: &str = "0
 policy placement workers blocking     makespan  speedup    rows        samples
 round  hu              1        1           *2    *1.00      *2             *3
 round  homed           1        1           *2    *1.00      *2             *3
-round  file            1               refused 19
+round  file            1               refused 19 BadHome
 round  spread          1     1024        *2048    *1.00   *2048          *1026
 lean   hu              1        1           *2    *1.00      *2             *3
 lean   homed           1        1           *2    *1.00      *2             *3
-lean   file            1               refused 19
+lean   file            1               refused 19 BadHome
 lean   spread          1     1024        *2048    *1.00   *2048          *1026
 runs   hu              1        1           *2    *1.00      *2             *3
 runs   homed           1        1           *2    *1.00      *2             *3
-runs   file            1               refused 19
+runs   file            1               refused 19 BadHome
 runs   spread          1     1024        *2048    *1.00   *2048          *1026
 --
 --
@@ -70,14 +70,14 @@ const ANSWERS: &[Row] = &[
     (
         "a fault by its number",
         "explain 11",
-        "0\n11 BlockingFactor\nmeans: The number of periods in a block is out of range.\nlimits: 1 to 64\nremedy: \
-         Change `--blocking`.\n--\n--\n",
+        "0\n11 BlockingFactor\nmeans: The number of periods in a block is out of range. The program refuses it as a \
+         mistake of usage.\nlimits: 1 to 64\nremedy: Change `--blocking`.\n--\n--\n",
     ),
     (
         "a fault by its name",
         "explain WorkerCount",
-        "0\n12 WorkerCount\nmeans: The number of workers is out of range.\nlimits: 1 to 16\nremedy: Change \
-         `--workers`.\n--\n--\n",
+        "0\n12 WorkerCount\nmeans: The number of workers is out of range. The program refuses it as a mistake of \
+         usage.\nlimits: 1 to 16\nremedy: Change `--workers`.\n--\n--\n",
     ),
     ("a version", "--version", "0\nsdfw 0.1.0\n--\n--\n"),
     (
@@ -85,7 +85,7 @@ const ANSWERS: &[Row] = &[
         "check -h",
         "0\nChecks a graph file and prints its period\n\nUsage: sdfw check [OPTIONS] <GRAPH>\n\nArguments:\n  \
          <GRAPH>  The graph file\n\nOptions:\n      --why     Says more of a fault: names, values and limits\n      \
-         --no-why  Prints a fault's line alone, at a terminal too\n      --json    Answers in JSON, also of a \
+         --no-why  Says no more at a terminal than to a pipe or a log\n      --json    Answers in JSON, also of a \
          fault\n  -h, --help    Print help (see more with '--help')\n\n\
          Examples:\n  sdfw check graph.toml\n  sdfw check graph.toml --why\n--\n--\n",
     ),
