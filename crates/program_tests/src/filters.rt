@@ -44,7 +44,8 @@ const FILTERS: &[Row] = &[
 
 /// Converters. Refuses a graph file without its coefficient file, texts in one another's place, a conversion the other
 /// way, a folder that is looked at for a graph file alone or for the first coefficient file, one that may not be, one
-/// that is written over another, and a design that is written before it is planned.
+/// that is written over another, a design that is written before it is planned, and the usual attenuation in place of
+/// a greater one.
 const CONVERTERS: &[Row] = &[
     (
         "channels",
@@ -87,6 +88,12 @@ const CONVERTERS: &[Row] = &[
         "a folder that has a graph file",
         "resample 8000 8000 full",
         "2\n--\nerror: FOLDER has a file graph.toml already\n…",
+    ),
+    (
+        "a greater attenuation than the usual one, which has other stages, and a line for each of them",
+        "resample 44100 8000 made --attenuation 120",
+        "0\n--\n… dB down\n… dB down\n--\n# fir up 16 shift 15, low-pass 3636..10764 Hz at 705600 Hz, 120 dB\n…\n]\n\
+         # fir up 5 shift 15, low-pass 3636..4364 Hz at 72000 Hz, 120 dB\n…\n]\n# from 44100\n# to 8000\n…",
     ),
     (
         "a coefficient file, what it does on standard error, and the graph file",
