@@ -244,7 +244,6 @@ pub(crate) fn run_stream<T: Threads + AllocGlobal + Sync, R: Reader, W: Writer, 
         source,
         frames,
         output,
-        ..
     } = begun;
     runs_go_on::<Kit>();
     nets_have_periods(opened.net);
