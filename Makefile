@@ -101,11 +101,13 @@ times:
 allocations:
 	scripts/allocations
 
-# Seconds and memory on noise, in turn with C, and with sox and ffmpeg where they are installed (needs python3 and gcc);
-# then what `run --parallel` gains, beside four copies of one thread at once.
+# Seconds and memory on noise, in turn with C for the same processor, and with sox and ffmpeg where they are installed
+# (needs python3 and gcc); then what `run --parallel` gains on all cores and on one, beside C that cuts the sound in the
+# same way and four copies of one thread at once.
 bench: build
-	python3 bench/run.py
-	python3 bench/parallel.py
+	python3 bench/run.py --cpu $(CPU)
+	python3 bench/parallel.py --program $(CPU)=build/sdfw
+	python3 bench/parallel.py --program $(CPU)=build/sdfw --core
 
 # Memory, reads, writes and threads refused, one call at a time, devices that fail, and workers that are held up
 # (needs python3 and gcc).

@@ -5,16 +5,16 @@ The programs take turns, so that what else the machine does falls on all of them
 median seconds, the least over that of the fastest C, the greatest memory, and whether it wrote the bytes of the plain
 loop in C. It asserts nothing.
 
-    bench/run.py [--seconds N] [WORD ..]    designs whose titles hold one of the words; sound of N seconds alone
+    bench/run.py [--program FILE] [--cpu NAME] [--rounds N] [--seconds N] [WORD ..]
+
+Words choose designs by their titles. NAME is the processor that gcc compiles C for.
 """
 import argparse, array, pathlib, random, shutil, statistics, struct, subprocess, sys, tempfile, tomllib
 
 TOP = pathlib.Path(__file__).resolve().parent.parent
 NAMES = ("44100-to-48000", "crossover", "echo", "interleave")
 CONVERTER, CROSSOVER, ECHO, INTERLEAVE = (TOP / "examples" / name for name in NAMES)
-RATE, ROUNDS = 44100, 5
-# Of runs in parallel more, since the system places their threads anew each time.
-MANY_ROUNDS = 9
+RATE = 44100
 ONE = {"sdfw": []}
 ROWS = {"sdfw, rows": ["--runner", "rows", "--workers", "2", "--blocking", "16"]}
 WORKERS = (1, 2, 4)
@@ -22,7 +22,6 @@ RINGS = {f"rings {m}": ["--runner", "rings", "--workers", str(m)] for m in WORKE
 IN_RUNS = ["--policy", "runs", "--placement", "file", "--blocking", "64", "--patience", "100000"]
 HOMES = {f"rings {m}, at home": [*words, *IN_RUNS] for m, words in zip(WORKERS, RINGS.values())}
 ALONE = {"rings 1, at home": HOMES["rings 1, at home"]}
-PARALLEL = {f"parallel {m}": ["--parallel", str(m)] for m in WORKERS}
 OUTS, BANK_TAPS = 8, 1024
 # Filters of the two banks.
 BANK, GREAT_BANK = 8, 32
@@ -63,10 +62,15 @@ def taps(path, filters):
         numbers = values(CROSSOVER / f"{name}.toml")
         lines.append(f"static const int taps_{name}[] = {{{','.join(map(str, numbers))}}};")
         lines.append(f"__attribute__((unused)) static const Filter {name} = {{1, 1, 15, {len(numbers)}, taps_{name}}};")
-    rows = ",".join("{" + ",".join(map(str, bank_taps(p))) + "}" for p in range(filters))
-    lines.append(f"enum {{ OUTS = {OUTS}, BANK = {filters}, BANK_TAPS = {BANK_TAPS} }};")
-    lines.append(f"__attribute__((unused)) static const int taps_bank[BANK][BANK_TAPS] = {{{rows}}};")
-    path.write_text("\n".join(lines) + "\n")
+    path.write_text("\n".join(lines) + "\n" + bank_text([bank_taps(p) for p in range(filters)], OUTS))
+
+
+def bank_text(rows, outs):
+    """What they know of the taps of a bank of filters with so many outputs."""
+    sizes = f"OUTS = {outs}, BANK = {len(rows)}, BANK_TAPS = {len(rows[0])}, BANK_SHIFT = 15"
+    taps = ",".join("{" + ",".join(map(str, row)) + "}" for row in rows)
+    return (f"enum {{ {sizes} }};\n"
+            f"__attribute__((unused)) static const int taps_bank[BANK][BANK_TAPS] = {{{taps}}};\n")
 
 
 def bank_taps(filter):
@@ -126,27 +130,29 @@ def at_homes(folder, graph, homes):
     return made
 
 
-def compiled(folder, name):
-    made = folder / name
+def compiled(folder, name, cpu=None):
+    """A program in C, with the taps that are in a folder, for a processor."""
+    cpu = cpu or WANTED.cpu
+    made = folder / f"{name}-{cpu}"
     if made.exists():
         return str(made)
-    flags = ["-O3", "-march=native", "-Wall", "-Wextra", "-pthread", "-I", str(folder)]
+    flags = ["-O3", f"-march={cpu}", "-Wall", "-Wextra", "-pthread", "-I", str(folder)]
     subprocess.run(["gcc", *flags, "-o", str(made), str(TOP / "bench" / f"{name}.c")], check=True)
     return str(made)
 
 
-def run(meter, command):
-    """The seconds that a command takes, and its greatest memory in kilobytes."""
+def run(meter, command, copies=1):
+    """The seconds that copies of a command take at once, and the greatest memory of one in kilobytes."""
     told = pathlib.Path(meter + ".txt")
-    subprocess.run([meter, str(told), *command], check=True)
+    subprocess.run([meter, str(told), str(copies), *command], check=True)
     seconds, memory = told.read_text().split()
     return float(seconds), int(memory)
 
 
-def measure(meter, title, seconds, commands, made, rounds):
+def measure(meter, title, seconds, commands, made):
     """Measures commands by name in turn; those in C have names that begin with C."""
     seen = {name: [] for name in commands}
-    for _ in range(rounds):
+    for _ in range(WANTED.rounds):
         for name, command in commands.items():
             seen[name].append(run(meter, command))
     least = {name: min(took for took, _ in runs) for name, runs in seen.items()}
@@ -178,7 +184,6 @@ def compare(
     runners=ONE,
     lengths=(10, 60),
     homes=None,
-    rounds=ROUNDS,
 ):
     """Measures a design by some runners beside programs, on noise of some seconds."""
     if WANTED.words and not any(word in title for word in WANTED.words):
@@ -191,7 +196,7 @@ def compare(
         commands = {}
         for name, options in runners.items():
             files = [(homes or {}).get(name, graph), source, made[name]]
-            commands[name] = [str(TOP / "build/sdfw"), "run", *map(str, files), *options]
+            commands[name] = [WANTED.program, "run", *map(str, files), *options]
         for name, program in programs.items():
             words = [program] if isinstance(program, str) else program
             commands[name] = [*words, str(source), str(made[name])]
@@ -199,17 +204,25 @@ def compare(
             if rate and shutil.which(name):
                 paths = iter((str(source), str(made[name])))
                 commands[name] = [word or next(paths) for word in words]
-        measure(compiled(folder, "measure"), title, seconds, commands, made, rounds)
+        measure(compiled(folder, "measure"), title, seconds, commands, made)
 
 
 def wanted():
     words = argparse.ArgumentParser(usage=__doc__)
+    words.add_argument("--program", default=str(TOP / "build/sdfw"))
+    words.add_argument("--cpu", default="native")
+    words.add_argument("--rounds", type=int, default=9)
     words.add_argument("--seconds", type=int)
     words.add_argument("words", nargs="*")
     return words.parse_args()
 
 
 WANTED = wanted()
+
+
+def by_c(folder, name):
+    """A design as a plain loop in C, and by branches of taps."""
+    return {"C, plain loop": compiled(folder, name), "C, SIMD": compiled(folder, f"{name}-simd")}
 
 
 def main():
@@ -221,7 +234,7 @@ def main():
         compare(folder, "44,100 to 48,000, mono, half scale", CONVERTER / "graph.toml", chain, rate=True)
         compare(folder, "44,100 to 48,000, mono, full scale", CONVERTER / "graph.toml", chain, halvings=0)
         compare(folder, "44,100 to 48,000, stereo", CONVERTER / "graph-stereo.toml", chain, channels=2, rate=True)
-        compare(folder, "crossover", CROSSOVER / "graph.toml", {"C, plain loop": compiled(folder, "crossover")})
+        compare(folder, "crossover", CROSSOVER / "graph.toml", by_c(folder, "crossover"))
         converter, crossover = CONVERTER / "graph.toml", CROSSOVER / "graph.toml"
         title = "44,100 to 48,000"
         by_all, by_rings, in_runs = {**ONE, **ROWS, **RINGS}, {**ONE, **RINGS}, {**ONE, **HOMES}
@@ -235,35 +248,13 @@ def main():
             ("crossover", crossover, "crossover", CROSSOVER_HOMES),
             ("a bank of eight filters", graph, "bank", places),
         ):
-            plain = {"C, plain loop": compiled(folder, program)}
-            compare(folder, f"{title}, by workers", design, plain, runners=by_rings, lengths=(1,))
+            both = by_c(folder, program)
+            compare(folder, f"{title}, by workers", design, both, runners=by_rings, lengths=(1,))
             at_home = at_homes(folder, design, homes)
-            compare(folder, f"{title}, by workers in runs", design, plain, runners=in_runs, lengths=(10,), homes=at_home)
+            compare(folder, f"{title}, by workers in runs", design, both, runners=in_runs, lengths=(10,), homes=at_home)
         compare(folder, "echo", ECHO / "graph.toml", {"C, plain loop": compiled(folder, "echo")})
         plain = {"C, plain loop": compiled(folder, "interleave")}
         compare(folder, "interleave", INTERLEAVE / "graph.toml", plain, channels=2)
-        workers(folder, graph)
-
-
-def threads(folder):
-    """The bank in C: a plain loop, and by so many threads."""
-    by_threads = {f"C, {m} threads": [compiled(folder, "bank-threads"), str(m)] for m in WORKERS}
-    return {"C, plain loop": compiled(folder, "bank"), **by_threads}
-
-
-def workers(folder, graph):
-    """What `--parallel` gains, beside one thread and beside what threads gain in C."""
-    great = folder / "great"
-    great.mkdir()
-    taps(great / "taps.h", GREAT_BANK)
-    many, _ = bank(great / "filters", GREAT_BANK)
-    ways = {"runners": {**ONE, **PARALLEL}, "rounds": MANY_ROUNDS}
-    compare(folder, "a bank of eight filters, --parallel", graph, threads(folder), **ways)
-    compare(great, "a bank of 32 filters, --parallel", many, threads(great), **ways)
-    plain = {"C, plain loop": compiled(folder, "crossover")}
-    compare(folder, "crossover, --parallel", CROSSOVER / "graph.toml", plain, **ways)
-    stereo, chain = CONVERTER / "graph-stereo.toml", {"C, plain loop": compiled(folder, "plain")}
-    compare(folder, "44,100 to 48,000, stereo, --parallel", stereo, chain, channels=2, **ways)
 
 
 if __name__ == "__main__":

@@ -1,10 +1,11 @@
-/* The filters of a chain in blocks that stay in the cache, each branch of taps against eight 16-bit samples at a time.
+/* The filters of a chain in blocks that stay in the cache, each branch of taps against several 16-bit samples at once.
  * Where a sample leaves 16 bits, its block and those that still see it are done with 32-bit samples, so the output is
  * exact. */
 #include "filters.h"
 #include "taps.h"
 
-enum { PERIODS = 32 };
+enum { PERIODS = 32, READS = PERIOD_IN, MAKES = PERIOD_OUT, WARM = 2, CHANNELS = 0 };
+#include "parts.h"
 
 /* The samples between two filters: `width` older ones, and a block. Those of 32 bits are there only where one is
  * loud. */
@@ -45,9 +46,8 @@ static long run_block(const Branches *b, Link *from, Link *to, long n) {
     return outputs;
 }
 
-int main(int count, char **words) {
-    if (count != 3) return 2;
-    Sound in = read_sound(words[1]), out = in;
+static Sound made(Sound in) {
+    Sound out = in;
     long periods = (in.frames + PERIOD_IN - 1) / PERIOD_IN;
     out.frames = periods * PERIOD_OUT;
     out.rate = (uint64_t)in.rate * PERIOD_OUT / PERIOD_IN;
@@ -59,7 +59,7 @@ int main(int count, char **words) {
         long size = (long)PERIODS * PERIOD_IN;
         for (int s = 0; s <= STAGES; s++) {
             int width = s < STAGES ? b[s].width : 0;
-            long room = width + size + 8;
+            long room = width + size + LANES;
             links[s] = (Link){.width = width, .narrow = zeros(2 * room), .wide = zeros(4 * room)};
             if (s < STAGES) size = size / stages[s].down * stages[s].up;
         }
@@ -82,6 +82,5 @@ int main(int count, char **words) {
             free(links[s].wide);
         }
     }
-    write_sound(words[2], out);
-    return 0;
+    return out;
 }

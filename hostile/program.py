@@ -4,7 +4,7 @@ import struct
 import largest
 from judges import NO_MEMORY, NO_MEMORY_IN_JSON, NO_WORKER, ample_or, any_of, behind, is_text, only, timed
 from machine import Folder, describe, run, wav
-from words import COSTED, FAULTS, MADE, PRINTED, RUNNERS, RUNS, SDFW, SPREAD, run_words, stream_words
+from words import COSTED, FAULTS, MADE, PRINTED, RUNNERS, RUNS, SDFW, IN_PARTS, run_words, stream_words
 
 
 def memory_or_ample(words):
@@ -64,7 +64,7 @@ def measured(ended, ample, at):
 
 def profile_of_sdfw(lists):
     """Not of the chain: the table of its long blocks asks for tens of thousands of rows."""
-    for name, design, sound, _, _ in RUNS[1:] + SPREAD:
+    for name, design, sound, _, _ in RUNS[1:] + IN_PARTS:
         words = [SDFW, "profile", design, sound]
         lists.refuse(f"sdfw profile {name}: memory", words, "memory", measured, answer=timed)
     lists.refuse("sdfw profile --write: memory", COSTED, "memory", measured, answer=timed)
@@ -88,11 +88,11 @@ def why_or(fault, period):
 
 def parallel_of_sdfw(lists):
     """Parallel runs, in parts of the sound or on one thread."""
-    for name, design, sound, _, period in RUNS + SPREAD:
+    for name, design, sound, _, period in RUNS + IN_PARTS:
         words, told = [SDFW, "run", design, sound, "out.wav", "--parallel", "2"], f"sdfw run {name} --parallel"
         lists.refuse(f"{told}: memory", words, "memory", ample_or(NO_MEMORY, period))
         lists.refuse(f"{told} --why: memory", [*words, "--why"], "memory", why_or(NO_MEMORY, period))
-    for name, design, sound, _, period in SPREAD:
+    for name, design, sound, _, period in IN_PARTS:
         words, told = [SDFW, "run", design, sound, "out.wav", "--parallel", "2"], f"sdfw run {name} --parallel"
         lists.refuse(f"{told}: threads", words, "thread", ample_or(NO_WORKER, period))
         without_threads(lists, told, words, period)

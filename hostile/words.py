@@ -31,7 +31,7 @@ RUNS = [("chain", "chain.toml", "short.wav", [], 320), ("loop", "loop.toml", "fe
         ("pieces", "pieces.toml", "long.wav", ["--blocking", "4"], 2048)]
 
 # Those that threads are refused in parallel runs of: a design with two heavy branches, and one with a warm-up.
-SPREAD = [("heavy", "heavy.toml", "long.wav", [], 2), ("filter", "filter.toml", "long.wav", [], 2)]
+IN_PARTS = [("heavy", "heavy.toml", "long.wav", [], 2), ("filter", "filter.toml", "long.wav", [], 2)]
 
 # What writes measured costs into a file.
 COSTED = [SDFW, "profile", "tables.toml", "few.wav", "--write", "out.wav"]

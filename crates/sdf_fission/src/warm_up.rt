@@ -164,7 +164,7 @@ fn since_of(alloc: Global, graph: &Graph, memory: &[u32]) -> Result<Option<Vec<u
     let mut since = vec![in alloc; 0; graph.actors()]?;
     match settle(graph, memory, &mut since) {
         Move::Stays => Ok(Some(since)),
-        _ => Ok(None),
+        Move::MovesOn | Move::TooFar => Ok(None),
     }
 }
 

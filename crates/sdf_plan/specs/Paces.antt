@@ -3,6 +3,7 @@ use Rattle.std.specs.Prelude.{◌≡◌, ◌≢◌, ℕ, ◌*◌, ◌≤◌}
 use Rattle.sdf_actor.specs.Sides.{period_samples}
 use Rattle.sdf_actor.specs.declared.sides.Lists.TheVariants.{Inputs}
 use Rattle.sdf_kit.specs.Kit.{kit_steps}
+use Rattle.sdf_fission.specs.Warm.{IsLeast}
 use Rattle.sdf_fission.specs.WarmUps.{WarmsIn, IsLasting}
 use Rattle.sdf_file.specs.Designs.{DesignValue}
 use Rattle.sdf_options.specs.declared.options.Options.{Options}
@@ -24,14 +25,15 @@ one_thread = record {
   patience = 1000;
 }
 
--- the plan for one thread, cut into a part for each of m workers, after this many periods and samples of warm-up
+-- the plan for one thread, cut into a part for each of m workers, after this many periods and samples of warm-up, the
+-- fewest that are enough
 pub record IsInParts (d : DesignValue) (m : ℕ) (p : PlanValue) (workers periods samples : ℕ) : Type 0 where
   pub alone : PlanValue
   pub by_options : IsPlanOf d one_thread alone
   pub plan : p ≡ record alone { parts = workers }
   pub all : workers ≡ m
   pub several : 2 ≤ m
-  pub warm_up : WarmsIn kit_steps d.net p.period.repetitions periods
+  pub warm_up : IsLeast (WarmsIn kit_steps d.net p.period.repetitions) periods
   pub read : samples ≡ periods * period_samples d.net.nodes Inputs p.period.repetitions
 
 -- the plan runs a design by m workers in this way

@@ -2,6 +2,7 @@
 
 ghost use Rattle.std.specs.Prelude.{◌≡◌, ◌≤◌, MatchResult, IfOk};
 ghost use Rattle.sdf_kit.specs.Kit.{kit_steps};
+ghost use Rattle.sdf_fission.specs.Warm.{IsLeast};
 ghost use Rattle.sdf_fission.specs.WarmUps.{WarmsIn};
 ghost use Rattle.sdf_plan.specs.Paces.{one_thread, IsPaced};
 ghost use Rattle.sdf_plan.specs.Plans.{IsPlanOf, IsPlanFault, IsWorkers, Suits};
@@ -41,7 +42,7 @@ pub struct Paced {
 fn by_parts(design: &Design, workers: usize, periods: u32, alone: Plan) -> Paced
     requires alone { IsPlanOf design.now one_thread alone }
     requires suits { Suits design.now.net alone }
-    requires warm_up { WarmsIn kit_steps design.now.net alone.period.repetitions periods }
+    requires warm_up { IsLeast (WarmsIn kit_steps design.now.net alone.period.repetitions) periods }
     requires workers { IsWorkers workers }
     requires several { 2 ≤ workers }
     ensures answers { IsPaced design.now workers result.plan result.pace }

@@ -76,7 +76,7 @@ impl Plan {
                 blocking,
                 parts,
             },
-            shared => shared,
+            Way::Rows(_) | Way::Rings { .. } => unreachable!(),
         };
         Plan { way }
     }

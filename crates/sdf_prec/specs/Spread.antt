@@ -3,7 +3,6 @@ use Rattle.std.specs.Prelude.{◌≡◌, ℕ, ◌+◌, ◌*◌, ◌/◌, ◌<◌
 use Rattle.std.specs.Prelude.{None}
 use Rattle.sdf_limits.specs.declared.TheConstants.{MOST_ACTORS, MOST_BLOCK, MOST_COST}
 use Rattle.sdf_graph.specs.Rates.{Rates, sum_to}
-use Rattle.sdf_prec.specs.Placing.{load_by}
 
 -- what the firings of each actor in a period weigh together
 pub record AreLoads (actors : ℕ) (weights : List ℕ) : Type 0 where
@@ -54,8 +53,3 @@ pub record AreSpread (r : Rates) (weights : List ℕ) (m : ℕ) (homes : List (O
   pub all : length homes ≡ r.actors
   pub each : (a : ℕ) → a < r.actors → (first : ℕ) × (past : ℕ) × IsFirst r a first × IsPast r a past
       × (slice_index_or homes a None ≡ Some (share weights m first past))
-
--- the greatest weight that one of m workers has
-pub record IsHeaviest (weights : List ℕ) (homes : List (Option ℕ)) (m most : ℕ) : Type 0 where
-  pub above : (j : ℕ) → j < m → load_by weights homes j ≤ most
-  pub reached : (j : ℕ) × (j < m) × (load_by weights homes j ≡ most)

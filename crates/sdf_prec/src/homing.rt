@@ -11,7 +11,7 @@ use crate::firing::Firing;
 use std::alloc::AllocError;
 
 /// The weights of the actors at home in a column.
-pub(crate) fn load_of(weights: &[u64], homes: &[Option<usize>], column: usize) -> u64
+fn load_of(weights: &[u64], homes: &[Option<usize>], column: usize) -> u64
     requires weights { AreWeights weights.now homes.now }
     ensures { result ≡ load_by weights.now homes.now column }
 {

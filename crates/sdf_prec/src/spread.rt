@@ -6,9 +6,8 @@ ghost use Rattle.sdf_graph.specs.Rates.{rates};
 ghost use Rattle.sdf_prec.specs.Blocks.{IsWorkers};
 ghost use Rattle.sdf_prec.specs.ByHomes.{HasHome};
 ghost use Rattle.sdf_prec.specs.Spread.{AreLoads, weight_to, LeadsBack, IsFedByLast, MayPart, IsFirst, IsPast, share};
-ghost use Rattle.sdf_prec.specs.Spread.{AreSpread, IsHeaviest};
+ghost use Rattle.sdf_prec.specs.Spread.{AreSpread};
 
-use crate::homing::load_of;
 use sdf_graph::Graph;
 use std::alloc::{AllocError, Global};
 
@@ -73,8 +72,8 @@ fn past_of(graph: &Graph, actor: usize) -> usize
     graph.actors()
 }
 
-/// What the first so many actors weigh together: with all of them, the work of one worker that has them all.
-pub fn weight_to(weights: &[u64], actors: usize) -> u64
+/// What the first so many actors weigh together.
+fn weight_to(weights: &[u64], actors: usize) -> u64
     requires weights { AreLoads (length weights.now) weights.now }
     requires known { actors ≤ length weights.now }
     ensures is { result ≡ weight_to weights.now actors }
@@ -123,18 +122,4 @@ pub fn spread(
         homes.push(Some(share(weights, m, first, past)))?;
     }
     Ok(homes)
-}
-
-/// The greatest weight that one of `m` workers has. The weight of all actors divided by it is how many times as fast
-/// as one worker they can be at most.
-pub fn heaviest(weights: &[u64], homes: &[Option<usize>], m: usize) -> u64
-    requires weights { AreLoads (length homes.now) weights.now }
-    requires workers { IsWorkers m }
-    ensures { IsHeaviest weights.now homes.now m result }
-{
-    let mut most = 0;
-    for worker in 0..m {
-        most = most.max(load_of(weights, homes, worker));
-    }
-    most
 }

@@ -68,23 +68,22 @@ other_channel samples channels channel a z i e in_frame in_frame_too other =
     (λ p. other (same_from_place i e a channel channels in_frame_too in_frame p).1)
 
 -- one channel more of frames of lists
-pub channels_more : (xs : List (List ℤ)) (from n channels channel : ℕ) (old new part : List ℤ) → channel < channels →
-    part ≡ take n (drop from (get_or xs channel [])) →
+pub channels_more : (xs : List (List ℤ)) (n channels channel : ℕ) (old new part : List ℤ) → channel < channels →
+    part ≡ take n (get_or xs channel []) →
     ((i : ℕ) → get_or new (i * channels + channel) (pos 0) ≡ saturate_signed w16 (get_or part i (pos 0))) →
     ((i e : ℕ) → e < channels → e ≢ channel →
     get_or new (i * channels + e) (pos 0) ≡ get_or old (i * channels + e) (pos 0)) →
     ((i e : ℕ) → i < n → e < channel → get_or old (i * channels + e) (pos 0) ≡
-    saturate_signed w16 (get_or (get_or xs e []) (from + i) (pos 0))) →
+    saturate_signed w16 (get_or (get_or xs e []) i (pos 0))) →
     (i e : ℕ) → i < n → e < channel + 1 → get_or new (i * channels + e) (pos 0) ≡
-    saturate_signed w16 (get_or (get_or xs e []) (from + i) (pos 0))
-channels_more xs from n channels channel old new part within is put kept before i e lt below =
+    saturate_signed w16 (get_or (get_or xs e []) i (pos 0))
+channels_more xs n channels channel old new part within is put kept before i e lt below =
     elim (cases_eq e channel) [
       | inl same ↦
           ap (λ k. get_or new (i * channels + k) (pos 0)) same ∙ put i
           ∙ ap (saturate_signed w16) (ap (λ l. get_or l i (pos 0)) is
-          ∙ get_or-take n (drop from (get_or xs channel [])) i (pos 0) lt
-          ∙ get_or-drop from (get_or xs channel []) i (pos 0)
-          ∙ ap (λ k. get_or (get_or xs k []) (from + i) (pos 0)) (sym same))
+          ∙ get_or-take n (get_or xs channel []) i (pos 0) lt
+          ∙ ap (λ k. get_or (get_or xs k []) i (pos 0)) (sym same))
       | inr other ↦ kept i e (omega (arith, below, within)) other ∙ before i e lt (omega (arith, below, other))
     ]
 

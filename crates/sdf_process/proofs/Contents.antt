@@ -150,14 +150,3 @@ sound_made s result rate channels samples made is some one eight whole =
     let same : Ok s ≡ Ok (record { rate = rate; channels = channels; samples = samples }) =
     sym is ∙ (made ∙ sound_is rate channels samples some one eight whole) in
     cc
-
--- so it is not refused
-err_no_ok : (f : WavFault) (s : Sound) → ◌≡◌ {A = Result Sound WavFault} (Err f) (Ok s) → ⊥
-err_no_ok f s same = cc
-
-pub sound_refused : (result : Result Sound WavFault) (rate channels : ℕ) (samples : List ℤ) (f : WavFault) →
-    result ≡ sound_of rate channels samples → result ≡ Err f → 1 ≤ rate → 1 ≤ channels → channels ≤ 8 →
-    length samples % channels ≡ 0 → ⊥
-sound_refused result rate channels samples f made is some one eight whole =
-    err_no_ok f (record { rate = rate; channels = channels; samples = samples })
-    (sym is ∙ (made ∙ sound_is rate channels samples some one eight whole))

@@ -55,7 +55,7 @@ module _ (t : Opened) (is : IsOpened t)
 
     few_bytes : 2 * (b.output.missing * (exchange_of n p.repetitions).outputs) ≤ 4294967259
     few_bytes = subst (λ (m : ℕ). 2 * (m * (exchange_of n p.repetitions).outputs) ≤ 4294967259)
-        (sym (ap (λ (y : Owed). y.missing) begun.owed)) begun.extent.few_bytes
+        (sym (ap (λ (y : Owed). y.missing) begun.owed)) begun.extent_is.few_bytes
 
     pub can_flow : CanFlow s
     can_flow =
@@ -67,7 +67,7 @@ module _ (t : Opened) (is : IsOpened t)
           unspoilt = begun.unheard.unspoilt;
           one = begun.unheard.sound.one_channel;
           lower = allowed_lower (exchange_of n p.repetitions)
-              (record { rate = c.rate; channels = c.channels; frames = b.frames }) begun.extent.is_allowed;
+              (record { rate = c.rate; channels = c.channels; frames = b.frames }) begun.extent_is.is_allowed;
           size = whole_size c b.frames begun.unheard.sound here.0 here.1;
           known = here.0;
           fits = begun.unheard.sound.size_fits;
@@ -77,7 +77,7 @@ module _ (t : Opened) (is : IsOpened t)
           made = subst (λ (y : Exchange). 0 < y.made) there limits.some_made;
           outputs = omega (arith, (has p is.period).accepted.1.lists.output);
           owed = ap (λ (y : Owed). y.missing) begun.owed
-              ∙ ap (λ (k : ℕ). k * (exchange_of n p.repetitions).made) begun.extent.periods;
+              ∙ ap (λ (k : ℕ). k * (exchange_of n p.repetitions).made) begun.extent_is.periods;
           short = few_bytes;
         }
 

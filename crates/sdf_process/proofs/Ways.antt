@@ -76,7 +76,7 @@ module _ (n : Netlist Kit ℤ) (q : List ℕ) (b : Begun) (begun : IsBegun n q b
   channels_is = ap (λ (y : Sound). y.channels) whole.2
 
   -- it is begun as before
-  pub heard_begun : IsBegun n q (record { source = Heard s 0; frames = b.frames; extent = b.extent; output = b.output })
+  pub heard_begun : IsBegun n q (record { source = Heard s 0; frames = b.frames; output = b.output })
   heard_begun = record {
     unheard = unheard_sound s b.frames (subst (λ (k : ℕ). 1 ≤ k) rate_is begun.unheard.sound.some_rate)
         (subst (λ (k : ℕ). 1 ≤ k) channels_is begun.unheard.sound.one_channel)
@@ -89,10 +89,11 @@ module _ (n : Netlist Kit ℤ) (q : List ℕ) (b : Begun) (begun : IsBegun n q b
           ap (λ (k : ℕ). b.frames * k) channels_is,
         ))
         (omega (arith, whole.0, begun.unheard.sound.size_fits));
-    extent = subst (λ (k : ℕ). IsExtent (exchange_of n q)
-        (record { rate = s.rate; channels = k; frames = b.frames }) b.extent) channels_is
+    extent = begun.extent;
+    extent_is = subst (λ (k : ℕ). IsExtent (exchange_of n q)
+        (record { rate = s.rate; channels = k; frames = b.frames }) begun.extent) channels_is
         (subst (λ (k : ℕ). IsExtent (exchange_of n q)
-        (record { rate = k; channels = c.channels; frames = b.frames }) b.extent) rate_is begun.extent);
+        (record { rate = k; channels = c.channels; frames = b.frames }) begun.extent) rate_is begun.extent_is);
     owed = begun.owed;
   }
 
@@ -109,5 +110,5 @@ module _ (n : Netlist Kit ℤ) (q : List ℕ) (b : Begun) (begun : IsBegun n q b
       puts = heard_puts n q s (subst (λ (k : ℕ). 1 ≤ k) channels_is begun.unheard.sound.one_channel)
           (subst (λ (k : ℕ). (exchange_of n q).inputs ≤ k) channels_is
           (allowed_lower (exchange_of n q)
-          (record { rate = c.rate; channels = c.channels; frames = b.frames }) begun.extent.is_allowed)) some
+          (record { rate = c.rate; channels = c.channels; frames = b.frames }) begun.extent_is.is_allowed)) some
           r1 r' w w' result streams

@@ -18,6 +18,7 @@ use Rattle.sdf_process.specs.declared.playing.Player.{Player}
 use Rattle.sdf_process.specs.declared.playing.Score.{Score}
 use Rattle.sdf_process.specs.declared.begun.Begun.{Begun}
 use Rattle.sdf_process.specs.declared.begun.Shared.{Shared}
+use Rattle.sdf_process.specs.declared.exchange.Extent.{Extent}
 use Rattle.sdf_process.specs.declared.task.Task.{Task}
 use Rattle.sdf_process.specs.Output.{exchange_of, IsExtent}
 use Rattle.sdf_process.specs.Sources.{reading_of}
@@ -59,13 +60,14 @@ pub record IsUnheard (c : Reading) (frames : ℕ) : Type 0 where
 -- Nothing was taken from the source of a run of net n, and of its output nothing is written but the header.
 pub record IsBegun (n : Netlist Kit ℤ) (q : List ℕ) (b : Begun) : Type 0 where
   pub unheard : IsUnheard (reading_of b.source) b.frames
-  pub extent : IsExtent (exchange_of n q) (record {
+  pub extent : Extent
+  pub extent_is : IsExtent (exchange_of n q) (record {
     rate = (reading_of b.source).rate;
     channels = (reading_of b.source).channels;
     frames = b.frames;
-  }) b.extent
+  }) extent
   pub owed : b.output ≡ record {
     channels = (exchange_of n q).outputs;
-    missing = b.extent.periods * (exchange_of n q).made;
+    missing = extent.periods * (exchange_of n q).made;
     spent = false;
   }

@@ -9,7 +9,7 @@ ghost use Rattle.sdf_wav.specs.declared.wav.TheConstants.{MOST_CHANNELS};
 ghost use Rattle.sdf_process.specs.Streams.{StandsAt, Streams};
 ghost use Rattle.sdf_process.specs.Tasks.{IsBegun, IsScore, IsShared, IsTask};
 
-use crate::exchange::{Exchange, Extent};
+use crate::exchange::Exchange;
 use crate::playing::{Player, Score};
 use crate::runner::Runner;
 use crate::source::Source;
@@ -34,7 +34,6 @@ const FRAMES: usize = 4096;
 pub(crate) struct Begun {
     pub(crate) source: Source,
     pub(crate) frames: usize,
-    pub(crate) extent: Extent,
     pub(crate) output: ContentOut,
 }
 
@@ -134,14 +133,12 @@ fn play_heard<T: Threads + AllocGlobal + Sync, R: Reader, W: Writer, G: Gate>(
     let Begun {
         source,
         frames,
-        extent,
         output,
     } = begun;
     let sound = source.take_all(rt.alloc(), reader)?;
     let heard = Begun {
         source: Source::Heard { sound, taken: 0 },
         frames,
-        extent,
         output,
     };
     play(rt, reader, writer, gate, score, heard)

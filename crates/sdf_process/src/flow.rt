@@ -32,24 +32,16 @@ pub(crate) struct Flow {
 
 impl Flow {
     /// Takes the samples that are kept, as a sound of `rate` frames a second.
-    pub(crate) fn take_kept(
-        &mut self,
-        alloc: Global,
-        rate: u32,
-        channels: u16,
-    ) -> Result<Wav, Fault>
+    pub(crate) fn take_kept(&mut self, alloc: Global, rate: u32, channels: u16) -> Wav
         requires rate { 1 ≤ rate }
         requires one { 1 ≤ channels }
         requires few { channels ≤ MOST_CHANNELS }
         requires whole { length self.old.kept.items % channels ≡ 0 }
-        ensures sound { MatchResult result
-            (λ w. w ≡ record { rate = rate; channels = channels; samples = self.old.kept.items })
-            (λ e. ⊥) }
+        ensures sound { result ≡ record { rate = rate; channels = channels; samples = self.old.kept.items } }
         ensures stays { self.new ≡ record self.old { kept = self.new.kept } }
     {
         let kept = mem::replace(&mut self.kept, Vec::new(alloc));
-        let sound = Wav::new(rate, channels, kept)?;
-        Ok(sound)
+        Wav::new(rate, channels, kept).unwrap()
     }
 
     /// Writes the frames that were made.

@@ -2,10 +2,11 @@
 //! left, and their memory, which it uses again.
 
 ghost use Rattle.std.specs.Prelude.{◌≡◌, ◌*◌, ◌≤◌, ◌<◌, [], IfErr, IfOk, IfSome, IfNone, MatchResult, Some, is_some};
+ghost use Rattle.std.specs.Prelude.{true};
 ghost use Rattle.sdf_actor.specs.Wires.{lists as items_of};
 ghost use Rattle.sdf_answer.specs.Feeds.{GoesOnBy};
 ghost use Rattle.sdf_answer.specs.declared.fault.RunFault.TheVariants as run;
-ghost use Rattle.sdf_fission.specs.WarmUps.{IsLasting, WarmsIn};
+ghost use Rattle.sdf_fission.specs.WarmUps.{IsLasting};
 ghost use Rattle.sdf_kit.specs.Kit.{kit_steps};
 ghost use Rattle.sdf_faults.specs.declared.fault.Fault.TheVariants.{OutOfMemory};
 ghost use Rattle.sdf_wav.specs.Sound.{Sound};
@@ -163,23 +164,23 @@ impl<'a> Player<'a> {
     }
 
     /// Runs a portion in parts at once, each of which makes its own frames, and `meanwhile` beside them.
-    fn run_parts<T: Threads + Sync, G: FnMut() -> B, B>(
+    pub(crate) fn run_parts<T: Threads + Sync, G: FnMut() -> B, B>(
         &mut self,
         rt: &T,
         portion: Portion<'_>,
-        cut: Cut,
         meanwhile: &mut G,
     ) -> (Result<Vec<Vec<i16>>, RunFault>, B)
         requires player { IsPlayer self.old }
+        requires cut { is_some self.old.cut ≡ true }
         requires can { CanPlayNext self.old portion }
         requires all { portion.frames ≡ portion.periods * portion.exchange.made }
-        requires warm { WarmsIn kit_steps self.old.net.now self.old.period.now.repetitions cut.warm }
         requires meanwhile { G.pre meanwhile.old }
         ensures plays { IfOk result.0 (λ v. PlaysNext self.old self.new portion.entry (items_of v.items)) }
         ensures refused { IfErr result.0 (λ f. f ≡ run.OutOfMemory) }
         ensures stays { StaysPlayer self.old self.new }
         ensures meanwhile { G.step meanwhile.old result.1 meanwhile.new }
     {
+        let cut = self.cut.unwrap();
         let split = Split {
             net: self.net,
             period: self.period,
@@ -198,27 +199,25 @@ impl<'a> Player<'a> {
         }
     }
 
-    /// Runs a portion, and makes frames of what it makes. `meanwhile` is run beside parts, or behind a run on one
-    /// thread.
-    pub(crate) fn run<T: Threads + Sync, G: FnMut() -> B, B>(
+    /// Runs a portion, and makes frames of what it makes.
+    pub(crate) fn run<T: Threads + Sync>(
         &mut self,
         rt: &T,
         alloc: Global,
         portion: Portion<'_>,
-        meanwhile: &mut G,
-    ) -> (Result<Vec<Vec<i16>>, RunFault>, B)
+    ) -> Result<Vec<Vec<i16>>, RunFault>
         requires player { IsPlayer self.old }
         requires can { CanPlayNext self.old portion }
         requires all { portion.frames ≡ portion.periods * portion.exchange.made }
-        requires meanwhile { G.pre meanwhile.old }
-        ensures plays { IfOk result.0 (λ v. PlaysNext self.old self.new portion.entry (items_of v.items)) }
-        ensures refused { IfErr result.0 (λ f. f ≡ run.OutOfMemory) }
+        ensures plays { IfOk result (λ v. PlaysNext self.old self.new portion.entry (items_of v.items)) }
+        ensures refused { IfErr result (λ f. f ≡ run.OutOfMemory) }
         ensures stays { StaysPlayer self.old self.new }
-        ensures meanwhile { G.step meanwhile.old result.1 meanwhile.new }
     {
-        match self.cut {
-            Some(cut) => self.run_parts(rt, portion, cut, meanwhile),
-            None => (self.run_whole(alloc, portion), meanwhile()),
+        if self.is_cut() {
+            let (ran, _) = self.run_parts(rt, portion, &mut || {});
+            ran
+        } else {
+            self.run_whole(alloc, portion)
         }
     }
 

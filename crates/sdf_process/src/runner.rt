@@ -53,10 +53,7 @@ impl<'a> Runner<'a> {
     {
         match self {
             Runner::Session(session) => run_fed(rt, gate, session, portion),
-            Runner::Player(player) => {
-                let (ran, _) = player.run(rt, rt.alloc(), portion, &mut || {});
-                played(ran)
-            }
+            Runner::Player(player) => played(player.run(rt, rt.alloc(), portion)),
         }
     }
 

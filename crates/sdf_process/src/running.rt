@@ -50,7 +50,6 @@ fn run_ahead<T: Threads + AllocGlobal + Sync, R: Reader, W: Writer, G: Gate>(
     let begun = Begun {
         source: Source::Content(content),
         frames,
-        extent,
         output,
     };
     run_begun(rt, reader, writer, task, gate, begun)
@@ -79,7 +78,6 @@ fn run_behind<T: Threads + AllocGlobal + Sync, R: Reader, W: Writer, G: Gate>(
     let begun = Begun {
         frames: sound.frames(),
         source: Source::Heard { sound, taken: 0 },
-        extent,
         output,
     };
     run_begun(rt, reader, writer, task, gate, begun)

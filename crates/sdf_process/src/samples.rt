@@ -1,11 +1,11 @@
 //! Samples between a sound and the lists of a net.
 
-ghost use Rattle.std.specs.Prelude.{◌≡◌, ◌≢◌, ◌*◌, ◌-◌, ◌+◌, ◌≤◌, ◌<◌, ◌^◌, ℕ, length, map, take, drop, IfOk};
+ghost use Rattle.std.specs.Prelude.{◌≡◌, ◌≢◌, ◌*◌, ◌-◌, ◌+◌, ◌≤◌, ◌<◌, ◌^◌, ℕ, length, map, take, IfOk};
 ghost use Rattle.std.specs.Prelude.{slice_index_or, pos};
 ghost use Rattle.std.specs.Int.{saturate_signed, w16};
 ghost use Rattle.std.specs.List.{range_with_len};
 ghost use Rattle.sdf_actor.specs.Wires.{lists as items_of};
-ghost use Rattle.sdf_process.specs.Output.{channel_samples_from, interleaved, interleaved_from};
+ghost use Rattle.sdf_process.specs.Output.{channel_samples_from, interleaved};
 
 use sdf_answer::outputs::take_spare;
 use sdf_wav::Wav;
@@ -103,13 +103,11 @@ fn clamped(sample: i32) -> i16
     sample.clamp(-32_768, 32_767) as i16
 }
 
-/// The samples of a list from a place on to another, fewer where the list ends before.
-fn samples_between(list: &[i32], from: usize, to: usize) -> &[i32]
-    requires { from ≤ to }
-    ensures { result.now ≡ take (to - from) (drop from list.now) }
+/// The first `many` samples of a list, fewer where the list ends before.
+fn first_samples(list: &[i32], many: usize) -> &[i32]
+    ensures { result.now ≡ take many list.now }
 {
-    let end = to.min(list.len());
-    &list[from.min(end)..end]
+    &list[..many.min(list.len())]
 }
 
 /// Puts a list's samples into a channel of frames that is silent yet, each sample clamped to 16 bits.
@@ -150,15 +148,14 @@ fn put_samples(list: &[i32], channel: usize, channels: usize, samples: &mut [i16
     }
 }
 
-/// Fills a slice with some frames of the lists, one after the other, each sample clamped to 16 bits.
-pub(crate) fn fill_frames(lists: &[Vec<i32>], from: usize, to: usize, samples: &mut [i16])
-    requires order { from ≤ to }
-    requires room { length samples.old ≡ (to - from) * length lists.now }
-    ensures { samples.new ≡ interleaved_from from (to - from) (items_of lists.now) }
+/// Fills a slice with the first frames of the lists, one after the other, each sample clamped to 16 bits.
+fn fill_frames(lists: &[Vec<i32>], frames: usize, samples: &mut [i16])
+    requires { length samples.old ≡ frames * length lists.now }
+    ensures { samples.new ≡ interleaved frames (items_of lists.now) }
 {
     samples.fill(0);
     for (channel, list) in lists.iter().enumerate() {
-        let part = samples_between(list, from, to);
+        let part = first_samples(list, frames);
         put_channel(part, channel, lists.len(), samples);
     }
 }
@@ -174,6 +171,6 @@ pub(crate) fn make_frames(
     let mut samples = spare;
     let count = frames.checked_mul(lists.len()).ok_or(AllocError)?;
     samples.resize(count, 0)?;
-    fill_frames(lists, 0, frames, &mut samples);
+    fill_frames(lists, frames, &mut samples);
     Ok(samples)
 }

@@ -1,6 +1,6 @@
 //! A run that takes its input and writes its output as it goes. It holds what a piece of the input and a block need.
 
-ghost use Rattle.std.specs.Prelude.{◌≡◌, ◌*◌, ◌≤◌, [], length, drop, true, IfErr, IfOk};
+ghost use Rattle.std.specs.Prelude.{◌≡◌, ◌*◌, ◌≤◌, [], length, drop, true, is_some, IfErr, IfOk};
 ghost use Rattle.sdf_actor.specs.Wires.{lists as items_of};
 ghost use Rattle.sdf_answer.specs.declared.fault.RunFault.TheVariants as run;
 ghost use Rattle.sdf_wav.specs.Device.{ReaderState};
@@ -147,7 +147,7 @@ impl<'a> Stream<'a> {
         if blocks == 0 {
             return self.flow.turn(rt.alloc(), reader, writer);
         }
-        let input = self.flow.take_kept(rt.alloc(), self.rate, self.channels)?;
+        let input = self.flow.take_kept(rt.alloc(), self.rate, self.channels);
         self.flow.kept = behind(rt.alloc(), input.samples(), blocks * block)?;
         let periods = blocks * self.blocking as usize;
         let portion = Portion {
@@ -181,7 +181,7 @@ impl<'a> Stream<'a> {
             return Ok(());
         }
         let blocks = frames.div_ceil(self.blocking as usize * self.exchange.made);
-        let input = self.flow.take_kept(alloc, self.rate, self.channels)?;
+        let input = self.flow.take_kept(alloc, self.rate, self.channels);
         let portion = Portion {
             exchange: self.exchange,
             input: &input,
@@ -193,7 +193,7 @@ impl<'a> Stream<'a> {
     }
 }
 
-/// Plays a portion, while the frames before are written and the next ones are taken.
+/// Plays a portion in parts at once, while the frames before are written and the next ones are taken.
 fn play_while_turning<T: Threads + AllocGlobal + Sync, R: Reader, W: Writer>(
     rt: &T,
     player: &mut Player<'_>,
@@ -203,6 +203,7 @@ fn play_while_turning<T: Threads + AllocGlobal + Sync, R: Reader, W: Writer>(
     portion: Portion<'_>,
 ) -> (Result<Vec<Vec<i16>>, RunFault>, Result<(), Fault>)
     requires player { IsPlayer player.old }
+    requires cut { is_some player.old.cut ≡ true }
     requires can { CanPlayNext player.old portion }
     requires all { portion.frames ≡ portion.periods * portion.exchange.made }
     requires ahead { CanTurn flow.old (R.state reader.old) (W.state writer.old) }
@@ -213,9 +214,8 @@ fn play_while_turning<T: Threads + AllocGlobal + Sync, R: Reader, W: Writer>(
         (W.state writer.new) result.1 }
 {
     let alloc = rt.alloc();
-    player.run(
+    player.run_parts(
         rt,
-        alloc,
         portion,
         &mut || -> Result<(), Fault>
             requires { CanTurn flow.now (R.state reader.now) (W.state writer.now) }
@@ -244,7 +244,6 @@ pub(crate) fn run_stream<T: Threads + AllocGlobal + Sync, R: Reader, W: Writer, 
         source,
         frames,
         output,
-        ..
     } = begun;
     runs_go_on::<Kit>();
     nets_have_periods(opened.net);

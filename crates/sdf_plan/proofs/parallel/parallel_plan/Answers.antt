@@ -1,9 +1,29 @@
-use Rattle.std.proofs.Common.{◌≡◌, IfNone, subst, rules}
+use Rattle.std.proofs.Common.{◌≡◌, ◌≤◌, ℕ, List, IfNone, IfSome, subst, sym, rules}
+use Rattle.sdf_graph.specs.Periods.{IsLeastPeriod}
+use Rattle.sdf_graph.specs.Rates.{rates}
+use Rattle.sdf_actor.specs.Graphs.{graph_of}
 use Rattle.sdf_kit.specs.Kit.{kit_steps}
-use Rattle.sdf_fission.specs.WarmUps.{IsLasting}
+use Rattle.sdf_fission.specs.Warm.{IsLeast}
+use Rattle.sdf_fission.specs.WarmUps.{IsLasting, WarmsIn}
 use Rattle.sdf_plan.specs.Paces.{one_thread}
 use Rattle.sdf_plan.specs.Plans.{IsPlanOf}
 use Rattle.sdf_plan.proofs.parallel.parallel_plan.Goals as goal
+
+pub by_parts-requires-clause-warm_up : goal.by_parts-requires-clause-warm_up
+by_parts-requires-clause-warm_up c κs within =
+    let q = c.in_ok-plan.plan.period.repetitions in
+    let n = c.net.result.now in
+    let period : IsLeastPeriod (rates (graph_of kit_steps n)) q =
+    subst (λ m. IsLeastPeriod (rates (graph_of kit_steps m)) q) (sym c.net.ensures.value)
+    c.in_ok-plan.ensures.suits.period.least in
+    subst (λ m. IsLeast (WarmsIn kit_steps m q) c.in-Some.periods) c.net.ensures.value
+    (record {
+      is = subst (λ o. IfSome o (λ periods. (r : List ℕ) → IsLeastPeriod (rates (graph_of kit_steps n)) r →
+          WarmsIn kit_steps n r periods)) c.in-Some.is c.in_ok-periods.ensures.warms q period;
+      least = λ fewer warms. subst (λ o. IfSome o (λ periods. (r : List ℕ) (k : ℕ) →
+          IsLeastPeriod (rates (graph_of kit_steps n)) r → WarmsIn kit_steps n r k → periods ≤ k)) c.in-Some.is
+          c.in_ok-periods.ensures.least q fewer period warms;
+    })
 
 pub returns-in-None-clause-answers : goal.returns-in-None-clause-answers
 returns-in-None-clause-answers c =

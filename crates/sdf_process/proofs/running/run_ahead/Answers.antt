@@ -55,7 +55,8 @@ run_begun-requires-clause-begun g c κs within =
     c.args.unheard.frames c.rate.ensures.value c.channels.ensures.value refl in
     record {
       unheard = c.requires.content;
-      extent = subst (λ y. IsExtent y (record {
+      extent = c.in_ok-extent.extent;
+      extent_is = subst (λ y. IsExtent y (record {
         rate = c.args.unheard.content.rate;
         channels = c.args.unheard.content.channels;
         frames = c.args.unheard.frames;

@@ -70,7 +70,9 @@ run_begun-requires-clause-begun g c κs within =
     record {
       unheard = unheard_sound s c.frames.result (search rules) (search rules) (search rules) c.frames.ensures.whole
           c.in_ok-sound.ensures.few;
-      extent = subst (λ (k : ℕ). IsExtent (exchange_of c.args.task.net.now c.args.task.plan.now.period.repetitions)
+      extent = c.in_ok-extent.extent;
+      extent_is = subst (λ (k : ℕ). IsExtent
+          (exchange_of c.args.task.net.now c.args.task.plan.now.period.repetitions)
           (record { rate = s.rate; channels = s.channels; frames = k }) c.in_ok-extent.extent)
           (sym c.frames.ensures.value) extent;
       owed = c.in_ok-output.ensures.owed ∙ ap (λ (y : Exchange). record {

@@ -9,6 +9,7 @@ use Rattle.sdf_answer.proofs.Theorems.{nets_can_run}
 use Rattle.sdf_process.specs.declared.exchange.Exchange.{Exchange}
 use Rattle.sdf_process.specs.Output.{exchange_of, interleaved, lists_from}
 use Rattle.sdf_process.specs.Streams.{AreWhole}
+use Rattle.sdf_process.specs.Tasks.{IsCut}
 use Rattle.sdf_process.proofs.InParts.{in_parts}
 use Rattle.sdf_process.proofs.Pieced.{blocks_made, held_is, plays_on}
 use Rattle.sdf_process.proofs.Played.{piece_full, piece_given}
@@ -28,7 +29,7 @@ resume_split-ran-requires-clause-split g c κs within =
           (sym can.exchange) (piece_given n p.repetitions y.input.now 0 y.periods);
       full = subst (λ (x : Exchange). AreFull n p.repetitions y.periods (lists_from 0 y.periods x y.input.now))
           (sym can.exchange) (piece_full n p.repetitions y.input.now 0 y.periods);
-      warm_up = c.requires.warm;
+      warm_up = subst (IsCut n p.repetitions) c.unwrap-cut.ensures c.requires.player.cut;
       short = omega (arith, y.fits);
       some = c.part_of.ensures.is.some;
       long = search rules;

@@ -13,7 +13,7 @@ returns-in-Session-clause-runs g c =
 pub returns-in-Player-clause-runs : goal.returns-in-Player-clause-runs
 returns-in-Player-clause-runs g c =
     let v = c.in-Player.player in
-    IfOk-weaker c.played.result _ _ (λ x ran. player_runs c.args.self.now v c.run-ran.new.self c.args.portion
-    (items_of x.items) c.in-Player.is c.run-ran.ensures.stays
-    (subst (λ z. IfOk z (λ l. PlaysNext v c.run-ran.new.self c.args.portion (items_of l.items))) ran
-    c.run-ran.ensures.plays)) c.played.ensures.played
+    IfOk-weaker c.played.result _ _ (λ x ran. player_runs c.args.self.now v c.run.new.self c.args.portion
+    (items_of x.items) c.in-Player.is c.run.ensures.stays
+    (subst (λ z. IfOk z (λ l. PlaysNext v c.run.new.self c.args.portion (items_of l.items))) ran
+    c.run.ensures.plays)) c.played.ensures.played

@@ -40,11 +40,8 @@ div_ceil-blocks-requires g c =
     positive c.args.self.now.blocking c.args.self.now.exchange.made
     (omega (arith, under.ready.blocking, under.ready.can.some)) under.ready.limits.some_made
 
-pub returns-in_err-input : goal.returns-in_err-input
-returns-in_err-input g c = λ b r on. absurd c.in_err-input.ensures.sound
-
-pub take_kept-requires-clause-whole : goal.take_kept-requires-clause-whole
-take_kept-requires-clause-whole g c =
+pub take_kept-input-requires-clause-whole : goal.take_kept-input-requires-clause-whole
+take_kept-input-requires-clause-whole g c =
     let h = c.requires.on in
     let under = h.2.1 in
     let t = c.args.self.now in
@@ -123,7 +120,7 @@ run-requires-clause-next g c κs within =
     let blocks = c.div_ceil-blocks.result in
     let all = blocks_missing b t under.ready c.write.new.self.output c.missing-frames.result blocks
     c.missing-frames.ensures c.div_ceil-blocks.ensures in
-    let sound = c.in_ok-input.ensures.sound in
+    let sound = c.take_kept-input.ensures.sound in
     let follows = kept_follows b p (left_by t.runner) under.ahead.came under.left _ blocks
     (ap (λ z. blocks * z) under.ready.blocking) (ap (λ (y : Sound). y.channels) sound ∙ under.ready.channels)
     (ap (λ (y : Sound). y.samples) sound ∙ (ap (λ (z : _). z.items) w.kept ∙ under.kept)) in
@@ -160,7 +157,7 @@ put_in_turn-requires-clause-unspent g c =
     let under = h.2.1 in
     let t = c.args.self.now in
     let w = c.in_ok-write.ensures b p h.1 under.ready.can under.ahead in
-    ap (λ (f : Flow). f.output.spent) c.take_kept.ensures.stays ∙ ap (λ (o : Owed). o.spent) w.flows.owed
+    ap (λ (f : Flow). f.output.spent) c.take_kept-input.ensures.stays ∙ ap (λ (o : Owed). o.spent) w.flows.owed
 
 pub put_in_turn-requires-clause-some : goal.put_in_turn-requires-clause-some
 put_in_turn-requires-clause-some g c =
@@ -172,7 +169,7 @@ put_in_turn-requires-clause-some g c =
     let w = c.in_ok-write.ensures b p h.1 under.ready.can under.ahead in
     omega (
       arith,
-      ap (λ (f : Flow). f.output.channels) c.take_kept.ensures.stays,
+      ap (λ (f : Flow). f.output.channels) c.take_kept-input.ensures.stays,
       ap (λ (o : Owed). o.channels) w.flows.owed,
       under.ready.can.outputs,
     )
@@ -189,7 +186,7 @@ put_in_turn-requires-clause-whole g c =
     let blocks = c.div_ceil-blocks.result in
     let all = blocks_missing b t under.ready c.write.new.self.output c.missing-frames.result blocks
     c.missing-frames.ensures c.div_ceil-blocks.ensures in
-    let sound = c.in_ok-input.ensures.sound in
+    let sound = c.take_kept-input.ensures.sound in
     let follows = kept_follows b p (left_by t.runner) under.ahead.came under.left _ blocks
     (ap (λ z. blocks * z) under.ready.blocking) (ap (λ (y : Sound). y.channels) sound ∙ under.ready.channels)
     (ap (λ (y : Sound). y.samples) sound ∙ (ap (λ (z : _). z.items) w.kept ∙ under.kept)) in
@@ -197,8 +194,8 @@ put_in_turn-requires-clause-whole g c =
     let makes = (c.in_ok-made.ensures.runs b.net b.period b.blocking (sound_read (reading_in b) p.samples)
     p.blocks blocks
     p.bytes under.ready.goes can follows).0 in
-    let stays = c.take_kept.ensures.stays in
-    (can_write c.take_kept.new.self.output (exchange_in b).outputs c.missing-frames.result c.in_ok-made.made.items
+    let stays = c.take_kept-input.ensures.stays in
+    (can_write c.take_kept-input.new.self.output (exchange_in b).outputs c.missing-frames.result c.in_ok-made.made.items
     c.deref.result.now
     (ap (λ (f : Flow). f.output.channels) stays ∙ ap (λ (z : Owed). z.channels) w.flows.owed) c.deref.ensures.value
     makes.whole (omega (arith, c.missing-frames.ensures, ap (λ (f : Flow). f.output.missing) stays))).0
@@ -215,7 +212,7 @@ put_in_turn-requires-clause-missing g c =
     let blocks = c.div_ceil-blocks.result in
     let all = blocks_missing b t under.ready c.write.new.self.output c.missing-frames.result blocks
     c.missing-frames.ensures c.div_ceil-blocks.ensures in
-    let sound = c.in_ok-input.ensures.sound in
+    let sound = c.take_kept-input.ensures.sound in
     let follows = kept_follows b p (left_by t.runner) under.ahead.came under.left _ blocks
     (ap (λ z. blocks * z) under.ready.blocking) (ap (λ (y : Sound). y.channels) sound ∙ under.ready.channels)
     (ap (λ (y : Sound). y.samples) sound ∙ (ap (λ (z : _). z.items) w.kept ∙ under.kept)) in
@@ -223,8 +220,8 @@ put_in_turn-requires-clause-missing g c =
     let makes = (c.in_ok-made.ensures.runs b.net b.period b.blocking (sound_read (reading_in b) p.samples)
     p.blocks blocks
     p.bytes under.ready.goes can follows).0 in
-    let stays = c.take_kept.ensures.stays in
-    (can_write c.take_kept.new.self.output (exchange_in b).outputs c.missing-frames.result c.in_ok-made.made.items
+    let stays = c.take_kept-input.ensures.stays in
+    (can_write c.take_kept-input.new.self.output (exchange_in b).outputs c.missing-frames.result c.in_ok-made.made.items
     c.deref.result.now
     (ap (λ (f : Flow). f.output.channels) stays ∙ ap (λ (z : Owed). z.channels) w.flows.owed) c.deref.ensures.value
     makes.whole (omega (arith, c.missing-frames.ensures, ap (λ (f : Flow). f.output.missing) stays))).1
@@ -239,7 +236,7 @@ returns g c = λ b r on.
     let blocks = c.div_ceil-blocks.result in
     let all = blocks_missing b t under.ready c.write.new.self.output c.missing-frames.result blocks
     c.missing-frames.ensures c.div_ceil-blocks.ensures in
-    let sound = c.in_ok-input.ensures.sound in
+    let sound = c.take_kept-input.ensures.sound in
     let follows = kept_follows b p (left_by t.runner) under.ahead.came under.left _ blocks
     (ap (λ z. blocks * z) under.ready.blocking) (ap (λ (y : Sound). y.channels) sound ∙ under.ready.channels)
     (ap (λ (y : Sound). y.samples) sound ∙ (ap (λ (z : _). z.items) w.kept ∙ under.kept)) in

@@ -26,11 +26,8 @@ returns-then-blocks-eq0-clause-left g c =
     let h = c.requires.on in
     where_ok c.turn.result _ _ _ (λ x turns. turns.left) (c.turn.ensures.turns h.0 h.1.0 h.1.1.ready.can h.1.1.ahead)
 
-pub returns-in_err-input-clause-goes : goal.returns-in_err-input-clause-goes
-returns-in_err-input-clause-goes g c = λ b on. absurd c.in_err-input.ensures.sound
-
-pub take_kept-requires-clause-whole : goal.take_kept-requires-clause-whole
-take_kept-requires-clause-whole g c =
+pub take_kept-input-requires-clause-whole : goal.take_kept-input-requires-clause-whole
+take_kept-input-requires-clause-whole g c =
     let h = c.requires.on in
     kept_whole h.0 h.1.0 c.args.self.now h.1.1
 
@@ -42,12 +39,12 @@ behind-requires g c =
       arith,
       div-mul-le_self c.len.result k,
       c.len.ensures,
-      ap length (c.samples.ensures.value ∙ ap (λ (y : Sound). y.samples) c.in_ok-input.ensures.sound),
+      ap length (c.samples.ensures.value ∙ ap (λ (y : Sound). y.samples) c.take_kept-input.ensures.sound),
     )
 
 pub returns-in_err-self-clause-goes : goal.returns-in_err-self-clause-goes
 returns-in_err-self-clause-goes g c = λ b on.
-    fails_by c.from_residual-in_err-self.result OutOfMemory _ _ c.from_residual-in_err-self.ensures.1
+    fails_by c.from_residual.result OutOfMemory _ _ c.from_residual.ensures.1
     (memory_refused b on.1.ready.can on.1.ahead.before on.1.ahead.flows OutOfMemory refl)
 
 pub overflow_mul-periods : goal.overflow_mul-periods
@@ -119,8 +116,8 @@ run-requires-clause-step g c κs within =
     let t = c.args.self.now in
     let k : ℕ = t.blocking * t.exchange.taken * c.from.result in
     let blocks : ℕ = c.len.result / k in
-    let sound = c.in_ok-input.ensures.sound in
-    let stays = c.take_kept.ensures.stays in
+    let sound = c.take_kept-input.ensures.sound in
+    let stays = c.take_kept-input.ensures.stays in
     let some : blocks * k ≤ length t.flow.kept.items = omega (arith, div-mul-le_self c.len.result k, c.len.ensures) in (
       b,
       p,
@@ -142,8 +139,8 @@ returns-clause-goes g c = λ b on.
     let t = c.args.self.now in
     let k : ℕ = t.blocking * t.exchange.taken * c.from.result in
     let blocks : ℕ = c.len.result / k in
-    let sound = c.in_ok-input.ensures.sound in
-    let stays = c.take_kept.ensures.stays in
+    let sound = c.take_kept-input.ensures.sound in
+    let stays = c.take_kept-input.ensures.stays in
     let some : blocks * k ≤ length t.flow.kept.items = omega (arith, div-mul-le_self c.len.result k, c.len.ensures) in
     c.run.ensures.goes b on.0 blocks (step_by b on.0 t under blocks k
     (block_is b on.0 t under c.from.result c.from.ensures) some c.give_back.new.self _ _ c.in_ok-self.field-0.items
