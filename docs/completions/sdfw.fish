@@ -14,7 +14,7 @@ complete -c sdfw -n __fish_use_subcommand -a help -d 'Print this message or the 
 complete -c sdfw -n __fish_use_subcommand -l help -d 'Print help'
 complete -c sdfw -n __fish_use_subcommand -l version -d 'Print version'
 complete -c sdfw -n '__fish_seen_subcommand_from check' -l why -d 'Says more of a fault: names, values and limits'
-complete -c sdfw -n '__fish_seen_subcommand_from check' -l no-why -d 'Prints a fault\'s line alone, at a terminal too'
+complete -c sdfw -n '__fish_seen_subcommand_from check' -l no-why -d 'Says no more at a terminal than to a pipe or a log'
 complete -c sdfw -n '__fish_seen_subcommand_from check' -l json -d 'Answers in JSON, also of a fault'
 complete -c sdfw -n '__fish_seen_subcommand_from check' -l help -d 'Print help (see more with \'--help\')'
 complete -c sdfw -n '__fish_seen_subcommand_from check' -F
@@ -23,7 +23,7 @@ complete -c sdfw -n '__fish_seen_subcommand_from schedule' -l workers -x -d 'Wor
 complete -c sdfw -n '__fish_seen_subcommand_from schedule' -l policy -x -a 'round lean runs' -d 'Which actor fires next'
 complete -c sdfw -n '__fish_seen_subcommand_from schedule' -l placement -x -a 'hu homed file spread' -d 'How firings come to workers'
 complete -c sdfw -n '__fish_seen_subcommand_from schedule' -l why -d 'Says more of a fault: names, values and limits'
-complete -c sdfw -n '__fish_seen_subcommand_from schedule' -l no-why -d 'Prints a fault\'s line alone, at a terminal too'
+complete -c sdfw -n '__fish_seen_subcommand_from schedule' -l no-why -d 'Says no more at a terminal than to a pipe or a log'
 complete -c sdfw -n '__fish_seen_subcommand_from schedule' -l json -d 'Answers in JSON, also of a fault'
 complete -c sdfw -n '__fish_seen_subcommand_from schedule' -l help -d 'Print help (see more with \'--help\')'
 complete -c sdfw -n '__fish_seen_subcommand_from schedule' -F
@@ -36,8 +36,8 @@ complete -c sdfw -n '__fish_seen_subcommand_from run' -l runner -x -a 'one rows 
 complete -c sdfw -n '__fish_seen_subcommand_from run' -l patience -x -d 'Repeated tests in a round, at most 1000000'
 complete -c sdfw -n '__fish_seen_subcommand_from run' -l parallel -x -d 'Runs in parallel, by as many workers as there are processors or by M'
 complete -c sdfw -n '__fish_seen_subcommand_from run' -l open-ended -d 'Reads samples to the end of IN, whatever its header says'
-complete -c sdfw -n '__fish_seen_subcommand_from run' -l why -d 'Says more of a fault: names, values and limits'
-complete -c sdfw -n '__fish_seen_subcommand_from run' -l no-why -d 'Prints a fault\'s line alone, at a terminal too'
+complete -c sdfw -n '__fish_seen_subcommand_from run' -l why -d 'Says more of a fault, and how loud each output is'
+complete -c sdfw -n '__fish_seen_subcommand_from run' -l no-why -d 'Says no more at a terminal than to a pipe or a log'
 complete -c sdfw -n '__fish_seen_subcommand_from run' -l help -d 'Print help (see more with \'--help\')'
 complete -c sdfw -n '__fish_seen_subcommand_from run' -F
 complete -c sdfw -n '__fish_seen_subcommand_from analyze' -l blocking -x -d 'Periods in a block, 1 to 64'
@@ -46,7 +46,7 @@ complete -c sdfw -n '__fish_seen_subcommand_from analyze' -l policy -x -a 'round
 complete -c sdfw -n '__fish_seen_subcommand_from analyze' -l placement -x -a 'hu homed file spread' -d 'How firings come to workers'
 complete -c sdfw -n '__fish_seen_subcommand_from analyze' -l compare -d 'Compares the schedules of all policies, placements and numbers of workers'
 complete -c sdfw -n '__fish_seen_subcommand_from analyze' -l why -d 'Says more of a fault: names, values and limits'
-complete -c sdfw -n '__fish_seen_subcommand_from analyze' -l no-why -d 'Prints a fault\'s line alone, at a terminal too'
+complete -c sdfw -n '__fish_seen_subcommand_from analyze' -l no-why -d 'Says no more at a terminal than to a pipe or a log'
 complete -c sdfw -n '__fish_seen_subcommand_from analyze' -l json -d 'Answers in JSON, also of a fault'
 complete -c sdfw -n '__fish_seen_subcommand_from analyze' -l help -d 'Print help (see more with \'--help\')'
 complete -c sdfw -n '__fish_seen_subcommand_from analyze' -F
@@ -56,12 +56,12 @@ complete -c sdfw -n '__fish_seen_subcommand_from draw' -l policy -x -a 'round le
 complete -c sdfw -n '__fish_seen_subcommand_from draw' -l placement -x -a 'hu homed file spread' -d 'How firings come to workers'
 complete -c sdfw -n '__fish_seen_subcommand_from draw' -l dot -d 'Writes the graph for Graphviz, without a schedule'
 complete -c sdfw -n '__fish_seen_subcommand_from draw' -l why -d 'Says more of a fault: names, values and limits'
-complete -c sdfw -n '__fish_seen_subcommand_from draw' -l no-why -d 'Prints a fault\'s line alone, at a terminal too'
+complete -c sdfw -n '__fish_seen_subcommand_from draw' -l no-why -d 'Says no more at a terminal than to a pipe or a log'
 complete -c sdfw -n '__fish_seen_subcommand_from draw' -l help -d 'Print help (see more with \'--help\')'
 complete -c sdfw -n '__fish_seen_subcommand_from draw' -F
 complete -c sdfw -n '__fish_seen_subcommand_from profile' -l write -x -d 'Writes the graph file with the measured costs, - for standard output'
 complete -c sdfw -n '__fish_seen_subcommand_from profile' -l why -d 'Says more of a fault: names, values and limits'
-complete -c sdfw -n '__fish_seen_subcommand_from profile' -l no-why -d 'Prints a fault\'s line alone, at a terminal too'
+complete -c sdfw -n '__fish_seen_subcommand_from profile' -l no-why -d 'Says no more at a terminal than to a pipe or a log'
 complete -c sdfw -n '__fish_seen_subcommand_from profile' -l help -d 'Print help (see more with \'--help\')'
 complete -c sdfw -n '__fish_seen_subcommand_from profile' -F
 complete -c sdfw -n '__fish_seen_subcommand_from fir' -l rate -x -d 'Samples a second at the filter'

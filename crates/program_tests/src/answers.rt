@@ -85,7 +85,7 @@ const ANSWERS: &[Row] = &[
         "check -h",
         "0\nChecks a graph file and prints its period\n\nUsage: sdfw check [OPTIONS] <GRAPH>\n\nArguments:\n  \
          <GRAPH>  The graph file\n\nOptions:\n      --why     Says more of a fault: names, values and limits\n      \
-         --no-why  Prints a fault's line alone, at a terminal too\n      --json    Answers in JSON, also of a \
+         --no-why  Says no more at a terminal than to a pipe or a log\n      --json    Answers in JSON, also of a \
          fault\n  -h, --help    Print help (see more with '--help')\n\n\
          Examples:\n  sdfw check graph.toml\n  sdfw check graph.toml --why\n--\n--\n",
     ),

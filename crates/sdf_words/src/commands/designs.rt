@@ -137,8 +137,9 @@ samples. It is on by itself if standard error is a terminal",
 
 pub(super) const NO_WHY: Argument = Argument {
     name: "no-why",
-    help: "Prints a fault's line alone, at a terminal too",
-    more: "Prints a fault's line alone, at a terminal too",
+    help: "Says no more at a terminal than to a pipe or a log",
+    more: "Says no more at a terminal than to a pipe or a log: a fault has its line alone, and a deadlock a line for
+each actor too",
     given: Given::Switch(Switch {
         against: &["why"],
         value: None,
@@ -146,11 +147,20 @@ pub(super) const NO_WHY: Argument = Argument {
 };
 
 const LEVELS: Argument = Argument {
+    help: "Says more of a fault, and how loud each output is",
     more: "Says more of a fault: after its line come lines that begin with two blanks and have the names of files and
 actors and the ends of links, what stands in a file or at a key and what it wants, or a cycle that lacks
 samples. A run that ends well says of each output its frames, its peak below full scale in dB, and how many
-of its samples are at full scale. It is on by itself if standard error is a terminal",
+of its samples are at full scale. It is on by itself if standard error is a terminal. There a run of one
+file that takes over two seconds also shows how far it has come",
     ..WHY
+};
+
+const QUIET: Argument = Argument {
+    more: "Says no more at a terminal than to a pipe or a log: a fault has its line alone, and a deadlock a line for
+each actor too. A run has no line for each output, none that shows how far it has come, and none that says
+how it went in parallel",
+    ..NO_WHY
 };
 
 const OPEN_ENDED: Argument = Argument {
@@ -180,7 +190,8 @@ pub(super) const ROWS: &[Row] = &[
         help: "Checks a graph file and prints its period",
         more: "Checks a graph file and prints its period: how many actors and links there are, how many firings make
 a period, how many of them are each actor's, and how many samples an input puts and an output takes
-in one. A fault is a line on standard error, which `sdfw explain` explains.",
+in one. A fault is a line on standard error, and a deadlock has a line for each actor too. At a terminal
+further lines say what stands in the files. `sdfw explain` says what a fault means.",
         schedules: false,
         arguments: &[GRAPH, WHY, NO_WHY, JSON],
         examples: "Examples:
@@ -207,7 +218,7 @@ outputs take to OUT. The bytes are the same whatever the options are. Several fi
 folder by `sdfw run GRAPH --into FOLDER IN..`, of which `sdfw run --into FOLDER --help` says more.",
         schedules: true,
         arguments: &[
-            GRAPH, IN, OUT, RUNNER, PATIENCE, PARALLEL, OPEN_ENDED, LEVELS, NO_WHY,
+            GRAPH, IN, OUT, RUNNER, PATIENCE, PARALLEL, OPEN_ENDED, LEVELS, QUIET,
         ],
         examples: "Examples:
   sdfw run graph.toml in.wav out.wav
@@ -226,7 +237,7 @@ one after the other with `--parallel`. A line for each on standard output says w
 the order of the files. The exit status is the greatest that a run of one of them alone would have.",
     schedules: true,
     arguments: &[
-        GRAPH, INPUTS, INTO, RUNNER, PATIENCE, PARALLEL, OPEN_ENDED, LEVELS, NO_WHY,
+        GRAPH, INPUTS, INTO, RUNNER, PATIENCE, PARALLEL, OPEN_ENDED, LEVELS, QUIET,
     ],
     examples: "Examples:
   sdfw run graph.toml --into out in/*.wav
