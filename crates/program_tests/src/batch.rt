@@ -99,13 +99,20 @@ const BATCHES: &[Row] = &[
     ),
 ];
 
-/// The same where more is said.
+/// The same where more is said. Refuses levels that don't say of which file they are, and a program that ignores
+/// `--no-why`.
 const SAID: &[Row] = &[
     (
         "a file that ends well, and one that does not",
         "run plain.toml --into made in.wav one.toml",
-        "4\nin.wav: done\none.toml: 34 NotRiff\n--\noutput 0: 2 frames, peak -76.3 dB, 0 samples at full scale\n  \
-         \"one.toml\": has \"form\" at byte 0, wants \"RIFF\"\n--\n<5 -5>",
+        "4\nin.wav: done\none.toml: 34 NotRiff\n--\nin.wav: output 0: 2 frames, peak -76.3 dB, 0 samples at full \
+         scale\n  \"one.toml\": has \"form\" at byte 0, wants \"RIFF\"\n--\n<5 -5>",
+    ),
+    (
+        "the levels of two files, each by its name",
+        "run plain.toml --into made in.wav silence.wav",
+        "0\nin.wav: done\nsilence.wav: done\n--\nin.wav: output 0: 2 frames, peak -76.3 dB, 0 samples at full \
+         scale\nsilence.wav: output 0: 16 frames, no peak, 0 samples at full scale\n--\n…",
     ),
     (
         "files that are not there, each by itself",
@@ -116,8 +123,19 @@ const SAID: &[Row] = &[
     (
         "how a parallel run goes, once",
         "run plain.toml --into made in.wav --parallel 1",
-        "0\nin.wav: done\n--\none thread: one worker is asked for\noutput 0: 2 frames, peak -76.3 dB, 0 samples at \
-         full scale\n--\n<5 -5>",
+        "0\nin.wav: done\n--\none thread: one worker is asked for\nin.wav: output 0: 2 frames, peak -76.3 dB, 0 \
+         samples at full scale\n--\n<5 -5>",
+    ),
+    (
+        "how each parallel run went",
+        "run plain.toml --into made in.wav --parallel 2",
+        "0\nin.wav: done\n--\nin.wav: 2 workers, each on its own part of the sound after 0 periods (0 samples) of \
+         warm-up\nin.wav: output 0: 2 frames, peak -76.3 dB, 0 samples at full scale\n--\n<5 -5>",
+    ),
+    (
+        "the same without more",
+        "run plain.toml --into made in.wav one.toml --no-why",
+        "4\nin.wav: done\none.toml: 34 NotRiff\n--\n--\n<5 -5>",
     ),
 ];
 
@@ -148,7 +166,7 @@ fn what_batches_tell(rt: HostRuntime) -> Result<(), Fail> {
 const ITSELF: &[crate::files::Row] = &[(
     "a file that would be written over",
     "run @/graph.toml --into @ @/in.wav",
-    "2 error: OUT is the same file as IN\n",
+    "2 error: …/in.wav is the same file as IN\n",
 )];
 
 /// Refuses a file that is left half written, one that was there and is gone, and a part that stays.

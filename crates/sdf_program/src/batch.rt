@@ -64,7 +64,7 @@ struct Course<'a> {
     prepared: &'a Prepared,
 }
 
-/// Refuses a file to write that the run which writes it reads.
+/// Refuses a file to write that the run which writes it reads, and names it.
 fn keep_inputs<S: Storage>(
     alloc: Global,
     storage: &S,
@@ -77,7 +77,14 @@ fn keep_inputs<S: Storage>(
             input: item.input,
             output: item.output.as_str(),
         };
-        keep_what_is_read(alloc, storage, "OUT", paths, &batching.loaded.names)?;
+        let shown = printable(alloc, item.output.as_str())?;
+        keep_what_is_read(
+            alloc,
+            storage,
+            shown.as_str(),
+            paths,
+            &batching.loaded.names,
+        )?;
     }
     Ok(())
 }
@@ -107,6 +114,14 @@ fn bare(line: &str) -> &str {
     }
 }
 
+/// Adds the lines of `said`, each behind the name of a file.
+fn push_named(text: &mut String, name: &str, said: &str) -> Result<(), AllocError> {
+    for line in said.lines() {
+        writeln!(text, "{name}: {line}")?;
+    }
+    Ok(())
+}
+
 impl Outcome<'_> {
     /// Returns what became of the file, on one line.
     fn text(&self, alloc: Global) -> Result<String, AllocError> {
@@ -127,9 +142,21 @@ impl Outcome<'_> {
         put(out, line.as_bytes())
     }
 
+    /// Returns what was said of the run, each line behind the name of the file.
+    fn said_text(&self, alloc: Global) -> Result<String, AllocError> {
+        let mut text = String::new(alloc);
+        if let Ok(said) = str::from_utf8(&self.said) {
+            let shown = printable(alloc, self.input)?;
+            push_named(&mut text, shown.as_str(), said)?;
+        }
+        Ok(text)
+    }
+
     /// Says more of the file: what was said of its run, or of its fault.
     fn say<E: Write>(&self, alloc: Global, err: &mut E, batching: Batching<'_>, sources: &Sources) {
-        let _ = err.write_all(&self.said);
+        if let Ok(text) = self.said_text(alloc) {
+            let _ = err.write_all(text.as_bytes());
+        }
         if let Err(fault) = &self.ended {
             if let Ok(text) = why(alloc, fault, &batching.asked.options, sources) {
                 let _ = err.write_all(text.as_bytes());
