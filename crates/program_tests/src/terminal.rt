@@ -2,6 +2,7 @@
 
 use crate::commands::{Around, OPEN, Row, is_told, told_around};
 use crate::shelf::SOUND;
+use std::alloc::{AllocError, Global};
 use std::test::Fail;
 use std::thread::Threads;
 use std::time::Clock;
@@ -200,7 +201,20 @@ const SOUNDS: &[(&[u8], &str)] = &[
         b"RIFF\x28\0\0\0WAVEfmt \x10\0\0\0\x01\0\x01\0\xFF\xFF\xFF\xFF\x88\x58\x01\0\x02\0\x10\0data\x04\0\0\0\x05\0\xFB\xFF",
         "4\n--\nsdfw: 46 RateTooLarge\n  \"-\": has 4294967295 samples a second in 1 channel\n--\n",
     ),
+    (
+        b"RIFF\x28\0\0\0WAVEfmt \x10\0\0\0\x01\0\x01\0\x44\xAC\0\0\x88\x58\x01\0\x02\0\x10\0data\xFC\xFF\xFF\xFF\x05\0\xFB\xFF",
+        "4\n--\nsdfw: 45 TooLong\n  \"-\": has 4294967292 bytes of samples, an output at most 4294967259\n--\n",
+    ),
 ];
+
+/// Returns the front of a sound that has 65,537 parts before its samples.
+fn parted(alloc: Global) -> Result<Vec<u8>, AllocError> {
+    let mut sound = Vec::from_slice(alloc, b"RIFF\x28\0\0\0WAVE")?;
+    for _ in 0..65_537 {
+        sound.extend_from_slice(b"JUNK\0\0\0\0")?;
+    }
+    Ok(sound)
+}
 
 #[test]
 fn what_is_told_of_sounds(rt: HostRuntime) -> Result<(), Fail> {
@@ -212,7 +226,16 @@ fn what_is_told_of_sounds(rt: HostRuntime) -> Result<(), Fail> {
             wanted,
         )?;
     }
-    Ok(())
+    let parted = parted(rt.alloc())?;
+    let around = Around {
+        stdin: &parted,
+        ..OPEN
+    };
+    is_told(
+        "a sound of too many parts",
+        told_around(&rt, &around, "run plain.toml - out.wav --why"),
+        "4\n--\nsdfw: 45 TooLong\n  \"-\": has too many bytes of samples, or over 65,536 parts before them\n--\n",
+    )
 }
 
 /// Sounds whose size is not true, and what a run makes of them. Refuses a program that believes the size, that looks

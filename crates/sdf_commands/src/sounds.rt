@@ -12,6 +12,9 @@ const EXTENSIBLE: u32 = 0xFFFE;
 /// The size of samples that was never filled in.
 const UNKNOWN: u32 = 0xFFFF_FFFF;
 
+/// The most bytes of samples that are written.
+const MOST_WRITTEN: u32 = 4_294_967_259;
+
 /// The front of a sound.
 #[derive(Clone, Copy)]
 struct Front<'a> {
@@ -217,9 +220,9 @@ fn frames_text(alloc: Global, front: Front<'_>, bytes: u64) -> Result<String, Al
 fn length_text(alloc: Global, front: Front<'_>, bytes: u64) -> Result<String, AllocError> {
     match front.data() {
         Some(Chunk { size, .. }) if size != UNKNOWN => {
-            format!(in alloc; "has {size} bytes of samples")
+            format!(in alloc; "has {size} bytes of samples, an output at most {MOST_WRITTEN}")
         }
-        Some(_) => format!(in alloc; "has more than {bytes} bytes"),
+        Some(_) => format!(in alloc; "has at least {bytes} bytes"),
         None => String::from_str(
             alloc,
             "has too many bytes of samples, or over 65,536 parts before them",
