@@ -70,14 +70,14 @@ const ANSWERS: &[Row] = &[
     (
         "a fault by its number",
         "explain 11",
-        "0\n11 BlockingFactor\nmeans: The number of periods in a block is out of range.\nlimits: 1 to 64\nremedy: \
-         Change `--blocking`.\n--\n--\n",
+        "0\n11 BlockingFactor\nmeans: The number of periods in a block is out of range. The program refuses it as a \
+         mistake of usage.\nlimits: 1 to 64\nremedy: Change `--blocking`.\n--\n--\n",
     ),
     (
         "a fault by its name",
         "explain WorkerCount",
-        "0\n12 WorkerCount\nmeans: The number of workers is out of range.\nlimits: 1 to 16\nremedy: Change \
-         `--workers`.\n--\n--\n",
+        "0\n12 WorkerCount\nmeans: The number of workers is out of range. The program refuses it as a mistake of \
+         usage.\nlimits: 1 to 16\nremedy: Change `--workers`.\n--\n--\n",
     ),
     ("a version", "--version", "0\nsdfw 0.1.0\n--\n--\n"),
     (

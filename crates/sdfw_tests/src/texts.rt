@@ -160,8 +160,8 @@ fn each_fault_is_explained(rt: HostRuntime) -> Result<(), Fail> {
     }
     says(
         Ok(explained(alloc, 11)?),
-        "11 BlockingFactor\nmeans: The number of periods in a block is out of range.\nlimits: 1 to 64\n\
-         remedy: Change `--blocking`.\n",
+        "11 BlockingFactor\nmeans: The number of periods in a block is out of range. The program refuses it as a \
+         mistake of usage.\nlimits: 1 to 64\nremedy: Change `--blocking`.\n",
     )
 }
 

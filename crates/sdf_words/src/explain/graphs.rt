@@ -35,9 +35,9 @@ pub(super) static MEANINGS: [Meaning; 12] = [
     // 5 BadRate
     Meaning {
         place: "link C",
-        means: "A firing puts or takes too many samples on a link, or a whole cycle none.",
+        means: "A firing puts or takes too many samples on a link, or a whole cycle none. Only a program that makes graphs in code meets this: a graph file has 28 in its place.",
         limits: "0 to 1,024 samples in a firing, at least 1 in a cycle",
-        remedy: "Change the key that gives the rate (`block`, `up`, `down`, `factor`), or split the actor into two stages.",
+        remedy: "Use other rates, or split the actor into two stages.",
     },
     // 6 InitialCount
     Meaning {
@@ -77,14 +77,14 @@ pub(super) static MEANINGS: [Meaning; 12] = [
     // 11 BlockingFactor
     Meaning {
         place: "",
-        means: "The number of periods in a block is out of range.",
+        means: "The number of periods in a block is out of range. The program refuses it as a mistake of usage.",
         limits: "1 to 64",
         remedy: "Change `--blocking`.",
     },
     // 12 WorkerCount
     Meaning {
         place: "",
-        means: "The number of workers is out of range.",
+        means: "The number of workers is out of range. The program refuses it as a mistake of usage.",
         limits: "1 to 16",
         remedy: "Change `--workers`.",
     },
