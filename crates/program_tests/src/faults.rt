@@ -224,7 +224,12 @@ const UNWRITTEN: &[Row] = &[
         "2\n--\nerror: GRAPH has 0 lines [[actor]] for 2 actors: costs want one for each\n--\n",
     ),
     (
-        "the same before an IN that is no sound",
+        "a cost in another form, and the actor by its name",
+        "profile underscored.toml in.wav --write made/measured.toml",
+        "2\n--\nerror: the cost of the actor \"out\" is to be a line of GRAPH like `cost = 12`\n--\n",
+    ),
+    (
+        "no lines for actors before an IN that is no sound",
         "profile plain.toml one.toml --write made/measured.toml",
         "2\n--\nerror: GRAPH has 0 lines [[actor]] for 2 actors…\n--\n",
     ),

@@ -185,6 +185,22 @@ actor = [{ name = "in", kind = "input", channel = 0 }, { name = "up", kind = "in
 link = [{ from = "in", to = "up" }, { from = "up", to = "top" }, { from = "top", to = "same" },
     { from = "same", to = "down" }, { from = "down", to = "out" }]"#;
 
+/// A cost that is written in another form than `cost = 12`.
+const UNDERSCORED: &str = "format = 1
+[[actor]]
+name = \"in\"
+kind = \"input\"
+channel = 0
+[[actor]]
+name = \"out\"
+kind = \"output\"
+channel = 0
+cost = 1_000
+[[link]]
+from = \"in\"
+to = \"out\"
+";
+
 /// Taps, and a key that none has.
 const ODD: &str = "format = 1\nvalues = [1]\ntap = 1\n";
 
@@ -198,7 +214,7 @@ values = [1]
 ";
 
 /// The graph files and coefficient files of the tests.
-const TEXTS: [(&str, &str); 43] = [
+const TEXTS: [(&str, &str); 44] = [
     ("plain.toml", PLAIN),
     ("-", PLAIN),
     ("commented.toml", COMMENTED),
@@ -237,6 +253,7 @@ const TEXTS: [(&str, &str); 43] = [
     ("torn/filtered.toml", FILTERED),
     ("torn/one.toml", BROKEN),
     ("wide.toml", WIDE),
+    ("underscored.toml", UNDERSCORED),
     ("far.toml", FAR),
     ("odd/filtered.toml", FILTERED),
     ("odd/one.toml", ODD),

@@ -2,6 +2,7 @@
 
 use sdf_commands::printing::show;
 use sdf_faults::Fault;
+use sdf_file::Design;
 use sdf_files::files::{Loaded, Refused, Sources, bytes_of, put, read_at, refuse, write_at};
 use sdf_files::overwriting::{Paths, keep_what_is_read};
 use sdf_files::storage::Storage;
@@ -44,16 +45,22 @@ fn bytes_at<S: Storage, T: AllocGlobal, I: Read>(
     }
 }
 
-/// What is wrong with a graph file of so many actors whose text no costs can be written into.
-fn unwritten(alloc: Global, actors: usize, fault: Unwritten) -> Result<Fault, AllocError> {
+/// What is wrong with the graph file of a design if no costs can be written into its text.
+fn unwritten(alloc: Global, design: &Design, fault: Unwritten) -> Result<Fault, AllocError> {
     let text = match fault {
         Unwritten::OutOfMemory => return Ok(Fault::OutOfMemory),
-        Unwritten::Tables(lines) => format!(in alloc;
-            "GRAPH has {lines} lines [[actor]] for {actors} actors: costs want one for each"
-        )?,
-        Unwritten::Cost(actor) => format!(in alloc;
-            "the cost of actor {actor}, counted from 0, is to be a line of GRAPH like `cost = 12`"
-        )?,
+        Unwritten::Tables(lines) => {
+            let actors = design.costs().len();
+            format!(in alloc;
+                "GRAPH has {lines} lines [[actor]] for {actors} actors: costs want one for each"
+            )?
+        }
+        Unwritten::Cost(actor) => {
+            let name = design.name(actor);
+            format!(in alloc;
+                "the cost of the actor \"{name}\" is to be a line of GRAPH like `cost = 12`"
+            )?
+        }
         Unwritten::Reading => format!(in alloc;
             "with costs GRAPH would say something else: each key wants a line of its own"
         )?,
@@ -61,11 +68,16 @@ fn unwritten(alloc: Global, actors: usize, fault: Unwritten) -> Result<Fault, Al
     Ok(Fault::from(mistake(alloc, text.as_str())))
 }
 
-/// The text of the graph file that was read, with these costs.
-fn costed(alloc: Global, sources: &Sources, costs: &[u32]) -> Result<Vec<u8>, Fault> {
+/// The text of the graph file of a design that was read, with these costs.
+fn costed(
+    alloc: Global,
+    sources: &Sources,
+    design: &Design,
+    costs: &[u32],
+) -> Result<Vec<u8>, Fault> {
     match costed_text(alloc, &sources.graph, &sources.files, costs) {
         Ok(text) => Ok(text),
-        Err(fault) => Err(unwritten(alloc, costs.len(), fault)?),
+        Err(fault) => Err(unwritten(alloc, design, fault)?),
     }
 }
 
@@ -104,11 +116,12 @@ fn put_written<S: Storage, T: AllocGlobal, O: Write>(
 fn write_measured<S: Storage, T: AllocGlobal, O: Write>(
     world: &World<S, T>,
     out: &mut O,
+    design: &Design,
     output: &str,
     sources: &mut Sources,
     measured: &Measured,
 ) -> Result<(), Fault> {
-    let written = costed(world.threads.alloc(), sources, &measured.costs)?;
+    let written = costed(world.threads.alloc(), sources, design, &measured.costs)?;
     let profile = measured.text.as_str();
     put_written(world, out, output, &written, profile, &mut sources.refused)
 }
@@ -139,9 +152,10 @@ where
         output,
     };
     keep_what_is_read(alloc, world.storage, "FILE", paths, &loaded.names)?;
-    costed(alloc, sources, loaded.design.costs())?;
-    let measured = profile(world.threads, bytes, &loaded.design)?;
-    write_measured(world, out, output, sources, &measured)
+    let design = &loaded.design;
+    costed(alloc, sources, design, design.costs())?;
+    let measured = profile(world.threads, bytes, design)?;
+    write_measured(world, out, design, output, sources, &measured)
 }
 
 /// Measures a run of what was read.
