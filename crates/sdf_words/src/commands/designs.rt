@@ -67,7 +67,7 @@ const POLICY: Argument = Argument {
 - round: passes over the actors in file order, in which each that may fire fires once
 - lean: the one whose firing adds least to what the links hold
 - runs: the same one while it may, and then the next in file order
-The table does not go by it without `--placement file`.
+Only tables by `--placement file` go by it.
 In `run` it has no effect without that and `--runner rows` or `--runner rings`",
     given: Given::Choice("P", Values::OneOf(POLICY_WORDS), Some("round")),
 };
