@@ -179,7 +179,7 @@ const SOUNDS: &[(&[u8], &str)] = &[
     ),
     (
         b"RIFF\x28\0\0\0WAVEfmt \x10\0\0\0\x01\0\x01\0\x44\xAC\0\0\x88\x58\x01\0\x03\0\x10\0data\0\0\0\0",
-        "4\n--\nsdfw: 41 BadAlign\n  \"-\": has frames of 3 bytes, wants 2 for 1 channels\n--\n",
+        "4\n--\nsdfw: 41 BadAlign\n  \"-\": has frames of 3 bytes, wants 2 for 1 channel\n--\n",
     ),
     (
         b"RIFF\x28\0\0\0WAVEfmt \x10\0\0\0\x01\0\x01\0\x44\xAC\0\0\x88\x58\x01\0\x02\0\x10\0",
@@ -287,7 +287,7 @@ fn samples_at_full_scale(rt: HostRuntime) -> Result<(), Fail> {
     is_told(
         "levels",
         told_around(&rt, &around, "run both.toml - out.wav --why"),
-        "0\n--\noutput 0: 2 frames, peak 0.0 dB, 1 samples at full scale\n\
+        "0\n--\noutput 0: 2 frames, peak 0.0 dB, 1 sample at full scale\n\
          output 1: 2 frames, peak 0.0 dB, 2 samples at full scale\n--\n<another sound>",
     )
 }

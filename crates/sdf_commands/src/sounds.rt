@@ -166,12 +166,17 @@ fn samples_text(alloc: Global, front: Front<'_>) -> Result<String, AllocError> {
     format!(in alloc; "has samples of {bits} bits in format {tag}{name}, wants 16 bits in format 1")
 }
 
+/// Returns the end of a word for this number of things.
+fn plural_of(count: u32) -> &'static str {
+    if count == 1 { "" } else { "s" }
+}
+
 /// Returns the text of the channels and the rate.
 fn header_text(alloc: Global, front: Front<'_>) -> Result<String, AllocError> {
     let Some(Header { rate, channels }) = front.header() else {
         return Ok(String::new(alloc));
     };
-    let plural = if channels == 1 { "" } else { "s" };
+    let plural = plural_of(channels);
     format!(in alloc; "has {rate} samples a second in {channels} channel{plural}")
 }
 
@@ -181,7 +186,8 @@ fn align_text(alloc: Global, front: Front<'_>) -> Result<String, AllocError> {
         return Ok(String::new(alloc));
     };
     let wanted = channels.saturating_mul(2);
-    format!(in alloc; "has frames of {align} bytes, wants {wanted} for {channels} channels")
+    let plural = plural_of(channels);
+    format!(in alloc; "has frames of {align} bytes, wants {wanted} for {channels} channel{plural}")
 }
 
 /// A size that programs write which do not know it yet, or a greater one.
