@@ -180,6 +180,16 @@ fn header_text(alloc: Global, front: Front<'_>) -> Result<String, AllocError> {
     format!(in alloc; "has {rate} samples a second in {channels} channel{plural}")
 }
 
+/// Returns the text of the channels and the rate, and behind it `wanted`.
+fn wanted_text(alloc: Global, front: Front<'_>, wanted: &str) -> Result<String, AllocError> {
+    let said = header_text(alloc, front)?;
+    if said.is_empty() {
+        return Ok(said);
+    }
+    let said = said.as_str();
+    format!(in alloc; "{said}, {wanted}")
+}
+
 /// Returns the text of the size of a frame that is not that of its channels.
 fn align_text(alloc: Global, front: Front<'_>) -> Result<String, AllocError> {
     let (Some(align), Some(channels)) = (front.in_format(12), front.in_format(2)) else {
@@ -250,12 +260,19 @@ fn said_of(
         FormatFault::ShortFormat => short_text(alloc, front),
         FormatFault::NotPcm16 => samples_text(alloc, front),
         FormatFault::BadAlign => align_text(alloc, front),
-        FormatFault::NoData | FormatFault::Truncated => end_text(alloc, front, bytes),
+        FormatFault::NoData => format!(in alloc;
+            "ends after {bytes} bytes, without a chunk \"data\""
+        ),
+        FormatFault::Truncated => end_text(alloc, front, bytes),
         FormatFault::PartialFrame => frames_text(alloc, front, bytes),
         FormatFault::TooLong => length_text(alloc, front, bytes),
-        FormatFault::Channels | FormatFault::RateZero | FormatFault::RateTooLarge => {
-            header_text(alloc, front)
-        }
+        FormatFault::Channels => wanted_text(alloc, front, "wants 1 to 8 channels"),
+        FormatFault::RateZero => wanted_text(alloc, front, "wants at least 1 a second"),
+        FormatFault::RateTooLarge => wanted_text(
+            alloc,
+            front,
+            "an output at most 4294967295 bytes a second",
+        ),
     }
 }
 
