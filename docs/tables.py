@@ -14,6 +14,7 @@
 - The JSON schemas in docs/ describe graph files and what `--json` prints (`schemas.py`).
 - A path that a document names is there, but in CHANGELOG.md. README.md names each document, examples/README.md each
   folder there, hostile/README.md each program there, and CONTRIBUTING.md each crate of tests.
+- All documents name one kit, which README.md says that the text is proved with.
 - No line of a document is over 120 columns.
 
 `python3 docs/tables.py [--write] [PROGRAM]`: the program is build/sdfw if none is named. `--write` writes the list of
@@ -333,6 +334,15 @@ def named():
     ]
 
 
+def kits():
+    """What is wrong with the kits that documents name."""
+    lines = {paper: set(re.findall(r"rattle-kit-\w+ logic \w+", paper.read_text())) for paper in PAPERS}
+    proved = lines[TOP / "README.md"]
+    wrong = [] if len(proved) == 1 else ["README.md: it does not name one kit that the text is proved with"]
+    others = [paper for paper, named in lines.items() if named - proved]
+    return wrong + [f"{paper.relative_to(TOP)}: it names another kit than README.md" for paper in others]
+
+
 def widths():
     """The lines that are too long."""
     return [
@@ -349,7 +359,7 @@ def main():
     os.chdir(TOP)
     write = "--write" in sys.argv
     wrong = faults(program, write) + repairs(program) + kinds(program) + unedited() + edits() + heads() + stands_on()
-    wrong += schemas.differences(program, write) + sessions(program, write) + paths() + named() + widths()
+    wrong += schemas.differences(program, write) + sessions(program, write) + paths() + named() + kits() + widths()
     print("\n".join(wrong) or "the documents say what the program and the sources say")
     sys.exit(1 if wrong else 0)
 

@@ -171,19 +171,20 @@ const SOUNDS: &[(&[u8], &str)] = &[
     ),
     (
         b"RIFF\x28\0\0\0WAVEfmt \x10\0\0\0\x01\0\x09\0\x44\xAC\0\0\x88\x58\x01\0\x12\0\x10\0data\0\0\0\0",
-        "4\n--\nsdfw: 39 Channels\n  \"-\": has 44100 samples a second in 9 channels\n--\n",
+        "4\n--\nsdfw: 39 Channels\n  \"-\": has 44100 samples a second in 9 channels, wants 1 to 8 channels\n--\n",
     ),
     (
         b"RIFF\x28\0\0\0WAVEfmt \x10\0\0\0\x01\0\x01\0\0\0\0\0\x88\x58\x01\0\x02\0\x10\0data\0\0\0\0",
-        "4\n--\nsdfw: 40 RateZero\n  \"-\": has 0 samples a second in 1 channel\n--\n",
+        "4\n--\nsdfw: 40 RateZero\n  \"-\": has 0 samples a second in 1 channel, wants at least 1 a \
+         second\n--\n",
     ),
     (
         b"RIFF\x28\0\0\0WAVEfmt \x10\0\0\0\x01\0\x01\0\x44\xAC\0\0\x88\x58\x01\0\x03\0\x10\0data\0\0\0\0",
-        "4\n--\nsdfw: 41 BadAlign\n  \"-\": has frames of 3 bytes, wants 2 for 1 channels\n--\n",
+        "4\n--\nsdfw: 41 BadAlign\n  \"-\": has frames of 3 bytes, wants 2 for 1 channel\n--\n",
     ),
     (
         b"RIFF\x28\0\0\0WAVEfmt \x10\0\0\0\x01\0\x01\0\x44\xAC\0\0\x88\x58\x01\0\x02\0\x10\0",
-        "4\n--\nsdfw: 42 NoData\n  \"-\": ends after 36 bytes\n--\n",
+        "4\n--\nsdfw: 42 NoData\n  \"-\": ends after 36 bytes, without a chunk \"data\"\n--\n",
     ),
     (
         b"RIFF\x28\0\0\0WAVEfmt \x10\0\0\0\x01\0\x01\0\x44\xAC\0\0\x88\x58\x01\0\x02\0\x10\0data\x04\0\0\0\x05",
@@ -199,7 +200,12 @@ const SOUNDS: &[(&[u8], &str)] = &[
     ),
     (
         b"RIFF\x28\0\0\0WAVEfmt \x10\0\0\0\x01\0\x01\0\xFF\xFF\xFF\xFF\x88\x58\x01\0\x02\0\x10\0data\x04\0\0\0\x05\0\xFB\xFF",
-        "4\n--\nsdfw: 46 RateTooLarge\n  \"-\": has 4294967295 samples a second in 1 channel\n--\n",
+        "4\n--\nsdfw: 46 RateTooLarge\n  \"-\": has 4294967295 samples a second in 1 channel, an \
+         output at most 4294967295 bytes a second\n--\n",
+    ),
+    (
+        b"RIFF\x28\0\0\0WAVEfmt \x10\0\0\0\x01\0\x01\0\x44\xAC\0\0\x88\x58\x01\0\x02\0\x10\0data\xFC\xFF\xFF\xFF\x05\0\xFB\xFF",
+        "4\n--\nsdfw: 45 TooLong\n  \"-\": has 4294967292 bytes of samples, an output at most 4294967259\n--\n",
     ),
     (
         b"RIFF\x28\0\0\0WAVEfmt \x10\0\0\0\x01\0\x01\0\x44\xAC\0\0\x88\x58\x01\0\x02\0\x10\0data\xFC\xFF\xFF\xFF\x05\0\xFB\xFF",
@@ -287,7 +293,7 @@ fn samples_at_full_scale(rt: HostRuntime) -> Result<(), Fail> {
     is_told(
         "levels",
         told_around(&rt, &around, "run both.toml - out.wav --why"),
-        "0\n--\noutput 0: 2 frames, peak 0.0 dB, 1 samples at full scale\n\
+        "0\n--\noutput 0: 2 frames, peak 0.0 dB, 1 sample at full scale\n\
          output 1: 2 frames, peak 0.0 dB, 2 samples at full scale\n--\n<another sound>",
     )
 }

@@ -166,13 +166,28 @@ fn samples_text(alloc: Global, front: Front<'_>) -> Result<String, AllocError> {
     format!(in alloc; "has samples of {bits} bits in format {tag}{name}, wants 16 bits in format 1")
 }
 
+/// Returns the end of a word for this number of things.
+fn plural_of(count: u32) -> &'static str {
+    if count == 1 { "" } else { "s" }
+}
+
 /// Returns the text of the channels and the rate.
 fn header_text(alloc: Global, front: Front<'_>) -> Result<String, AllocError> {
     let Some(Header { rate, channels }) = front.header() else {
         return Ok(String::new(alloc));
     };
-    let plural = if channels == 1 { "" } else { "s" };
+    let plural = plural_of(channels);
     format!(in alloc; "has {rate} samples a second in {channels} channel{plural}")
+}
+
+/// Returns the text of the channels and the rate, and behind it `wanted`.
+fn wanted_text(alloc: Global, front: Front<'_>, wanted: &str) -> Result<String, AllocError> {
+    let said = header_text(alloc, front)?;
+    if said.is_empty() {
+        return Ok(said);
+    }
+    let said = said.as_str();
+    format!(in alloc; "{said}, {wanted}")
 }
 
 /// Returns the text of the size of a frame that is not that of its channels.
@@ -181,7 +196,8 @@ fn align_text(alloc: Global, front: Front<'_>) -> Result<String, AllocError> {
         return Ok(String::new(alloc));
     };
     let wanted = channels.saturating_mul(2);
-    format!(in alloc; "has frames of {align} bytes, wants {wanted} for {channels} channels")
+    let plural = plural_of(channels);
+    format!(in alloc; "has frames of {align} bytes, wants {wanted} for {channels} channel{plural}")
 }
 
 /// A size that programs write which do not know it yet, or a greater one.
@@ -244,12 +260,19 @@ fn said_of(
         FormatFault::ShortFormat => short_text(alloc, front),
         FormatFault::NotPcm16 => samples_text(alloc, front),
         FormatFault::BadAlign => align_text(alloc, front),
-        FormatFault::NoData | FormatFault::Truncated => end_text(alloc, front, bytes),
+        FormatFault::NoData => format!(in alloc;
+            "ends after {bytes} bytes, without a chunk \"data\""
+        ),
+        FormatFault::Truncated => end_text(alloc, front, bytes),
         FormatFault::PartialFrame => frames_text(alloc, front, bytes),
         FormatFault::TooLong => length_text(alloc, front, bytes),
-        FormatFault::Channels | FormatFault::RateZero | FormatFault::RateTooLarge => {
-            header_text(alloc, front)
-        }
+        FormatFault::Channels => wanted_text(alloc, front, "wants 1 to 8 channels"),
+        FormatFault::RateZero => wanted_text(alloc, front, "wants at least 1 a second"),
+        FormatFault::RateTooLarge => wanted_text(
+            alloc,
+            front,
+            "an output at most 4294967295 bytes a second",
+        ),
     }
 }
 

@@ -165,12 +165,22 @@ impl Levels {
     }
 }
 
+/// Adds how many of a thing there are.
+fn push_count(text: &mut String, count: u64, thing: &str) -> Result<(), AllocError> {
+    let plural = if count == 1 { "" } else { "s" };
+    write!(text, "{count} {thing}{plural}")
+}
+
 /// Adds the line of an output.
 fn push_level(text: &mut String, output: usize, level: Level) -> Result<(), AllocError> {
     let Level { frames, peak, full } = level;
-    write!(text, "output {output}: {frames} frames, ")?;
+    write!(text, "output {output}: ")?;
+    push_count(text, frames, "frame")?;
+    text.push_str(", ")?;
     push_peak(text, peak)?;
-    writeln!(text, ", {full} samples at full scale")
+    text.push_str(", ")?;
+    push_count(text, full, "sample")?;
+    text.push_str(" at full scale\n")
 }
 
 /// How far a peak is below full scale, in tenths of a dB.

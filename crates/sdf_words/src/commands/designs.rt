@@ -79,8 +79,8 @@ const PLACEMENT: Argument = Argument {
 - hu: any worker that is not busy; first those firings on which the longest chain of others waits
 - homed: the same, but each actor stays with the worker that its first firing went to
 - file: the worker that the key `processor` of the actor names; one firing a row
-- spread: the workers that have as equal shares as may be of what the actors weigh; one firing a row, the
-  whole block by the policy runs. `--blocking` has no effect: a block is as many periods as keep to
+- spread: a worker by the actor's share of what all actors weigh; one firing a row, the whole block by the
+  policy runs. `--blocking` has no effect: a block has the most periods that keep each link within
   1024 samples
 In `run` it has no effect without `--runner rows` or `--runner rings`",
     given: Given::Choice("L", Values::OneOf(PLACEMENT_WORDS), Some("homed")),

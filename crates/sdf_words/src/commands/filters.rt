@@ -61,8 +61,8 @@ reaches is printed with it",
 const UP: Argument = Argument {
     name: "up",
     help: "The actor's key `up`, 1 to 64",
-    more: "The actor's key `up`, 1 to 64. The taps of each phase, which are as many, come to 2^shift, so a
-constant stays what it is; those of a high-pass and a band-pass to 0",
+    more: "The actor's key `up`, 1 to 64. The taps have as many phases. Those of each phase sum to 2^shift,
+so a constant stays what it is; those of a high-pass and a band-pass sum to 0",
     given: Given::Choice("U", Values::Unsigned(1, 64), Some("1")),
 };
 
@@ -107,8 +107,8 @@ pub(super) const ROWS: &[Row] = &[
         name: "fir",
         help: "Prints a coefficient file for an actor of kind fir",
         more: "Prints a coefficient file for an actor of kind fir: a sinc under Kaiser's window, in whole numbers of
-16 bits. How many there are and what they do, the ripple of what passes and how far what is stopped is
-down, is a line on standard error.",
+16 bits. A line on standard error has their number, the ripple of what passes, and how far what is stopped
+is down.",
         schedules: false,
         arguments: &[
             SHAPE,
@@ -129,9 +129,9 @@ down, is a line on standard error.",
         name: "resample",
         help: "Writes a design that converts between two rates",
         more: "Writes a design that converts between two rates: its graph file and a coefficient file for each stage.
-The stages are the cheapest of at most three, by products a second. What is up to ten elevenths of half
-the lower rate passes, and nothing else comes to lie there. What the taps of each stage do is a line on standard
-error.",
+The stages are the cheapest of at most three, by products a second. Frequencies up to ten elevenths of half
+the lower rate pass, and what would be folded onto them is stopped. A line on standard error says what the
+taps of each stage do.",
         schedules: false,
         arguments: &[FROM, TO, FOLDER, CHANNELS, ATTENUATION],
         examples: "Examples:
