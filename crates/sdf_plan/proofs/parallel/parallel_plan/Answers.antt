@@ -10,7 +10,7 @@ use Rattle.sdf_plan.specs.Plans.{IsPlanOf}
 use Rattle.sdf_plan.proofs.parallel.parallel_plan.Goals as goal
 
 pub by_parts-requires-clause-warm_up : goal.by_parts-requires-clause-warm_up
-by_parts-requires-clause-warm_up c κs within =
+by_parts-requires-clause-warm_up c =
     let q = c.in_ok-plan.plan.period.repetitions in
     let n = c.net.result.now in
     let period : IsLeastPeriod (rates (graph_of kit_steps n)) q =
