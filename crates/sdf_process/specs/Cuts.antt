@@ -1,5 +1,5 @@
 -- How a sound is cut in time: how many periods are run at once, and in how many parts.
-use Rattle.std.specs.Prelude.{◌≡◌, ◌×◌, ℕ, ◌*◌, ◌/◌, ◌-◌, ◌^◌, Option, None, Some, max, min}
+use Rattle.std.specs.Prelude.{◌≡◌, ℕ, ◌*◌, ◌/◌, ◌-◌, ◌^◌, Option, None, Some, max, min}
 use Rattle.std.specs.Int.{div_ceil}
 use Rattle.sdf_fission.specs.Warm.{IsLeast}
 use Rattle.sdf_split.specs.Sizes.{IsPartSize}

@@ -1,0 +1,46 @@
+use Rattle.std.proofs.Common.{◌≡◌, ◌+◌, ◌*◌, ◌≤◌, ◌<◌, ◌∙◌, ℕ, suc, max, min, ap, sym, subst, arith, inl, inr}
+use Rattle.std.specs.Int.{div_ceil}
+use Rattle.std.proofs.Math.Nat.{suc-mul, mul-le-mul_right}
+use Rattle.std.proofs.lemmas.Bool.{cases_lt}
+use Rattle.std.proofs.lemmas.Grind.{div_ceil_times}
+use Rattle.sdf_graph.specs.Periods.{IsLeastPeriod}
+use Rattle.sdf_graph.specs.Rates.{rates}
+use Rattle.sdf_actor.specs.Graphs.{graph_of}
+use Rattle.sdf_kit.specs.Kit.{kit_steps}
+use Rattle.sdf_fission.specs.Warm.{IsLeast}
+use Rattle.sdf_split.specs.Sizes.{IsPartSize}
+use Rattle.sdf_process.specs.Cuts.{AreAtOnce}
+use Rattle.sdf_process.specs.Output.{exchange_of}
+use Rattle.sdf_process.proofs.cut.parts_at_once.Goals as goal
+
+-- what so many parts hold makes no more
+ceil_few : (a b m : ℕ) → 0 < b → a ≤ m * b → div_ceil a b ≤ m
+ceil_few a b m some few =
+    elim (cases_lt m (div_ceil a b)) [
+      | inl more ↦ absurd (omega (arith, (div_ceil_times a b some).1, mul-le-mul_right b more, suc-mul m b, few))
+      | inr within ↦ within
+    ]
+
+pub returns-clause-few : goal.returns-clause-few
+returns-clause-few c =
+    subst (λ parts. parts ≤ max 1 c.args.workers) (sym c.div_ceil-2.ensures)
+    (ceil_few c.min-piece.result c.part_of.result (max 1 c.args.workers) c.part_of.ensures.is.some
+    c.part_of.ensures.is.few)
+
+pub returns-clause-parts : goal.returns-clause-parts
+returns-clause-parts c = λ q period.
+    let least : IsLeastPeriod (rates (graph_of kit_steps c.net.result.now)) q =
+    subst (λ n. IsLeastPeriod (rates (graph_of kit_steps n)) q) (sym c.net.ensures.value) period in
+    let same : c.of_net-exchange.result ≡ exchange_of c.args.design.now.net q =
+    c.of_net-exchange.ensures.value q least ∙ ap (λ n. exchange_of n q) c.net.ensures.value in
+    let periods : c.min-periods.result ≡ min (div_ceil c.args.frames c.of_net-exchange.result.made) 4294967295 =
+    c.min-periods.ensures ∙ (ap (min c.div_ceil.result) c.from.ensures ∙ ap (λ k. min k 4294967295) c.div_ceil.ensures) in
+    let piece = c.min-piece.ensures ∙ ap (min c.piece_periods.result) periods in
+    subst (λ x. AreAtOnce x (record { parts = c.args.workers; warm = c.args.warm }) c.args.frames c.div_ceil-2.result)
+    same (
+      c.piece_periods.result,
+      c.piece_periods.ensures.piece,
+      c.part_of.result,
+      subst (λ k. IsLeast (IsPartSize k (max 1 c.args.workers) c.args.warm) c.part_of.result) piece c.part_of.ensures,
+      c.div_ceil-2.ensures ∙ ap (λ k. div_ceil k c.part_of.result) piece,
+    )
