@@ -34,15 +34,15 @@ const COMPARED: &str = "0
 policy placement workers blocking     makespan  speedup    rows        samples
 round  hu              1        1           *2    *1.00      *2             *3
 round  homed           1        1           *2    *1.00      *2             *3
-round  file            1               refused 19 BadHome
+round  file            1               refused 19
 round  spread          1     1024        *2048    *1.00   *2048          *1026
 lean   hu              1        1           *2    *1.00      *2             *3
 lean   homed           1        1           *2    *1.00      *2             *3
-lean   file            1               refused 19 BadHome
+lean   file            1               refused 19
 lean   spread          1     1024        *2048    *1.00   *2048          *1026
 runs   hu              1        1           *2    *1.00      *2             *3
 runs   homed           1        1           *2    *1.00      *2             *3
-runs   file            1               refused 19 BadHome
+runs   file            1               refused 19
 runs   spread          1     1024        *2048    *1.00   *2048          *1026
 --
 --

@@ -90,26 +90,10 @@ blocking_text word = right 9 word
 unfoldable pub made_text : List Entry → Measures → List ℕ
 made_text entries m = blocking_text (decimal m.blocking) ++ cells_text entries m
 
--- the name of a fault by its number, of those why there is no table
-abbrev pub fault_name : ℕ → List ℕ
-fault_name number =
-    if number == 1 then codes "OutOfMemory"
-    else if number == 11 then codes "BlockingFactor"
-    else if number == 12 then codes "WorkerCount"
-    else if number == 13 then codes "BlockTooLong"
-    else if number == 14 then codes "FiringMissing"
-    else if number == 15 then codes "FiringTwice"
-    else if number == 16 then codes "FiringUnknown"
-    else if number == 17 then codes "RowTooWide"
-    else if number == 18 then codes "TooEarly"
-    else if number == 19 then codes "BadHome"
-    else codes "BadCost"
-
 unfoldable pub refused_text : List ℕ → ℕ → List ℕ
-refused_text word number =
-    blocking_text [] ++ right (places_of Makespan) word ++ codes " " ++ decimal number ++ codes " " ++ fault_name number
+refused_text word number = blocking_text [] ++ right (places_of Makespan) word ++ codes " " ++ decimal number
 
--- the periods of a block and the columns of its schedule, or the number and the name of the fault why there is none
+-- the periods of a block and the columns of its schedule, or the number of the fault why there is none
 abbrev pub outcome_text : List Entry → Outcome → List ℕ
 outcome_text entries (Made m) = made_text entries m
 outcome_text entries (Refused number) = refused_text (codes "refused") number

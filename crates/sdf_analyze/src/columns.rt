@@ -4,8 +4,8 @@ ghost use Rattle.std.specs.Prelude.{◌≡◌, ◌++◌, ◌-◌, IfOk, OnOk, le
 ghost use Rattle.std.specs.List.{flat_map};
 ghost use Rattle.sdf_analyze.specs.Columns.{policy_word, placement_word, spaces, left, right, value_in, beats, lets};
 ghost use Rattle.sdf_analyze.specs.Columns.{is_best, value_text, places_of, heading, cell, outcome_text, way_text};
-ghost use Rattle.sdf_analyze.specs.Columns.{cells_text, blocking_text, made_text, fault_name, refused_text, entry_line};
-ghost use Rattle.sdf_analyze.specs.Columns.{head_line, headings_text, comparison_text};
+ghost use Rattle.sdf_analyze.specs.Columns.{cells_text, blocking_text, made_text, refused_text, entry_line, head_line};
+ghost use Rattle.sdf_analyze.specs.Columns.{headings_text, comparison_text};
 
 use crate::lines::push_with_point;
 use sdf_options::{Options, Placement, Policy};
@@ -236,34 +236,14 @@ fn push_made(
     push_cells(alloc, text, entries, measures)
 }
 
-/// The name of a fault by its number, of those why there is no table.
-fn fault_name(number: u32) -> &'static str
-    ensures { result.now ≡ fault_name number }
-{
-    match number {
-        1 => "OutOfMemory",
-        11 => "BlockingFactor",
-        12 => "WorkerCount",
-        13 => "BlockTooLong",
-        14 => "FiringMissing",
-        15 => "FiringTwice",
-        16 => "FiringUnknown",
-        17 => "RowTooWide",
-        18 => "TooEarly",
-        19 => "BadHome",
-        _ => "BadCost",
-    }
-}
-
-/// Adds that there is no schedule, in the first column, and the number and the name of the fault why.
+/// Adds that there is no schedule, in the first column, and the number of the fault why.
 #[tactic(auto, unfolding(crate::specs::Columns::refused_text))]
 fn push_refused(text: &mut String, word: &str, number: u32) -> Result<(), AllocError>
     ensures { OnOk result (string_bytes text.new ≡ string_bytes text.old ++ refused_text word.now number) }
 {
-    let name = fault_name(number);
     push_blocking(text, "")?;
     push_right(text, Column::Makespan.places(), word)?;
-    write!(text, " {number} {name}")?;
+    write!(text, " {number}")?;
     Ok(())
 }
 

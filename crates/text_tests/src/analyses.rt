@@ -95,7 +95,7 @@ round  hu              1        1            5     1.00       5              6
 round  hu              2        1           *4    *1.25      *4              6
 round  homed           1        1            5     1.00       5              6
 round  homed           2        1           *4    *1.25      *4              6
-round  file            1               refused 19 BadHome
+round  file            1               refused 19
 round  file            2        1           *4    *1.25       5             *4
 round  spread          1      170         *850     1.00    *850          *1020
 round  spread          2      170         *850     1.00    *850          *1020
@@ -103,7 +103,7 @@ lean   hu              1        1            5     1.00       5              6
 lean   hu              2        1           *4    *1.25      *4              6
 lean   homed           1        1            5     1.00       5              6
 lean   homed           2        1           *4    *1.25      *4              6
-lean   file            1               refused 19 BadHome
+lean   file            1               refused 19
 lean   file            2        1           *4    *1.25       5             *4
 lean   spread          1      170         *850     1.00    *850          *1020
 lean   spread          2      170         *850     1.00    *850          *1020
@@ -111,7 +111,7 @@ runs   hu              1        1            5     1.00       5              6
 runs   hu              2        1           *4    *1.25      *4              6
 runs   homed           1        1            5     1.00       5              6
 runs   homed           2        1           *4    *1.25      *4              6
-runs   file            1               refused 19 BadHome
+runs   file            1               refused 19
 runs   file            2        1           *4    *1.25       5              6
 runs   spread          1      170         *850     1.00    *850          *1020
 runs   spread          2      170         *850     1.00    *850          *1020
