@@ -8,8 +8,8 @@ const COMPARE: Argument = Argument {
     help: "Compares the schedules of all policies, placements and numbers of workers",
     more: "Compares the schedules of all policies, placements and numbers of workers 1, 2, 4 and so on up to
 `--workers`: a line for each, with a star at the best speedup, and at the best of each other column
-among blocks of as many periods, or with the number of a fault where there is no schedule. `--policy`
-and `--placement` have no effect with it",
+among blocks of as many periods, or with the number of a fault where there is no schedule, of which
+`sdfw explain` says more. `--policy` and `--placement` have no effect with it",
     given: PLAIN,
 };
 
