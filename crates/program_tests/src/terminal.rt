@@ -200,16 +200,13 @@ const SOUNDS: &[(&[u8], &str)] = &[
     ),
     (
         b"RIFF\x28\0\0\0WAVEfmt \x10\0\0\0\x01\0\x01\0\xFF\xFF\xFF\xFF\x88\x58\x01\0\x02\0\x10\0data\x04\0\0\0\x05\0\xFB\xFF",
-        "4\n--\nsdfw: 46 RateTooLarge\n  \"-\": has 4294967295 samples a second in 1 channel, an \
-         output at most 4294967295 bytes a second\n--\n",
+        "4\n--\nsdfw: 46 RateTooLarge\n  \"-\": has 4294967295 samples a second in 1 channel, and \
+         an output has at most 4294967295 bytes a second\n--\n",
     ),
     (
         b"RIFF\x28\0\0\0WAVEfmt \x10\0\0\0\x01\0\x01\0\x44\xAC\0\0\x88\x58\x01\0\x02\0\x10\0data\xFC\xFF\xFF\xFF\x05\0\xFB\xFF",
-        "4\n--\nsdfw: 45 TooLong\n  \"-\": has 4294967292 bytes of samples, an output at most 4294967259\n--\n",
-    ),
-    (
-        b"RIFF\x28\0\0\0WAVEfmt \x10\0\0\0\x01\0\x01\0\x44\xAC\0\0\x88\x58\x01\0\x02\0\x10\0data\xFC\xFF\xFF\xFF\x05\0\xFB\xFF",
-        "4\n--\nsdfw: 45 TooLong\n  \"-\": has 4294967292 bytes of samples, an output at most 4294967259\n--\n",
+        "4\n--\nsdfw: 45 TooLong\n  \"-\": has 4294967292 bytes of samples, and an output has at most \
+         4294967259\n--\n",
     ),
 ];
 

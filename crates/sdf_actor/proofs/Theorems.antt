@@ -1,5 +1,5 @@
 -- What proofs of other crates cite of this one: laws of histories and nets, by their lemmas, for actors of any steps;
--- and what they take with them of parts of lists.
+-- and lemmas about parts of lists that these need.
 use Rattle.std.proofs.Common.{◌≡◌, ℕ, ◌+◌, ◌≤◌, ◌<◌, List, ◌++◌, ◌∙◌, length, get_or, take, drop, arith}
 use Rattle.std.specs.List.{flat_map, between}
 use Rattle.std.proofs.lemmas.List.{take_all}

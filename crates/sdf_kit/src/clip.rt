@@ -46,7 +46,7 @@ impl Clip {
         Ports::steady(1, 1, 1, 1)
     }
 
-    /// One firing or many, one after another.
+    /// Fires once or many times, one firing after another.
     pub fn run(&self, taken: &[i32], put: &mut [i32])
         requires { length put.old ≡ length taken.now }
         ensures { put.new ≡ map (clipped self.now) taken.now }

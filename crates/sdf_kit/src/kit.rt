@@ -8,7 +8,7 @@
 //! 4. a variant, a constructor and an arm of each `match` below, and a row of `specs/Kit.antt`;
 //! 5. a case in `specs/PutsFit.antt` (its blocks have their lengths) and in `proofs/Formulas.antt` (it puts its
 //!   formula);
-//! 6. a lemma in `proofs/KindRuns.antt`: what its `run` puts is what so many firings put.
+//! 6. a lemma in `proofs/KindRuns.antt`: what its `run` puts is what the firings put one by one.
 
 ghost use Rattle.std.specs.Prelude.{◌≡◌, ◌≤◌};
 ghost use Rattle.sdf_actor.specs.Steps.{Steps, total_in, total_out, PutsFit};

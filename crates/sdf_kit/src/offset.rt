@@ -41,7 +41,7 @@ impl Offset {
         Ports::steady(1, 1, 1, 1)
     }
 
-    /// One firing or many, one after another.
+    /// Fires once or many times, one firing after another.
     pub fn run(&self, taken: &[i32], put: &mut [i32])
         requires { length put.old ≡ length taken.now }
         ensures { put.new ≡ map (raised self.now) taken.now }

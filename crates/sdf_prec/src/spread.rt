@@ -5,8 +5,8 @@ ghost use Rattle.sdf_limits.specs.declared.TheConstants.{MOST_BLOCK, MOST_COST};
 ghost use Rattle.sdf_graph.specs.Rates.{rates};
 ghost use Rattle.sdf_prec.specs.Blocks.{IsWorkers};
 ghost use Rattle.sdf_prec.specs.ByHomes.{HasHome};
-ghost use Rattle.sdf_prec.specs.Spread.{AreLoads, weight_to, LeadsBack, IsFedByLast, MayPart, IsFirst, IsPast, share};
-ghost use Rattle.sdf_prec.specs.Spread.{AreSpread};
+ghost use Rattle.sdf_prec.specs.Spread.{AreLoads, AreSpread, weight_to, LeadsBack, IsFedByLast, MayPart, IsFirst};
+ghost use Rattle.sdf_prec.specs.Spread.{IsPast, share};
 
 use sdf_graph::Graph;
 use std::alloc::{AllocError, Global};
@@ -72,7 +72,7 @@ fn past_of(graph: &Graph, actor: usize) -> usize
     graph.actors()
 }
 
-/// What the first so many actors weigh together.
+/// Returns what the first `actors` actors weigh together.
 fn weight_to(weights: &[u64], actors: usize) -> u64
     requires weights { AreLoads (length weights.now) weights.now }
     requires known { actors ≤ length weights.now }

@@ -7,7 +7,7 @@ ghost use Rattle.sdf_actor.specs.Graphs.{graph_of};
 ghost use Rattle.sdf_kit.specs.Kit.{kit_steps};
 ghost use Rattle.sdf_fission.specs.Warm.{IsLeast};
 ghost use Rattle.sdf_split.specs.Sizes.{IsPartSize};
-ghost use Rattle.sdf_process.specs.Cuts.{AreAtOnce, IsPiece};
+ghost use Rattle.sdf_process.specs.Cuts.{AreAtOnce, IsPieceSize};
 ghost use Rattle.sdf_process.specs.Output.{IsExchange, exchange_of};
 
 use crate::exchange::Exchange;
@@ -41,7 +41,7 @@ impl Cut {
 pub(crate) fn piece_periods(exchange: Exchange, cut: Option<Cut>) -> u32
     requires { IsExchange exchange }
     ensures some { 0 < result }
-    ensures piece { IsPiece exchange cut result }
+    ensures piece { IsPieceSize exchange cut result }
 {
     let most = exchange.taken.max(exchange.made);
     let piece = (PIECE / most).max(1) as u32;

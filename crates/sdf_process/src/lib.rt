@@ -5,7 +5,8 @@
 //! `sdf_answer` for the run and on `sdf_wav` for the files. Begin with `process`, whose contract carries what the
 //! project is for; then `laws`. `running` opens the input and begins the output. `begun` runs the rest in the way of
 //! the plan: `streaming` takes the frames of a `source` a piece at a time, and feeds them to a session or a player
-//! (`playing`), which may cut them in time (`cut`). The definitions are in `specs/Output.antt` and `specs/Run.antt`.
+//! (`playing`), which may cut them in time (`cut`). The definitions are in `specs/Output.antt`, `specs/Run.antt` and
+//! `specs/Cuts.antt`.
 #![tactic(auto)]
 
 mod begun;

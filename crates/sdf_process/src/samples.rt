@@ -1,6 +1,6 @@
 //! Samples between a sound and the lists of a net.
 
-ghost use Rattle.std.specs.Prelude.{◌≡◌, ◌≢◌, ◌*◌, ◌-◌, ◌+◌, ◌≤◌, ◌<◌, ◌^◌, ℕ, length, map, take, IfOk};
+ghost use Rattle.std.specs.Prelude.{◌≡◌, ◌≢◌, ◌*◌, ◌+◌, ◌≤◌, ◌<◌, ◌^◌, ℕ, length, map, take, IfOk};
 ghost use Rattle.std.specs.Prelude.{slice_index_or, pos};
 ghost use Rattle.std.specs.Int.{saturate_signed, w16};
 ghost use Rattle.std.specs.List.{range_with_len};
@@ -103,7 +103,7 @@ fn clamped(sample: i32) -> i16
     sample.clamp(-32_768, 32_767) as i16
 }
 
-/// The first `many` samples of a list, fewer where the list ends before.
+/// Returns the first `many` samples of `list`, or all of them if there are fewer.
 fn first_samples(list: &[i32], many: usize) -> &[i32]
     ensures { result.now ≡ take many list.now }
 {
@@ -148,7 +148,7 @@ fn put_samples(list: &[i32], channel: usize, channels: usize, samples: &mut [i16
     }
 }
 
-/// Fills a slice with the first frames of the lists, one after the other, each sample clamped to 16 bits.
+/// Fills `samples` with the first `frames` frames of `lists`, each sample clamped to 16 bits.
 fn fill_frames(lists: &[Vec<i32>], frames: usize, samples: &mut [i16])
     requires { length samples.old ≡ frames * length lists.now }
     ensures { samples.new ≡ interleaved frames (items_of lists.now) }

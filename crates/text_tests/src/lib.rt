@@ -2,9 +2,9 @@
 //! at all, and how they stand on the line.
 //!
 //! It stands on `sdf_analyze`, `sdf_draw`, `sdf_json`, `sdf_why` and `test_texts`, and for designs and faults on
-//! `sdf_faults`, `sdf_options`, `sdf_file`, `sdf_document`, `sdf_actor`, `sdf_graph`, `sdf_prec` and `sdf_wav`. It has no
-//! functions: tests stand in a crate of their own, since the functions of a crate are proved once more with its tests.
-//! Begin at `analyses`.
+//! `sdf_faults`, `sdf_options`, `sdf_file`, `sdf_document`, `sdf_actor`, `sdf_graph`, `sdf_prec` and `sdf_wav`. It has
+//! no functions: tests stand in a crate of their own, since the functions of a crate are proved once more with its
+//! tests. Begin at `analyses`.
 #![tactic(auto)]
 
 #[cfg(test)]

@@ -61,7 +61,7 @@ reaches is printed with it",
 const UP: Argument = Argument {
     name: "up",
     help: "The actor's key `up`, 1 to 64",
-    more: "The actor's key `up`, 1 to 64. The taps have as many phases. Those of each phase sum to 2^shift,
+    more: "The actor's key `up`, 1 to 64: how many phases the taps have. Those of each phase sum to 2^shift,
 so a constant stays what it is; those of a high-pass and a band-pass sum to 0",
     given: Given::Choice("U", Values::Unsigned(1, 64), Some("1")),
 };

@@ -34,7 +34,8 @@ returns-clause-parts c = λ q period.
     let same : c.of_net-exchange.result ≡ exchange_of c.args.design.now.net q =
     c.of_net-exchange.ensures.value q least ∙ ap (λ n. exchange_of n q) c.net.ensures.value in
     let periods : c.min-periods.result ≡ min (div_ceil c.args.frames c.of_net-exchange.result.made) 4294967295 =
-    c.min-periods.ensures ∙ (ap (min c.div_ceil.result) c.from.ensures ∙ ap (λ k. min k 4294967295) c.div_ceil.ensures) in
+    c.min-periods.ensures ∙ (ap (min c.div_ceil.result) c.from.ensures ∙
+    ap (λ k. min k 4294967295) c.div_ceil.ensures) in
     let piece = c.min-piece.ensures ∙ ap (min c.piece_periods.result) periods in
     subst (λ x. AreAtOnce x (record { parts = c.args.workers; warm = c.args.warm }) c.args.frames c.div_ceil-2.result)
     same (
