@@ -236,7 +236,9 @@ fn frames_text(alloc: Global, front: Front<'_>, bytes: u64) -> Result<String, Al
 fn length_text(alloc: Global, front: Front<'_>, bytes: u64) -> Result<String, AllocError> {
     match front.data() {
         Some(Chunk { size, .. }) if size != UNKNOWN => {
-            format!(in alloc; "has {size} bytes of samples, and an output has at most {MOST_WRITTEN}")
+            format!(in alloc;
+                "has {size} bytes of samples, and an output has at most {MOST_WRITTEN}"
+            )
         }
         Some(_) => format!(in alloc; "has at least {bytes} bytes"),
         None => String::from_str(

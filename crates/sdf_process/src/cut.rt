@@ -65,7 +65,9 @@ pub fn parts_at_once(design: &Design, workers: u32, warm: u32, frames: u64) -> u
         parts: workers,
         warm,
     };
-    let periods = frames.div_ceil(exchange.made as u64).min(u64::from(u32::MAX)) as u32;
+    let periods = frames
+        .div_ceil(exchange.made as u64)
+        .min(u64::from(u32::MAX)) as u32;
     let piece = piece_periods(exchange, Some(cut)).min(periods);
     piece.div_ceil(cut.part_of(piece))
 }
