@@ -10,10 +10,11 @@
 //! `hostile_calls count RUNNER WORKERS PERIODS BLOCKS`, or a policy in place of the runner, makes one run or one
 //! schedule between two lines, for `scripts/allocations`.
 //!
-//! It stands on `sdf_words`, `sdf_options`, `sdf_plan`, `sdf_faults`, `sdf_process`, `sdf_file`, `sdf_wav`, `sdf_run`,
-//! `sdf_rings`, `sdf_answer`, `sdf_prec`, `sdf_sched`, `sdf_kit`, `sdf_actor` and `sdf_graph`. Begin at `main`, then
-//! `calls`, which names them: `designs` has those that end in a design or a plan, `runs`, `sessions`, `by_hand` and
-//! `sounds` those that begin with a plan; `disturbing` has the gates, and `counting` what is counted.
+//! It depends on `sdf_words` and `sdf_options` for the words of a call, on `sdf_file` for designs, and on `sdf_plan`,
+//! `sdf_faults`, `sdf_process` and `sdf_wav` for runs of files. Calls of single layers also use `sdf_run`, `sdf_rings`,
+//! `sdf_answer`, `sdf_prec`, `sdf_sched`, `sdf_kit`, `sdf_actor` and `sdf_graph`. Begin at `main`, then `calls`, which
+//! names every call. `designs` has the calls that make a design or a plan. `runs`, `sessions`, `by_hand` and `sounds`
+//! have those that begin with a plan. `disturbing` has the gates, and `counting` the runs whose requests are counted.
 #![tactic(auto)]
 
 mod by_hand;

@@ -1,11 +1,11 @@
 //! What a schedule does with its time and its links, and schedules beside one another, in numbers and as texts.
 //!
-//! It stands on `sdf_plan`, which schedules a design by options, and on `sdf_times`, whose numbers it prints; on
-//! `sdf_faults` for why there is no schedule, on `sdf_options` for the options, on `sdf_file` for the names of links,
-//! on `sdf_limits` for limits, and on what these are of: `sdf_kit`, `sdf_actor`, `sdf_prec`, `sdf_sched`, `sdf_graph`.
-//! Begin at `figures` and `analysis`, then `comparison`. The definitions are in `specs/Figures.antt`,
-//! `specs/Texts.antt`, `specs/Ways.antt` and `specs/Columns.antt`; what the two calls promise in `specs/Analyses.antt`
-//! and `specs/Comparisons.antt`.
+//! It depends on `sdf_plan`, which schedules a design, and on `sdf_times`, which computes the times of a schedule.
+//! `sdf_options` has the options, `sdf_faults` the reasons that there is no schedule, `sdf_file` the names of links,
+//! and `sdf_limits` the limits. Designs and tables are values of `sdf_kit`, `sdf_actor`, `sdf_prec`, `sdf_sched` and
+//! `sdf_graph`. Begin at `figures` and `analysis`, then `comparison`. The definitions are in `specs/Figures.antt`,
+//! `specs/Texts.antt`, `specs/Ways.antt` and `specs/Columns.antt`. `specs/Analyses.antt` and `specs/Comparisons.antt`
+//! define what the two calls promise.
 #![tactic(auto)]
 
 pub mod analysis;

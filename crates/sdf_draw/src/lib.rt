@@ -1,13 +1,13 @@
 //! A design as boxes and arrows, and the table of its schedule against time, as one SVG; its graph for Graphviz.
 //!
-//! It stands on `sdf_plan`, which schedules a design by options, and on `sdf_analyze`, whose figures have the starts
-//! of the bars; on `sdf_faults` for why there is no picture, on `sdf_options` for the options, on `sdf_file` for the
-//! names of actors, on `sdf_limits` for limits, and on what these are of: `sdf_times`, `sdf_kit`, `sdf_actor`,
-//! `sdf_prec`, `sdf_sched`, `sdf_graph`. Begin at `page`, then `layout` and `bars`, whose lengths are whole pixels and
-//! whole units of time; then `graphviz`. What is drawn is defined in `specs/Depths.antt`, `specs/Layouts.antt`,
-//! `specs/Bars.antt` and `specs/Drawings.antt`, and its text in `specs/Boxes.antt`, `specs/Arrows.antt`,
-//! `specs/Charts.antt` and `specs/Pictures.antt`, of which `IsPicture` is what `svg` promises; that of `dot` in
-//! `specs/Graphviz.antt`.
+//! It depends on `sdf_plan`, which schedules a design, and on `sdf_analyze`, which computes the starts of the bars.
+//! `sdf_options` has the options, `sdf_faults` the reasons that there is no picture, `sdf_file` the names of actors,
+//! and `sdf_limits` the limits. Designs and tables are values of `sdf_times`, `sdf_kit`, `sdf_actor`, `sdf_prec`,
+//! `sdf_sched` and `sdf_graph`. Begin at `page`, then `layout` and `bars`, whose lengths are whole pixels and whole
+//! units of time; then `graphviz`. `specs/Depths.antt`, `specs/Layouts.antt`, `specs/Bars.antt` and
+//! `specs/Drawings.antt` define the drawing. `specs/Boxes.antt`, `specs/Arrows.antt`, `specs/Charts.antt` and
+//! `specs/Pictures.antt` define its text, and `IsPicture` is what `svg` promises. `specs/Graphviz.antt` defines the
+//! text of `dot`.
 #![tactic(auto)]
 
 mod arrows;

@@ -1,12 +1,13 @@
 //! What the commands print as JSON: a design, its schedule, its analysis, schedules beside one another, the kinds of
 //! actors, and a fault.
 //!
-//! It stands on `sdf_plan`, which schedules a design by options, on `sdf_faults`, on `sdf_analyze` for what schedules
-//! do, on `sdf_file` and `sdf_document` for the design and what is wrong with it, and on `sdf_options`, `sdf_wav`,
-//! `sdf_kit`, `sdf_actor`, `sdf_prec`, `sdf_sched` and `sdf_graph` for what these are of. Begin at `designs`, then
-//! `schedules`, `analyses`, `comparisons`, `kinds` and `faults`. The values are in `specs/Designs.antt`,
-//! `specs/Schedules.antt`, `specs/Analyses.antt`, `specs/Comparisons.antt`, `specs/Kinds.antt`, `specs/Ports.antt` and
-//! `specs/Faults.antt`; that a text is one compact line that reads as its value is `IsLineOf` of `specs/Values.antt`.
+//! It depends on `sdf_plan`, which schedules a design, and on `sdf_analyze`, which computes what a schedule does.
+//! `sdf_file` and `sdf_document` read designs, and `sdf_faults` gathers the faults of the program. The values printed
+//! belong to `sdf_options`, `sdf_wav`, `sdf_kit`, `sdf_actor`, `sdf_prec`, `sdf_sched` and `sdf_graph`. Begin at
+//! `designs`, then `schedules`, `analyses`, `comparisons`, `kinds` and `faults`. The values are in
+//! `specs/Designs.antt`, `specs/Schedules.antt`, `specs/Analyses.antt`, `specs/Comparisons.antt`, `specs/Kinds.antt`,
+//! `specs/Ports.antt` and `specs/Faults.antt`. `IsLineOf` of `specs/Values.antt` says that a text is one compact line
+//! that reads as its value.
 #![tactic(auto)]
 
 mod analyses;
