@@ -7,6 +7,7 @@ mod Running
 mod KeptSamples
 mod Warming
 mod Parts
+mod Left
 mod Walks
 mod Passing
 pub mod Theorems

@@ -5,7 +5,7 @@ use Rattle.sdf_sched.specs.Period.{Schedule}
 use Rattle.sdf_actor.specs.declared.rest.Rest.{Rest}
 use Rattle.sdf_actor.specs.Laws.{AreCountsOf}
 use Rattle.sdf_actor.specs.Nets.{Netlist, wiring, IsNet, IsHistoryOf}
-use Rattle.sdf_actor.specs.Rests.{AreWhole, Leaves, AllRead, AreJoined}
+use Rattle.sdf_actor.specs.Rests.{AreWhole, Leaves, IsRest, AllRead, AreJoined}
 use Rattle.sdf_actor.specs.Steps.{Steps}
 use Rattle.sdf_answer.specs.Answer.{HasInputs, periods_of}
 use Rattle.sdf_answer.specs.Feeds.{HasRun, AreFull, GoesOnBy}
@@ -94,3 +94,34 @@ PartsGoOn {A} {S} {T} s =
     ArePartsOf s n p spare warm more before tail front after on next rest last end →
     AreJoined front after all → length all ≡ length front → AreJoined on next joined → length joined ≡ length on →
     GoesOnBy s n p.repetitions rest (spare + warm + more) all joined end
+
+-- A run of whole periods that read all of its input left the rest.
+pub record WasLeft {A S T : Type 0} (s : Steps A S T) (n : Netlist A T) (q : List ℕ) (rest : Rest T S) : Type 0 where
+  pub periods : ℕ
+  pub inputs : List (List T)
+  pub outputs : List (List T)
+  pub given : HasInputs n q periods inputs
+  pub full : AreFull n q periods inputs
+  pub run : HasRun s n inputs (periods_of q periods) outputs rest
+
+-- what any history leaves after whole periods is left by such a run, since what a source has not read makes no sample
+abbrev pub RestsWereLeft : {A S T : Type 0} → Steps A S T → Type 0
+RestsWereLeft {A} {S} {T} s =
+    (n : Netlist A T) (p : Schedule) (periods : ℕ) (inputs : List (List T)) (rest : Rest T S) →
+    HasPeriod s n p → IsRest s n inputs (periods_of p.repetitions periods) rest → WasLeft s n p.repetitions rest
+
+-- a run that goes on from there, by as many periods as its input has, leaves such a rest again
+abbrev pub RunsLeaveRests : {A S T : Type 0} → Steps A S T → Type 0
+RunsLeaveRests {A} {S} {T} s =
+    (n : Netlist A T) (q : List ℕ) (more : ℕ) (later on : List (List T)) (rest last : Rest T S) →
+    WasLeft s n q rest → GoesOnBy s n q rest more later on last → AreFull n q more later → WasLeft s n q last
+
+-- a run goes on from a rest, and another one from what it leaves: the lists of both, joined, are what one run makes
+-- that goes on by the periods of both
+abbrev pub RunsGoOnTwice : {A S T : Type 0} → Steps A S T → Type 0
+RunsGoOnTwice {A} {S} {T} s =
+    (n : Netlist A T) (q : List ℕ) (few more : ℕ) (front after all on next joined : List (List T))
+    (rest mid last : Rest T S) →
+    GoesOnBy s n q rest few front on mid → AreFull n q few front → GoesOnBy s n q mid more after next last →
+    AreJoined front after all → length all ≡ length front → AreJoined on next joined → length joined ≡ length on →
+    GoesOnBy s n q rest (few + more) all joined last

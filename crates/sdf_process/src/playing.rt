@@ -187,6 +187,7 @@ impl<'a> Player<'a> {
             periods: portion.periods,
             warm: cut.warm,
             size: cut.part_of(portion.periods),
+            stretch: piece_periods(portion.exchange, None),
         };
         let workers = &mut self.workers;
         let (ran, done) = resume_split(rt, &portion, split, &self.rest, workers, meanwhile);

@@ -21,7 +21,7 @@ use Rattle.sdf_answer.specs.Feeds.{AreFull, GoesOnBy}
 use Rattle.sdf_answer.specs.Periods.{HasPeriod}
 use Rattle.sdf_fission.specs.Laws.{ArePartsOf}
 use Rattle.sdf_fission.specs.WarmUps.{WarmsIn}
-use Rattle.sdf_fission.proofs.Theorems.{parts_go_on}
+use Rattle.sdf_fission.proofs.Theorems.{parts_go_on, runs_go_on_twice}
 use Rattle.sdf_split.specs.Parts.{read_by, end_of, IsWarmedUp}
 use Rattle.sdf_split.proofs.Cutting.{reads_join, reads_many, are_given, are_full, cut_at}
 use Rattle.sdf_split.proofs.Lists.{same_lists}
@@ -96,6 +96,16 @@ module _ {A S T : Type 0} (s : Steps A S T) (n : Netlist A T) (p : Schedule)
       (parts_go_on s n p (at - warm) warm (to - at) (front (at - warm)) (read_by n q inputs (at - warm) at) (front at)
       (read_by n q inputs at to) (front to) on next joined rest last end parts
       (reads_join n q inputs 0 at to (omega arith) order)
+      (reads_many n q inputs 0 to ∙ sym (reads_many n q inputs 0 at)) are many)
+
+  -- a stretch more, which goes on from what is left
+  pub stretch_more : (at to : ℕ) → at ≤ to → to ≤ periods → (on next joined : List (List T)) (last end : Rest T S) →
+      GoesOnBy s n q rest at (front at) on last → GoesOnBy s n q last (to - at) (read_by n q inputs at to) next end →
+      AreJoined on next joined → length joined ≡ length on → GoesOnBy s n q rest to (front to) joined end
+  stretch_more at to order within on next joined last end goes later are many =
+      subst (λ k. GoesOnBy s n q rest k (front to) joined end) (let e : at + (to - at) ≡ to = omega arith in e)
+      (runs_go_on_twice s n q at (to - at) (front at) (read_by n q inputs at to) (front to) on next joined rest last end
+      goes (front_full at (omega arith)) later (reads_join n q inputs 0 at to (omega arith) order)
       (reads_many n q inputs 0 to ∙ sym (reads_many n q inputs 0 at)) are many)
 
   -- all of them are the inputs

@@ -29,6 +29,7 @@ pub record IsSplit {A S T : Type 0} (s : Steps A S T) (inputs : List (List T)) (
   pub short : w.periods < 2 ^ 32
   pub some : 0 < w.size
   pub long : w.warm ≤ w.size
+  pub stretch : 0 < w.stretch
 
 -- the samples of the periods from one number to another, of each list
 abbrev pub read_by : {A T : Type 0} → Netlist A T → List ℕ → List (List T) → ℕ → ℕ → List (List T)
@@ -48,14 +49,24 @@ pub record IsFinished {A S T M : Type 0} (s : Steps A S T) (n : Netlist A T) (q 
   pub goes : GoesOnBy s n q begin (to - from) (read_by n q inputs from to) outputs last
   pub becomes : makes (to - from) outputs made
 
+-- The stretches of a part, one behind the other: each one goes on from what the one before it leaves.
+pub data AreStretches {A S T M : Type 0} (s : Steps A S T) (n : Netlist A T) (q : List ℕ) (inputs : List (List T))
+    (makes : ℕ → List (List T) → M → Type 0) (begin : Rest T S) (from : ℕ) : ℕ → List M → Rest T S → Type 0 where
+  first : (to : ℕ) (m : M) (last : Rest T S) → from ≤ to → IsFinished s n q inputs makes begin from to m last →
+      AreStretches s n q inputs makes begin from to (m ∷ []) last
+  next : (at to : ℕ) (made : List M) (m : M) (mid last : Rest T S) →
+      AreStretches s n q inputs makes begin from at made mid → at ≤ to →
+      IsFinished s n q inputs makes mid at to m last →
+      AreStretches s n q inputs makes begin from to (made ++ m ∷ []) last
+
 -- a part: the first one goes on from the rest, and each other one from what its warm-up leaves
 pub record IsPart {A S T M : Type 0} (s : Steps A S T) (n : Netlist A T) (q : List ℕ) (inputs : List (List T))
-    (makes : ℕ → List (List T) → M → Type 0) (rest : Rest T S) (warm from to : ℕ) (made : M) (last : Rest T S) :
+    (makes : ℕ → List (List T) → M → Type 0) (rest : Rest T S) (warm from to : ℕ) (made : List M) (last : Rest T S) :
     Type 0 where
   pub begin : Rest T S
   pub first : from ≡ 0 → begin ≡ rest
   pub late : 0 < from → IsWarmedUp s n q inputs warm from begin
-  pub finished : IsFinished s n q inputs makes begin from to made last
+  pub stretches : AreStretches s n q inputs makes begin from to made last
 
 -- the end of a part that begins at a period
 abbrev pub end_of : ℕ → ℕ → ℕ → ℕ
@@ -67,7 +78,7 @@ abbrev pub IsMade : {A S T M : Type 0} → Steps A S T → List (List T) → (�
 IsMade s inputs makes w rest i r =
     MatchResult r
     (λ m. IsPart s w.net.now w.period.now.repetitions inputs makes rest w.warm (i * w.size)
-    (end_of w.size w.periods (i * w.size)) m.made m.rest)
+    (end_of w.size w.periods (i * w.size)) m.made.items m.rest)
     (λ fault. fault ≡ OutOfMemory)
 
 -- and of each of the first parts, a worker each
@@ -80,8 +91,8 @@ AreMade {A} {S} {T} {M} s inputs makes w rest workers =
 abbrev pub part_count : {A S T : Type 0} → Split A T S → ℕ
 part_count w = max (div_ceil w.periods w.size) 1
 
--- What the outputs of parts became, one part behind the other: by the periods up to the end of each part, a run goes on
--- from the rest, and its outputs are those of the parts before with the part's own behind them.
+-- What the outputs of stretches became, one behind the other: by the periods up to the end of each stretch, a run goes
+-- on from the rest, and its outputs are those of the stretches before with the stretch's own behind them.
 pub data HasParts {A S T M : Type 0} (s : Steps A S T) (n : Netlist A T) (q : List ℕ) (inputs : List (List T))
     (makes : ℕ → List (List T) → M → Type 0) (rest : Rest T S) : ℕ → List (List T) → List M → Type 0 where
   none : (blank : List (List T)) → length blank ≡ list_count Outputs n.nodes →
@@ -91,7 +102,7 @@ pub data HasParts {A S T M : Type 0} (s : Steps A S T) (n : Netlist A T) (q : Li
       makes (to - from) own m → GoesOnBy s n q rest to (read_by n q inputs 0 to) (join before own) last →
       HasParts s n q inputs makes rest to (join before own) (made ++ m ∷ [])
 
--- a run goes on from the rest by some periods, in parts whose outputs became these
+-- a run goes on from the rest by some periods, in stretches whose outputs became these
 pub record GoesOnInParts {A S T M : Type 0} (s : Steps A S T) (n : Netlist A T) (q : List ℕ) (inputs : List (List T))
     (makes : ℕ → List (List T) → M → Type 0) (rest : Rest T S) (periods : ℕ) (made : List M) (last : Rest T S) :
     Type 0 where

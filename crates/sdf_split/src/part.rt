@@ -6,7 +6,8 @@ ghost use Rattle.sdf_actor.specs.Rests.{IsRest};
 ghost use Rattle.sdf_answer.specs.Answer.{periods_of};
 ghost use Rattle.sdf_answer.specs.Feeds.{GoesOnBy};
 ghost use Rattle.sdf_answer.specs.declared.fault.RunFault.TheVariants.{OutOfMemory};
-ghost use Rattle.sdf_split.specs.Parts.{IsSplit, IsWarmedUp, IsFinished, IsPart, end_of, read_by};
+ghost use Rattle.sdf_fission.specs.Laws.{WasLeft};
+ghost use Rattle.sdf_split.specs.Parts.{AreStretches, IsSplit, IsWarmedUp, IsFinished, IsPart, end_of, read_by};
 
 use crate::ends::Ends;
 use sdf_actor::{Actor, Net, Rest};
@@ -17,7 +18,7 @@ use std::alloc::Global;
 use std::mem;
 
 /// A run of `periods` periods of a net in parts of `size` periods, each after `warm` periods of warm-up except the
-/// first.
+/// first. A part is run in stretches of up to `stretch` periods, so that its lists need no more memory.
 #[derive_where(Clone, Copy)]
 pub struct Split<'a, A: Actor> {
     pub net: &'a Net<A>,
@@ -25,6 +26,7 @@ pub struct Split<'a, A: Actor> {
     pub periods: u32,
     pub warm: u32,
     pub size: u32,
+    pub stretch: u32,
 }
 
 /// The periods from one number to another.
@@ -34,10 +36,10 @@ struct Stretch {
     to: u32,
 }
 
-/// What the outputs of a part became, and the state in which the part leaves the net.
+/// What the outputs of a part's stretches became, and the state in which the part leaves the net.
 #[derive(Drop)]
 pub(crate) struct Made<M, T, S> {
-    pub(crate) made: M,
+    pub(crate) made: Vec<M>,
     pub(crate) rest: Rest<T, S>,
 }
 
@@ -64,17 +66,17 @@ impl<T: Copy> RunMemory<T> {
 pub(crate) struct Memory<M, T> {
     warming: RunMemory<T>,
     own: RunMemory<T>,
-    /// What the outputs of an earlier part became, once it is given back.
-    pub(crate) spare: Option<M>,
+    /// What the outputs of earlier stretches became, once they are given back.
+    pub(crate) spares: Vec<M>,
 }
 
-impl<M, T: Copy> Memory<M, T> {
+impl<M: Drop, T: Copy> Memory<M, T> {
     /// Begins with no memory, and takes none.
     pub(crate) fn none(alloc: Global) -> Memory<M, T> {
         Memory {
             warming: RunMemory::none(alloc),
             own: RunMemory::none(alloc),
-            spare: None,
+            spares: Vec::new(alloc),
         }
     }
 }
@@ -143,8 +145,33 @@ fn warmed_up<A: Actor, E: Ends<A::Token>>(
     Ok(rest)
 }
 
-/// Runs the part at the period `from`, which goes on from `begin`, and makes what its outputs become.
+/// Runs a stretch of a part, which goes on from `begin`, and makes what its outputs become.
 fn finished<A: Actor, E: Ends<A::Token>>(
+    alloc: Global,
+    ends: &E,
+    split: Split<'_, A>,
+    begin: &Rest<A::Token, A::State>,
+    stretch: Stretch,
+    memory: &mut Memory<E::Made, A::Token>,
+) -> Result<(E::Made, Rest<A::Token, A::State>), RunFault>
+    requires split { IsSplit A.steps (E.inputs ends.now) split }
+    requires begin { WasLeft A.steps split.net.now split.period.now.repetitions begin.now }
+    requires order { stretch.from ≤ stretch.to }
+    requires within { stretch.to ≤ split.periods }
+    ensures { let n = split.entry.net.now in let q = split.entry.period.now.repetitions in MatchResult result
+        (λ r. IsFinished A.steps n q (E.inputs ends.now) (E.makes ends.now) begin.now stretch.from stretch.to r.0 r.1
+        × WasLeft A.steps n q r.1)
+        (λ fault. fault ≡ OutOfMemory) }
+{
+    let (outputs, rest) = go_on(alloc, ends, split, begin, stretch, &mut memory.own)?;
+    let periods = stretch.to - stretch.from;
+    let made = ends.finish(alloc, periods, &outputs, memory.spares.pop())?;
+    memory.own.spares.give_back(outputs);
+    Ok((made, rest))
+}
+
+/// Runs the part at the period `from`, which goes on from `begin`, a stretch behind the other.
+fn stretches<A: Actor, E: Ends<A::Token>>(
     alloc: Global,
     ends: &E,
     split: Split<'_, A>,
@@ -153,20 +180,31 @@ fn finished<A: Actor, E: Ends<A::Token>>(
     memory: &mut Memory<E::Made, A::Token>,
 ) -> Result<Made<E::Made, A::Token, A::State>, RunFault>
     requires split { IsSplit A.steps (E.inputs ends.now) split }
-    requires begin { (first : List (List A.Token)) × (few : ℕ)
-        × IsRest A.steps split.net.now first (periods_of split.period.now.repetitions few) begin.now }
+    requires begin { WasLeft A.steps split.net.now split.period.now.repetitions begin.now }
     requires within { from ≤ split.periods }
     ensures { let n = split.entry.net.now in let q = split.entry.period.now.repetitions in MatchResult result
-        (λ m. IsFinished A.steps n q (E.inputs ends.now) (E.makes ends.now) begin.now from
-        (end_of split.entry.size split.entry.periods from) m.made m.rest)
+        (λ m. AreStretches A.steps n q (E.inputs ends.now) (E.makes ends.now) begin.now from
+        (end_of split.entry.size split.entry.periods from) m.made.items m.rest)
         (λ fault. fault ≡ OutOfMemory) }
 {
     let to = from + split.size.min(split.periods - from);
-    let stretch = Stretch { from, to };
-    let (outputs, rest) = go_on(alloc, ends, split, begin, stretch, &mut memory.own)?;
-    let made = ends.finish(alloc, to - from, &outputs, memory.spare.take())?;
-    memory.own.spares.give_back(outputs);
-    Ok(Made { made, rest })
+    let mut at = from + split.stretch.min(to - from);
+    let first = Stretch { from, to: at };
+    let (made, mut rest) = finished(alloc, ends, split, begin, first, memory)?;
+    let mut all = Vec::with_capacity(alloc, 1)?;
+    all.push_reserved(made);
+    while at < to {
+        let next = Stretch {
+            from: at,
+            to: at + split.stretch.min(to - at),
+        };
+        let (made, last) = finished(alloc, ends, split, &rest, next, memory)?;
+        all.reserve(1)?;
+        all.push_reserved(made);
+        rest = last;
+        at = next.to;
+    }
+    Ok(Made { made: all, rest })
 }
 
 /// Runs the part that begins at the period `from`, after its warm-up unless it is the first one.
@@ -179,18 +217,17 @@ pub(crate) fn part<A: Actor, E: Ends<A::Token>>(
     memory: &mut Memory<E::Made, A::Token>,
 ) -> Result<Made<E::Made, A::Token, A::State>, RunFault>
     requires split { IsSplit A.steps (E.inputs ends.now) split }
-    requires rest { (first : List (List A.Token)) × (few : ℕ)
-        × IsRest A.steps split.net.now first (periods_of split.period.now.repetitions few) rest.now }
+    requires rest { WasLeft A.steps split.net.now split.period.now.repetitions rest.now }
     requires within { from ≤ split.periods }
     requires warm { 0 < from → split.warm ≤ from }
     ensures { let n = split.entry.net.now in let q = split.entry.period.now.repetitions in MatchResult result
         (λ m. IsPart A.steps n q (E.inputs ends.now) (E.makes ends.now) rest.now split.entry.warm from
-        (end_of split.entry.size split.entry.periods from) m.made m.rest)
+        (end_of split.entry.size split.entry.periods from) m.made.items m.rest)
         (λ fault. fault ≡ OutOfMemory) }
 {
     if from == 0 {
-        return finished(alloc, ends, split, rest, from, memory);
+        return stretches(alloc, ends, split, rest, from, memory);
     }
     let begin = warmed_up(alloc, ends, split, from, &mut memory.warming)?;
-    finished(alloc, ends, split, &begin, from, memory)
+    stretches(alloc, ends, split, &begin, from, memory)
 }

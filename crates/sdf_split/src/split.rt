@@ -4,6 +4,7 @@ ghost use Rattle.std.specs.Prelude.{◌≡◌, ◌<◌, ℕ, List, length, Match
 ghost use Rattle.sdf_actor.specs.Rests.{IsRest};
 ghost use Rattle.sdf_answer.specs.Answer.{periods_of};
 ghost use Rattle.sdf_answer.specs.declared.fault.RunFault.TheVariants.{OutOfMemory};
+ghost use Rattle.sdf_fission.specs.Laws.{WasLeft};
 ghost use Rattle.sdf_split.specs.Parts.{IsSplit, AreMade, IsMade, part_count, GoesOnInParts};
 
 use crate::beside::for_each_beside;
@@ -16,7 +17,7 @@ use sdf_answer::laws::nets_have_periods;
 use std::alloc::Global;
 use std::thread::Threads;
 
-/// Takes out what all parts made, in order, and the state in which the last one leaves the net.
+/// Takes out what the stretches of all parts made, in order, and the state in which the last one leaves the net.
 fn taken<A: Actor, E: Ends<A::Token>>(
     alloc: Global,
     ends: &E,
@@ -33,11 +34,11 @@ fn taken<A: Actor, E: Ends<A::Token>>(
         (λ fault. fault ≡ OutOfMemory) }
 {
     nets_have_periods(split.net);
-    let mut all = Vec::with_capacity(alloc, workers.len())?;
+    let mut all = Vec::new(alloc);
     let mut last = None;
     for i in 0..workers.len() {
-        let Made { made, rest } = workers[i].take()?;
-        all.push_reserved(made);
+        let Made { mut made, rest } = workers[i].take()?;
+        all.append(&mut made)?;
         last = Some(rest);
     }
     Ok((all, last.unwrap()))
@@ -57,8 +58,7 @@ fn run_parts<R: Threads + Sync, A: Actor, E: Ends<A::Token>, G: FnMut() -> B, B>
     B,
 )
     requires split { IsSplit A.steps (E.inputs ends.now) split }
-    requires rest { (first : List (List A.Token)) × (few : ℕ)
-        × IsRest A.steps split.net.now first (periods_of split.period.now.repetitions few) rest.now }
+    requires rest { WasLeft A.steps split.net.now split.period.now.repetitions rest.now }
     requires all { length workers.old ≡ part_count split }
     requires meanwhile { G.pre meanwhile.old }
     ensures ran { MatchResult result.0
@@ -72,8 +72,7 @@ fn run_parts<R: Threads + Sync, A: Actor, E: Ends<A::Token>, G: FnMut() -> B, B>
         workers,
         &|i: usize, worker: &mut Worker<E::Made, A::Token, A::State>|
             requires { IsSplit A.steps (E.inputs ends.now) split
-                × ((first : List (List A.Token)) × (few : ℕ)
-                × IsRest A.steps split.net.now first (periods_of split.period.now.repetitions few) rest.now)
+                × WasLeft A.steps split.net.now split.period.now.repetitions rest.now
                 × (i < part_count split) }
             ensures { IsMade A.steps (E.inputs ends.entry.now) (E.makes ends.entry.now) split.entry rest.entry.now i
                 worker.exit.now.made }
@@ -84,8 +83,8 @@ fn run_parts<R: Threads + Sync, A: Actor, E: Ends<A::Token>, G: FnMut() -> B, B>
 }
 
 /// Goes on from a rest as `resume_one` does, in parts that are run at once. Each part except the first is run after a
-/// warm-up on the periods before it. Returns what the outputs of the parts became, in order, and what the run leaves.
-/// The memory of `workers` is used again.
+/// warm-up on the periods before it, and in stretches. Returns what the outputs of the stretches became, in order, and
+/// what the run leaves. The memory of `workers` is used again.
 ///
 /// Each part has a thread of its own. `meanwhile` is run once in this one, also if memory is refused.
 pub fn resume_split<R: Threads + Sync, A: Actor, E: Ends<A::Token>, G: FnMut() -> B, B>(
@@ -109,9 +108,10 @@ pub fn resume_split<R: Threads + Sync, A: Actor, E: Ends<A::Token>, G: FnMut() -
         (λ fault. fault ≡ OutOfMemory) }
     ensures meanwhile { G.step meanwhile.old result.1 meanwhile.new }
 {
+    nets_have_periods(split.net);
     let alloc = workers.alloc;
     let count = split.periods.div_ceil(split.size).max(1) as usize;
-    match workers.take_on(count) {
+    match workers.take_on(count, split.size.div_ceil(split.stretch)) {
         Ok(()) => {
             let all = &mut workers.all[..count];
             run_parts(rt, alloc, ends, split, rest, all, meanwhile)

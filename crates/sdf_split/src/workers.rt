@@ -1,8 +1,7 @@
 //! Workers that run the parts of a sound, and their memory.
 
-ghost use Rattle.std.specs.Prelude.{◌≡◌, ◌≤◌, ◌<◌, ℕ, List, length, OnOk};
-ghost use Rattle.sdf_actor.specs.Rests.{IsRest};
-ghost use Rattle.sdf_answer.specs.Answer.{periods_of};
+ghost use Rattle.std.specs.Prelude.{◌≡◌, ◌≤◌, ◌<◌, length, OnOk};
+ghost use Rattle.sdf_fission.specs.Laws.{WasLeft};
 ghost use Rattle.sdf_split.specs.Parts.{IsSplit, IsMade, part_count};
 
 use crate::ends::Ends;
@@ -28,6 +27,16 @@ impl<M: Drop, T: Copy, S: Drop> Worker<M, T, S> {
         }
     }
 
+    /// Takes up to `most` of `spares`, which what the outputs of stretches become uses again.
+    fn stock(&mut self, spares: &mut Vec<M>, most: u32) -> Result<(), AllocError> {
+        for _ in 0..most {
+            if let Some(spare) = spares.pop() {
+                self.memory.spares.push(spare)?;
+            }
+        }
+        Ok(())
+    }
+
     /// Takes out what the worker made of its last part.
     pub(crate) fn take(&mut self) -> Result<Made<M, T, S>, RunFault>
         ensures { result ≡ self.old.made }
@@ -46,8 +55,7 @@ pub(crate) fn work<A: Actor, E: Ends<A::Token>>(
     worker: &mut Worker<E::Made, A::Token, A::State>,
 )
     requires split { IsSplit A.steps (E.inputs ends.now) split }
-    requires rest { (first : List (List A.Token)) × (few : ℕ)
-        × IsRest A.steps split.net.now first (periods_of split.period.now.repetitions few) rest.now }
+    requires rest { WasLeft A.steps split.net.now split.period.now.repetitions rest.now }
     requires known { i < part_count split }
     ensures { IsMade A.steps (E.inputs ends.now) (E.makes ends.now) split.entry rest.now i worker.new.made }
 {
@@ -60,7 +68,7 @@ pub(crate) fn work<A: Actor, E: Ends<A::Token>>(
 pub struct Workers<M, T, S> {
     pub(crate) alloc: Global,
     pub(crate) all: Vec<Worker<M, T, S>>,
-    /// What the outputs of parts became, given back.
+    /// What the outputs of stretches became, given back.
     spares: Vec<M>,
 }
 
@@ -74,20 +82,21 @@ impl<M: Drop, T: Copy, S: Drop> Workers<M, T, S> {
         }
     }
 
-    /// Keeps the memory of what the outputs of parts became. The parts of the next piece use it again.
+    /// Keeps the memory of what the outputs of stretches became. The parts of the next piece use it again.
     pub fn give_back(&mut self, made: Vec<M>) {
         self.spares = made;
     }
 
-    /// Takes on workers until there are `count`, and hands them the memory that was given back.
-    pub(crate) fn take_on(&mut self, count: usize) -> Result<(), AllocError>
+    /// Takes on workers until there are `count`, and hands them the memory that was given back, for up to `most`
+    /// stretches each.
+    pub(crate) fn take_on(&mut self, count: usize, most: u32) -> Result<(), AllocError>
         ensures { OnOk result (count ≤ length self.new.all.items) }
     {
         for _ in self.all.len()..count {
             self.all.push(Worker::new(self.alloc))?;
         }
         for i in 0..self.all.len() {
-            self.all[i].memory.spare = self.spares.pop();
+            self.all[i].stock(&mut self.spares, most)?;
         }
         Ok(())
     }

@@ -1,7 +1,8 @@
-use Rattle.std.proofs.Common.{◌≡◌, ◌+◌, ◌-◌, ap, subst}
+use Rattle.std.proofs.Common.{◌-◌, subst}
 use Rattle.sdf_actor.specs.Wires.{lists}
-use Rattle.sdf_answer.specs.Feeds.{GoesOnBy}
-use Rattle.sdf_split.specs.Parts.{end_of, read_by}
+use Rattle.sdf_fission.proofs.Theorems.{runs_leave_rests}
+use Rattle.sdf_split.specs.Parts.{read_by}
+use Rattle.sdf_split.proofs.Cutting.{are_full}
 use Rattle.sdf_split.proofs.part.finished.Goals as goal
 
 pub returns : goal.returns
@@ -11,15 +12,17 @@ returns g c =
     let n = w.net.now in
     let q = w.period.now.repetitions in
     let inputs = g.E.Ends.inputs c.args.ends.now in
-    let from = c.args.from in
-    let on = lists c.in_ok-outputs.outputs.items in
-    let to : c.args.from + c.min.result ≡ end_of w.size w.periods c.args.from =
-    ap (λ k. c.args.from + k) c.min.ensures in
-    record {
-      outputs = on;
-      goes = subst (λ k. GoesOnBy s n q c.args.begin.now (k - from) (read_by n q inputs from k) on c.in_ok-outputs.rest)
-          to c.in_ok-outputs.ensures;
-      becomes = subst (λ k. g.E.Ends.makes c.args.ends.now (k - from) on c.in_ok-made.made) to
-          (subst (λ xs. g.E.Ends.makes c.args.ends.now (c.args.from + c.min.result - from) (lists xs) c.in_ok-made.made)
-          c.deref.ensures.value c.in_ok-made.ensures);
-    }
+    let from = c.args.stretch.from in
+    let to = c.args.stretch.to in
+    let on = lists c.in_ok-outputs.outputs.items in (
+      record {
+        outputs = on;
+        goes = c.in_ok-outputs.ensures;
+        becomes = subst (λ xs. g.E.Ends.makes c.args.ends.now (to - from) (lists xs) c.in_ok-made.made)
+            c.deref.ensures.value c.in_ok-made.ensures;
+      },
+      runs_leave_rests s n q (to - from) (read_by n q inputs from to) on c.args.begin.now c.in_ok-outputs.rest
+          c.requires.begin c.in_ok-outputs.ensures
+          (are_full n q inputs w.periods c.requires.split.given c.requires.split.full from to c.requires.order
+          c.requires.within),
+    )

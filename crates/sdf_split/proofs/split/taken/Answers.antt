@@ -1,10 +1,10 @@
-use Rattle.std.proofs.Common.{◌≡◌, ◌<◌, ◌+◌, ◌∙◌, ℕ, get_or, Ok, Err, Some, None, refl, ap, sym}
+use Rattle.std.proofs.Common.{◌≡◌, ◌<◌, ◌+◌, ◌∙◌, ℕ, get_or, Ok, Err, Some, refl, sym}
 use Rattle.std.proofs.Common.{subst, arith, get_or-set_other}
 use Rattle.std.specs.Option.{IsSome}
 use Rattle.std.proofs.lemmas.List.{length-set}
 use Rattle.sdf_split.specs.Parts.{IsMade, part_count}
 use Rattle.sdf_split.proofs.Cutting.{refused}
-use Rattle.sdf_split.proofs.Growing.{Grown, begun, grown, all_parts}
+use Rattle.sdf_split.proofs.Growing.{Grown, grown, all_parts}
 use Rattle.sdf_split.proofs.split.taken.Goals as goal
 
 pub loop-i-init : goal.loop-i-init
@@ -15,12 +15,8 @@ loop-i-init g c =
     let makes = g.E.Ends.makes c.args.ends.now in
     let rest = c.args.rest.now in
     record {
-      room = c.in_ok-all.ensures.exact;
-      filled = c.in_ok-all.ensures.len;
       left = λ k d low l. c.requires.made k d l;
-      grown = subst (λ xs. Grown s inputs makes w rest 0 xs None) (sym c.in_ok-all.ensures.items)
-          (begun s inputs makes w c.requires.split
-          (c.nets_have_periods.ensures w.period.now c.requires.split.period) rest None);
+      grown = record { none = λ z. c.new-all.ensures.items; some = λ some. absurd (omega (arith, some)) };
     }
 
 pub returns-in_err-made : goal.returns-in_err-made
@@ -33,10 +29,10 @@ returns-in_err-made g c =
     let v = c.index-workers-i.result in
     let at : (get_or c.loop-i.workers i v).made ≡ Err c.in_err-made.field-0.0 =
     sym c.take.ensures ∙ c.in_err-made.was in
-    refused c.from_residual-in_err-made.result _ c.in_err-made.field-0.0
+    refused c.from_residual.result _ c.in_err-made.field-0.0
     (subst (IsMade s inputs makes w c.args.rest.now i) at
     (c.loop-i.invariant.left i v (omega arith) (omega (arith, c.loop-i-test.true))))
-    c.from_residual-in_err-made.ensures.1
+    c.from_residual.ensures.1
 
 pub loop-i-preserved : goal.loop-i-preserved
 loop-i-preserved g c =
@@ -55,23 +51,21 @@ loop-i-preserved g c =
     let part = subst (IsMade s inputs makes w rest i) at
     (c.loop-i.invariant.left i v (omega arith) (omega (arith, c.loop-i-test.true))) in
     record {
-      room = c.push_reserved.ensures.capacity ∙ c.loop-i.invariant.room;
-      filled = c.push_reserved.ensures.len ∙ ap (λ k. k + 1) c.loop-i.invariant.filled;
       left = λ k d low l. subst (λ u. IsMade s inputs makes w rest k u.made)
           (sym (get_or-set_other was i k new d (λ same. omega (arith, same))))
           (c.loop-i.invariant.left k d (omega arith) (omega (arith, l, length-set was i new)));
-      grown = subst (λ xs. Grown s inputs makes w rest (i + 1) xs (Some m.rest)) (sym c.push_reserved.ensures.items)
+      grown = subst (λ xs. Grown s inputs makes w rest (i + 1) xs (Some m.rest)) (sym c.in_ok-append.ensures.items)
           (grown s inputs makes w c.requires.split
           (c.nets_have_periods.ensures w.period.now c.requires.split.period) rest i
           (omega (arith, c.loop-i-test.true, c.loop-i.auto.workers, c.requires.all))
-          c.loop-i.all.items c.loop-i.last c.loop-i.invariant.grown m.made m.rest part);
+          c.loop-i.all.items c.loop-i.last c.loop-i.invariant.grown m.made.items m.rest part);
     }
 
 pub unwrap-requires : goal.unwrap-requires
 unwrap-requires g c =
     let w = c.args.split in
     let some : 0 < c.loop-i.i = omega (arith, c.loop-i-test.false, c.loop-i.auto.workers, c.requires.all) in
-    let end = c.loop-i.invariant.grown.end some in
+    let end = c.loop-i.invariant.grown.some some in
     subst IsSome (sym end.1) refl
 
 pub returns : goal.returns

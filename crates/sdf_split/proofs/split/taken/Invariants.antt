@@ -1,4 +1,4 @@
-use Rattle.std.proofs.Common.{◌≡◌, ◌≤◌, ◌<◌, ℕ, length, get_or, vec_capacity, vec_len}
+use Rattle.std.proofs.Common.{◌≤◌, ◌<◌, ℕ, length, get_or}
 use Rattle.sdf_split.specs.declared.workers.Worker.{Worker}
 use Rattle.sdf_split.specs.Parts.{IsMade}
 use Rattle.sdf_split.proofs.Growing.{Grown}
@@ -6,8 +6,6 @@ use Rattle.sdf_split.proofs.split.taken.Given as goal
 
 abbrev pub invariant-loop-i : goal.invariant-loop-i
 invariant-loop-i g l = record {
-  room : vec_capacity l.all ≡ length l.initial.workers;
-  filled : vec_len l.all ≡ l.i;
   left : (k : ℕ) (d : Worker _ _ _) → l.i ≤ k → k < length l.workers →
       IsMade g.A.Actor.steps (g.E.Ends.inputs l.ends) (g.E.Ends.makes l.ends) l.split l.rest k
       (get_or l.workers k d).made;
