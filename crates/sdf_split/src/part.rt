@@ -191,7 +191,8 @@ fn stretches<A: Actor, E: Ends<A::Token>>(
     let mut at = from + split.stretch.min(to - from);
     let first = Stretch { from, to: at };
     let (made, mut rest) = finished(alloc, ends, split, begin, first, memory)?;
-    let mut all = Vec::with_capacity(alloc, 1)?;
+    let many = (to - from).div_ceil(split.stretch).max(1);
+    let mut all = Vec::with_capacity(alloc, many as usize)?;
     all.push_reserved(made);
     while at < to {
         let next = Stretch {
