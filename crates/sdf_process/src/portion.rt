@@ -12,7 +12,7 @@ use sdf_wav::Wav;
 use std::alloc::{AllocError, Global};
 
 /// The first `periods` periods of a sound, with zeros past its end, and how many frames of what they make are written.
-/// Each part of a run in parts makes its own input lists of them, and its own frames.
+/// Each stretch of a run in parts makes its own input lists of them, and its own frames.
 #[derive(Clone, Copy)]
 pub(crate) struct Portion<'a> {
     pub(crate) exchange: Exchange,

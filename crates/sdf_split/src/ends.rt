@@ -7,9 +7,9 @@ ghost use Rattle.sdf_split.specs.Cuts.{cut};
 use std::alloc::{AllocError, Global};
 
 /// Where the parts of a run get their inputs, and what becomes of their outputs. Each worker calls both functions for
-/// its own part, while others do the same.
+/// each stretch of its own part, while others do the same.
 pub trait Ends<T>: Sync {
-    /// What the outputs of a part become.
+    /// What the outputs of a stretch become.
     type Made: Send + Drop;
 
     /// The input lists of the whole run.

@@ -3,7 +3,7 @@
 //! It depends on `sdf_fission`, `sdf_one`, `sdf_answer`, `sdf_actor`, `sdf_graph`, `sdf_sched` and `sdf_limits`. Begin
 //! with `split`: a run in parts goes on from a rest as a run on one thread does (`sdf_one::resume_one`). Then read
 //! `ends` (what parts read, and what their outputs become), `workers` (who run the parts, in memory that lasts),
-//! `beside` (how they are started), `part` (one of the parts) and `size` (how long it is).
+//! `beside` (how they are started), `part` (one of the parts, in stretches) and `size` (how long it is).
 #![tactic(auto)]
 
 mod beside;
