@@ -20,7 +20,7 @@ const PIECE: usize = 32_768;
 /// The most frames that a part of a piece reads or makes, unless a period or eight warm-ups have more. Longer parts
 /// have less warm-up, and threads are started less often. A part is run in stretches of `PIECE` frames, so that its
 /// lists need no more memory than those of one thread.
-const PART: usize = 196_608;
+const PART: usize = 131_072;
 
 /// How a piece is cut in time: the most parts that are run at once, and the periods of warm-up before a part.
 #[derive(Clone, Copy)]
