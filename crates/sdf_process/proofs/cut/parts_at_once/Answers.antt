@@ -8,7 +8,7 @@ use Rattle.sdf_graph.specs.Rates.{rates}
 use Rattle.sdf_actor.specs.Graphs.{graph_of}
 use Rattle.sdf_kit.specs.Kit.{kit_steps}
 use Rattle.sdf_fission.specs.Warm.{IsLeast}
-use Rattle.sdf_split.specs.Sizes.{IsPartSize, quarters}
+use Rattle.sdf_split.specs.Sizes.{IsPartSize}
 use Rattle.sdf_process.specs.Cuts.{AreAtOnce}
 use Rattle.sdf_process.specs.Output.{exchange_of}
 use Rattle.sdf_process.proofs.cut.parts_at_once.Goals as goal
@@ -23,11 +23,9 @@ ceil_few a b m some few =
 
 pub returns-clause-few : goal.returns-clause-few
 returns-clause-few c =
-    let parts = max 1 c.args.workers in
-    let size = c.part_of.result in
-    let most : quarters parts * size ≤ 4 * parts * size = mul-le-mul_right size (omega arith) in
-    subst (λ k. k ≤ parts) (sym c.div_ceil-2.ensures)
-    (ceil_few c.min-piece.result size parts c.part_of.ensures.is.some (omega (arith, c.part_of.ensures.is.few, most)))
+    subst (λ parts. parts ≤ max 1 c.args.workers) (sym c.div_ceil-2.ensures)
+    (ceil_few c.min-piece.result c.part_of.result (max 1 c.args.workers) c.part_of.ensures.is.some
+    c.part_of.ensures.is.few)
 
 pub returns-clause-parts : goal.returns-clause-parts
 returns-clause-parts c = λ q period.
