@@ -27,8 +27,8 @@ def reads_of_sdfw(lists):
         lists.refuse(f"sdfw run - - {runner}: failing reads", words, "read", only(NO_READ, period), sound=sound)
 
 
-# The bytes that two workers make of a piece: two parts of 65,536 frames of one channel.
-PIECE = 2 * 65536 * 2
+# The bytes that two workers make of a piece: 131,072 frames of one channel for each.
+PIECE = 2 * 131072 * 2
 
 
 def pieces_of_sdfw(lists):
@@ -49,7 +49,7 @@ def pieces_of_sdfw(lists):
     for how in ("error", "zero", "interrupt"):
         lists.refuse(f"{name}: writes, {how}", words, "write", only(NO_WRITE, text=False), how=how)
     cases = []
-    for frames, pieces in ((0, 0), (140000, 0), (290000, 1)):
+    for frames, pieces in ((0, 0), (280000, 0), (580000, 1)):
         data = SOUNDS["longest.wav"][:44 + 2 * frames]
         for sound in (None, "cut.wav"):
             place = "standard input" if sound else "IN"

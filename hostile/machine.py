@@ -65,7 +65,7 @@ SOUNDS = {
     "few.wav": wav([3, -2, 500, 7]),
     "long.wav": wav([7 * n % 1000 - 500 for n in range(9000)]),
     "longer.wav": wav([7 * n % 1000 - 500 for n in range(100000)]),
-    "longest.wav": wav([7 * n % 1000 - 500 for n in range(300000)]),
+    "longest.wav": wav([7 * n % 1000 - 500 for n in range(600000)]),
     "open.wav": wav([1, 2], size=0xFFFFFFFF),
     "huge.wav": wav([1, 2], size=0xFFFFFF00),
     "most.wav": wav([1, 2], size=0xFFFFFFFE),

@@ -176,9 +176,9 @@ def makes_all(more):
 
 
 def at_once(workers):
-    """Whether `workers` parts are at work at the same time, all in threads that were started."""
+    """Whether `workers` parts are at work at the same time, all but the last one in threads that were started."""
     together = widened(["--parallel", str(workers)]).together()
-    return True if together == workers else f"{together} threads at work at the same time"
+    return True if together == workers - 1 else f"{together} threads at work at the same time"
 
 
 # Frames of a sound of some pieces, in a parallel run by two workers.
@@ -206,7 +206,7 @@ def outputs_of_sdfw(lists):
     lists.cases("sdfw: 10,240,000 samples", [(" ".join(more), lambda more=more: makes_all(more)) for more in ways])
     lists.cases("sdfw: parts at work at the same time, in pieces", [
         *((f"--parallel {workers}", lambda workers=workers: at_once(workers)) for workers in (2, 3, 4)),
-        ("a sound of sixteen pieces", in_pieces),
+        ("a sound of eight pieces", in_pieces),
         ("its reads and writes", meanwhile)])
 
 

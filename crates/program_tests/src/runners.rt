@@ -1,6 +1,6 @@
 //! Which runner a command uses, seen in what is written of a sound that ends too soon: one thread has written the
 //! header alone when it finds that out, rows and rings all whole pieces of 4,096 frames, and a parallel run all but the
-//! last of its whole pieces of 65,536 frames for each worker, since it runs that one while it reads on.
+//! last of its whole pieces of 131,072 frames for each worker, since it runs that one while it reads on.
 
 use crate::commands::{Around, OPEN, serve_line};
 use std::alloc::{AllocError, Global};
@@ -9,9 +9,9 @@ use std::thread::Threads;
 use std::time::Clock;
 use test_texts::row_says;
 
-/// The header of 300,000 frames, 44,100 a second.
+/// The header of 600,000 frames, 44,100 a second.
 const ANNOUNCED: &[u8] =
-    b"RIFF\xE4\x27\x09\0WAVEfmt \x10\0\0\0\x01\0\x01\0\x44\xAC\0\0\x88\x58\x01\0\x02\0\x10\0data\xC0\x27\x09\0";
+    b"RIFF\xA4\x4F\x12\0WAVEfmt \x10\0\0\0\x01\0\x01\0\x44\xAC\0\0\x88\x58\x01\0\x02\0\x10\0data\x80\x4F\x12\0";
 
 /// So many of the frames that it announces, which are 0, 1, 2 and so on, up to 4,999 and then anew.
 fn cut(alloc: Global, frames: u32) -> Result<Vec<u8>, AllocError> {
@@ -51,7 +51,7 @@ fn told<T: Threads + AllocGlobal + Clock + Clone + Drop + Sync>(
     Ok(format!(in alloc; "{status} {} {front} {err}", made.len())?)
 }
 
-/// The name of a row, how many of 300,000 frames are there, the words behind the program's name, and the answer.
+/// The name of a row, how many of 600,000 frames are there, the words behind the program's name, and the answer.
 type Row = (&'static str, u32, &'static str, &'static str);
 
 const ROWS: &[Row] = &[
@@ -99,15 +99,15 @@ const ROWS: &[Row] = &[
     ),
     (
         "in parallel, a frame more than a piece, which is run while more is read",
-        131_073,
+        262_145,
         "run heavy.toml - - --parallel 2",
         "4 44 true sdfw: 43 Truncated\n",
     ),
     (
         "in parallel, a frame more than two pieces",
-        262_145,
+        524_289,
         "run heavy.toml - - --parallel 2",
-        "4 262188 true sdfw: 43 Truncated\n",
+        "4 524332 true sdfw: 43 Truncated\n",
     ),
     (
         "in parallel, one worker alone",
