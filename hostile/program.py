@@ -176,9 +176,9 @@ def makes_all(more):
 
 
 def at_once(workers):
-    """Whether `workers` parts are at work at the same time, all but the last one in threads that were started."""
+    """Whether `workers` parts are at work at the same time, all in threads that were started."""
     together = widened(["--parallel", str(workers)]).together()
-    return True if together == workers - 1 else f"{together} threads at work at the same time"
+    return True if together == workers else f"{together} threads at work at the same time"
 
 
 # Frames of a sound of some pieces, in a parallel run by two workers.

@@ -1,18 +1,17 @@
 //! Calls that are made at once, beside another one.
 //!
-//! `thread::for_each_mut` halves a list, so that threads start threads. Here one thread starts all others, does work of
-//! its own, and then makes the last call itself. So no more threads are at work than there are calls: a new thread may
-//! share another one's processor for long, also while a third processor has nothing to do.
+//! `thread::for_each_mut` halves a list, so that threads start threads. Here one thread starts all others and then does
+//! work of its own: where a new thread shares its maker's processor at first, the last part begins sooner.
 
-ghost use Rattle.std.specs.Prelude.{◌≡◌, ◌+◌, ◌≤◌, ◌<◌, ◌^◌, length};
+ghost use Rattle.std.specs.Prelude.{◌≡◌, ◌+◌, ◌<◌, ◌^◌, length};
 ghost use denote.Param.Send.{IsSync, IsSend};
 ghost use Rattle.std.specs.Fork.{AcceptsAt, AcceptsEach, ChangesAt, ChangesEach};
 ghost use Rattle.sdf_split.specs.Beside.{AcceptsFrom, ChangesFrom};
 
 use std::thread::{Threads, join_mut};
 
-/// Calls `f` with each number and element of `s`. This thread calls `meanwhile`, and then `f` with the last element;
-/// each other call is made in a thread of its own if one can be started.
+/// Calls `f` with each number and element of `s`, each in a thread of its own if one can be made, and `meanwhile` in
+/// this one.
 pub(crate) fn for_each_beside<
     R: Threads + Sync,
     T: Send,
@@ -45,18 +44,7 @@ fn call_at<T, F: Fn(usize, &mut T)>(f: &F, i: usize, s: &mut [T])
     call_with(f, i, &mut s[0]);
 }
 
-/// Calls `f` with the one element of `s`, if there is one.
-fn call_last<T, F: Fn(usize, &mut T)>(f: &F, i: usize, s: &mut [T])
-    requires few { length s.old ≤ 1 }
-    requires accepts { AcceptsFrom F.Fn f.now i s.old }
-    ensures { ChangesFrom F.Fn f.now i s.old s.new }
-{
-    if !s.is_empty() {
-        call_at(f, i, s);
-    }
-}
-
-/// Calls `f` with each element of `s`, the first of which has number `i`, and `meanwhile` before the last one.
+/// Calls `f` with each element of `s`, the first of which has number `i`, and `meanwhile` beside them.
 #[cycle(places)]
 fn from_place<R: Threads + Sync, T: Send, F: Fn(usize, &mut T) + Sync, G: FnMut() -> B, B>(
     rt: &R,
@@ -71,10 +59,8 @@ fn from_place<R: Threads + Sync, T: Send, F: Fn(usize, &mut T) + Sync, G: FnMut(
     ensures each { ChangesFrom F.Fn f.now i s.old s.new }
     ensures meanwhile { G.step meanwhile.old result meanwhile.new }
 {
-    if s.len() < 2 {
-        let done = meanwhile();
-        call_last(f, i, s);
-        return done;
+    if s.is_empty() {
+        return meanwhile();
     }
     let (first, others) = s.split_at_mut(1);
     first_beside(rt, f, i, first, others, meanwhile)

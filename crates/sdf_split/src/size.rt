@@ -8,16 +8,13 @@ ghost use Rattle.std.specs.Prelude.{◌<◌};
 const LEAST_WARM_UPS: u32 = 8;
 
 /// Returns the periods of a part, if `periods` are split in at most `parts` parts that each need `warm` periods of
-/// warm-up. The last one of several has some three quarters of that: the thread that runs it reads and writes before.
+/// warm-up.
 pub fn part_size(periods: u32, parts: u32, warm: u32) -> u32
     requires { 0 < parts }
     ensures { IsLeast (IsPartSize periods parts warm) result }
 {
-    let quarters = 4 * u64::from(parts) - u64::from(parts - 1).min(1);
-    let longer = (4 * u64::from(periods) / quarters) as u32;
     periods
         .div_ceil(parts)
-        .max(longer)
         .max(warm.saturating_mul(LEAST_WARM_UPS))
         .max(1)
 }
