@@ -162,11 +162,13 @@ fn run_on<S: Storage, T: Threads + AllocGlobal + Clock + Sync, O: Write, E: Writ
     let Runs { graph, batch, why } = asked;
     let alloc = world.threads.alloc();
     let loaded = load_into(alloc, world.storage, graph, world.most, sources)?;
+    let is_said = why.is_said(world.terminal);
     let batching = Batching {
         graph,
         loaded: &loaded,
         asked: batch,
-        is_said: why.is_said(world.terminal),
+        is_said,
+        is_shown: is_said && world.terminal,
     };
     run_batch(world, out, err, batching, sources)
 }
