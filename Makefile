@@ -61,6 +61,7 @@ deb:
 	scripts/deb
 
 # Tries install, uninstall and deb below a temporary folder, without root: files, links, and that the program starts.
+# Then make try, which takes about two minutes.
 packages: build
 	scripts/packages
 

@@ -299,7 +299,8 @@ def sessions(program, write):
             if write and made:
                 page = page.replace(f"```console\n{block}```", f"```console\n{''.join(made)}```")
             elif made and "".join(made) != block:
-                wrong += [f"{paper.relative_to(TOP)}: this is printed:\n{part}" for part in made if part not in block]
+                others = [part for part in made if part not in block] or ["".join(made)]
+                wrong += [f"{paper.relative_to(TOP)}: this is printed, and no more:\n{part}" for part in others]
         if write:
             paper.write_text(page)
     return wrong

@@ -99,38 +99,44 @@ const BATCHES: &[Row] = &[
     ),
 ];
 
-/// The same where more is said. Refuses levels that don't say of which file they are, and a program that ignores
-/// `--no-why`.
+/// The same at a terminal, where more is said. Refuses levels that don't say of which file they are, a program that
+/// ignores `--no-why`, one that does not count the files that are done, and one that leaves that line there.
 const SAID: &[Row] = &[
     (
         "a file that ends well, and one that does not",
         "run plain.toml --into made in.wav one.toml",
-        "4\nin.wav: done\none.toml: 34 NotRiff\n--\nin.wav: output 0: 2 frames, peak -76.3 dB, 0 samples at full \
-         scale\n  \"one.toml\": has \"form\" at byte 0, wants \"RIFF\"\n--\n<5 -5>",
+        "4\nin.wav: done\none.toml: 34 NotRiff\n--\n\r0 of 2 files done\x1b[K…\r\x1b[Kin.wav: output 0: 2 frames, peak \
+         -76.3 dB, 0 samples at full scale\n…  \"one.toml\": has \"form\" at byte 0, wants \"RIFF\"\n--\n<5 -5>",
     ),
     (
         "the levels of two files, each by its name",
         "run plain.toml --into made in.wav silence.wav",
-        "0\nin.wav: done\nsilence.wav: done\n--\nin.wav: output 0: 2 frames, peak -76.3 dB, 0 samples at full \
-         scale\nsilence.wav: output 0: 16 frames, no peak, 0 samples at full scale\n--\n…",
+        "0\nin.wav: done\nsilence.wav: done\n--\n\r0 of 2 files done\x1b[K…\r\x1b[Kin.wav: output 0: 2 frames, peak \
+         -76.3 dB, 0 samples at full scale\n…silence.wav: output 0: 16 frames, no peak, 0 samples at full scale\n--\n…",
     ),
     (
         "files that are not there, each by itself",
         "run plain.toml --into made none.wav less.wav",
-        "5\nnone.wav: 47 Read\nless.wav: 47 Read\n--\n  \"none.wav\": entity not found\n  \"less.wav\": entity not \
+        "5\nnone.wav: 47 Read\nless.wav: 47 Read\n--\n\r0 of 2 files done\x1b[K…  \"none.wav\": entity not found\n…  \"less.wav\": entity not \
          found\n--\n",
     ),
     (
         "how a parallel run goes, once",
         "run plain.toml --into made in.wav --parallel 1",
-        "0\nin.wav: done\n--\none thread: one worker is asked for\nin.wav: output 0: 2 frames, peak -76.3 dB, 0 \
+        "0\nin.wav: done\n--\none thread: one worker is asked for\n\r0 of 1 file done\x1b[K\r\x1b[Kin.wav: output 0: 2 frames, peak -76.3 dB, 0 \
          samples at full scale\n--\n<5 -5>",
     ),
     (
         "how each parallel run went",
         "run plain.toml --into made in.wav --parallel 2",
-        "0\nin.wav: done\n--\nin.wav: 2 workers, each on its own part of the sound after 0 periods (0 samples) of \
+        "0\nin.wav: done\n--\n\r0 of 1 file done\x1b[K\r\x1b[Kin.wav: 2 workers, each on its own part of the sound after 0 periods (0 samples) of \
          warm-up\nin.wav: output 0: 2 frames, peak -76.3 dB, 0 samples at full scale\n--\n<5 -5>",
+    ),
+    (
+        "how many files are done, one after the other",
+        "run plain.toml --into made in.wav silence.wav --parallel 1",
+        "0\nin.wav: done\nsilence.wav: done\n--\none thread: one worker is asked for\n\r0 of 2 files done\x1b[K\r\x1b[K\
+         in.wav: output 0: …\n\r1 of 2 files done\x1b[K\r\x1b[Ksilence.wav: output 0: …",
     ),
     (
         "the same without more",

@@ -68,19 +68,22 @@ const WHY: &[Row] = &[
         "a deadlock, and its cycle",
         "check stuck.toml --why",
         "3\n--\nsdfw: 10 Deadlock\nin 1 of 1\nadd 0 of 1 short link 3\nfork 0 of 1 short link 1\nout 0 of 1 short \
-         link 2\n  link 3 is fork:1 -> add:1, holds 0, wants 1\n  link 1 is add:0 -> fork:0, holds 0, wants 1\n--\n",
+         link 2\n  link 3 is fork:1 -> add:1, holds 0, wants 1\n  link 1 is add:0 -> fork:0, holds 0, wants 1\n  \
+         link 2 is fork:0 -> out:0\n--\n",
     ),
     (
         "the same of a schedule",
         "schedule stuck.toml --why",
         "3\n--\nsdfw: 10 Deadlock\nin 1 of 1\nadd 0 of 1 short link 3\nfork 0 of 1 short link 1\nout 0 of 1 short \
-         link 2\n  link 3 is fork:1 -> add:1, holds 0, wants 1\n  link 1 is add:0 -> fork:0, holds 0, wants 1\n--\n",
+         link 2\n  link 3 is fork:1 -> add:1, holds 0, wants 1\n  link 1 is add:0 -> fork:0, holds 0, wants 1\n  \
+         link 2 is fork:0 -> out:0\n--\n",
     ),
     (
         "the same of a run",
         "run stuck.toml in.wav out.wav --why",
         "3\n--\nsdfw: 10 Deadlock\nin 1 of 1\nadd 0 of 1 short link 3\nfork 0 of 1 short link 1\nout 0 of 1 short \
-         link 2\n  link 3 is fork:1 -> add:1, holds 0, wants 1\n  link 1 is add:0 -> fork:0, holds 0, wants 1\n--\n",
+         link 2\n  link 3 is fork:1 -> add:1, holds 0, wants 1\n  link 1 is add:0 -> fork:0, holds 0, wants 1\n  \
+         link 2 is fork:0 -> out:0\n--\n",
     ),
     (
         "an actor without a home, by its name",

@@ -19,8 +19,8 @@ const HEARD: Around<'static> = Around {
     ..TERMINAL
 };
 
-/// Diagnostics at a terminal. Refuses a program that prints no more there, one that ignores `--no-why`, and one that
-/// prints more beside JSON.
+/// Diagnostics at a terminal. Refuses a program that prints no more there, one that ignores `--no-why`, one that prints
+/// more beside JSON, and one that names a fault for each schedule.
 const AT_TERMINAL: &[Row] = &[
     (
         "a design that is not there",
@@ -36,6 +36,26 @@ const AT_TERMINAL: &[Row] = &[
         "an analysis, by its options",
         "analyze far.toml --placement file --workers 2",
         "3\n--\nsdfw: 19 BadHome actor 0\n  actor 0 is \"in\", an input\n  processor = 3, wants 0..1\n--\n",
+    ),
+    (
+        "schedules compared, of which some are refused",
+        "analyze begun.toml --compare",
+        "0\npolicy …refused 19\n…\n--\n  19 is BadHome: sdfw explain 19 says what to do\n--\n",
+    ),
+    (
+        "the same without more",
+        "analyze begun.toml --compare --no-why",
+        "0\npolicy …refused 19\n…\n--\n--\n",
+    ),
+    (
+        "the same in JSON",
+        "analyze begun.toml --compare --json",
+        "0\n[{…\"fault\":19,…}]\n--\n--\n",
+    ),
+    (
+        "schedules compared, refused for another reason",
+        "analyze long.toml --compare --blocking 64",
+        "0\npolicy …refused 13\n…\n--\n  13 is BlockTooLong: sdfw explain 13 says what to do\n--\n",
     ),
     (
         "a picture, by its options",

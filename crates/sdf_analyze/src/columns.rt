@@ -322,7 +322,7 @@ fn push_head(text: &mut String) -> Result<(), AllocError>
 
 /// A table with a line for each entry. The best of each column has a star, each of them where there are several; of
 /// makespans, rows and samples those of blocks of as many periods are compared.
-pub(crate) fn comparison_text(alloc: Global, entries: &[Entry]) -> Result<String, AllocError>
+pub fn comparison_text(alloc: Global, entries: &[Entry]) -> Result<String, AllocError>
     ensures { IfOk result (λ s. string_bytes s ≡ comparison_text entries.now) }
 {
     let mut text = String::new(alloc);

@@ -18,6 +18,6 @@ mod spans;
 mod ways;
 
 pub use analysis::{analyze, figured};
-pub use columns::{Entry, Measures, Outcome, placement_word, policy_word};
+pub use columns::{Entry, Measures, Outcome, comparison_text, placement_word, policy_word};
 pub use comparison::{compare, compared};
 pub use figures::Figures;

@@ -4,9 +4,11 @@
 //! `sdf_plan`, `sdf_analyze`, `sdf_draw`, `sdf_json` and `sdf_document` for what is printed, on `sdf_filters`, which
 //! makes filters and converters, on `sdf_faults`, and on `sdf_why`, which tells more of a fault, also of one of
 //! `sdf_prec` or `sdf_wav`.
-//! Begin at `printing` and `making`, which have the commands. `telling` and `sounds` say more of a fault.
+//! Begin at `printing`, `comparing` and `making`, which have the commands. `telling` and `sounds` say more of a fault.
+//! `specs/Refusals.antt` defines what is said of a comparison.
 #![tactic(auto)]
 
+pub mod comparing;
 pub mod making;
 pub mod printing;
 mod sounds;

@@ -2,14 +2,14 @@
 
 ghost use Rattle.sdf_options.specs.Limits.{AreWithinLimits};
 
-use sdf_analyze::{analyze, compare};
+use sdf_analyze::analyze;
 use sdf_document::kinds_text;
 use sdf_draw::{dot, svg};
 use sdf_faults::Fault;
 use sdf_file::{Design, check_text};
 use sdf_files::files::put;
 use sdf_files::world::World;
-use sdf_json::{analysis_json, check_json, comparison_json, kinds_json, schedule_json};
+use sdf_json::{analysis_json, check_json, kinds_json, schedule_json};
 use sdf_options::Options;
 use sdf_plan::planning::plan;
 use sdf_plan::schedule::schedule;
@@ -57,21 +57,19 @@ pub fn scheduled(
     }
 }
 
-/// How long the schedule of a design takes, or its schedules compared.
+/// How long the schedule of a design takes.
 pub fn analyzed(
     alloc: Global,
     design: &Design,
     options: &Options,
-    compares: bool,
     json: bool,
 ) -> Result<String, Fault>
     requires { AreWithinLimits options.now }
 {
-    match (compares, json) {
-        (true, true) => comparison_json(alloc, design, options),
-        (true, false) => compare(alloc, design, options),
-        (false, true) => analysis_json(alloc, design, options),
-        (false, false) => analyze(alloc, design, options),
+    if json {
+        analysis_json(alloc, design, options)
+    } else {
+        analyze(alloc, design, options)
     }
 }
 

@@ -11,7 +11,7 @@ const SHORT: u64 = 2_000;
 const PAUSE: u64 = 200;
 
 /// Takes the line away.
-pub(crate) const GONE: &[u8] = b"\r\x1b[K";
+pub const GONE: &[u8] = b"\r\x1b[K";
 
 /// Returns the milliseconds of a clock, 0 if it can't be read.
 fn now<C: Clock>(clock: &C) -> u64 {

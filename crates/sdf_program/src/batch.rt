@@ -5,6 +5,7 @@ ghost use Rattle.sdf_plan.specs.Plans.{Suits};
 ghost use Rattle.sdf_faults.specs.Statuses.{status_of};
 ghost use Rattle.sdf_words.specs.Limits.{IsCrew};
 
+use crate::count::Count;
 use crate::items::{Item, items_of, settle};
 use crate::running::{Planned, Prepared, Running, plan_of, run_planned, workers_of};
 use sdf_commands::making::make_folder;
@@ -29,6 +30,8 @@ pub(crate) struct Batching<'a> {
     pub(crate) asked: &'a Batch<'a>,
     /// Whether more is said than faults.
     pub(crate) is_said: bool,
+    /// Whether it is shown how many files are done.
+    pub(crate) is_shown: bool,
 }
 
 /// Returns the run from one file to another.
@@ -263,19 +266,24 @@ fn tell_all<O: Write, E: Write>(
     Ok(worst)
 }
 
-/// Runs a plan on files at once, prints what became of them, and gives the greatest exit status of their runs.
+/// Runs a plan on files at once, prints what became of them, and gives the greatest exit status of their runs. While
+/// they run, it is shown how many files were done before.
 fn serve_group<S: Storage, T: Threads + AllocGlobal + Clock + Sync, O: Write, E: Write>(
     world: &World<S, T>,
     out: &mut O,
     err: &mut E,
     course: Course<'_>,
     items: &[Item<'_>],
+    count: Count,
     sources: &mut Sources,
 ) -> Result<u8, Fault>
     requires { Suits course.batching.loaded.now.design.net course.prepared.now.plan }
 {
     let alloc = world.threads.alloc();
-    let mut outcomes = run_items(world, course, items)?;
+    count.show(alloc, err);
+    let ran = run_items(world, course, items);
+    count.hide(err);
+    let mut outcomes = ran?;
     let worst = tell_all(alloc, out, err, course.batching, &mut outcomes, sources);
     drop(outcomes);
     worst
@@ -312,8 +320,14 @@ fn serve_items<S: Storage, T: Threads + AllocGlobal + Clock + Sync, O: Write, E:
         &mut sources.refused,
     )?;
     let mut worst = 0;
+    let mut count = Count {
+        done: 0,
+        all: items.len(),
+        is_shown: batching.is_shown,
+    };
     for group in items.chunks(files_at_once(world.threads, batching.asked)) {
-        worst = worst.max(serve_group(world, out, err, course, group, sources)?);
+        worst = worst.max(serve_group(world, out, err, course, group, count, sources)?);
+        count = count.with(group.len());
     }
     Ok(worst)
 }

@@ -8,6 +8,7 @@ ghost use Rattle.sdf_words.specs.Limits.{IsCrew, IsTaskWithinLimits, IsWithinLim
 use crate::batch::{Batching, run_batch};
 use crate::profiling::{Profiling, print_profile};
 use crate::running::{Running, run};
+use sdf_commands::comparing::print_comparison;
 use sdf_commands::making::{fir, resample};
 use sdf_commands::printing::{
     analyzed, checked, drawn, print_kinds, print_meaning, scheduled, show, show_made,
@@ -17,7 +18,7 @@ use sdf_faults::{Fault, fault_text, status};
 use sdf_files::files::{Loaded, Sources, load_into};
 use sdf_files::storage::Storage;
 use sdf_files::world::World;
-use sdf_json::fault_json;
+use sdf_json::{comparison_json, fault_json};
 use sdf_options::WordFault;
 use sdf_words::arguments::Given;
 use sdf_words::{Batch, Task, Why, Words};
@@ -77,9 +78,17 @@ fn work<
         ),
         Task::Analyze {
             options,
-            compare,
+            compare: false,
             json,
-        } => show_made(out, analyzed(alloc, design, &options, compare, json)),
+        } => show_made(out, analyzed(alloc, design, &options, json)),
+        Task::Analyze {
+            options,
+            json: true,
+            ..
+        } => show_made(out, comparison_json(alloc, design, &options)),
+        Task::Analyze { options, .. } => print_comparison(
+            alloc, out, err, design, &options, is_said,
+        ),
         Task::Draw { options, dot } => show_made(out, drawn(alloc, design, &options, dot)),
         Task::Run(asked) => {
             let running = Running {
@@ -153,11 +162,13 @@ fn run_on<S: Storage, T: Threads + AllocGlobal + Clock + Sync, O: Write, E: Writ
     let Runs { graph, batch, why } = asked;
     let alloc = world.threads.alloc();
     let loaded = load_into(alloc, world.storage, graph, world.most, sources)?;
+    let is_said = why.is_said(world.terminal);
     let batching = Batching {
         graph,
         loaded: &loaded,
         asked: batch,
-        is_said: why.is_said(world.terminal),
+        is_said,
+        is_shown: is_said && world.terminal,
     };
     run_batch(world, out, err, batching, sources)
 }

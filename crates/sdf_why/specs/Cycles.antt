@@ -1,8 +1,8 @@
--- What is told of a deadlock: a cycle of links that hold too little.
-use Rattle.std.specs.Prelude.{◌≡◌, ℕ, ◌<◌, List, [], ◌∷◌, length, codes, Option, Some, None, option_and_then, is_some}
-use Rattle.std.specs.Prelude.{slice_get, slice_index_or, drop, find}
+-- What is told of a deadlock: a cycle of links that hold too little, and the other links that actors wait for.
+use Rattle.std.specs.Prelude.{◌≡◌, ◌==◌, ℕ, ◌<◌, Bool, List, [], ◌∷◌, ◌++◌, length, codes, Option, Some, None}
+use Rattle.std.specs.Prelude.{option_and_then, is_some, slice_get, slice_index_or, drop, find, if◌then◌else◌}
 use Rattle.std.specs.Option.{option_map_or}
-use Rattle.std.specs.List.{flat_map, range_with_len}
+use Rattle.std.specs.List.{flat_map, list_any, range_with_len}
 use Rattle.toml.specs.Data.{Data}
 use Rattle.sdf_graph.specs.Rates.{Shape, channel, rates, rate_at}
 use Rattle.sdf_graph.specs.Sequences.{tokens}
@@ -10,6 +10,7 @@ use Rattle.sdf_why.specs.declared.cycle.Halt.{Halt}
 use Rattle.sdf_why.specs.Words.{lack_line}
 use Rattle.sdf_why.specs.Tables.{text_at, entry}
 use Rattle.sdf_why.specs.Actors.{lines_of}
+use Rattle.sdf_why.specs.Links.{link_told}
 
 -- how often actor a has fired, and the channel that it waits for
 abbrev pub done_at : List Halt → ℕ → ℕ
@@ -61,6 +62,20 @@ lack_is g halts c d =
 unfoldable pub lack_told : Data → Shape → List Halt → ℕ → List ℕ
 lack_told d g halts c = lines_of (lack_is g halts c) (entry (codes "link") c d)
 
+abbrev pub is_among : List ℕ → ℕ → Bool
+is_among cs c = list_any (λ other. other == c) cs
+
+-- the link that actor a waits for, if it is none of these
+abbrev pub other_of : Data → List ℕ → Option ℕ → List ℕ
+other_of d cs None = []
+other_of d cs (Some c) = if is_among cs c then [] else link_told d c
+
+unfoldable pub other_told : Data → List Halt → List ℕ → ℕ → List ℕ
+other_told d halts cs a = other_of d cs (short_at halts a)
+
+abbrev pub others_told : Data → List Halt → List ℕ → List ℕ
+others_told d halts cs = flat_map (other_told d halts cs) (range_with_len 0 (length halts))
+
 -- what the walk from an actor knows: the channels that it took, and of each actor that it left the place there
 pub record IsWalk (g : Shape) (halts : List Halt) (first : ℕ) (path : List ℕ) (places : List (Option ℕ)) (actor : ℕ) :
     Type 0 where
@@ -69,7 +84,9 @@ pub record IsWalk (g : Shape) (halts : List Halt) (first : ℕ) (path : List ℕ
   pub left : (a p : ℕ) → slice_index_or places a None ≡ Some p →
       (p < length path) × IsChain g halts a (drop p path) actor
 
--- one cycle, or nothing where there is none
+-- one cycle and the other links that actors wait for, or nothing where there is no cycle
 pub data IsCycleText (d : Data) (g : Shape) (halts : List Halt) (text : List ℕ) : Type 0 where
-  cycle : (cs : List ℕ) → IsCycle g halts cs → text ≡ flat_map (lack_told d g halts) cs → IsCycleText d g halts text
+  cycle :
+      (cs : List ℕ) → IsCycle g halts cs → text ≡ flat_map (lack_told d g halts) cs ++ others_told d halts cs →
+      IsCycleText d g halts text
   none : HasNoCycle g halts → text ≡ [] → IsCycleText d g halts text

@@ -1,4 +1,4 @@
-//! What is told of a deadlock: a cycle of links that hold too little.
+//! What is told of a deadlock: a cycle of links that hold too little, and the other links that actors wait for.
 
 ghost use Rattle.std.specs.Prelude.{◌≡◌, ℕ, ◌*◌, ◌+◌, ◌-◌, ◌^◌, ◌≤◌, ◌<◌, ◌++◌, Some, length, IfOk, OnOk, MatchOption};
 ghost use Rattle.std.specs.Prelude.{string_bytes};
@@ -6,8 +6,9 @@ ghost use Rattle.std.specs.List.{All, flat_map};
 ghost use Rattle.toml.specs.View.{view};
 ghost use Rattle.sdf_graph.specs.Rates.{sum_to, rate_at};
 ghost use Rattle.sdf_why.specs.Cycles.{done_at, short_at, first_waiting, Waits, HasNoCycle, IsCycle, held, wanted};
-ghost use Rattle.sdf_why.specs.Cycles.{lack_told, IsCycleText};
+ghost use Rattle.sdf_why.specs.Cycles.{lack_told, is_among, other_told, others_told, IsCycleText};
 
+use crate::links::push_link_of;
 use crate::tables::{entry, text_at};
 use crate::words::{Lack, push_lack};
 use sdf_graph::{Channel, Graph};
@@ -200,6 +201,49 @@ fn push_lacks(
     Ok(())
 }
 
+/// Returns whether a link is one of some.
+fn is_among(links: &[usize], link: usize) -> bool
+    ensures { result ≡ is_among links.now link }
+{
+    links.iter().any(|other| *other == link)
+}
+
+/// Adds the link that an actor waits for, unless it is one of a cycle.
+#[tactic(auto, unfolding(crate::specs::Cycles::other_told))]
+fn push_other(
+    alloc: Global,
+    text: &mut String,
+    document: &Value,
+    halts: &[Halt],
+    links: &[usize],
+    actor: usize,
+) -> Result<(), AllocError>
+    ensures { OnOk result (string_bytes text.new ≡ string_bytes text.old
+        ++ other_told (view document.now) halts.now links.now actor) }
+{
+    match short_at(halts, actor) {
+        Some(link) if !is_among(links, link) => push_link_of(alloc, text, document, link),
+        _ => Ok(()),
+    }
+}
+
+/// Adds the links that actors wait for, except those of a cycle.
+fn push_others(
+    alloc: Global,
+    text: &mut String,
+    document: &Value,
+    halts: &[Halt],
+    links: &[usize],
+) -> Result<(), AllocError>
+    ensures { OnOk result (string_bytes text.new ≡ string_bytes text.old
+        ++ others_told (view document.now) halts.now links.now) }
+{
+    for actor in 0..halts.len() {
+        push_other(alloc, text, document, halts, links, actor)?;
+    }
+    Ok(())
+}
+
 /// What is told of a deadlock of a design's graph, whose actors came so far.
 pub fn cycle_text(
     alloc: Global,
@@ -214,5 +258,6 @@ pub fn cycle_text(
         return Ok(text);
     };
     push_lacks(alloc, &mut text, document, graph, halts, &links)?;
+    push_others(alloc, &mut text, document, halts, &links)?;
     Ok(text)
 }

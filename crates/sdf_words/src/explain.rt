@@ -53,8 +53,8 @@ fn word_at<'a>(words: &[&'a str], place: usize) -> Option<&'a str>
     }
 }
 
-/// The name of the fault of this number.
-fn name_of(number: u32) -> Option<&'static str>
+/// Returns the name of the fault of this number.
+pub fn fault_name(number: u32) -> Option<&'static str>
     ensures named { IfSome result (λ name. IsNamed number name.now) }
     ensures some { 1 ≤ number → number ≤ MOST_FAULT → IsSome result }
     ensures none { IfNone result ((name : List ℕ) → IsNamed number name → ⊥) }
@@ -70,7 +70,7 @@ fn is_named(number: u32, name: &str) -> bool
     ensures named { result ≡ true → IsNamed number name.now }
     ensures other { result ≡ false → IsNamed number name.now → ⊥ }
 {
-    match name_of(number) {
+    match fault_name(number) {
         Some(known) => known == name,
         None => false,
     }
@@ -134,7 +134,7 @@ pub fn explained(alloc: Global, number: u32) -> Result<String, AllocError>
     ensures { 1 ≤ number → number ≤ MOST_FAULT → IfOk result (λ text. Explains number (string_bytes text)) }
 {
     let mut text = String::new(alloc);
-    let (Some(name), Some(meaning)) = (name_of(number), meaning_of(number)) else {
+    let (Some(name), Some(meaning)) = (fault_name(number), meaning_of(number)) else {
         return Ok(text);
     };
     push_heading(&mut text, number, name)?;

@@ -3,7 +3,8 @@
 //! It stands on `clap`, on `sdf_options` for the options of a run, on `sdf_filters` for what a filter is asked for by,
 //! on `sdf_similar` for names that are like a word, and on `sdf_limits`; it knows no graph and no sound.
 //! Begin at `asked`, what can be asked for, then `commands`, what each command takes and its help says, and
-//! `command_line`, which reads it; `explain` has what each fault means. The definitions are in `specs/Limits.antt`.
+//! `command_line`, which reads it; `explain` has what each fault means. The definitions are in `specs/Limits.antt` and
+//! `specs/Names.antt`.
 #![tactic(auto)]
 
 pub mod arguments;
@@ -14,4 +15,4 @@ mod explain;
 
 pub use asked::{Batch, Conversion, Crew, MOST_FAULT, Run, Task, Why, Words};
 pub use command_line::{mistake, words};
-pub use explain::explained;
+pub use explain::{explained, fault_name};

@@ -56,13 +56,13 @@ fn where_toml_stops(alloc: Global) -> Result<String, Fail> {
     Ok(told)
 }
 
-/// The links of the loop, on which each actor waits for the other.
+/// The links of the loop, on which each actor waits for the other, and the link that the output waits for.
 const CYCLE: &str =
-    "  link 3 is fork:1 -> add:1, holds 0, wants 1\n  link 1 is add:0 -> fork:0, holds 0, wants 1\n";
+    "  link 3 is fork:1 -> add:1, holds 0, wants 1\n  link 1 is add:0 -> fork:0, holds 0, wants 1\n  link 2 is fork:0 -> out:0\n";
 
 /// The same links, where the walk to them comes from the output: it enters the loop at the fork.
 const ENTERED: &str =
-    "  link 1 is add:0 -> fork:0, holds 0, wants 1\n  link 3 is fork:1 -> add:1, holds 0, wants 1\n";
+    "  link 1 is add:0 -> fork:0, holds 0, wants 1\n  link 3 is fork:1 -> add:1, holds 0, wants 1\n  link 2 is fork:0 -> out:0\n";
 
 /// Where the loop stops: the input has fired, and each other actor waits.
 static HALTS: [Halt; 4] = [
