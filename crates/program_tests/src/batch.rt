@@ -117,20 +117,20 @@ const SAID: &[Row] = &[
     (
         "files that are not there, each by itself",
         "run plain.toml --into made none.wav less.wav",
-        "5\nnone.wav: 47 Read\nless.wav: 47 Read\n--\n\r0 of 2 files done\x1b[K…  \"none.wav\": entity not found\n…  \"less.wav\": entity not \
-         found\n--\n",
+        "5\nnone.wav: 47 Read\nless.wav: 47 Read\n--\n\r0 of 2 files done\x1b[K…  \"none.wav\": entity not \
+         found\n…  \"less.wav\": entity not found\n--\n",
     ),
     (
         "how a parallel run goes, once",
         "run plain.toml --into made in.wav --parallel 1",
-        "0\nin.wav: done\n--\none thread: one worker is asked for\n\r0 of 1 file done\x1b[K\r\x1b[Kin.wav: output 0: 2 frames, peak -76.3 dB, 0 \
-         samples at full scale\n--\n<5 -5>",
+        "0\nin.wav: done\n--\none thread: one worker is asked for\n\r0 of 1 file done\x1b[K\r\x1b[Kin.wav: output 0: \
+         2 frames, peak -76.3 dB, 0 samples at full scale\n--\n<5 -5>",
     ),
     (
         "how each parallel run went",
         "run plain.toml --into made in.wav --parallel 2",
-        "0\nin.wav: done\n--\n\r0 of 1 file done\x1b[K\r\x1b[Kin.wav: 2 workers, each on its own part of the sound after 0 periods (0 samples) of \
-         warm-up\nin.wav: output 0: 2 frames, peak -76.3 dB, 0 samples at full scale\n--\n<5 -5>",
+        "0\nin.wav: done\n--\n\r0 of 1 file done\x1b[K\r\x1b[Kin.wav: 2 workers, each on its own part of the sound \
+         after 0 periods (0 samples) of warm-up\nin.wav: output 0: 2 frames, peak -76.3 dB, 0 samples at full scale\n--\n<5 -5>",
     ),
     (
         "how many files are done, one after the other",
