@@ -130,7 +130,8 @@ const SAID: &[Row] = &[
         "how each parallel run went",
         "run plain.toml --into made in.wav --parallel 2",
         "0\nin.wav: done\n--\n\r0 of 1 file done\x1b[K\r\x1b[Kin.wav: 2 workers, each on its own part of the sound \
-         after 0 periods (0 samples) of warm-up\nin.wav: output 0: 2 frames, peak -76.3 dB, 0 samples at full scale\n--\n<5 -5>",
+         after 0 periods (0 samples) of warm-up\nin.wav: output 0: 2 frames, peak -76.3 dB, 0 samples at full \
+         scale\n--\n<5 -5>",
     ),
     (
         "how many files are done, one after the other",
