@@ -69,6 +69,19 @@ unfoldable pub twice : ℕ → Data → List ℕ
 twice a d = actor_told d a
     ++ lines_of (same_name a d) (actor_text (codes "name") d a)
 
+-- what the key `format` is, and which kinds want a later one
+abbrev pub kind_format : Data → List ℕ
+kind_format d =
+    key_line (codes "format") (get (codes "format") d) (Some (codes "2 for clip, deal, gather and offset"))
+
+-- what a name may have
+unfoldable pub name_rule : List ℕ → List ℕ
+name_rule key =
+    if bytes_eq key (codes "file") then
+    codes "  a file's name has 1 to 64 of A-Z a-z 0-9 _ - ., the first no dot\n"
+    else
+    codes "  a name has 1 to 32 of A-Z a-z 0-9 _ -, the first a letter\n"
+
 -- so many tables
 abbrev pub up_to : ℕ → ℕ → List ℕ
 up_to least most = decimal least ++ codes ".." ++ decimal most
@@ -86,11 +99,12 @@ told kinds (unknown_key place key) d files =
     place_key kinds place key d files ++ near_key place key d ++ known_keys kinds place key d
 told kinds (missing_key place key) d files = place_key kinds place key d files
 told kinds (wrong_type place key) d files = place_key kinds place key d files
-told kinds (bad_name place key) d files = place_key kinds place key d files
+told kinds (bad_name place key) d files = place_key kinds place key d files ++ name_rule key
 told kinds (name_twice a) d files = twice a d
 told kinds (unknown_kind a) d files =
-    actor_told d a ++ near_kind a d ++ key_line (codes "format") (get (codes "format") d) None
-told kinds (bad_port c key) d files = link_key c key None d ++ near_end c key d
+    actor_told d a ++ near_kind a d ++ kind_format d
+told kinds (bad_port c key) d files =
+    link_key c key (Some (codes "NAME or NAME:PORT, a port of 0..15")) d ++ near_end c key d
 told kinds (no_file name) d files = file_user name d
 
 -- what is told of the bytes of a graph file

@@ -5,7 +5,8 @@ ghost use Rattle.toml.specs.View.{view};
 ghost use Rattle.sdf_document.specs.Fault.{place_view, fault_view};
 ghost use Rattle.sdf_document.specs.Lists.{files_view, file_named};
 ghost use Rattle.sdf_why.specs.Documents.{file_key, place_key, place_format, beside_is, listed_at, row_is, keys_are};
-ghost use Rattle.sdf_why.specs.Documents.{known_keys, same_name, twice, counted, told, document_text};
+ghost use Rattle.sdf_why.specs.Documents.{name_rule};
+ghost use Rattle.sdf_why.specs.Documents.{known_keys, kind_format, same_name, twice, counted, told, document_text};
 
 use crate::actors::{push_actor_key, push_actor_of, push_first};
 use crate::limits::row_of;
@@ -223,6 +224,32 @@ pub(crate) fn push_counted(
     )
 }
 
+/// Adds what the key `format` is, and which kinds want a later one.
+fn push_kind_format(alloc: Global, text: &mut String, graph: &Value) -> Result<(), AllocError>
+    ensures { OnOk result (string_bytes text.new ≡ string_bytes text.old ++ kind_format (view graph.now)) }
+{
+    let format = value_at(graph, "format");
+    push_key(
+        alloc,
+        text,
+        "format",
+        format,
+        Some("2 for clip, deal, gather and offset"),
+    )
+}
+
+/// Adds what a name may have.
+#[tactic(auto, unfolding(crate::specs::Documents::name_rule))]
+fn push_name_rule(text: &mut String, key: &str) -> Result<(), AllocError>
+    ensures { OnOk result (string_bytes text.new ≡ string_bytes text.old ++ name_rule key.now) }
+{
+    if key == "file" {
+        text.push_str("  a file's name has 1 to 64 of A-Z a-z 0-9 _ - ., the first no dot\n")
+    } else {
+        text.push_str("  a name has 1 to 32 of A-Z a-z 0-9 _ -, the first a letter\n")
+    }
+}
+
 /// Adds the lines of a fault.
 fn push_told(
     alloc: Global,
@@ -240,8 +267,11 @@ fn push_told(
         DocumentFault::ChannelCount => push_counted(alloc, text, graph, "link", 0, MOST_LINKS),
         DocumentFault::KitValue(place, key)
         | DocumentFault::MissingKey(place, key)
-        | DocumentFault::WrongType(place, key)
-        | DocumentFault::BadName(place, key) => push_place(alloc, text, source, place, key),
+        | DocumentFault::WrongType(place, key) => push_place(alloc, text, source, place, key),
+        DocumentFault::BadName(place, key) => {
+            push_place(alloc, text, source, place, key)?;
+            push_name_rule(text, key)
+        }
         DocumentFault::NotToml(_) => Ok(()),
         DocumentFault::Format(place) => push_format(alloc, text, source, place),
         DocumentFault::UnknownKey(place, key) => {
@@ -253,10 +283,17 @@ fn push_told(
         DocumentFault::UnknownKind(number) => {
             push_actor_of(alloc, text, graph, *number)?;
             push_near_kind(alloc, text, graph, *number)?;
-            push_key(alloc, text, "format", value_at(graph, "format"), None)
+            push_kind_format(alloc, text, graph)
         }
         DocumentFault::BadPort(number, key) => {
-            push_link_key(alloc, text, graph, *number, key, None)?;
+            push_link_key(
+                alloc,
+                text,
+                graph,
+                *number,
+                key,
+                Some("NAME or NAME:PORT, a port of 0..15"),
+            )?;
             push_near_end(alloc, text, graph, *number, key)
         }
         DocumentFault::NoFile(name) => push_first(alloc, text, graph, "file", name.as_str()),

@@ -64,7 +64,8 @@ static ROWS: [Row; 22] = [
     Row {
         graph: "format = 1\nlink = []\n[[actor]]\nname = \"\\u001b\"\nkind = \"fork\"\n",
         told: "54 BadName actor 0 key name\n  \
-            actor 0 is \"\\u{1b}\", a fork\n  name = \"\\u{1b}\"\n",
+            actor 0 is \"\\u{1b}\", a fork\n  name = \"\\u{1b}\"\n  \
+            a name has 1 to 32 of A-Z a-z 0-9 _ -, the first a letter\n",
     },
     Row {
         graph: "format = 1\nlink = []\nactor = [{ name = \"a\", kind = \"fork\", ways = 2 },\n\
@@ -75,23 +76,24 @@ static ROWS: [Row; 22] = [
     Row {
         graph: "format = 1\nlink = []\n[[actor]]\nname = \"d\"\nkind = \"deal\"\n",
         told: "56 UnknownKind actor 0\n  \
-            actor 0 is \"d\", a deal\n  format = 1\n",
+            actor 0 is \"d\", a deal\n  format = 1, wants 2 for clip, deal, gather and offset\n",
     },
     Row {
         graph: "format = 1\nactor = [{ name = \"a\", kind = \"fork\", ways = 2 }]\n\
             link = [{ from = \"a\", to = \"a:16\" }]\n",
         told: "57 BadPort link 0 key to\n  \
-            link 0 is a:0 -> a:16\n  to = \"a:16\"\n",
+            link 0 is a:0 -> a:16\n  to = \"a:16\", wants NAME or NAME:PORT, a port of 0..15\n",
     },
     Row {
         graph: "format = 1\nlink = []\n[[actor]]\nname = \"d\"\nkind = \"gian\"\n",
         told: "56 UnknownKind actor 0\n  \
-            actor 0 is \"d\", a gian\n  did you mean \"gain\"?\n  format = 1\n",
+            actor 0 is \"d\", a gian\n  did you mean \"gain\"?\n  \
+            format = 1, wants 2 for clip, deal, gather and offset\n",
     },
     Row {
         graph: "format = 1\nlink = []\n[[actor]]\nname = \"d\"\nkind = \"resampler\"\n",
         told: "56 UnknownKind actor 0\n  \
-            actor 0 is \"d\", a resampler\n  format = 1\n",
+            actor 0 is \"d\", a resampler\n  format = 1, wants 2 for clip, deal, gather and offset\n",
     },
     Row {
         graph: "format = 1\nlink = []\n[[actor]]\nname = \"d\"\nkind = \"gain\"\nshfit = 1\n",
@@ -120,7 +122,8 @@ static ROWS: [Row; 22] = [
         graph: "format = 1\nactor = [{ name = \"half\", kind = \"gain\", gain = 1, shift = 1 }, { name = \"have\",\n\
             kind = \"fork\", ways = 2 }]\nlink = [{ from = \"hale:0\", to = \"have\" }]\n",
         told: "57 BadPort link 0 key from\n  \
-            link 0 is hale:0 -> have:0\n  from = \"hale:0\"\n  did you mean \"half\"?\n",
+            link 0 is hale:0 -> have:0\n  from = \"hale:0\", wants NAME or NAME:PORT, a port of 0..15\n  \
+            did you mean \"half\"?\n",
     },
     Row {
         graph: "format = 3\n",
