@@ -31,7 +31,7 @@ const PARALLEL: &[Row] = &[
         "stretched parallel 5 why",
         "run stretched.toml silence.wav out.wav --parallel 5 --why",
         "0\n--\n5 workers, each on its own part of the sound after 0 periods (0 samples) of warm-up\n\
-         output 0: 1048576 frames, no peak, 0 samples at full scale\n--\n<another sound>",
+         output 0: 768000 frames, no peak, 0 samples at full scale\n--\n<another sound>",
     ),
     (
         "kept parallel 3 why",

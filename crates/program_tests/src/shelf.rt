@@ -73,11 +73,11 @@ link = [{ from = "in", to = "fork" }, { from = "fork:0", to = "up" }, { from = "
     { from = "same", to = "add:0" }, { from = "none", to = "add:1" }, { from = "nothing", to = "add:2" },
     { from = "add", to = "out" }]"#;
 
-/// Makes 65,536 samples of each one.
+/// Makes 48,000 samples of each one.
 const STRETCHED: &str = r#"format = 1
-actor = [{ name = "in", kind = "input", channel = 0 }, { name = "first", kind = "interpolate", factor = 64 },
-    { name = "second", kind = "interpolate", factor = 64 }, { name = "third", kind = "interpolate", factor = 16 },
-    { name = "out", kind = "output", channel = 0, block = 64 }]
+actor = [{ name = "in", kind = "input", channel = 0 }, { name = "first", kind = "interpolate", factor = 60 },
+    { name = "second", kind = "interpolate", factor = 50 }, { name = "third", kind = "interpolate", factor = 16 },
+    { name = "out", kind = "output", channel = 0, block = 60 }]
 link = [{ from = "in", to = "first" }, { from = "first", to = "second" }, { from = "second", to = "third" },
     { from = "third", to = "out" }]"#;
 
