@@ -7,3 +7,4 @@ pub mod Roots
 pub mod Edges
 pub mod Grown
 pub mod Mores
+pub mod Theorems

@@ -1,4 +1,4 @@
--- What is told of a deadlock: a cycle of links that hold too little, and the other links that actors wait for.
+-- The text about a deadlock: a cycle of links that hold too little, and the other links for which actors wait.
 use Rattle.std.specs.Prelude.{◌≡◌, ◌==◌, ℕ, ◌<◌, Bool, List, [], ◌∷◌, ◌++◌, length, codes, Option, Some, None}
 use Rattle.std.specs.Prelude.{option_and_then, is_some, slice_get, slice_index_or, drop, find, if◌then◌else◌}
 use Rattle.std.specs.Option.{option_map_or}

@@ -1,4 +1,5 @@
-//! What is told of a deadlock: a cycle of links that hold too little, and the other links that actors wait for.
+//! The text about a deadlock. It tells of a cycle of links that hold too little, and of the other links for which
+//! actors wait.
 
 ghost use Rattle.std.specs.Prelude.{◌≡◌, ℕ, ◌*◌, ◌+◌, ◌-◌, ◌^◌, ◌≤◌, ◌<◌, ◌++◌, Some, length, IfOk, OnOk, MatchOption};
 ghost use Rattle.std.specs.Prelude.{string_bytes};

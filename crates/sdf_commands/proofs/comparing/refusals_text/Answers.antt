@@ -1,6 +1,6 @@
 use Rattle.std.proofs.Common.{◌+◌, [], string_bytes}
 use Rattle.sdf_commands.specs.Refusals.{refusal_of}
-use Rattle.sdf_commands.proofs.Lines.{line_added}
+use Rattle.sdf_why.proofs.Theorems.{line_added}
 use Rattle.sdf_commands.proofs.comparing.refusals_text.Goals as goal
 
 pub loop-number-preserved : goal.loop-number-preserved
