@@ -2,7 +2,7 @@
 import os
 import threading
 
-from judges import NO_READ, NO_WRITE, NO_WRITE_IN_JSON, ample_or, behind, only, printed_or, timed
+from judges import NO_MEMORY, NO_READ, NO_WRITE, NO_WRITE_IN_JSON, ample_or, behind, only, printed_or, timed
 from machine import HERE, SOUNDS, Folder, describe, run
 from words import COSTED, MADE, PRINTED, RUNS, SDFW, WAYS, run_words, stream_words, way_words
 
@@ -31,21 +31,32 @@ def reads_of_sdfw(lists):
 PIECE = 2 * 131072 * 2
 
 
-def pieces_of_sdfw(lists):
-    """A parallel run of a sound of two whole pieces and some frames. While a piece is run, the one before it is written
-    and the next one is read. So a read that fails leaves all whole pieces but the last, and a write a front."""
-    name, words = "sdfw run three pieces parts", run_words("pieces.toml", "longest.wav", "parts")
-    allowed, left = only(NO_READ, PIECE), set()
+def counted(allowed):
+    """A judge that also keeps how many bytes the runs left in OUT."""
+    left = set()
 
     def judge(ended, ample, at):
         left.add(len(ended.output or b""))
         return allowed(ended, ample, at)
 
-    lists.refuse(f"{name}: failing reads", words, "read", judge)
-    if left:
-        lists.cases(f"{name}: failing reads, in each piece", [
-            (f"{size} bytes are left", lambda size=size: size in left or f"only {sorted(left)}")
-            for size in (0, 44, 44 + PIECE)])
+    return judge, left
+
+
+def were_left(sizes, left):
+    return [(f"{size} bytes are left", lambda size=size: size in left or f"only {sorted(left)}") for size in sizes]
+
+
+def pieces_of_sdfw(lists):
+    """A parallel run of a sound of two whole pieces and some frames, in parts of several stretches. While a piece is
+    run, the one before it is written and the next one is read. So a read that fails leaves all whole pieces but the
+    last, a write a front, and refused memory what was made before."""
+    name, words = "sdfw run three pieces parts", run_words("pieces.toml", "longest.wav", "parts")
+    for call, allowed, sizes in (("read", only(NO_READ, PIECE), (0, 44, 44 + PIECE)),
+                                 ("memory", ample_or(NO_MEMORY, 2048), (0, 44, 44 + PIECE, 44 + 2 * PIECE))):
+        judge, left = counted(allowed)
+        lists.refuse(f"{name}: {call} refused", words, call, judge)
+        if left:
+            lists.cases(f"{name}: {call} refused, in each piece", were_left(sizes, left))
     for how in ("error", "zero", "interrupt"):
         lists.refuse(f"{name}: writes, {how}", words, "write", only(NO_WRITE, text=False), how=how)
     cases = []
