@@ -1,17 +1,22 @@
 -- What proofs of other crates cite of this one: laws of histories and nets, by their lemmas, for actors of any steps;
--- and lemmas about parts of lists that these need.
-use Rattle.std.proofs.Common.{◌≡◌, ℕ, ◌+◌, ◌≤◌, ◌<◌, List, ◌++◌, ◌∙◌, length, get_or, take, drop, arith}
+-- and lemmas about parts of lists, and about the numbers of a net's lists, that these need.
+use Rattle.std.proofs.Common.{◌≡◌, ℕ, ◌+◌, ◌≤◌, ◌<◌, List, ◌++◌, ◌∙◌, Some, length, get_or, take, drop, arith}
 use Rattle.std.specs.List.{flat_map, between}
 use Rattle.std.proofs.lemmas.List.{take_all}
 use Rattle.sdf_graph.proofs.Theorems.{graphs_have_periods}
+use Rattle.sdf_actor.specs.declared.node.Node.{Node}
+use Rattle.sdf_actor.specs.declared.node.Node.TheVariants.{Sink}
+use Rattle.sdf_actor.specs.declared.sides.Lists.{Lists}
 use Rattle.sdf_actor.specs.GoingOn.{HistoriesGoOn, RestsGoOn, ArrivalsGoOn, PeriodsAreWhole}
 use Rattle.sdf_actor.specs.Laws.{HistoryIsUnique, HistoriesGrow, NetsAreWired, PortsHaveChannels, TakenStays}
 use Rattle.sdf_actor.specs.Laws.{PutIsDealt, PutStays}
 use Rattle.sdf_actor.specs.Locals.{LocalsBegin, LocalsGrow, LocalsMeet}
 use Rattle.sdf_actor.specs.Nets.{wiring, answers}
+use Rattle.sdf_actor.specs.Sides.{list_of, list_count}
 use Rattle.sdf_actor.specs.Steps.{Steps}
 use Rattle.sdf_actor.proofs.Agree.{taken_before_agrees}
 use Rattle.sdf_actor.proofs.Continuing.{history_goes_on, rest_goes_on, arrivals_go_on as arrivals_on}
+use Rattle.sdf_actor.proofs.Counts.{list_below as is_below}
 use Rattle.sdf_actor.proofs.Dealt.{put_is_dealt as is_dealt, put_agrees}
 use Rattle.sdf_actor.proofs.GoesOn.{between_past as part_past}
 use Rattle.sdf_actor.proofs.HistoryLaws.{history_is_unique as is_unique, histories_grow as all_grow}
@@ -91,3 +96,8 @@ pub flat_map_apart : {X : Type 0} (f g : ℕ → List X) (cs : List ℕ) →
     ((n : ℕ) → n < length cs → length (f (get_or cs n 0)) ≡ length (g (get_or cs n 0))) →
     flat_map f cs ≡ flat_map g cs → (n : ℕ) → n < length cs → f (get_or cs n 0) ≡ g (get_or cs n 0)
 flat_map_apart = all_apart
+
+-- the number of a list is below their count
+pub list_below : {A : Type 0} (lists : Lists) (xs : List (Node A)) (a e : ℕ) → a < length xs →
+    list_of lists (get_or xs a (Sink 0 0)) ≡ Some e → e < list_count lists xs
+list_below = is_below

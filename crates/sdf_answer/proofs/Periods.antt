@@ -1,37 +1,13 @@
 -- The lists of a net's nodes.
-use Rattle.std.proofs.Common.{◌≡◌, ℕ, zero, suc, ◌+◌, ◌≤◌, ◌<◌, List, [], ◌∷◌, length, max, get_or, ap, inl, inr, ◌⊎◌}
-use Rattle.std.proofs.Common.{arith, Some}
-use Rattle.std.specs.List.{fold}
-use Rattle.std.specs.Option.{option_map_or}
+use Rattle.std.proofs.Common.{◌≡◌, ℕ, ◌≤◌, ◌<◌, Some, length, ap, inl, inr, ◌⊎◌, arith}
 use Rattle.std.proofs.lemmas.Bool.{cases_lt}
-use Rattle.sdf_actor.specs.declared.node.Node.{Node}
 use Rattle.sdf_actor.specs.declared.node.Node.TheVariants.{Sink}
-use Rattle.sdf_actor.specs.declared.sides.Lists.{Lists}
 use Rattle.sdf_actor.specs.declared.sides.Lists.TheVariants.{Outputs}
 use Rattle.sdf_actor.specs.Nets.{Netlist, node}
 use Rattle.sdf_actor.specs.Sides.{list_of, list_count}
 use Rattle.sdf_actor.specs.NetFaults.{HasLists}
+use Rattle.sdf_actor.proofs.Theorems.{list_below}
 use Rattle.sdf_answer.specs.Periods.{AreApart, HasSinks}
-
--- the number of a list is below their count
-count_from : {A : Type 0} (side : Lists) (m : ℕ) (xs : List (Node A)) →
-    m ≤ fold (λ m x. max m (option_map_or (λ e. e + 1) (list_of side x) 0)) m xs
-count_from side m [] = omega arith
-count_from side m (x ∷ xs) = omega (arith, count_from side (max m (option_map_or (λ e. e + 1) (list_of side x) 0)) xs)
-
-below_from : {A : Type 0} (side : Lists) (m : ℕ) (xs : List (Node A)) (a e : ℕ) (d : Node A) → a < length xs →
-    list_of side (get_or xs a d) ≡ Some e →
-    e < fold (λ m x. max m (option_map_or (λ e. e + 1) (list_of side x) 0)) m xs
-below_from side m [] a e d l is = absurd (omega arith)
-below_from side m (x ∷ xs) zero e d l is =
-    let here : option_map_or (λ e. e + 1) (list_of side x) 0 ≡ e + 1 = ap (λ o. option_map_or (λ e. e + 1) o 0) is in
-    omega (arith, count_from side (max m (option_map_or (λ e. e + 1) (list_of side x) 0)) xs)
-below_from side m (x ∷ xs) (suc a) e d l is = below_from side (max m (option_map_or (λ e. e + 1) (list_of side x) 0)) xs
-    a e d (omega arith) is
-
-pub list_below : {A : Type 0} (side : Lists) (xs : List (Node A)) (a e : ℕ) (d : Node A) → a < length xs →
-    list_of side (get_or xs a d) ≡ Some e → e < list_count side xs
-list_below side xs a e d l is = below_from side 0 xs a e d l is
 
 -- no two sinks make one list
 pub sinks_apart : {A T : Type 0} (n : Netlist A T) → HasLists n.nodes → AreApart n
@@ -51,7 +27,7 @@ sinks_apart n has a d e x y la ld xa xd = go (cases_lt a d) (cases_lt d a)
 -- the list of a sink is one of the outputs
 pub sinks_below : {A T : Type 0} (n : Netlist A T) (a ext block : ℕ) → a < length n.nodes → node n a ≡ Sink ext block →
     ext < list_count Outputs n.nodes
-sinks_below n a ext block l x = list_below Outputs n.nodes a ext (Sink 0 0) l (ap (list_of Outputs) x)
+sinks_below n a ext block l x = list_below Outputs n.nodes a ext l (ap (list_of Outputs) x)
 
 pub has_sinks : {A T : Type 0} (n : Netlist A T) → HasLists n.nodes → HasSinks n
 has_sinks n has = record { apart = sinks_apart n has; below = sinks_below n }

@@ -15,11 +15,11 @@ use Rattle.sdf_actor.specs.Nets.{Netlist, node, wiring, SourceReaches, InputsRea
 use Rattle.sdf_actor.specs.Graphs.{graph_of, channel_of}
 use Rattle.sdf_actor.specs.Sides.{list_of, block_of, period_samples}
 use Rattle.sdf_actor.specs.NetFaults.{IsAccepted}
+use Rattle.sdf_actor.proofs.Theorems.{list_below}
 use Rattle.sdf_answer.specs.Answer.{HasInputs, periods_of}
 use Rattle.sdf_answer.specs.GraphLaws.{GraphLaws}
 use Rattle.sdf_answer.specs.Laws.{NetsCanRun}
 use Rattle.sdf_answer.specs.Periods.{IsPaced}
-use Rattle.sdf_answer.proofs.Periods.{list_below}
 
 -- what begins anew after each period comes to as much in each
 linear : (f : ℕ → ℕ) (q : ℕ) → f 0 ≡ 0 → ((i : ℕ) → f (i + q) ≡ f i + f q) → (b : ℕ) → f (b * q) ≡ b * f q
@@ -120,7 +120,7 @@ module _ {A S T : Type 0} (laws : GraphLaws) (s : Steps A S T) (n : Netlist A T)
         let below : ext < length inputs = omega (
           arith,
           has.count,
-          list_below Inputs n.nodes a ext (Sink 0 0) l (ap (list_of Inputs) x),
+          list_below Inputs n.nodes a ext l (ap (list_of Inputs) x),
         ) in
         (below, omega (arith, asks a ext block l x, has.enough ext below))
 

@@ -1,10 +1,9 @@
 -- What a history leaves after whole periods is left by a run that read all of its input.
 use Rattle.std.proofs.Common.{◌≡◌, inl, inr, ◌⊎◌, ℕ, zero, suc, ◌+◌, ◌-◌, ◌*◌, ◌≤◌, ◌<◌, List, [], ◌∷◌, ◌++◌, length, map}
-use Rattle.std.proofs.Common.{get_or, take, drop, max, Some, refl, sym, ap, ◌∙◌, subst, arith, append-nil}
+use Rattle.std.proofs.Common.{get_or, take, drop, Some, refl, sym, ap, ◌∙◌, subst, arith, append-nil}
 use Rattle.std.proofs.Common.{mul-le-mul_right, zero-mul}
 use Rattle.std.specs.Prelude.{Bool, IsTrue, cond, is_some, not, true, false}
-use Rattle.std.specs.List.{between, flat_map, fold, position_or_len, range_with_len}
-use Rattle.std.specs.Option.{option_map_or}
+use Rattle.std.specs.List.{between, flat_map, position_or_len, range_with_len}
 use Rattle.std.proofs.lemmas.Bool.{cases_lt}
 use Rattle.std.proofs.lemmas.List.{get_or_append_left, get_or-append-add, length-append, length-drop, length-take}
 use Rattle.std.proofs.lemmas.List.{get_or_past, length-take-le, take-take}
@@ -16,7 +15,6 @@ use Rattle.sdf_sched.specs.Period.{Schedule}
 use Rattle.sdf_actor.specs.declared.node.Node.{Node}
 use Rattle.sdf_actor.specs.declared.node.Node.TheVariants.{Source, Sink, Inner}
 use Rattle.sdf_actor.specs.declared.rest.Rest.{Rest}
-use Rattle.sdf_actor.specs.declared.sides.Lists.{Lists}
 use Rattle.sdf_actor.specs.declared.sides.Lists.TheVariants.{Inputs, Outputs}
 use Rattle.sdf_actor.specs.Graphs.{graph_of}
 use Rattle.sdf_actor.specs.Histories.{put, taken, taken_before}
@@ -26,28 +24,12 @@ use Rattle.sdf_actor.specs.Nets.{IsHistoryOf}
 use Rattle.sdf_actor.specs.Rests.{IsRest}
 use Rattle.sdf_actor.specs.Sides.{block_of, first_on, list_count, list_of, period_samples}
 use Rattle.sdf_actor.specs.Steps.{Steps}
-use Rattle.sdf_actor.proofs.Theorems.{between_agree, ports_have_channels}
+use Rattle.sdf_actor.proofs.Theorems.{between_agree, list_below, ports_have_channels}
 use Rattle.sdf_answer.specs.Answer.{HasInputs, periods_of}
 use Rattle.sdf_answer.specs.Feeds.{AreFull}
 use Rattle.sdf_answer.specs.Periods.{HasPeriod}
 use Rattle.sdf_answer.proofs.Theorems.{blocks_are_counted}
 use Rattle.sdf_fission.specs.Laws.{WasLeft, RestsWereLeft}
-
--- the number of a list is below their count
-abbrev past : {A : Type 0} → Lists → ℕ → Node A → ℕ
-past side m x = max m (option_map_or (λ e. e + 1) (list_of side x) 0)
-
-grows : {A : Type 0} (side : Lists) (m : ℕ) (xs : List (Node A)) → m ≤ fold (past side) m xs
-grows side m [] = omega arith
-grows side m (x ∷ xs) = omega (arith, grows side (past side m x) xs)
-
-below : {A : Type 0} (side : Lists) (m : ℕ) (xs : List (Node A)) (a e : ℕ) (d : Node A) → a < length xs →
-    list_of side (get_or xs a d) ≡ Some e → e < fold (past side) m xs
-below side m [] a e d l is = absurd (omega arith)
-below side m (x ∷ xs) zero e d l is =
-    let here : option_map_or (λ e. e + 1) (list_of side x) 0 ≡ e + 1 = ap (λ o. option_map_or (λ e. e + 1) o 0) is in
-    omega (arith, here, grows side (past side m x) xs)
-below side m (x ∷ xs) (suc a) e d l is = below side (past side m x) xs a e d (omega arith) is
 
 -- the first place that passes a test
 passes : {X : Type 0} (p : X → Bool) (xs : List X) (d : X) → position_or_len p xs < length xs →
@@ -255,7 +237,7 @@ module _ {A S T : Type 0} (s : Steps A S T) (n : Netlist A T) (p : Schedule) (pe
   same_answer a l (Source ext block) x i h seen now long =
       let xs : List T = get_or inputs ext [] in
       let reach : size ≤ length xs = enough a ext block l x in
-      let there : ext < count = below Inputs 0 n.nodes a ext (Sink 0 0) l (ap (list_of Inputs) x) in
+      let there : ext < count = list_below Inputs n.nodes a ext l (ap (list_of Inputs) x) in
       let front : take size xs ≡ take size (get_or given ext []) =
       sym (take-take size size xs (omega arith)) ∙ ap (take size) (sym (given_at ext there ∙ pick_is ext reach)) in
       let more : (i + 1) * block ≤ k a * block = mul-le-mul_right block (let z : i + 1 ≤ k a = omega (arith, h) in z) in
@@ -335,7 +317,7 @@ module _ {A S T : Type 0} (s : Steps A S T) (n : Netlist A T) (p : Schedule) (pe
           is = history_of;
           count = outputs.1;
           each = λ a e block l x. outputs.2 a e block l x
-              (below Outputs 0 n.nodes a e (Sink 0 0) l (ap (list_of Outputs) x));
+              (list_below Outputs n.nodes a e l (ap (list_of Outputs) x));
           left = is.left;
         };
       }

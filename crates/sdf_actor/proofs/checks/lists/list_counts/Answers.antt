@@ -12,7 +12,7 @@ returns g c =
       record {
         once = c.in_default.ensures;
         input = omega (arith, c.list_count-inputs.ensures);
-        output = omega (arith, list_below c.args.nodes.now Outputs zero.0 0 zero.1 zero.2);
+        output = omega (arith, list_below Outputs c.args.nodes.now zero.0 0 zero.1 zero.2);
         outputs = λ e h. c.loop-channel.invariant e (omega
             (arith, c.max-channel-end.ensures, c.list_count-outputs.ensures));
       },
