@@ -1,9 +1,11 @@
 -- Stretches of taps: as many sixteens as no lane of their products with 16-bit samples needs more than 32 bits for.
-use Rattle.std.specs.Prelude.{ℕ, zero, suc, ◌≡◌, ◌<◌, ◌≤◌, ◌+◌, ◌*◌, ◌/◌, max, List, [], ◌∷◌, ℤ, unsigned_abs, length}
-use Rattle.std.specs.Prelude.{take, drop, ◌%◌, ◌^◌, slice_index_or, FitsSigned, true}
+use Rattle.std.specs.Prelude.{ℕ, zero, suc, ◌≡◌, ◌<◌, ◌≤◌, ◌+◌, ◌-◌, ◌*◌, ◌/◌, max, List, [], ◌∷◌, ℤ, unsigned_abs, length}
+use Rattle.std.specs.Prelude.{take, drop, ◌%◌, ◌^◌, slice_index_or, FitsSigned, Bool, true, ◌&&◌, ◌||◌, nat_lt, nat_le}
 use Rattle.std.specs.Int.{w16, w32}
+use Rattle.std.specs.List.{list_all}
 use Rattle.std.specs.Simd.Lanes.{Each1}
 use Rattle.sdf_kit.specs.declared.branches.Limits.{Limits}
+use Rattle.sdf_kit.specs.declared.branches.TheConstants.{LEAST_PEAK_TO_SPLIT, STRETCH_COST}
 use Rattle.sdf_kit.specs.declared.dots.FourDots.{FourDots}
 use Rattle.sdf_kit.specs.Dots.{wrap, AreLanes, total, total_abs, dot}
 
@@ -26,6 +28,20 @@ IsStretch n h = weight_of n h ≤ 65535
 pub record IsReach (n : ℕ) (h : List ℤ) : Type 0 where
   pub within : 16 * n ≤ length h
   pub stretch : IsStretch n h
+
+-- how many stretches sums go by after the next n sixteens, if the stretch from each sixteen on has so many: each begins
+-- where the last one ends
+abbrev pub walked : ℕ → List ℕ → ℕ
+walked n [] = 0
+walked zero (x ∷ xs) = 1 + walked (x - 1) xs
+walked (suc n) (x ∷ xs) = walked n xs
+
+-- whether sums of loud samples of 16 bits go by stretches: one begins at each sixteen, and if samples of up branches can
+-- be split, the stretches after the first one of each branch cost less than a second pass over the sixteens
+abbrev pub is_wide : List ℕ → ℕ → ℕ → Bool
+is_wide lens up peak = list_all (λ n. nat_lt 0 n) lens
+    && (nat_lt peak LEAST_PEAK_TO_SPLIT
+    || nat_le (STRETCH_COST * walked 0 lens) (length lens + STRETCH_COST * up))
 
 -- how many sixteens the stretch from each sixteen on has, at least itself
 pub record AreStretches (h : List ℤ) (lens : List ℕ) : Type 0 where

@@ -1,13 +1,13 @@
 //! The branches of a polyphase filter: the taps of each phase in one piece of memory.
 
 ghost use Rattle.std.specs.Prelude.{ℕ, ◌≡◌, ◌+◌, ◌-◌, ◌*◌, ◌/◌, ◌%◌, ◌<◌, ◌≤◌, length, map, take, drop, true};
-ghost use Rattle.std.specs.Prelude.{slice_index_or};
-ghost use Rattle.std.specs.List.{range_with_len};
+ghost use Rattle.std.specs.Prelude.{slice_index_or, nat_lt};
+ghost use Rattle.std.specs.List.{list_all, range_with_len};
 ghost use Rattle.sdf_kit.specs.Samples.{sample};
 ghost use Rattle.sdf_kit.specs.Fir.{AreTaps};
 ghost use Rattle.sdf_kit.specs.Dots.{total_abs};
 ghost use Rattle.sdf_kit.specs.Branches.{AreBranches, branch_at, stretches_at};
-ghost use Rattle.sdf_kit.specs.Stretches.{IsReach};
+ghost use Rattle.sdf_kit.specs.Stretches.{IsReach, is_wide, walked};
 
 use crate::arithmetic::MOST_SUM;
 use crate::stretches::{Branch, reach};
@@ -160,38 +160,36 @@ fn reach_from(taps: &[i16], begins: bool) -> u8
 fn is_wide(stretches: &[u8], up: u32, peak: u32) -> bool
     requires up { up ≤ 64 }
     requires few { length stretches.now ≤ 128 }
-    ensures { result ≡ true → (k : ℕ) → k < length stretches.now → 1 ≤ slice_index_or stretches.now k 0 }
+    ensures { result ≡ is_wide stretches.now up peak }
 {
     let spared = stretches.len() + STRETCH_COST * up as usize;
     are_some(stretches)
         && (peak < LEAST_PEAK_TO_SPLIT || STRETCH_COST * walked(stretches) <= spared)
 }
 
+/// Returns whether none is 0.
+fn are_some(stretches: &[u8]) -> bool
+    ensures { result ≡ list_all (λ n. nat_lt 0 n) stretches.now }
+{
+    stretches.iter().all(|sixteens| 0 < *sixteens)
+}
+
 /// Counts the stretches that sums go by: each begins where the last one ends.
 fn walked(stretches: &[u8]) -> usize
-    ensures { result ≤ length stretches.now }
+    ensures counted { result ≡ walked 0 stretches.now }
+    ensures few { result ≤ length stretches.now }
 {
     let mut walked = 0;
-    let mut next = 0;
-    for (k, sixteens) in stretches.iter().enumerate() {
-        if k == next {
-            next = k + usize::from(*sixteens);
+    let mut left = 0;
+    for sixteens in stretches {
+        if left == 0 {
             walked += 1;
+            left = sixteens.saturating_sub(1);
+        } else {
+            left -= 1;
         }
     }
     walked
-}
-
-/// Whether none is 0.
-fn are_some(stretches: &[u8]) -> bool
-    ensures { result ≡ true → (k : ℕ) → k < length stretches.now → 1 ≤ slice_index_or stretches.now k 0 }
-{
-    for sixteens in stretches {
-        if *sixteens == 0 {
-            return false;
-        }
-    }
-    true
 }
 
 /// The greatest sum of absolute values of a branch.

@@ -1,5 +1,10 @@
-use Rattle.std.proofs.Common.{◌≤◌}
+use Rattle.std.proofs.Common.{◌≡◌, ◌+◌, ◌≤◌, drop}
+use Rattle.sdf_kit.specs.Stretches.{walked}
 use Rattle.sdf_kit.proofs.branches.walked.Given as goal
 
-abbrev pub invariant-loop-k : goal.invariant-loop-k
-invariant-loop-k l = l.walked ≤ l.k
+-- the stretches so far, and those of what is left, are all
+abbrev pub invariant-loop-sixteens : goal.invariant-loop-sixteens
+invariant-loop-sixteens l = record {
+  counted : l.walked + walked l.left (drop l.sixteens-index l.stretches) ≡ walked 0 l.stretches;
+  few : l.walked ≤ l.sixteens-index;
+}

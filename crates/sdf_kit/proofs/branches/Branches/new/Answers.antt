@@ -1,7 +1,8 @@
-use Rattle.std.proofs.Common.{◌≡◌, ◌+◌, ◌-◌, ◌*◌, ◌/◌, ◌≤◌, ◌∙◌, length, sym, ap, subst, ℕ}
+use Rattle.std.proofs.Common.{◌≡◌, ◌+◌, ◌-◌, ◌*◌, ◌/◌, ◌≤◌, ◌∙◌, length, take, sym, ap, subst, ℕ}
 use Rattle.std.proofs.lemmas.List.{length-take-le}
 use Rattle.std.proofs.lemmas.List.FromFn.{length-map-range_with_len}
 use Rattle.sdf_kit.proofs.Branching.{place_tap, width_fits, sixteens_fit, branches_are}
+use Rattle.sdf_kit.proofs.Walks.{wide_begins}
 use Rattle.sdf_kit.proofs.branches.Branches.new.Goals as goal
 
 pub stretches_of-stretches-requires-clause-room : goal.stretches_of-stretches-requires-clause-room
@@ -53,5 +54,7 @@ returns c =
     c.requires.few in
     branches_are c.args.taps.now c.table_of-table.result c.stretches_of-stretches.result c.args.up width
     c.peak_of-peak.result c.gain.result c.is_wide.result c.requires.taps fits c.table_of-table.ensures
-    c.stretches_of-stretches.ensures.len c.stretches_of-stretches.ensures.each c.is_wide.ensures
+    c.stretches_of-stretches.ensures.len c.stretches_of-stretches.ensures.each
+    (wide_begins (take (c.args.up * (width / 16)) c.stretches_of-stretches.result) c.args.up c.peak_of-peak.result
+    c.is_wide.result c.is_wide.ensures)
     c.gain.ensures.greatest c.peak_of-peak.ensures.quiet c.peak_of-peak.ensures.small
