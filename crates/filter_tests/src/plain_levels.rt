@@ -108,13 +108,15 @@ fn push_other(alloc: Global, text: &mut String, wanted: Wanted) -> Result<usize,
     Ok(taps.len())
 }
 
-/// Low-passes at 8000 Hz: `pass`, `stop`, the attenuation and `shift`. The first four have few taps. The ripple of each
-/// other one depends on one frequency, of which each stands in a lane of its own, from the second one on.
+/// Low-passes at 8000 Hz: `pass`, `stop`, the attenuation and `shift`. The first five have few taps, and those of the
+/// fifth are not the same from both ends. The ripple of each other one depends on one frequency, of which each stands in
+/// a lane of its own, from the second one on.
 const LOW_PASSES: &[(u32, u32, u32, u32)] = &[
     (1000, 3000, 0, 14),
     (1000, 3000, 8, 14),
     (1000, 3000, 12, 14),
     (1000, 3000, 20, 14),
+    (1000, 3000, 8, 0),
     (3210, 3270, 25, 15),
     (3156, 3236, 30, 15),
     (2940, 3002, 29, 15),
@@ -164,12 +166,12 @@ fn made(alloc: Global, seed: u64) -> Result<String, Fail> {
     Ok(text)
 }
 
-/// Refuses a lane whose frequency is passed over, and a frequency outside the band.
+/// Refuses a lane whose frequency is passed over, a frequency outside the band, and half of the taps in place of all.
 #[test]
 fn levels_as_plainly(rt: HostRuntime) -> Result<(), Fail> {
     says(
         low_passes(rt.alloc()),
-        "1 2 3 5 160 155 191 188 41 122 28 103 50 47 32 19 141 52 176 ",
+        "1 2 3 5 2 160 155 191 188 41 122 28 103 50 47 32 19 141 52 176 ",
     )?;
     says(made(rt.alloc(), 4), "18 filters")
 }

@@ -42,14 +42,26 @@ struct Magnitudes {
 /// A filter at work: its taps, the rate that it works at and what the taps of what passes come to.
 #[derive(Clone, Copy)]
 pub(crate) struct Response<'a> {
-    pub(crate) taps: &'a [i32],
-    pub(crate) rate: f64,
-    pub(crate) unit: f64,
+    taps: &'a [i32],
+    /// Whether the taps are the same from both ends.
+    is_mirrored: bool,
+    rate: f64,
+    unit: f64,
 }
 
-/// Returns the magnitudes of `taps` at `angles` for each sample, by Goertzel's recurrence.
-fn magnitudes_at(taps: &[i32], angles: [f64; SIDE]) -> [f64; SIDE] {
-    let turns = Lanes::from_array(angles.map(|angle| 2.0 * angle.cos()));
+/// The last two sums of Goertzel's recurrence at each angle.
+struct Sums {
+    last: Lanes,
+    before: Lanes,
+}
+
+/// Returns the cosines of `angles`, doubled.
+fn doubled_cosines(angles: [f64; SIDE]) -> Lanes {
+    Lanes::from_array(angles.map(|angle| 2.0 * angle.cos()))
+}
+
+/// Goes over `taps` by Goertzel's recurrence, at angles whose doubled cosines are `turns`.
+fn last_sums(taps: &[i32], turns: Lanes) -> Sums {
     let mut last = Lanes::splat(0.0);
     let mut before = Lanes::splat(0.0);
     for &tap in taps {
@@ -57,8 +69,36 @@ fn magnitudes_at(taps: &[i32], angles: [f64; SIDE]) -> [f64; SIDE] {
         before = last;
         last = next;
     }
+    Sums { last, before }
+}
+
+/// Returns the magnitudes of `taps` at `angles` for each sample.
+fn magnitudes_at(taps: &[i32], angles: [f64; SIDE]) -> [f64; SIDE] {
+    let turns = doubled_cosines(angles);
+    let Sums { last, before } = last_sums(taps, turns);
     let squares = last * last + before * before - turns * last * before;
     squares.to_array().map(|square| square.max(0.0).sqrt())
+}
+
+/// Returns the magnitudes of taps that are the same from both ends. Their sum of cosines about the middle (Clenshaw 1955)
+/// needs half of them.
+fn mirrored_magnitudes_at(taps: &[i32], angles: [f64; SIDE]) -> [f64; SIDE] {
+    let middle = taps.len() / 2;
+    let turns = doubled_cosines(angles);
+    let Sums { last, before } = last_sums(&taps[..middle], turns);
+    let heights = if taps.len() % 2 == 0 {
+        doubled_cosines(angles.map(|angle| angle / 2.0)) * (last - before)
+    } else {
+        turns * last - before - before + Lanes::splat(f64::from(taps[middle]))
+    };
+    heights.to_array().map(|height| height.abs())
+}
+
+/// Returns whether taps are the same from both ends.
+fn are_mirrored(taps: &[i32]) -> bool {
+    taps.iter()
+        .zip(taps.iter().rev())
+        .all(|(tap, other)| *tap == *other)
 }
 
 /// A magnitude in dB.
@@ -66,7 +106,17 @@ fn decibels(magnitude: f64) -> f64 {
     20.0 * magnitude.max(LEAST_MAGNITUDE).log10()
 }
 
-impl Response<'_> {
+impl<'a> Response<'a> {
+    /// Taps that work at `rate` samples a second, of which those of what passes come to `unit`.
+    pub(crate) fn new(taps: &'a [i32], rate: f64, unit: f64) -> Response<'a> {
+        Response {
+            taps,
+            is_mirrored: are_mirrored(taps),
+            rate,
+            unit,
+        }
+    }
+
     /// The angle for each sample of a frequency of a range.
     fn angle(self, range: Range, step: u32) -> f64 {
         let part = f64::from(step) / f64::from(STEPS);
@@ -81,7 +131,11 @@ impl Response<'_> {
             let step = step.saturating_add(lane as u32).min(STEPS);
             angles[lane] = self.angle(range, step);
         }
-        magnitudes_at(self.taps, angles)
+        if self.is_mirrored {
+            mirrored_magnitudes_at(self.taps, angles)
+        } else {
+            magnitudes_at(self.taps, angles)
+        }
     }
 
     /// The magnitudes of a range.

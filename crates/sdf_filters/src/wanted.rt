@@ -48,11 +48,8 @@ fn range(from: u32, to: u32) -> Range {
 impl Wanted {
     /// What taps do to what passes and to what is stopped, where those of each phase of what passes come to `2^shift`.
     pub(crate) fn measured(self, taps: &[i32]) -> Measured {
-        let response = Response {
-            taps,
-            rate: f64::from(self.rate),
-            unit: f64::from(self.up) * f64::from(self.shift).exp2(),
-        };
+        let unit = f64::from(self.up) * f64::from(self.shift).exp2();
+        let response = Response::new(taps, f64::from(self.rate), unit);
         let half = self.rate / 2;
         match self.band {
             Band::Low { pass, stop } => response.measured(range(0, pass), &[range(stop, half)]),
