@@ -3,8 +3,10 @@ use Rattle.std.specs.Prelude.{◌≡◌, ℕ, suc, ◌+◌, ◌&&◌, not, List,
 use Rattle.std.specs.Prelude.{Err}
 use Rattle.std.specs.Prelude.{nat_le, bytes_eq, if◌then◌else◌}
 use Rattle.std.specs.List.{filter, filter_map}
-use Rattle.toml.specs.Data.{Data, Items, no_items, item, Members, get_member, as_array}
+use Rattle.toml.specs.Data.{Data, Items, no_items, item, get_member, as_array}
 use Rattle.toml.specs.View.{items_view}
+pub use Rattle.toml.specs.Data.{Members}
+pub use Rattle.toml.specs.View.{table_view}
 use Rattle.sdf_document.specs.declared.entry.Document.{Document}
 use Rattle.sdf_document.specs.declared.document.Parts.{Parts}
 use Rattle.sdf_document.specs.Fault.{top, Fault, actor_count, channel_count, not_toml, missing_key, wrong_type, ◌>>=◌}
@@ -88,12 +90,21 @@ entries_at files parts = do
   links ← links_in (names_in actors) parts.links
   Ok (record { actors = actors; links = links })
 
+-- the table that the bytes of a graph file are
+unfoldable pub graph_table : List ℕ → Result Members Fault
+graph_table bytes = or_fault (not_toml top) (table_in bytes)
+
+-- what the table of a graph file says, beside its coefficient files
+unfoldable pub document_in : Members → Files → Result DocumentValue Fault
+document_in ms files = do
+  parts ← parts_at ms
+  entries_at files parts
+
 -- what the bytes of a graph file say, beside its coefficient files
 unfoldable pub document_of : List ℕ → Files → Result DocumentValue Fault
 document_of bytes files = do
-  ms ← or_fault (not_toml top) (table_in bytes)
-  parts ← parts_at ms
-  entries_at files parts
+  ms ← graph_table bytes
+  document_in ms files
 
 -- ---- the coefficient files that it names
 
@@ -115,10 +126,15 @@ first_seen (x ∷ xs) = x ∷ filter (λ y. not (bytes_eq x y)) (first_seen xs)
 abbrev pub AreDistinct : List (List ℕ) → Type 0
 AreDistinct names = first_seen names ≡ names
 
--- the tests without links and without a look into the files
-unfoldable pub file_names_of : List ℕ → Result (List (List ℕ)) Fault
-file_names_of bytes = do
-  ms ← or_fault (not_toml top) (table_in bytes)
+-- the tests of a table without links and without a look into the files
+unfoldable pub file_names_in : Members → Result (List (List ℕ)) Fault
+file_names_in ms = do
   parts ← parts_at ms
   actors ← actors_in parts.format unread parts.actors
   Ok (first_seen (filter_map actor_file actors))
+
+-- the same tests of the bytes of a graph file
+unfoldable pub file_names_of : List ℕ → Result (List (List ℕ)) Fault
+file_names_of bytes = do
+  ms ← graph_table bytes
+  file_names_in ms

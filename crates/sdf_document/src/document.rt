@@ -12,6 +12,7 @@ ghost use Rattle.sdf_document.specs.Links.{link_view};
 ghost use Rattle.sdf_document.specs.Document.{actors_in, links_in, array_at, item_count, top_keys, parts_at};
 ghost use Rattle.sdf_document.specs.Document.{parts_view, document_view, document_of, kind_file, actor_file};
 ghost use Rattle.sdf_document.specs.Document.{entries_at, first_seen, file_names_of, AreDistinct};
+ghost use Rattle.sdf_document.specs.Document.{graph_table, document_in, file_names_in};
 
 use crate::actor::actor_at;
 use crate::entry::{ActorEntry, Document, KindEntry, LinkEntry};
@@ -24,6 +25,7 @@ use crate::value::at;
 use indexmap::IndexSet;
 use sdf_limits::{MOST_ACTORS, MOST_LINKS};
 use std::alloc::{AllocError, Global};
+use std::marker::Model;
 use toml::{Table, Value};
 
 /// Returns the actors, and puts their names into `names`.
@@ -138,25 +140,6 @@ fn document_in(
     Ok(Document { actors, links })
 }
 
-/// What a graph file says, or the first test that it fails.
-///
-/// Each file is a name and its bytes; of two files of one name the first counts.
-#[tactic(auto, unfolding(crate::specs::Document::document_of))]
-pub fn read_document(
-    alloc: Global,
-    graph: &[u8],
-    files: &[(String, Vec<u8>)],
-) -> Result<Document, ReadFault>
-    ensures given { Gives document_view result (document_of graph.now (files_view files.now)) }
-    ensures distinct { IfOk result (λ d. AreDistinct (names_in (map actor_view d.actors.items))) }
-    ensures within { IfOk result (λ d. All (IsActorWithin true) d.actors.items) }
-{
-    let table = table_in(alloc, Spot::Top, graph)?;
-    let parts = parts_at(alloc, &table)?;
-    let mut names = IndexSet::new(alloc);
-    document_in(alloc, parts, files, &mut names)
-}
-
 /// The coefficient file that a kind's list stands in.
 fn file_of(kind: &KindEntry) -> Option<&str>
     ensures { option_map (λ s. s.now) result ≡ kind_file kind.now }
@@ -208,14 +191,90 @@ fn actors_alone(alloc: Global, parts: Parts<'_>) -> Result<Vec<ActorEntry>, Read
     actors_in(alloc, parts.format, Files::Unread, &mut names, parts.actors)
 }
 
+/// A parsed graph file: its TOML table, before any other test.
+#[derive(Drop)]
+pub struct GraphFile {
+    table: Table,
+}
+
+impl Model for GraphFile {
+    ghost use Rattle.std.specs.Prelude.{String};
+    ghost use Rattle.std.specs.BTreeMap.{BTreeMap};
+    ghost use Rattle.std.specs.declared.alloc.Global.{Global};
+    ghost use Rattle.toml.specs.declared.value.Value.{Value as TomlValue};
+    ghost use Rattle.toml.specs.Rows.{table_row};
+
+    ghost Value = { BTreeMap (String Global) TomlValue };
+
+    ghost coded = { table_row.coded };
+
+    ghost view = { λ g. g.table };
+}
+
+impl GraphFile {
+    /// Parses `graph`, the bytes of a graph file, once for all that is read from it.
+    #[tactic(auto, unfolding(crate::specs::Document::graph_table))]
+    pub fn parse(alloc: Global, graph: &[u8]) -> Result<GraphFile, ReadFault>
+        ensures { Gives table_view result (graph_table graph.now) }
+    {
+        let table = table_in(alloc, Spot::Top, graph)?;
+        Ok(GraphFile { table })
+    }
+
+    /// Returns the names of its coefficient files, each once, in first-seen order, or the first test that it fails.
+    ///
+    /// Links and coefficient files are not tested.
+    #[tactic(auto, unfolding(crate::specs::Document::file_names_in))]
+    pub fn file_names(&self, alloc: Global) -> Result<IndexSet<String>, ReadFault>
+        ensures { Gives names_of result (file_names_in (table_view self.now)) }
+    {
+        let parts = parts_at(alloc, &self.table)?;
+        let actors = actors_alone(alloc, parts)?;
+        Ok(names_wanted(alloc, actors.as_slice())?)
+    }
+
+    /// Returns what the graph file and its coefficient `files` say, or the first test that they fail.
+    ///
+    /// Each of `files` is a name and its bytes; the first one of a name counts.
+    #[tactic(auto, unfolding(crate::specs::Document::document_in))]
+    pub fn document(
+        &self,
+        alloc: Global,
+        files: &[(String, Vec<u8>)],
+    ) -> Result<Document, ReadFault>
+        ensures given { Gives document_view result (document_in (table_view self.now) (files_view files.now)) }
+        ensures distinct { IfOk result (λ d. AreDistinct (names_in (map actor_view d.actors.items))) }
+        ensures within { IfOk result (λ d. All (IsActorWithin true) d.actors.items) }
+    {
+        let parts = parts_at(alloc, &self.table)?;
+        let mut names = IndexSet::new(alloc);
+        document_in(alloc, parts, files, &mut names)
+    }
+}
+
+/// What a graph file says, or the first test that it fails.
+///
+/// Each file is a name and its bytes; of two files of one name the first counts.
+#[tactic(auto, unfolding(crate::specs::Document::document_of))]
+pub fn read_document(
+    alloc: Global,
+    graph: &[u8],
+    files: &[(String, Vec<u8>)],
+) -> Result<Document, ReadFault>
+    ensures given { Gives document_view result (document_of graph.now (files_view files.now)) }
+    ensures distinct { IfOk result (λ d. AreDistinct (names_in (map actor_view d.actors.items))) }
+    ensures within { IfOk result (λ d. All (IsActorWithin true) d.actors.items) }
+{
+    let graph = GraphFile::parse(alloc, graph)?;
+    graph.document(alloc, files)
+}
+
 /// The coefficient files that a graph file names, each once, where it stands first, or the first test that it fails
 /// of those that need no such file: all but those of the links.
 #[tactic(auto, unfolding(crate::specs::Document::file_names_of))]
 pub fn file_names(alloc: Global, graph: &[u8]) -> Result<IndexSet<String>, ReadFault>
     ensures { Gives names_of result (file_names_of graph.now) }
 {
-    let table = table_in(alloc, Spot::Top, graph)?;
-    let parts = parts_at(alloc, &table)?;
-    let actors = actors_alone(alloc, parts)?;
-    Ok(names_wanted(alloc, actors.as_slice())?)
+    let graph = GraphFile::parse(alloc, graph)?;
+    graph.file_names(alloc)
 }

@@ -3,3 +3,4 @@ mod Moves
 mod Whole
 mod Lines
 mod Stretches
+mod Parsed

@@ -1,7 +1,7 @@
 -- The design of a graph file and its coefficient files.
-use Rattle.std.specs.Prelude.{◌≡◌, ◌≤◌, ◌+◌, ℕ, ℤ, List, length, map, Option, Ok, Err}
+use Rattle.std.specs.Prelude.{◌≡◌, ◌≤◌, ◌+◌, ℕ, ℤ, List, length, map, Option, Result, Ok, Err}
 use Rattle.sdf_limits.specs.declared.TheConstants.{MOST_CHANNEL}
-use Rattle.sdf_document.specs.Fault.{fault_view}
+use Rattle.sdf_document.specs.Fault.{Fault, fault_view}
 use Rattle.sdf_document.specs.Lists.{Files}
 use Rattle.sdf_document.specs.declared.entry.KindEntry.{KindEntry}
 use Rattle.sdf_document.specs.declared.entry.KindEntry.TheVariants as entry
@@ -63,12 +63,16 @@ design_of d = record {
 
 -- ---- the design of files: that of their document, where the net of it passes all tests of nets
 
-pub record IsDesignOf (graph : List ℕ) (files : Files) (d : DesignValue) : Type 0 where
+-- the design of what was read
+pub record IsDesignFrom (read : Result DocumentValue Fault) (d : DesignValue) : Type 0 where
   pub document : DocumentValue
-  pub says : document_of graph files ≡ Ok document
+  pub says : read ≡ Ok document
   pub is : d ≡ design_of document
   pub period : List ℕ
   pub accepted : IsAccepted kit_steps d.net period
+
+abbrev pub IsDesignOf : List ℕ → Files → DesignValue → Type 0
+IsDesignOf graph files = IsDesignFrom (document_of graph files)
 
 -- the net has the fault. Memory is no fault of a net
 abbrev pub HasNetFault : Netlist Kit ℤ → NetFault → Type 0
@@ -80,23 +84,30 @@ IsMadeFault n OutOfMemory = Unit {0}
 IsMadeFault n (Document fault) = ⊥
 IsMadeFault n (Net fault) = HasNetFault n fault
 
--- the first test that files fail: those of the document come before those of the net. Memory may be refused at any
--- place
+-- the first test that what was read fails: those of the document come before those of the net. Memory may be refused
+-- at any place
+abbrev pub IsFaultFrom : Result DocumentValue Fault → FileFault → Type 0
+IsFaultFrom read OutOfMemory = Unit {0}
+IsFaultFrom read (Document fault) = read ≡ Err (fault_view fault)
+IsFaultFrom read (Net fault) = (d : DocumentValue) × (read ≡ Ok d) × HasNetFault (design_of d).net fault
+
 abbrev pub IsFileFault : List ℕ → Files → FileFault → Type 0
-IsFileFault graph files OutOfMemory = Unit {0}
-IsFileFault graph files (Document fault) = document_of graph files ≡ Err (fault_view fault)
-IsFileFault graph files (Net fault) = (d : DocumentValue) × (document_of graph files ≡ Ok d)
-    × HasNetFault (design_of d).net fault
+IsFileFault graph files = IsFaultFrom (document_of graph files)
 
--- ---- the files that a graph file names
+-- ---- what is read before a net is made
 
+-- the first test that fails, or memory was refused
+abbrev pub IsReadFault : {A : Type 0} → Result A Fault → FileFault → Type 0
+IsReadFault read OutOfMemory = Unit {0}
+IsReadFault read (Document fault) = read ≡ Err (fault_view fault)
+IsReadFault read (Net fault) = ⊥
+
+-- the files that a graph file names
 abbrev pub AreFileNames : List ℕ → List (List ℕ) → Type 0
 AreFileNames graph names = file_names_of graph ≡ Ok names
 
 abbrev pub IsNamesFault : List ℕ → FileFault → Type 0
-IsNamesFault graph OutOfMemory = Unit {0}
-IsNamesFault graph (Document fault) = file_names_of graph ≡ Err (fault_view fault)
-IsNamesFault graph (Net fault) = ⊥
+IsNamesFault graph = IsReadFault (file_names_of graph)
 
 -- ---- what holds of every design
 

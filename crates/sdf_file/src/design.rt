@@ -1,21 +1,22 @@
 //! Designs.
 ghost use Rattle.std.specs.Prelude.{◌≡◌, ◌<◌, ℕ, List, [], true, map, slice_index_or};
-ghost use Rattle.std.specs.Prelude.{IfOk, MatchResult};
+ghost use Rattle.std.specs.Prelude.{IfOk, MatchResult, Ok};
 ghost use Rattle.std.specs.List.{All};
 ghost use Rattle.sdf_document.specs.Lists.{files_view};
 ghost use Rattle.sdf_document.specs.Actors.{actor_view, names_in, IsActorWithin};
 ghost use Rattle.sdf_document.specs.Document.{document_view, AreDistinct};
+ghost use Rattle.sdf_document.specs.Document.{table_view, graph_table, document_in, file_names_in};
 ghost use Rattle.sdf_document.specs.Names.{names_of};
 ghost use Rattle.sdf_actor.specs.NetFaults.{IsAccepted};
 ghost use Rattle.sdf_kit.specs.Kit.{kit_steps};
 ghost use Rattle.sdf_file.specs.Designs.{design_of, IsDesign, IsDesignOf, IsFileFault, IsMadeFault, AreFileNames};
-ghost use Rattle.sdf_file.specs.Designs.{IsNamesFault};
+ghost use Rattle.sdf_file.specs.Designs.{IsNamesFault, IsDesignFrom, IsFaultFrom, IsReadFault};
 
 use crate::fault::FileFault;
 use crate::parts::{links_of, parts_of};
 use indexmap::IndexSet;
 use sdf_actor::Net;
-use sdf_document::{Document, file_names, read_document};
+use sdf_document::{Document, GraphFile};
 use sdf_kit::Kit;
 use sdf_prec::Costs;
 use std::alloc::{AllocError, Global};
@@ -96,12 +97,33 @@ impl Design {
     }
 }
 
+/// Parses `graph`, the bytes of a graph file, once for the names of its coefficient files and for its design.
+pub fn parse_graph(alloc: Global, graph: &[u8]) -> Result<GraphFile, FileFault>
+    ensures { MatchResult result (λ g. graph_table graph.now ≡ Ok (table_view g))
+        (IsReadFault (graph_table graph.now)) }
+{
+    Ok(GraphFile::parse(alloc, graph)?)
+}
+
+/// Returns the names of the coefficient files of `graph`, each once, in first-seen order, or the first test that it
+/// fails.
+///
+/// Links, coefficient files and the net are not tested.
+pub fn coefficient_files(alloc: Global, graph: &GraphFile) -> Result<IndexSet<String>, FileFault>
+    ensures { MatchResult result (λ s. file_names_in (table_view graph.now) ≡ Ok (names_of s))
+        (IsReadFault (file_names_in (table_view graph.now))) }
+{
+    Ok(graph.file_names(alloc)?)
+}
+
 /// The coefficient files that a graph file names, each once, where it stands first; or the first test that it fails of
 /// those that look into no coefficient file, all but those of the links and of the net.
+#[tactic(auto, using(crate::proofs::Parsed::names_parsed, crate::proofs::Parsed::names_unparsed))]
 pub fn design_files(alloc: Global, graph: &[u8]) -> Result<IndexSet<String>, FileFault>
     ensures { MatchResult result (λ s. AreFileNames graph.now (names_of s)) (IsNamesFault graph.now) }
 {
-    Ok(file_names(alloc, graph)?)
+    let graph = parse_graph(alloc, graph)?;
+    coefficient_files(alloc, &graph)
 }
 
 /// A document as a design, or the first test that its net fails.
@@ -124,9 +146,26 @@ fn design_of(alloc: Global, document: Document) -> Result<Design, FileFault>
     })
 }
 
+/// Makes the design of `graph` and its coefficient `files`, or returns the first test that they fail.
+///
+/// Each of `files` is a name and its bytes; the first one of a name counts. Files that `graph` does not name are not
+/// read.
+pub fn make_design(
+    alloc: Global,
+    graph: &GraphFile,
+    files: &[(String, Vec<u8>)],
+) -> Result<Design, FileFault>
+    ensures { MatchResult result (IsDesignFrom (document_in (table_view graph.now) (files_view files.now)))
+        (IsFaultFrom (document_in (table_view graph.now) (files_view files.now))) }
+{
+    let document = graph.document(alloc, files)?;
+    design_of(alloc, document)
+}
+
 /// The design of a graph file and its coefficient files, each a name and its bytes, or the first test that they fail.
 ///
 /// Files that the graph file does not name are not read; of two files of one name the first counts.
+#[tactic(auto, using(crate::proofs::Parsed::document_parsed, crate::proofs::Parsed::document_unparsed))]
 pub fn read_design(
     alloc: Global,
     graph: &[u8],
@@ -135,6 +174,6 @@ pub fn read_design(
     ensures { MatchResult result (IsDesignOf graph.now (files_view files.now))
         (IsFileFault graph.now (files_view files.now)) }
 {
-    let document = read_document(alloc, graph, files)?;
-    design_of(alloc, document)
+    let graph = parse_graph(alloc, graph)?;
+    make_design(alloc, &graph, files)
 }

@@ -12,8 +12,8 @@ mod parts;
 pub mod schedule;
 pub mod texts;
 
-pub use design::{Design, design_files, read_design};
+pub use design::{Design, coefficient_files, design_files, make_design, parse_graph, read_design};
 pub use fault::FileFault;
 pub use schedule::{push_link, schedule_text, stretch_at};
-pub use sdf_document::{DocumentFault, Place};
+pub use sdf_document::{DocumentFault, GraphFile, Place};
 pub use texts::check_text;

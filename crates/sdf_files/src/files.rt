@@ -8,7 +8,7 @@ use crate::input::InputTrace;
 use crate::storage::Storage;
 use indexmap::IndexSet;
 use sdf_faults::Fault;
-use sdf_file::{Design, design_files, read_design};
+use sdf_file::{Design, GraphFile, coefficient_files, make_design, parse_graph};
 use std::alloc::{AllocError, Global};
 use std::io::{self, ErrorKind, Read, Write};
 use std::mem;
@@ -203,10 +203,10 @@ fn names_of(alloc: Global, files: &[(String, Vec<u8>)]) -> Result<Vec<String>, A
     Ok(names)
 }
 
-/// The design of files that were read.
-fn loaded_from(alloc: Global, sources: &Sources) -> Result<Loaded, Fault> {
+/// The design of a parsed graph file and of the coefficient files that were read.
+fn loaded_from(alloc: Global, graph: &GraphFile, sources: &Sources) -> Result<Loaded, Fault> {
     let names = names_of(alloc, &sources.files)?;
-    let design = read_design(alloc, &sources.graph, &sources.files)?;
+    let design = make_design(alloc, graph, &sources.files)?;
     Ok(Loaded { design, names })
 }
 
@@ -251,9 +251,10 @@ pub fn load_into<S: Storage>(
     sources: &mut Sources,
 ) -> Result<Loaded, Fault> {
     read_graph(alloc, storage, graph, most, sources)?;
-    let names = design_files(alloc, &sources.graph)?;
+    let parsed = parse_graph(alloc, &sources.graph)?;
+    let names = coefficient_files(alloc, &parsed)?;
     read_files(alloc, storage, graph, names, most, sources)?;
-    loaded_from(alloc, sources)
+    loaded_from(alloc, &parsed, sources)
 }
 
 /// The same where what was read is wanted no more.
