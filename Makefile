@@ -79,6 +79,7 @@ documents: build
 examples: build
 	scripts/examples
 	scripts/pipes
+	scripts/terminal
 
 # Every proof from nothing, the must-fail edits, the tests, and each program as two compilers build it.
 test:

@@ -100,7 +100,7 @@ const BATCHES: &[Row] = &[
 ];
 
 /// The same at a terminal, where more is said. Refuses levels that don't say of which file they are, a program that
-/// ignores `--no-why`, one that does not count the files that are done, and one that leaves that line there.
+/// ignores `--no-why`, one that counts files only once several are done, and one that leaves that line there.
 const SAID: &[Row] = &[
     (
         "a file that ends well, and one that does not",
@@ -113,6 +113,12 @@ const SAID: &[Row] = &[
         "run plain.toml --into made in.wav silence.wav",
         "0\nin.wav: done\nsilence.wav: done\n--\n\r0 of 2 files done\x1b[K…\r\x1b[Kin.wav: output 0: 2 frames, peak \
          -76.3 dB, 0 samples at full scale\n…silence.wav: output 0: 16 frames, no peak, 0 samples at full scale\n--\n…",
+    ),
+    (
+        "how many files are done, each time one is",
+        "run plain.toml --into made in.wav silence.wav",
+        "0\nin.wav: done\nsilence.wav: done\n--\n\r0 of 2 files done\x1b[K\r\x1b[K…\r1 of 2 files done\x1b[K\r\x1b[K…\
+         silence.wav: output 0: 16 frames, no peak, 0 samples at full scale\n--\n…",
     ),
     (
         "files that are not there, each by itself",

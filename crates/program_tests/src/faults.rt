@@ -16,17 +16,17 @@ const FAULTS: &[Row] = &[
     (
         "a name that there is not, and one that is like it",
         "explain Deadlok",
-        "2\n--\nerror: no fault has the name 'Deadlok'\n\n  tip: did you mean 'Deadlock'?\n\n…",
+        "2\n--\nerror: no fault has the name 'Deadlok'\n\n  tip: did you mean 'Deadlock'?\n--\n",
     ),
     (
         "a front of a name",
         "explain Dead",
-        "2\n--\nerror: no fault has the name 'Dead'\n\n…",
+        "2\n--\nerror: no fault has the name 'Dead'\n--\n",
     ),
     (
         "a name that is like none",
         "explain Dreadnought",
-        "2\n--\nerror: no fault has the name 'Dreadnought'\n\nUsage: …",
+        "2\n--\nerror: no fault has the name 'Dreadnought'\n--\n",
     ),
     (
         "a design in place of a sound",

@@ -308,7 +308,7 @@ fn files_and_words_that_are_not_read(rt: HostRuntime) -> Result<(), Fail> {
     is_told(
         "no UTF-8",
         plain,
-        "2 0 error: argument 2 is no UTF-8\n…Usage: …",
+        "2 0 error: argument 2 is no UTF-8\n",
     )?;
     let json = without_last(&rt, &["sdfw", "check", "--json"]);
     let wanted =

@@ -186,8 +186,6 @@ fn telling_of(task: &Task<'_>, is_said: bool) -> Telling {
 pub struct Background {
     pub sources: Sources,
     telling: Telling,
-    /// Whether the words were read, so that a mistake is not theirs.
-    is_read: bool,
 }
 
 impl Background {
@@ -196,13 +194,11 @@ impl Background {
         Background {
             sources: Sources::new(alloc),
             telling: Telling::Line,
-            is_read: false,
         }
     }
 
     /// A fault is told as is asked for. `terminal` is whether standard error is a terminal.
     pub fn asked(&mut self, words: &Words<'_>, terminal: bool) {
-        self.is_read = true;
         match words {
             Words::Design { task, why, .. } => {
                 self.telling = telling_of(task, why.is_said(terminal));
@@ -227,11 +223,6 @@ impl Background {
     /// Whether a fault is told in JSON.
     pub fn is_json(&self) -> bool {
         self.telling == Telling::Json
-    }
-
-    /// Whether the words were read.
-    pub fn is_read(&self) -> bool {
-        self.is_read
     }
 
     /// Tells what more is known of a fault, where that is asked for, unless memory is refused for it.

@@ -1,17 +1,16 @@
 //! The command that makes sounds of several others.
 
-ghost use Rattle.std.specs.Prelude.{◌≡◌, ◌≤◌, ◌<◌, IfSome, MatchResult, length};
+ghost use Rattle.std.specs.Prelude.{◌≡◌, ◌≤◌, IfSome};
 ghost use Rattle.sdf_plan.specs.Plans.{Suits};
-ghost use Rattle.sdf_faults.specs.Statuses.{status_of};
 ghost use Rattle.sdf_words.specs.Limits.{IsCrew};
 
-use crate::count::Count;
-use crate::items::{Item, items_of, settle};
+use crate::desk::{Desk, Done};
+use crate::items::{Batching, Item, items_of, settle};
+use crate::outcome::Outcome;
 use crate::running::{Planned, Prepared, Running, plan_of, run_planned, workers_of};
 use sdf_commands::making::make_folder;
-use sdf_commands::telling::why;
-use sdf_faults::{Fault, fault_text, status};
-use sdf_files::files::{Loaded, Sources, put};
+use sdf_faults::Fault;
+use sdf_files::files::Sources;
 use sdf_files::overwriting::{Paths, keep_what_is_read};
 use sdf_files::storage::Storage;
 use sdf_files::world::{STANDARD, World};
@@ -19,20 +18,10 @@ use sdf_options::printable::printable;
 use sdf_words::{Batch, Crew, Run};
 use std::alloc::{AllocError, Global};
 use std::io::Write;
+use std::sync::atomic::{AtomicUsize, Ordering};
+use std::sync::Mutex;
 use std::thread::{self, Threads};
 use std::time::Clock;
-
-/// A batch that is asked for, of a design that was read.
-#[derive(Clone, Copy)]
-pub(crate) struct Batching<'a> {
-    pub(crate) graph: &'a str,
-    pub(crate) loaded: &'a Loaded,
-    pub(crate) asked: &'a Batch<'a>,
-    /// Whether more is said than faults.
-    pub(crate) is_said: bool,
-    /// Whether it is shown how many files are done.
-    pub(crate) is_shown: bool,
-}
 
 /// Returns the run from one file to another.
 fn running_of<'a>(batching: Batching<'a>, input: &'a str, output: &'a str) -> Running<'a>
@@ -92,110 +81,6 @@ fn keep_inputs<S: Storage>(
     Ok(())
 }
 
-/// What became of the file `input`: what was said of its run, how that ended, and what is known of the sound.
-#[derive(Drop)]
-struct Outcome<'a> {
-    input: &'a str,
-    said: Vec<u8>,
-    ended: Result<(), Fault>,
-    heard: Sources,
-}
-
-/// Returns the first line of a text.
-fn first_line(text: &str) -> &str {
-    match text.split_once('\n') {
-        Some((first, _)) => first,
-        None => text,
-    }
-}
-
-/// Returns the line of a fault without the name of the program.
-fn bare(line: &str) -> &str {
-    match line.strip_prefix("sdfw: ") {
-        Some(rest) => rest,
-        None => line,
-    }
-}
-
-/// Adds the lines of `said`, each behind the name of a file.
-fn push_named(text: &mut String, name: &str, said: &str) -> Result<(), AllocError> {
-    for line in said.lines() {
-        writeln!(text, "{name}: {line}")?;
-    }
-    Ok(())
-}
-
-impl Outcome<'_> {
-    /// Returns what became of the file, on one line.
-    fn text(&self, alloc: Global) -> Result<String, AllocError> {
-        match &self.ended {
-            Ok(()) => String::from_str(alloc, "done"),
-            Err(fault) => {
-                let text = fault_text(alloc, fault)?;
-                String::from_str(alloc, bare(first_line(text.as_str())))
-            }
-        }
-    }
-
-    /// Prints the line of the file.
-    fn show<O: Write>(&self, alloc: Global, out: &mut O) -> Result<(), Fault> {
-        let shown = printable(alloc, self.input)?;
-        let text = self.text(alloc)?;
-        let line = format!(in alloc; "{}: {}\n", shown.as_str(), text.as_str())?;
-        put(out, line.as_bytes())
-    }
-
-    /// Returns what was said of the run, each line behind the name of the file.
-    fn said_text(&self, alloc: Global) -> Result<String, AllocError> {
-        let mut text = String::new(alloc);
-        if let Ok(said) = str::from_utf8(&self.said) {
-            let shown = printable(alloc, self.input)?;
-            push_named(&mut text, shown.as_str(), said)?;
-        }
-        Ok(text)
-    }
-
-    /// Says more of the file: what was said of its run, or of its fault.
-    fn say<E: Write>(&self, alloc: Global, err: &mut E, batching: Batching<'_>, sources: &Sources) {
-        if let Ok(text) = self.said_text(alloc) {
-            let _ = err.write_all(text.as_bytes());
-        }
-        if let Err(fault) = &self.ended {
-            if let Ok(text) = why(alloc, fault, &batching.asked.options, sources) {
-                let _ = err.write_all(text.as_bytes());
-            }
-        }
-    }
-
-    /// Returns the exit status of the run.
-    fn status(&self) -> u8
-        ensures { MatchResult self.now.ended (λ _. result ≡ 0) (λ fault. result ≡ status_of fault) }
-    {
-        match &self.ended {
-            Ok(()) => 0,
-            Err(fault) => status(fault),
-        }
-    }
-
-    /// Prints what became of the file, says more if that is asked for, and gives the exit status of the run. What is
-    /// known of the sound is left in `sources`.
-    fn tell<O: Write, E: Write>(
-        &mut self,
-        alloc: Global,
-        out: &mut O,
-        err: &mut E,
-        batching: Batching<'_>,
-        sources: &mut Sources,
-    ) -> Result<u8, Fault> {
-        sources.swap_sound(&mut self.heard);
-        self.show(alloc, out)?;
-        if batching.is_said {
-            self.say(alloc, err, batching, sources);
-        }
-        Ok(self.status())
-    }
-}
-
 /// Runs a plan on a file.
 fn run_item<'a, S: Storage, T: Threads + AllocGlobal + Clock + Sync>(
     world: &World<S, T>,
@@ -232,61 +117,46 @@ fn run_item<'a, S: Storage, T: Threads + AllocGlobal + Clock + Sync>(
     }
 }
 
-/// Runs a plan on files at once, each in a thread of its own. Returns what became of them, in order.
-fn run_items<'a, S: Storage, T: Threads + AllocGlobal + Clock + Sync>(
-    world: &World<S, T>,
-    course: Course<'_>,
-    items: &[Item<'a>],
-) -> Result<Vec<Outcome<'a>>, AllocError>
-    requires { Suits course.batching.loaded.now.design.net course.prepared.now.plan }
-{
-    thread::map_indices(
-        world.threads,
-        world.threads.alloc(),
-        items.len(),
-        &|i: usize| -> Outcome
-            requires { (i < length items.now) × Suits course.batching.loaded.now.design.net course.prepared.now.plan }
-        { run_item(world, course, &items[i]) },
-    )
+/// The files of a batch, of which workers take one after the other.
+struct Line<'b, 'a> {
+    items: &'b [Item<'a>],
+    taken: AtomicUsize,
 }
 
-/// Prints what became of files, in order, and gives the greatest exit status of their runs.
-fn tell_all<O: Write, E: Write>(
-    alloc: Global,
-    out: &mut O,
-    err: &mut E,
-    batching: Batching<'_>,
-    outcomes: &mut [Outcome<'_>],
-    sources: &mut Sources,
-) -> Result<u8, Fault> {
-    let mut worst = 0;
-    for outcome in outcomes {
-        worst = worst.max(outcome.tell(alloc, out, err, batching, sources)?);
+impl<'b, 'a> Line<'b, 'a> {
+    /// Takes the next file, with its number, if one is left.
+    fn take(&self) -> Option<(usize, &'b Item<'a>)> {
+        let number = self.taken.fetch_add(1, Ordering::SeqCst);
+        Some((number, self.items.get(number)?))
     }
-    Ok(worst)
 }
 
-/// Runs a plan on files at once, prints what became of them, and gives the greatest exit status of their runs. While
-/// they run, it is shown how many files were done before.
-fn serve_group<S: Storage, T: Threads + AllocGlobal + Clock + Sync, O: Write, E: Write>(
+/// Runs a plan on one file after the other, until none is left or one can't be told.
+///
+/// What became of a file is handed over if no other worker is at the desk, else with the next file. Returns the rest.
+fn work<'a, S: Storage, T: Threads + AllocGlobal + Clock + Sync, O: Write + Send, E: Write + Send>(
     world: &World<S, T>,
-    out: &mut O,
-    err: &mut E,
     course: Course<'_>,
-    items: &[Item<'_>],
-    count: Count,
-    sources: &mut Sources,
-) -> Result<u8, Fault>
+    line: &Line<'_, 'a>,
+    desk: &Mutex<Desk<'_, 'a, O, E>>,
+) -> Result<Vec<Done<'a>>, AllocError>
     requires { Suits course.batching.loaded.now.design.net course.prepared.now.plan }
 {
     let alloc = world.threads.alloc();
-    count.show(alloc, err);
-    let ran = run_items(world, course, items);
-    count.hide(err);
-    let mut outcomes = ran?;
-    let worst = tell_all(alloc, out, err, course.batching, &mut outcomes, sources);
-    drop(outcomes);
-    worst
+    let mut done = Vec::new(alloc);
+    for _ in 0..line.items.len() {
+        let Some((number, item)) = line.take() else {
+            break;
+        };
+        let outcome = run_item(world, course, item);
+        done.push(Done { number, outcome })?;
+        if let Some(mut desk) = desk.try_lock() {
+            if !desk.take_over(alloc, &mut done) {
+                break;
+            }
+        }
+    }
+    Ok(done)
 }
 
 /// Returns how many files are run at once: one if the processors serve within it, else one for each processor.
@@ -300,7 +170,49 @@ fn files_at_once<T: Threads>(threads: &T, batch: &Batch<'_>) -> usize
 }
 
 /// Runs a plan on files, as many at once as there are processors, and gives the greatest exit status of these runs.
-fn serve_items<S: Storage, T: Threads + AllocGlobal + Clock + Sync, O: Write, E: Write>(
+fn serve_items<
+    S: Storage,
+    T: Threads + AllocGlobal + Clock + Sync,
+    O: Write + Send,
+    E: Write + Send,
+>(
+    world: &World<S, T>,
+    course: Course<'_>,
+    items: &[Item<'_>],
+    desk: Desk<'_, '_, O, E>,
+) -> Result<u8, Fault>
+    requires { Suits course.batching.loaded.now.design.net course.prepared.now.plan }
+{
+    let alloc = world.threads.alloc();
+    let line = Line {
+        items,
+        taken: AtomicUsize::new(0),
+    };
+    let crew = files_at_once(world.threads, course.batching.asked).min(items.len());
+    let desk = Mutex::new(desk);
+    let left = thread::map_indices(
+        world.threads,
+        alloc,
+        crew,
+        &|_: usize| -> Result<Vec<Done>, AllocError>
+            requires { Suits course.batching.loaded.now.design.net course.prepared.now.plan }
+        { work(world, course, &line, &desk) },
+    );
+    let mut desk = desk.into_inner();
+    desk.hide_count();
+    for done in left? {
+        desk.tell_all(alloc, &mut done?);
+    }
+    desk.worst()
+}
+
+/// Runs a plan on the files of a batch, and gives the greatest exit status of these runs.
+fn serve_batch<
+    S: Storage,
+    T: Threads + AllocGlobal + Clock + Sync,
+    O: Write + Send,
+    E: Write + Send,
+>(
     world: &World<S, T>,
     out: &mut O,
     err: &mut E,
@@ -319,22 +231,18 @@ fn serve_items<S: Storage, T: Threads + AllocGlobal + Clock + Sync, O: Write, E:
         batching.asked.folder,
         &mut sources.refused,
     )?;
-    let mut worst = 0;
-    let mut count = Count {
-        done: 0,
-        all: items.len(),
-        is_shown: batching.is_shown,
-    };
-    for group in items.chunks(files_at_once(world.threads, batching.asked)) {
-        worst = worst.max(serve_group(world, out, err, course, group, count, sources)?);
-        count = count.with(group.len());
-    }
-    Ok(worst)
+    let desk = Desk::new(alloc, out, err, batching, items.len(), sources)?;
+    serve_items(world, course, &items, desk)
 }
 
 /// Runs a design on files, once its plan stands, and gives the greatest exit status of these runs. A file whose run
 /// fails is not written.
-pub(crate) fn run_batch<S: Storage, T: Threads + AllocGlobal + Clock + Sync, O: Write, E: Write>(
+pub(crate) fn run_batch<
+    S: Storage,
+    T: Threads + AllocGlobal + Clock + Sync,
+    O: Write + Send,
+    E: Write + Send,
+>(
     world: &World<S, T>,
     out: &mut O,
     err: &mut E,
@@ -348,7 +256,7 @@ pub(crate) fn run_batch<S: Storage, T: Threads + AllocGlobal + Clock + Sync, O: 
         batching,
         prepared: &prepared,
     };
-    let done = serve_items(world, out, err, course, sources);
+    let done = serve_batch(world, out, err, course, sources);
     drop(prepared);
     done
 }

@@ -8,11 +8,24 @@ use std::io::Write;
 #[derive(Clone, Copy)]
 pub(crate) struct Count {
     pub(crate) done: usize,
-    pub(crate) all: usize,
-    pub(crate) is_shown: bool,
+    all: usize,
+    /// Whether there is a terminal to show it on.
+    is_shown: bool,
+    /// Whether the line stands there now.
+    is_there: bool,
 }
 
 impl Count {
+    /// Begins with none of `all` files.
+    pub(crate) fn new(all: usize, is_shown: bool) -> Count {
+        Count {
+            done: 0,
+            all,
+            is_shown,
+            is_there: false,
+        }
+    }
+
     /// Returns the line.
     fn line(self, alloc: Global) -> Result<String, AllocError> {
         let Count { done, all, .. } = self;
@@ -20,28 +33,22 @@ impl Count {
         format!(in alloc; "\r{done} of {all} file{plural} done\x1b[K")
     }
 
-    /// Shows how many files are done, unless memory is refused for it.
-    pub(crate) fn show<E: Write>(self, alloc: Global, err: &mut E) {
-        if !self.is_shown {
+    /// Shows how many files are done while others are not, unless memory is refused for it.
+    pub(crate) fn show<E: Write>(&mut self, alloc: Global, err: &mut E) {
+        if !self.is_shown || self.done >= self.all {
             return;
         }
         if let Ok(line) = self.line(alloc) {
             let _ = err.write_all(line.as_bytes());
+            self.is_there = true;
         }
     }
 
-    /// Takes the line away.
-    pub(crate) fn hide<E: Write>(self, err: &mut E) {
-        if self.is_shown {
+    /// Takes the line away, if it is there.
+    pub(crate) fn hide<E: Write>(&mut self, err: &mut E) {
+        if self.is_there {
             let _ = err.write_all(GONE);
-        }
-    }
-
-    /// Returns the count when `files` more are done.
-    pub(crate) fn with(self, files: usize) -> Count {
-        Count {
-            done: self.done.saturating_add(files),
-            ..self
+            self.is_there = false;
         }
     }
 }

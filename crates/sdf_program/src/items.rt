@@ -1,13 +1,25 @@
-//! The files of a batch: where each is written.
+//! What a batch is asked for, and its files: where each is written.
 
 use sdf_faults::Fault;
-use sdf_files::files::{Refused, refuse};
+use sdf_files::files::{Loaded, Refused, refuse};
 use sdf_files::storage::Storage;
 use sdf_files::world::STANDARD;
 use sdf_options::printable::printable;
 use sdf_words::{Batch, mistake};
 use std::alloc::{AllocError, Global};
 use std::path::Path;
+
+/// A batch that is asked for, of a design that was read.
+#[derive(Clone, Copy)]
+pub(crate) struct Batching<'a> {
+    pub(crate) graph: &'a str,
+    pub(crate) loaded: &'a Loaded,
+    pub(crate) asked: &'a Batch<'a>,
+    /// Whether more is said than faults.
+    pub(crate) is_said: bool,
+    /// Whether it is shown how many files are done.
+    pub(crate) is_shown: bool,
+}
 
 /// A file that is read, where its sound is written while it is made, and where that stands once it is whole.
 #[derive(Drop)]

@@ -6,12 +6,15 @@
 //! `sdf_profile`, which measures a run, and on `sdf_faults`. What the project is for is the contract of
 //! `sdf_process::process`; what reads and writes a WAV file's bytes is a device of `sdf_wav`. Begin at
 //! `program::serve`, then `running`, `batch` and `profiling`, which have the commands that run a net. `items` says
-//! where the files of a batch are written, and `count` shows how many are done.
+//! where the files of a batch are written, `desk` tells what became of them in their order (`outcome`), and `count`
+//! shows how many are done.
 #![tactic(auto)]
 
 mod batch;
 mod count;
+mod desk;
 mod items;
+mod outcome;
 mod profiling;
 pub mod program;
 mod running;

@@ -5,9 +5,11 @@ ghost use Rattle.sdf_faults.specs.Statuses.{status_of};
 ghost use Rattle.sdf_faults.specs.declared.fault.Fault.TheVariants.{OutOfMemory};
 ghost use Rattle.sdf_words.specs.Limits.{IsCrew, IsTaskWithinLimits, IsWithinLimits};
 
-use crate::batch::{Batching, run_batch};
+use crate::batch::run_batch;
+use crate::items::Batching;
 use crate::profiling::{Profiling, print_profile};
 use crate::running::{Running, run};
+use clap::error::ErrorKind;
 use sdf_commands::comparing::print_comparison;
 use sdf_commands::making::{fir, resample};
 use sdf_commands::printing::{
@@ -150,7 +152,12 @@ struct Runs<'a> {
 }
 
 /// Reads a design, and runs it on several files. What was read stands in `sources`. Gives the exit status.
-fn run_on<S: Storage, T: Threads + AllocGlobal + Clock + Sync, O: Write, E: Write>(
+fn run_on<
+    S: Storage,
+    T: Threads + AllocGlobal + Clock + Sync,
+    O: Write + Send,
+    E: Write + Send,
+>(
     world: &World<S, T>,
     out: &mut O,
     err: &mut E,
@@ -184,8 +191,8 @@ fn obey<
     S: Storage,
     T: Threads + AllocGlobal + Clock + Clone + Drop + Sync,
     I: Read,
-    O: Write,
-    E: Write,
+    O: Write + Send,
+    E: Write + Send,
 >(
     world: &World<S, T>,
     stdin: &mut I,
@@ -230,12 +237,13 @@ fn help_or_fault<O: Write>(alloc: Global, out: &mut O, fault: WordFault) -> Resu
     }
 }
 
-/// The text of a mistake, for standard error: its first line alone if it is none of the words. The usage does not
-/// help there.
-fn mistake_text(alloc: Global, told: &clap::Error, is_read: bool) -> Result<String, AllocError> {
+/// The text of a mistake, for standard error. The usage does not help where only a value is wrong.
+fn mistake_text(alloc: Global, told: &clap::Error) -> Result<String, AllocError> {
     let whole = format!(in alloc; "{told}")?;
-    match whole.as_str().split_once('\n') {
-        Some((first, _)) if is_read => format!(in alloc; "{first}\n"),
+    match whole.as_str().split_once("\n\nUsage: ") {
+        Some((error, _)) if told.kind() == ErrorKind::InvalidValue => {
+            format!(in alloc; "{error}\n")
+        }
         _ => Ok(whole),
     }
 }
@@ -244,7 +252,7 @@ fn mistake_text(alloc: Global, told: &clap::Error, is_read: bool) -> Result<Stri
 fn told(alloc: Global, fault: &Fault, background: &Background) -> Result<String, AllocError> {
     match fault {
         other if background.is_json() => fault_json(alloc, other),
-        Fault::Words(WordFault::Usage(told)) => mistake_text(alloc, told, background.is_read()),
+        Fault::Words(WordFault::Usage(told)) => mistake_text(alloc, told),
         other => fault_text(alloc, other),
     }
 }
@@ -290,8 +298,8 @@ fn answer<
     S: Storage,
     T: Threads + AllocGlobal + Clock + Clone + Drop + Sync,
     I: Read,
-    O: Write,
-    E: Write,
+    O: Write + Send,
+    E: Write + Send,
 >(
     world: &World<S, T>,
     stdin: &mut I,
@@ -337,8 +345,8 @@ pub fn serve<
     S: Storage,
     T: Threads + AllocGlobal + Clock + Clone + Drop + Sync,
     I: Read,
-    O: Write,
-    E: Write,
+    O: Write + Send,
+    E: Write + Send,
 >(
     world: &World<S, T>,
     stdin: &mut I,

@@ -1,0 +1,116 @@
+//! What became of a file of a batch, and what is told of it.
+
+ghost use Rattle.std.specs.Prelude.{◌≡◌, MatchResult};
+ghost use Rattle.sdf_faults.specs.Statuses.{status_of};
+
+use crate::items::Batching;
+use sdf_commands::telling::why;
+use sdf_faults::{Fault, fault_text, status};
+use sdf_files::files::{Sources, put};
+use sdf_options::printable::printable;
+use std::alloc::{AllocError, Global};
+use std::io::Write;
+
+/// What became of the file `input`: what was said of its run, how that ended, and what is known of the sound.
+#[derive(Drop)]
+pub(crate) struct Outcome<'a> {
+    pub(crate) input: &'a str,
+    pub(crate) said: Vec<u8>,
+    pub(crate) ended: Result<(), Fault>,
+    pub(crate) heard: Sources,
+}
+
+/// Returns the first line of a text.
+fn first_line(text: &str) -> &str {
+    match text.split_once('\n') {
+        Some((first, _)) => first,
+        None => text,
+    }
+}
+
+/// Returns the line of a fault without the name of the program.
+fn bare(line: &str) -> &str {
+    match line.strip_prefix("sdfw: ") {
+        Some(rest) => rest,
+        None => line,
+    }
+}
+
+/// Adds the lines of `said`, each behind the name of a file.
+fn push_named(text: &mut String, name: &str, said: &str) -> Result<(), AllocError> {
+    for line in said.lines() {
+        writeln!(text, "{name}: {line}")?;
+    }
+    Ok(())
+}
+
+impl Outcome<'_> {
+    /// Returns what became of the file, on one line.
+    fn text(&self, alloc: Global) -> Result<String, AllocError> {
+        match &self.ended {
+            Ok(()) => String::from_str(alloc, "done"),
+            Err(fault) => {
+                let text = fault_text(alloc, fault)?;
+                String::from_str(alloc, bare(first_line(text.as_str())))
+            }
+        }
+    }
+
+    /// Prints the line of the file.
+    fn show<O: Write>(&self, alloc: Global, out: &mut O) -> Result<(), Fault> {
+        let shown = printable(alloc, self.input)?;
+        let text = self.text(alloc)?;
+        let line = format!(in alloc; "{}: {}\n", shown.as_str(), text.as_str())?;
+        put(out, line.as_bytes())
+    }
+
+    /// Returns what was said of the run, each line behind the name of the file.
+    fn said_text(&self, alloc: Global) -> Result<String, AllocError> {
+        let mut text = String::new(alloc);
+        if let Ok(said) = str::from_utf8(&self.said) {
+            let shown = printable(alloc, self.input)?;
+            push_named(&mut text, shown.as_str(), said)?;
+        }
+        Ok(text)
+    }
+
+    /// Says more of the file: what was said of its run, or of its fault.
+    fn say<E: Write>(&self, alloc: Global, err: &mut E, batching: Batching<'_>, sources: &Sources) {
+        if let Ok(text) = self.said_text(alloc) {
+            let _ = err.write_all(text.as_bytes());
+        }
+        if let Err(fault) = &self.ended {
+            if let Ok(text) = why(alloc, fault, &batching.asked.options, sources) {
+                let _ = err.write_all(text.as_bytes());
+            }
+        }
+    }
+
+    /// Returns the exit status of the run.
+    fn status(&self) -> u8
+        ensures { MatchResult self.now.ended (λ _. result ≡ 0) (λ fault. result ≡ status_of fault) }
+    {
+        match &self.ended {
+            Ok(()) => 0,
+            Err(fault) => status(fault),
+        }
+    }
+
+    /// Prints what became of the file, says more if that is asked for, and gives the exit status of the run. What is
+    /// known of the sound is left in `sources`.
+    pub(crate) fn tell<O: Write, E: Write>(
+        &mut self,
+        alloc: Global,
+        out: &mut O,
+        err: &mut E,
+        batching: Batching<'_>,
+        sources: &mut Sources,
+    ) -> Result<u8, Fault> {
+        sources.swap_sound(&mut self.heard);
+        self.show(alloc, out)?;
+        if batching.is_said {
+            self.say(alloc, err, batching, sources);
+        }
+        Ok(self.status())
+    }
+}
