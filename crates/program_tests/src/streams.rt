@@ -305,11 +305,7 @@ fn files_and_words_that_are_not_read(rt: HostRuntime) -> Result<(), Fail> {
         "6 0 sdfw: 1 OutOfMemory\n",
     )?;
     let plain = without_last(&rt, &["sdfw", "check"]);
-    is_told(
-        "no UTF-8",
-        plain,
-        "2 0 error: argument 2 is no UTF-8\n",
-    )?;
+    is_told("no UTF-8", plain, "2 0 error: argument 2 is no UTF-8\n")?;
     let json = without_last(&rt, &["sdfw", "check", "--json"]);
     let wanted =
         "2 0 {\"fault\":0,\"name\":\"Usage\",\"text\":\"error: argument 3 is no UTF-8…\"}\n";

@@ -1,12 +1,16 @@
 //! How loud a sound is that is written.
 
-ghost use Rattle.std.specs.Prelude.{◌≤◌, ◌<◌};
+ghost use Rattle.std.specs.Prelude.{◌≤◌, ◌<◌, length};
 
+use crate::lanes::{Lane, Lanes, SIDE};
 use std::alloc::{AllocError, Global};
 use std::num::saturating_f64_to_u64;
 
 /// The bytes of a canonical header.
 const HEADER: usize = 44;
+
+/// The most bytes of samples that are counted at once.
+const PIECE: usize = 65_536;
 
 /// The most channels of a sound.
 const MOST_CHANNELS: usize = 8;
@@ -35,6 +39,21 @@ impl Level {
         if sample == i16::MIN || sample == i16::MAX {
             self.full = self.full.saturating_add(1);
         }
+    }
+
+    /// Counts the samples of a lane, one of each of `blocks` blocks.
+    fn count_lane(&mut self, blocks: usize, lane: Lane) {
+        let Lane {
+            least,
+            greatest,
+            full,
+        } = lane;
+        self.frames = self.frames.saturating_add(blocks as u64);
+        self.peak = self
+            .peak
+            .max(least.unsigned_abs())
+            .max(greatest.unsigned_abs());
+        self.full = self.full.saturating_add(u64::from(full.unsigned_abs()));
     }
 }
 
@@ -115,10 +134,40 @@ impl Levels {
         }
     }
 
-    /// Takes bytes that were written.
-    pub(crate) fn note(&mut self, bytes: &[u8]) {
+    /// Takes the next bytes, one after the other.
+    fn note_each(&mut self, bytes: &[u8]) {
         for byte in bytes {
             self.note_byte(*byte);
+        }
+    }
+
+    /// Counts whole blocks of samples at the front of `bytes`, and returns how many bytes they have. Where the number of
+    /// outputs does not divide that of lanes, a lane has samples of several outputs, and none is counted.
+    fn note_blocks(&mut self, bytes: &[u8]) -> usize
+        ensures { result ≤ length bytes.now }
+    {
+        let channels = self.channels();
+        if channels == 0 || SIDE % channels != 0 {
+            return 0;
+        }
+        let lanes = Lanes::of(bytes);
+        for lane in 0..SIDE {
+            let output = self.next.saturating_add(lane) % channels;
+            if let Some(level) = self.outputs.get_mut(output) {
+                level.count_lane(lanes.blocks, lanes.lane(lane));
+            }
+        }
+        lanes.bytes()
+    }
+
+    /// Takes bytes that were written: the rest of the header and of a sample one after the other, and then blocks.
+    pub(crate) fn note(&mut self, bytes: &[u8]) {
+        let begun = HEADER.saturating_sub(self.written) + usize::from(self.low.is_some());
+        let (front, samples) = bytes.split_at(begun.min(bytes.len()));
+        self.note_each(front);
+        for piece in samples.chunks(PIECE) {
+            let blocks = self.note_blocks(piece);
+            self.note_each(&piece[blocks..]);
         }
     }
 

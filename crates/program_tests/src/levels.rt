@@ -1,0 +1,94 @@
+//! What is counted of a sound that is written, in pieces of different lengths.
+
+use sdf_files::output::{Output, Shown};
+use std::alloc::{AllocError, Global};
+use std::io::{self, Write};
+use std::test::Fail;
+use test_texts::says;
+
+/// A writer that takes so many bytes at a time, and keeps none.
+struct Narrow {
+    most: usize,
+}
+
+impl Write for Narrow {
+    fn write(&mut self, bytes: &[u8]) -> io::Result<usize> {
+        Ok(bytes.len().min(self.most))
+    }
+
+    fn flush(&mut self) -> io::Result<()> {
+        Ok(())
+    }
+}
+
+/// Returns sample `number` of a sound of so many outputs, of which each next one is quieter. Some are at full scale.
+fn sample_at(state: u32, number: u32, outputs: u32) -> i16 {
+    match number % 131 {
+        7 => i16::MIN,
+        60 => i16::MAX,
+        _ => {
+            let sample = (state >> 17) as i32 - 16_384;
+            let quieter = number.checked_rem(outputs).unwrap_or(0).saturating_add(1);
+            (sample >> quieter.min(15)) as i16
+        }
+    }
+}
+
+/// Returns a sound of so many outputs and samples.
+fn sound_of(alloc: Global, outputs: u8, samples: u32) -> Result<Vec<u8>, AllocError> {
+    let mut sound = Vec::new(alloc);
+    sound.extend_from_slice(b"RIFF\0\0\0\0WAVEfmt \x10\0\0\0\x01\0")?;
+    sound.extend_from_slice(&[outputs, 0])?;
+    sound.extend_from_slice(b"\x44\xAC\0\0\x10\xB1\x02\0\x04\0\x10\0data\0\0\0\0")?;
+    let mut state = 1u32;
+    for number in 0..samples {
+        state = state.wrapping_mul(1_664_525).wrapping_add(1_013_904_223);
+        let sample = sample_at(state, number, u32::from(outputs));
+        sound.extend_from_slice(&sample.to_le_bytes())?;
+    }
+    Ok(sound)
+}
+
+/// Returns what is said of a sound that is written so many bytes at a time.
+fn levels_of(rt: &HostRuntime, sound: &[u8], most: usize) -> Result<String, Fail> {
+    let mut to = Narrow { most };
+    let mut err = Vec::new(rt.alloc());
+    let shown = Shown {
+        alloc: rt.alloc(),
+        err: &mut err,
+        clock: rt,
+        progress: None,
+    };
+    let mut output = Output::new(&mut to, shown, true);
+    output.write_all(sound)?;
+    match &output.levels {
+        Some(levels) => Ok(levels.text(rt.alloc())?),
+        None => Err(Fail::new(format_args!("nothing is counted"))),
+    }
+}
+
+/// Compares what is said of a sound that is written in longer pieces with what is said of single bytes.
+fn is_counted(rt: &HostRuntime, outputs: u8, samples: u32) -> Result<(), Fail> {
+    let sound = sound_of(rt.alloc(), outputs, samples)?;
+    let plain = levels_of(rt, &sound, 1)?;
+    for most in [2, 7, 16, 45, 59, 4_096, 100_000] {
+        says(levels_of(rt, &sound, most), plain.as_str())?;
+    }
+    Ok(())
+}
+
+/// Refuses a block whose samples are counted for another output, one that is left out or counted twice, and a piece
+/// that begins within a sample or a frame and is counted from its first byte.
+#[test]
+fn levels_in_pieces(rt: HostRuntime) -> Result<(), Fail> {
+    for outputs in 1..=8 {
+        is_counted(&rt, outputs, 1_000)?;
+    }
+    is_counted(&rt, 2, 40_000)?;
+    let sound = sound_of(rt.alloc(), 2, 1_000)?;
+    says(
+        levels_of(&rt, &sound, 4_096),
+        "output 0: 500 frames, peak 0.0 dB, 8 samples at full scale\noutput 1: 500 frames, peak 0.0 dB, 8 samples at full \
+         scale\n",
+    )
+}

@@ -1,0 +1,74 @@
+//! Levels of many samples at once: each lane of a vector has the samples of one output.
+
+ghost use Rattle.std.specs.Prelude.{◌≡◌, ◌/◌, ◌*◌, ◌<◌, ◌^◌, length};
+
+use std::simd::prelude::*;
+
+/// How many samples are looked at side by side.
+pub(crate) const SIDE: usize = 8;
+
+/// The bytes of these samples.
+const BLOCK: usize = 2 * SIDE;
+
+/// What is counted of the samples of a lane.
+#[derive(Clone, Copy)]
+pub(crate) struct Lane {
+    pub(crate) least: i16,
+    pub(crate) greatest: i16,
+    /// The samples that are the least or the greatest of 16 bits.
+    pub(crate) full: i16,
+}
+
+/// What is counted of whole blocks of samples.
+#[derive(Clone, Copy)]
+pub(crate) struct Lanes {
+    pub(crate) blocks: usize,
+    least: [i16; SIDE],
+    greatest: [i16; SIDE],
+    full: [i16; SIDE],
+}
+
+impl Lanes {
+    /// Counts the whole blocks of `bytes`, of which there are fewer than 32,768.
+    pub(crate) fn of(bytes: &[u8]) -> Lanes
+        ensures { result.blocks ≡ length bytes.now / 16 }
+    {
+        let blocks = bytes.len() / BLOCK;
+        let mut least = i16x8::splat(0);
+        let mut greatest = i16x8::splat(0);
+        let mut full = i16x8::splat(0);
+        for block in 0..blocks {
+            let samples = i16x8::from_le_bytes(u8x16::from_slice(&bytes[BLOCK * block..]));
+            least = least.simd_min(samples);
+            greatest = greatest.simd_max(samples);
+            let at_least = samples.simd_eq(i16x8::splat(i16::MIN));
+            let at_most = samples.simd_eq(i16x8::splat(i16::MAX));
+            full = full - (at_least | at_most).to_simd();
+        }
+        Lanes {
+            blocks,
+            least: least.to_array(),
+            greatest: greatest.to_array(),
+            full: full.to_array(),
+        }
+    }
+
+    /// How many bytes the blocks have.
+    pub(crate) fn bytes(&self) -> usize
+        requires { self.now.blocks * 16 < 2 ^ 64 }
+        ensures { result ≡ self.now.blocks * 16 }
+    {
+        self.blocks * BLOCK
+    }
+
+    /// What is counted of a lane.
+    pub(crate) fn lane(&self, lane: usize) -> Lane
+        requires { lane < 8 }
+    {
+        Lane {
+            least: self.least[lane],
+            greatest: self.greatest[lane],
+            full: self.full[lane],
+        }
+    }
+}
