@@ -6,5 +6,4 @@ pub mod Pieces
 pub mod Roots
 pub mod Edges
 pub mod Grown
-pub mod Mores
 pub mod Theorems

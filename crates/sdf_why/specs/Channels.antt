@@ -3,19 +3,21 @@ use Rattle.std.specs.Prelude.{◌≡◌, ℕ, List, map}
 use Rattle.sdf_graph.specs.Rates.{Shape}
 use Rattle.sdf_actor.specs.declared.node.Node.{Node}
 use Rattle.sdf_actor.specs.declared.sides.Side.TheVariants.{Input, Output}
-use Rattle.sdf_actor.specs.Nets.{cycle_of}
+use Rattle.sdf_actor.specs.Nets.{cycle_of, inputs_of, outputs_of}
 use Rattle.sdf_actor.specs.Graphs.{rate_of, graph_of}
 use Rattle.sdf_kit.specs.declared.kit.Kit.{Kit}
 use Rattle.sdf_kit.specs.declared.ports.Ports.{Ports}
-use Rattle.sdf_kit.specs.Ports.{moved}
+use Rattle.sdf_kit.specs.Ports.{count, moved}
 use Rattle.sdf_kit.specs.Kit.{kit_steps}
 use Rattle.sdf_document.specs.Actors.{ActorValue}
 use Rattle.sdf_document.specs.Document.{DocumentValue}
 use Rattle.sdf_file.specs.Designs.{node_of, design_of}
 
--- the cycle of a node, and what its firings move at each port
+-- the cycle of a node, how many ports it has on each side, and what its firings move at each port
 pub record ArePortsOf (ports : Ports) (node : Node Kit) : Type 0 where
   pub cycle : ports.cycle ≡ cycle_of kit_steps node
+  pub input_count : count ports.inputs ≡ inputs_of kit_steps node
+  pub output_count : count ports.outputs ≡ outputs_of kit_steps node
   pub inputs : (p j : ℕ) → moved ports.inputs p j ≡ rate_of kit_steps Input node p j
   pub outputs : (p j : ℕ) → moved ports.outputs p j ≡ rate_of kit_steps Output node p j
 

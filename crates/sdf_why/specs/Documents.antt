@@ -13,6 +13,7 @@ use Rattle.sdf_why.specs.Words.{end, key_line}
 use Rattle.sdf_why.specs.Tables.{root, text_at, entry, actor_text, first_saying}
 use Rattle.sdf_why.specs.Actors.{lines_of, actor_told, actor_key, first_told}
 use Rattle.sdf_why.specs.Links.{link_key}
+use Rattle.sdf_why.specs.Coefficients.{values_told}
 use Rattle.sdf_why.specs.Near.{near_key, near_kind, near_end}
 
 -- ---- a coefficient file
@@ -92,7 +93,7 @@ counted key least most d = key_line key (get key d) (Some (up_to least most))
 abbrev pub told : List ℕ → Fault → Data → Files → List ℕ
 told kinds actor_count d files = counted (codes "actor") 1 MOST_ACTORS d
 told kinds channel_count d files = counted (codes "link") 0 MOST_LINKS d
-told kinds (kit_value place key) d files = place_key kinds place key d files
+told kinds (kit_value place key) d files = place_key kinds place key d files ++ values_told place key d files
 told kinds (not_toml place) d files = []
 told kinds (bad_format place) d files = place_format place d files
 told kinds (unknown_key place key) d files =

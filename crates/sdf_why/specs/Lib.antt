@@ -4,12 +4,14 @@ pub mod Tables
 pub mod Actors
 pub mod Links
 pub mod Loops
+pub mod Coefficients
 pub mod Documents
 pub mod Nets
 pub mod Cycles
 pub mod Sounds
 pub mod Blocks
 pub mod Channels
+pub mod Ports
 pub mod More
 pub mod Told
 pub mod Said

@@ -1,6 +1,7 @@
--- What is told of a net that the tables alone do not show: which actors are apart, and what meets at a link.
-use Rattle.std.specs.Prelude.{◌≡◌, ℕ, Bool, None, Ok, Some, List, [], ◌++◌, length, codes, decimal, Option, nat_lt}
-use Rattle.std.specs.Prelude.{slice_index_or, if◌then◌else◌}
+-- What is told of a net that the tables alone do not show: which actors are apart, what meets at a link, and how many
+-- ports there are.
+use Rattle.std.specs.Prelude.{◌≡◌, ℕ, Bool, None, Ok, Err, Some, List, [], ◌++◌, length, codes, decimal, Option}
+use Rattle.std.specs.Prelude.{nat_lt, slice_index_or, if◌then◌else◌}
 use Rattle.std.specs.List.{flat_map, range_with_len}
 use Rattle.toml.specs.Data.{Data}
 use Rattle.sdf_graph.specs.Rates.{Shape, Edge, no_channel}
@@ -10,7 +11,8 @@ use Rattle.sdf_graph.specs.declared.fault.GraphFault.{GraphFault}
 use Rattle.sdf_graph.specs.declared.fault.GraphFault.TheVariants.{NotConnected, Inconsistent}
 use Rattle.sdf_graph.specs.declared.meeting.Meeting.{Meeting}
 use Rattle.sdf_actor.specs.declared.fault.NetFault.{NetFault}
-use Rattle.sdf_actor.specs.declared.fault.NetFault.TheVariants.{Graph}
+use Rattle.sdf_actor.specs.declared.fault.NetFault.TheVariants.{Graph, NoPort}
+use Rattle.sdf_document.specs.Fault.{Fault}
 use Rattle.sdf_document.specs.Lists.{Files}
 use Rattle.sdf_document.specs.Document.{DocumentValue, document_of}
 use Rattle.sdf_why.specs.Words.{end, name_text, end_text}
@@ -18,6 +20,7 @@ use Rattle.sdf_why.specs.Tables.{root, actor_text}
 use Rattle.sdf_why.specs.Actors.{actor_told}
 use Rattle.sdf_why.specs.Links.{end_at}
 use Rattle.sdf_why.specs.Channels.{graph_in}
+use Rattle.sdf_why.specs.Ports.{ports_told}
 
 -- ---- actors that are apart
 
@@ -66,14 +69,21 @@ meeting_told d channels c m = if nat_lt c (length channels) then
 -- ---- by fault
 
 -- of a fault of the graph. That one is apart is tested of graphs alone whose numbers have no fault
-abbrev pub IsMoreOf : Data → Shape → GraphFault → List ℕ → Type 0
-IsMoreOf d g (NotConnected a) text = numbers_fault g ≡ None → IsApartText d g text
-IsMoreOf d g (Inconsistent c m) text = text ≡ meeting_told d g.channels c m
-IsMoreOf d g fault text = text ≡ []
+abbrev pub IsGraphMore : Data → Shape → GraphFault → List ℕ → Type 0
+IsGraphMore d g (NotConnected a) text = numbers_fault g ≡ None → IsApartText d g text
+IsGraphMore d g (Inconsistent c m) text = text ≡ meeting_told d g.channels c m
+IsGraphMore d g fault text = text ≡ []
 
--- of a fault of the net that files say
-abbrev pub IsMore : NetFault → List ℕ → Files → List ℕ → Type 0
-IsMore (Graph fault) graph files text =
-    (d : Data) (document : DocumentValue) → root graph ≡ Some d → document_of graph files ≡ Ok document →
-    IsMoreOf d (graph_in document) fault text
-IsMore fault graph files text = text ≡ []
+-- of a fault of the net of a document
+abbrev pub IsMoreOf : Data → DocumentValue → NetFault → List ℕ → Type 0
+IsMoreOf d document (Graph fault) text = IsGraphMore d (graph_in document) fault text
+IsMoreOf d document (NoPort c) text = text ≡ ports_told document c
+IsMoreOf d document fault text = text ≡ []
+
+-- of the document that files say, and nothing if they say none
+pub data IsMore (fault : NetFault) (graph : List ℕ) (files : Files) (text : List ℕ) : Type 0 where
+  read :
+      (d : Data) (document : DocumentValue) → root graph ≡ Some d → document_of graph files ≡ Ok document →
+      IsMoreOf d document fault text → IsMore fault graph files text
+  no_tables : root graph ≡ None → text ≡ [] → IsMore fault graph files text
+  unread : (f : Fault) → document_of graph files ≡ Err f → text ≡ [] → IsMore fault graph files text

@@ -38,13 +38,12 @@ fn in_turn(ways: u32, run: u32) -> PortRates
 }
 
 /// The ports of a kind.
-fn ports_of(kind: &KindEntry) -> Ports
+pub(crate) fn ports_of(kind: &KindEntry) -> Ports
     ensures { ArePortsOf result (node_of kind.now) }
 {
     match kind {
-        KindEntry::Input { block, .. } | KindEntry::Output { block, .. } => {
-            Ports::steady(1, *block, 1, *block)
-        }
+        KindEntry::Input { block, .. } => Ports::steady(0, *block, 1, *block),
+        KindEntry::Output { block, .. } => Ports::steady(1, *block, 0, *block),
         KindEntry::Fir { up, down, .. } => Ports::steady(1, *down, 1, *up),
         KindEntry::Decimate { factor } => Ports::steady(1, *factor, 1, 1),
         KindEntry::Interpolate { factor } => Ports::steady(1, 1, 1, *factor),
@@ -68,11 +67,11 @@ fn ports_of(kind: &KindEntry) -> Ports
     }
 }
 
-/// Ports that move nothing.
+/// The ports of an output that moves nothing.
 fn nothing() -> Ports
     ensures { ArePortsOf result (Sink 0 0) }
 {
-    Ports::steady(1, 0, 1, 0)
+    Ports::steady(1, 0, 0, 0)
 }
 
 /// The ports of an actor, or none that moves anything where there is no such actor.

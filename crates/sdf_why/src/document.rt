@@ -3,12 +3,13 @@
 ghost use Rattle.std.specs.Prelude.{◌≡◌, ◌++◌, IfOk, OnOk, option_map, string_bytes};
 ghost use Rattle.toml.specs.View.{view};
 ghost use Rattle.sdf_document.specs.Fault.{place_view, fault_view};
-ghost use Rattle.sdf_document.specs.Lists.{files_view, file_named};
-ghost use Rattle.sdf_why.specs.Documents.{file_key, place_key, place_format, beside_is, listed_at, row_is, keys_are};
+ghost use Rattle.sdf_document.specs.Lists.{files_view};
+ghost use Rattle.sdf_why.specs.Documents.{place_key, place_format, beside_is, listed_at, row_is, keys_are};
 ghost use Rattle.sdf_why.specs.Documents.{name_rule};
 ghost use Rattle.sdf_why.specs.Documents.{known_keys, kind_format, same_name, twice, counted, told, document_text};
 
 use crate::actors::{push_actor_key, push_actor_of, push_first};
+use crate::coefficients::{push_file_key, push_values};
 use crate::limits::row_of;
 use crate::links::push_link_key;
 use crate::near::{push_near_end, push_near_key, push_near_kind};
@@ -18,40 +19,6 @@ use sdf_document::{DocumentFault, Place, kinds_text};
 use sdf_limits::{MOST_ACTORS, MOST_LINKS};
 use std::alloc::{AllocError, Global};
 use toml::Value;
-
-/// The bytes of the first file of a name.
-fn file_named<'a>(name: &str, files: &'a [(String, Vec<u8>)]) -> Option<&'a [u8]>
-    ensures { option_map (λ s. s.now) result ≡ file_named name.now (files_view files.now) }
-{
-    for file in files {
-        if name == file.0.as_str() {
-            return Some(file.1.as_slice());
-        }
-    }
-    None
-}
-
-/// Adds what stands at a key of a coefficient file.
-#[tactic(auto, unfolding(crate::specs::Documents::file_key))]
-fn push_file_key(
-    alloc: Global,
-    text: &mut String,
-    files: &[(String, Vec<u8>)],
-    name: &str,
-    key: &str,
-    limits: Option<&str>,
-) -> Result<(), AllocError>
-    ensures { OnOk result (string_bytes text.new ≡ string_bytes text.old
-        ++ file_key name.now key.now (option_map (λ s. s.now) limits.entry) (files_view files.now)) }
-{
-    let Some(bytes) = file_named(name, files) else {
-        return Ok(());
-    };
-    match root(alloc, bytes)? {
-        Some(table) => push_key(alloc, text, key, value_at(&table, key), limits),
-        None => Ok(()),
-    }
-}
 
 /// Adds what a place is, and what stands there at a key.
 fn push_place(
@@ -265,9 +232,13 @@ fn push_told(
     match fault {
         DocumentFault::ActorCount => push_counted(alloc, text, graph, "actor", 1, MOST_ACTORS),
         DocumentFault::ChannelCount => push_counted(alloc, text, graph, "link", 0, MOST_LINKS),
-        DocumentFault::KitValue(place, key)
-        | DocumentFault::MissingKey(place, key)
-        | DocumentFault::WrongType(place, key) => push_place(alloc, text, source, place, key),
+        DocumentFault::KitValue(place, key) => {
+            push_place(alloc, text, source, place, key)?;
+            push_values(alloc, text, source, place, key)
+        }
+        DocumentFault::MissingKey(place, key) | DocumentFault::WrongType(place, key) => {
+            push_place(alloc, text, source, place, key)
+        }
         DocumentFault::BadName(place, key) => {
             push_place(alloc, text, source, place, key)?;
             push_name_rule(text, key)

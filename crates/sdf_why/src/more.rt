@@ -1,4 +1,5 @@
-//! What is told of a net that the tables alone do not show: which actors are apart, and what meets at a link.
+//! What is told of a net that the tables alone do not show: which actors are apart, what meets at a link, and how many
+//! ports there are.
 
 ghost use Rattle.std.specs.Prelude.{◌≡◌, ℕ, ◌++◌, [], None, IfOk, OnOk, option_map};
 ghost use Rattle.std.specs.Prelude.{string_bytes};
@@ -7,16 +8,17 @@ ghost use Rattle.toml.specs.View.{view};
 ghost use Rattle.sdf_graph.specs.Rates.{Shape};
 ghost use Rattle.sdf_graph.specs.Faults.{numbers_fault};
 ghost use Rattle.sdf_graph.specs.Marks.{is_marked};
-ghost use Rattle.sdf_actor.specs.declared.fault.NetFault.TheVariants as nets;
 ghost use Rattle.sdf_document.specs.Document.{document_view};
 ghost use Rattle.sdf_document.specs.Lists.{files_view};
 ghost use Rattle.sdf_why.specs.Channels.{graph_in};
 ghost use Rattle.sdf_why.specs.More.{apart_told, IsApartText, so_many, firings_line, moves_text};
-ghost use Rattle.sdf_why.specs.More.{samples_line, firings_told, samples_told, meeting_told, IsMoreOf, IsMore};
+ghost use Rattle.sdf_why.specs.More.{samples_line, firings_told, samples_told, meeting_told, IsGraphMore, IsMoreOf};
+ghost use Rattle.sdf_why.specs.More.{IsMore};
 
 use crate::actors::push_actor_of;
 use crate::channels::channels_of;
 use crate::links::end_at;
+use crate::ports::ports_text;
 use crate::tables::{actor_text, root};
 use crate::told::Sources;
 use crate::words::{push_end, push_name};
@@ -216,7 +218,7 @@ fn graph_more(
     tables: &Value,
     document: &Document,
 ) -> Result<String, AllocError>
-    ensures { IfOk result (λ text. IsMoreOf (view tables.now) (graph_in (document_view document.now)) fault
+    ensures { IfOk result (λ text. IsGraphMore (view tables.now) (graph_in (document_view document.now)) fault
         (string_bytes text)) }
 {
     let actors = document.actors.len();
@@ -230,23 +232,24 @@ fn graph_more(
     }
 }
 
-/// The same by the files.
-#[tactic(auto, using(crate::proofs::Mores::more_told, crate::proofs::Mores::no_tables, crate::proofs::Mores::unread))]
-fn files_more(alloc: Global, fault: GraphFault, sources: Sources<'_>) -> Result<String, AllocError>
-    ensures { IfOk result (λ text. IsMore (nets.Graph fault) sources.entry.graph.now
-        (files_view sources.entry.files.now) (string_bytes text)) }
+/// Returns what more is told of a fault of a document's net.
+fn net_more(
+    alloc: Global,
+    fault: NetFault,
+    tables: &Value,
+    document: &Document,
+) -> Result<String, AllocError>
+    ensures { IfOk result (λ text. IsMoreOf (view tables.now) (document_view document.now) fault
+        (string_bytes text)) }
 {
-    let Some(tables) = root(alloc, sources.graph)? else {
-        return Ok(String::new(alloc));
-    };
-    match read_document(alloc, sources.graph, sources.files) {
-        Ok(document) => Ok(graph_more(alloc, fault, &tables, &document)?),
-        Err(ReadFault::OutOfMemory) => Err(AllocError),
-        Err(ReadFault::Document(_)) => Ok(String::new(alloc)),
+    match fault {
+        NetFault::Graph(fault) => graph_more(alloc, fault, tables, document),
+        NetFault::NoPort { link } => ports_text(alloc, document, link),
+        _ => Ok(String::new(alloc)),
     }
 }
 
-/// What more is told of the first test that a net fails.
+/// Returns what more is told of the first test that a net fails, and nothing if the files say no document.
 pub(crate) fn more_text(
     alloc: Global,
     fault: NetFault,
@@ -255,8 +258,12 @@ pub(crate) fn more_text(
     ensures { IfOk result (λ text. IsMore fault sources.entry.graph.now (files_view sources.entry.files.now)
         (string_bytes text)) }
 {
-    match fault {
-        NetFault::Graph(fault) => files_more(alloc, fault, sources),
-        _ => Ok(String::new(alloc)),
+    let Some(tables) = root(alloc, sources.graph)? else {
+        return Ok(String::new(alloc));
+    };
+    match read_document(alloc, sources.graph, sources.files) {
+        Ok(document) => Ok(net_more(alloc, fault, &tables, &document)?),
+        Err(ReadFault::OutOfMemory) => Err(AllocError),
+        Err(ReadFault::Document(_)) => Ok(String::new(alloc)),
     }
 }

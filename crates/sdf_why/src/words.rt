@@ -21,7 +21,7 @@ fn push_printable(alloc: Global, text: &mut String, said: &str) -> Result<(), Al
 }
 
 /// Adds it in quotes.
-fn push_quoted(alloc: Global, text: &mut String, said: &str) -> Result<(), AllocError>
+pub(crate) fn push_quoted(alloc: Global, text: &mut String, said: &str) -> Result<(), AllocError>
     ensures { OnOk result (string_bytes text.new ≡ string_bytes text.old ++ quoted said.now) }
 {
     text.push_str("\"")?;
@@ -31,7 +31,7 @@ fn push_quoted(alloc: Global, text: &mut String, said: &str) -> Result<(), Alloc
 
 /// Adds a value: a text in quotes, a whole number in digits, of a list how long it is, and of anything else what it is.
 #[tactic(auto, using(crate::proofs::Items::item_count_view))]
-fn push_value(alloc: Global, text: &mut String, value: &Value) -> Result<(), AllocError>
+pub(crate) fn push_value(alloc: Global, text: &mut String, value: &Value) -> Result<(), AllocError>
     ensures { OnOk result (string_bytes text.new ≡ string_bytes text.old ++ value_text (view value.now)) }
 {
     if let Some(said) = value.as_str() {

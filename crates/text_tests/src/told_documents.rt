@@ -12,7 +12,7 @@ struct Row {
     told: &'static str,
 }
 
-static ROWS: [Row; 22] = [
+static ROWS: [Row; 24] = [
     Row {
         graph: "format = 1\nlink = []\n[[actor]]\nname = \"half\"\nkind = \"fir\"\nup = 147\nshift = 0\ntaps = [1]\n",
         told: "28 KitValue actor 0 key up\n  \
@@ -26,7 +26,20 @@ static ROWS: [Row; 22] = [
     Row {
         graph: "format = 1\nlink = []\n[[actor]]\nname = \"t\"\nkind = \"table\"\noffset = 0\nfile = \"a.toml\"\n",
         told: "28 KitValue actor 0 key file\n  \
-            actor 0 is \"t\", a table\n  file = \"a.toml\", wants 1..65536 values of 32 bits\n",
+            actor 0 is \"t\", a table\n  file = \"a.toml\", wants 1..65536 values of 32 bits\n  \
+            \"a.toml\": values = a list of 0, wants 1..65536\n",
+    },
+    Row {
+        graph: "format = 1\nlink = []\n[[actor]]\nname = \"h\"\nkind = \"fir\"\nshift = 0\nfile = \"c.toml\"\n",
+        told: "28 KitValue actor 0 key file\n  \
+            actor 0 is \"h\", a fir\n  file = \"c.toml\", wants 1..1024 values of -32768..32767\n  \
+            \"c.toml\": values[2] = 40000, wants -32768..32767\n",
+    },
+    Row {
+        graph: "format = 1\nlink = []\n[[actor]]\nname = \"t\"\nkind = \"table\"\noffset = 0\nfile = \"c.toml\"\n",
+        told: "28 KitValue actor 0 key file\n  \
+            actor 0 is \"t\", a table\n  file = \"c.toml\", wants 1..65536 values of 32 bits\n  \
+            \"c.toml\": values[3] = -2147483649, wants -2147483648..2147483647\n",
     },
     Row {
         graph: "format = 2\nlink = []\n[[actor]]\nname = \"d\"\nkind = \"deal\"\nways = 17\nprocessor = 3\n",
@@ -137,11 +150,27 @@ static ROWS: [Row; 22] = [
     },
 ];
 
-/// The fault of a graph file, with an empty list in the coefficient file `a.toml`, and what is told of it.
-fn told(alloc: Global, graph: &[u8]) -> Result<String, Fail> {
+/// Coefficient files: an empty list, and one with a value that is too wide for taps and one that is for tables.
+static FILES: [(&str, &str); 2] = [
+    ("a.toml", "format = 1\nvalues = []\n"),
+    (
+        "c.toml",
+        "format = 1\nvalues = [-32768, 32767, 40000, -2147483649]\n",
+    ),
+];
+
+fn files(alloc: Global) -> Result<Vec<(String, Vec<u8>)>, Fail> {
     let mut files = Vec::new(alloc);
-    let list = Vec::from_slice(alloc, b"format = 1\nvalues = []\n")?;
-    files.push((String::from_str(alloc, "a.toml")?, list))?;
+    for (name, text) in &FILES {
+        let bytes = Vec::from_slice(alloc, text.as_bytes())?;
+        files.push((String::from_str(alloc, name)?, bytes))?;
+    }
+    Ok(files)
+}
+
+/// The fault of a graph file, and what is told of it.
+fn told(alloc: Global, graph: &[u8]) -> Result<String, Fail> {
+    let files = files(alloc)?;
     let Err(ReadFault::Document(fault)) = read_document(alloc, graph, &files) else {
         return Ok(String::from_str(alloc, "it is read")?);
     };

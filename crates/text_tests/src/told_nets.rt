@@ -44,12 +44,27 @@ const DEALT: &str =
     { name = \"half\", kind = \"decimate\", factor = 2 }, { name = \"sum\", kind = \"add\", ways = 2 },
     { name = \"out\", kind = \"output\", channel = 0 }";
 
-static ROWS: [Row; 9] = [
+static ROWS: [Row; 11] = [
     Row {
         actors: FORKED,
         links: "{ from = \"in\", to = \"two\" }, { from = \"two:2\", to = \"out\" }",
         told: "20 NoPort link 1\n  \
-            link 1 is two:2 -> out:0\n  actor 1 is \"two\", a fork\n  actor 2 is \"out\", an output\n",
+            link 1 is two:2 -> out:0\n  actor 1 is \"two\", a fork\n  actor 2 is \"out\", an output\n  \
+            \"two\" has 1 input and 2 outputs\n  \"out\" has 1 input and no output\n",
+    },
+    Row {
+        actors: FORKED,
+        links: "{ from = \"out\", to = \"in\" }",
+        told: "20 NoPort link 0\n  \
+            link 0 is out:0 -> in:0\n  actor 2 is \"out\", an output\n  actor 0 is \"in\", an input\n  \
+            \"out\" has 1 input and no output\n  \"in\" has no input and 1 output\n",
+    },
+    Row {
+        actors: DEALT,
+        links: "{ from = \"two:1\", to = \"sum:2\" }",
+        told: "20 NoPort link 0\n  \
+            link 0 is two:1 -> sum:2\n  actor 1 is \"two\", a deal\n  actor 3 is \"sum\", an add\n  \
+            \"two\" has 1 input and 2 outputs\n  \"sum\" has 2 inputs and 1 output\n",
     },
     Row {
         actors: FORKED,

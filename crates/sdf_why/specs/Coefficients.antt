@@ -1,0 +1,115 @@
+-- What is told of a coefficient file: how many values it lists, or the first of them that does not fit.
+use Rattle.std.specs.Prelude.{ℕ, ◌&&◌, not, Bool, false, List, [], ◌++◌, codes, decimal, Option, Some, None, find}
+use Rattle.std.specs.Prelude.{option_and_then, is_some, nat_le, bytes_eq, if◌then◌else◌}
+use Rattle.std.specs.Option.{option_map_or}
+use Rattle.std.specs.List.{range_with_len}
+use Rattle.toml.specs.Data.{Data, Items, get, at, as_integer, as_array}
+use Rattle.sdf_document.specs.declared.row.KindWord.{KindWord}
+use Rattle.sdf_document.specs.declared.row.Width.{Width}
+use Rattle.sdf_document.specs.declared.row.Width.TheVariants.{Bits16, Bits32}
+use Rattle.sdf_document.specs.declared.row.Form.{Form}
+use Rattle.sdf_document.specs.declared.row.Form.TheVariants.{Natural, Optional, Integer, FromLeast}
+use Rattle.sdf_document.specs.declared.row.Form.TheVariants.{List as ListForm}
+use Rattle.sdf_document.specs.Rows.{KeyRow, row_of}
+use Rattle.sdf_document.specs.Kinds.{kind_named}
+use Rattle.sdf_document.specs.Fault.{Place, actor}
+use Rattle.sdf_document.specs.Lists.{Files, file_named, fits}
+use Rattle.sdf_why.specs.declared.coefficients.Limits.{Limits}
+use Rattle.sdf_why.specs.Words.{end, quoted, value_text, item_count}
+use Rattle.sdf_why.specs.Tables.{root, text_at, entry}
+use Rattle.sdf_why.specs.Actors.{lines_of}
+
+-- ---- the list that a kind has
+
+abbrev pub list_limits : Form → Option Limits
+list_limits (Natural least most absent) = None
+list_limits (Optional least most) = None
+list_limits (Integer least most absent) = None
+list_limits (FromLeast least most absent) = None
+list_limits (ListForm most width) = Some (record { most = most; width = width })
+
+abbrev pub has_list : KeyRow → Bool
+has_list k = is_some (list_limits k.form)
+
+-- the limits of the first list among keys
+unfoldable pub keys_limits : List KeyRow → Option Limits
+keys_limits ks = option_and_then (λ (k : KeyRow). list_limits k.form) (find has_list ks)
+
+-- those of a kind, in any format
+unfoldable pub kind_limits : List ℕ → Option Limits
+kind_limits word = option_and_then (λ (k : KindWord). keys_limits (row_of k).keys) (kind_named 4294967295 word)
+
+-- ---- one value
+
+-- item i of a list is not a whole number of a width
+unfoldable pub is_unfit : Width → Data → ℕ → Bool
+is_unfit width list i = not (option_map_or (fits width) (option_and_then as_integer (at i list)) false)
+
+-- the first such item of n
+unfoldable pub first_unfit : Width → Data → ℕ → Option ℕ
+first_unfit width list n = find (is_unfit width list) (range_with_len 0 n)
+
+-- the numbers of a width
+abbrev pub width_text : Width → List ℕ
+width_text Bits16 = codes "-32768..32767"
+width_text Bits32 = codes "-2147483648..2147483647"
+
+-- the beginning of a line about the values in a file
+unfoldable pub values_in : List ℕ → List ℕ
+values_in name = codes "  " ++ quoted name ++ codes ": values"
+
+-- which of them it is, and what is wanted
+unfoldable pub place_text : ℕ → List ℕ
+place_text i = codes "[" ++ decimal i ++ codes "] = "
+
+abbrev pub wants_text : Width → List ℕ
+wants_text width = codes ", wants " ++ width_text width ++ end
+
+unfoldable pub value_line : List ℕ → Width → ℕ → Data → List ℕ
+value_line name width i d = values_in name ++ place_text i ++ value_text d ++ wants_text width
+
+unfoldable pub value_told : List ℕ → Width → Data → ℕ → List ℕ
+value_told name width list i = lines_of (value_line name width i) (at i list)
+
+-- ---- the list
+
+-- how many values there are, and how many are wanted
+unfoldable pub count_text : ℕ → List ℕ
+count_text n = codes " = a list of " ++ decimal n
+
+unfoldable pub most_text : ℕ → List ℕ
+most_text most = codes ", wants 1.." ++ decimal most ++ end
+
+unfoldable pub count_line : List ℕ → ℕ → ℕ → List ℕ
+count_line name n most = values_in name ++ count_text n ++ most_text most
+
+-- of a list of n items that number, if it is outside the limits, and otherwise the first item that does not fit
+abbrev pub items_told : List ℕ → Limits → Data → ℕ → List ℕ
+items_told name limits list n = if nat_le 1 n && nat_le n limits.most
+    then lines_of (value_told name limits.width list) (first_unfit limits.width list n)
+    else count_line name n limits.most
+
+unfoldable pub list_told : List ℕ → Limits → Data → List ℕ
+list_told name limits list = lines_of (λ (ds : Items). items_told name limits list (item_count ds)) (as_array list)
+
+-- ---- by place
+
+-- the list in the file of a name
+abbrev pub list_in : List ℕ → Files → Option Data
+list_in name files = option_and_then (get (codes "values")) (option_and_then root (file_named name files))
+
+unfoldable pub file_told : Files → Limits → List ℕ → List ℕ
+file_told files limits name = lines_of (list_told name limits) (list_in name files)
+
+-- of the file that an actor's table names
+abbrev pub named_told : Files → Data → Limits → List ℕ
+named_told files d limits = lines_of (file_told files limits) (text_at (codes "file") d)
+
+unfoldable pub table_told : Files → Data → List ℕ
+table_told files d = lines_of (named_told files d) (option_and_then kind_limits (text_at (codes "kind") d))
+
+-- of a value that is outside its limits: at the key `file` of an actor it stands in that file
+unfoldable pub values_told : Place → List ℕ → Data → Files → List ℕ
+values_told (actor a) key d files =
+    if bytes_eq key (codes "file") then lines_of (table_told files) (entry (codes "actor") a d) else []
+values_told place key d files = []

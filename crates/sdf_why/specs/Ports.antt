@@ -1,0 +1,37 @@
+-- What is told of the actors at the ends of a link: how many ports they have.
+use Rattle.std.specs.Prelude.{ℕ, ◌==◌, List, ◌++◌, codes, decimal, slice_get, if◌then◌else◌}
+use Rattle.sdf_actor.specs.Nets.{inputs_of, outputs_of}
+use Rattle.sdf_kit.specs.Kit.{kit_steps}
+use Rattle.sdf_document.specs.Actors.{ActorValue}
+use Rattle.sdf_document.specs.Links.{LinkValue}
+use Rattle.sdf_document.specs.Document.{DocumentValue}
+use Rattle.sdf_file.specs.Designs.{node_of}
+use Rattle.sdf_why.specs.Words.{end, quoted}
+use Rattle.sdf_why.specs.Actors.{lines_of}
+
+-- how many ports there are on a side, by the word for one
+unfoldable pub count_text : ℕ → List ℕ → List ℕ
+count_text n word = if n == 0 then codes "no " ++ word
+    else (if n == 1 then codes "1 " ++ word else decimal n ++ codes " " ++ word ++ codes "s")
+
+unfoldable pub counts_text : ℕ → ℕ → List ℕ
+counts_text inputs outputs = count_text inputs (codes "input") ++ codes " and " ++ count_text outputs (codes "output")
+
+unfoldable pub ports_line : List ℕ → ℕ → ℕ → List ℕ
+ports_line name inputs outputs = codes "  " ++ quoted name ++ codes " has " ++ counts_text inputs outputs ++ end
+
+-- those of an actor, by its kind
+abbrev pub ports_are : ActorValue → List ℕ
+ports_are a = ports_line a.name (inputs_of kit_steps (node_of a.kind)) (outputs_of kit_steps (node_of a.kind))
+
+-- those of actor a
+unfoldable pub actor_ports : List ActorValue → ℕ → List ℕ
+actor_ports actors a = lines_of ports_are (slice_get actors a)
+
+-- those of the actors from which a link leads and to which it leads
+abbrev pub link_ports : List ActorValue → LinkValue → List ℕ
+link_ports actors l = actor_ports actors l.from.0 ++ actor_ports actors l.to.0
+
+-- and at link c of a document, where there is one
+unfoldable pub ports_told : DocumentValue → ℕ → List ℕ
+ports_told d c = lines_of (link_ports d.actors) (slice_get d.links c)

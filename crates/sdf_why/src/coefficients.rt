@@ -1,0 +1,371 @@
+//! What is told of a coefficient file: what stands at its keys, how many values it lists, or the first of them that
+//! does not fit.
+
+ghost use Rattle.std.specs.Prelude.{◌≡◌, ◌++◌, OnOk, codes, option_map, option_and_then, string_bytes};
+ghost use Rattle.toml.specs.Data.{at, get, as_integer};
+ghost use Rattle.toml.specs.View.{view};
+ghost use Rattle.sdf_document.specs.Fault.{place_view};
+ghost use Rattle.sdf_document.specs.Rows.{keys_view};
+ghost use Rattle.sdf_document.specs.Lists.{files_view, file_named, fits};
+ghost use Rattle.sdf_why.specs.Tables.{text_at};
+ghost use Rattle.sdf_why.specs.Actors.{lines_of};
+ghost use Rattle.sdf_why.specs.Documents.{file_key};
+ghost use Rattle.sdf_why.specs.Coefficients.{list_limits, keys_limits, kind_limits, is_unfit, first_unfit, width_text};
+ghost use Rattle.sdf_why.specs.Coefficients.{values_in, place_text, wants_text, value_line, value_told, count_text};
+ghost use Rattle.sdf_why.specs.Coefficients.{most_text, count_line, items_told, list_told, file_told, named_told, table_told};
+ghost use Rattle.sdf_why.specs.Coefficients.{values_told};
+
+use crate::tables::{Source, entry, root, text_at, value_at};
+use crate::words::{push_key, push_quoted, push_value};
+use sdf_document::{Form, Key, Place, Width, kind_named, row_of};
+use std::alloc::{AllocError, Global};
+use toml::Value;
+
+/// The limits of a list: the most values that it may have, and what they fit into.
+#[derive(Clone, Copy)]
+pub(crate) struct Limits {
+    pub(crate) most: usize,
+    pub(crate) width: Width,
+}
+
+/// The bytes of the first file of a name.
+fn file_named<'a>(name: &str, files: &'a [(String, Vec<u8>)]) -> Option<&'a [u8]>
+    ensures { option_map (λ s. s.now) result ≡ file_named name.now (files_view files.now) }
+{
+    for file in files {
+        if name == file.0.as_str() {
+            return Some(file.1.as_slice());
+        }
+    }
+    None
+}
+
+/// Adds what stands at a key of a coefficient file.
+#[tactic(auto, unfolding(crate::specs::Documents::file_key))]
+pub(crate) fn push_file_key(
+    alloc: Global,
+    text: &mut String,
+    files: &[(String, Vec<u8>)],
+    name: &str,
+    key: &str,
+    limits: Option<&str>,
+) -> Result<(), AllocError>
+    ensures { OnOk result (string_bytes text.new ≡ string_bytes text.old
+        ++ file_key name.now key.now (option_map (λ s. s.now) limits.entry) (files_view files.now)) }
+{
+    let Some(bytes) = file_named(name, files) else {
+        return Ok(());
+    };
+    match root(alloc, bytes)? {
+        Some(table) => push_key(alloc, text, key, value_at(&table, key), limits),
+        None => Ok(()),
+    }
+}
+
+fn list_limits(form: Form) -> Option<Limits>
+    ensures { result ≡ list_limits form }
+{
+    match form {
+        Form::List(most, width) => Some(Limits { most, width }),
+        Form::Natural(_, _, _)
+        | Form::Optional(_, _)
+        | Form::Integer(_, _, _)
+        | Form::FromLeast(_, _, _) => None,
+    }
+}
+
+/// Returns the limits of the first list among `keys`.
+#[tactic(auto, unfolding(crate::specs::Coefficients::keys_limits))]
+fn keys_limits(keys: &[Key]) -> Option<Limits>
+    ensures { result ≡ keys_limits (keys_view keys.now) }
+{
+    for key in keys {
+        if let Some(limits) = list_limits(key.1) {
+            return Some(limits);
+        }
+    }
+    None
+}
+
+/// Returns the limits of the list that the kind `word` has, if it has one.
+#[tactic(auto, unfolding(crate::specs::Coefficients::kind_limits))]
+fn kind_limits(word: &str) -> Option<Limits>
+    ensures { result ≡ kind_limits word.now }
+{
+    let kind = kind_named(u32::MAX, word)?;
+    keys_limits(row_of(kind).keys)
+}
+
+fn fits(width: Width, number: i64) -> bool
+    ensures { result ≡ fits width number }
+{
+    match width {
+        Width::Bits16 => -32768 <= number && number <= 32767,
+        Width::Bits32 => -2147483648 <= number && number <= 2147483647,
+    }
+}
+
+/// Returns the whole number at a place of a list.
+fn number_at(list: &Value, place: usize) -> Option<i64>
+    ensures { result ≡ option_and_then as_integer (at place (view list.now)) }
+{
+    list.get(place)?.as_integer()
+}
+
+/// Returns whether the item at a place of a list is not a whole number of the width.
+#[tactic(auto, unfolding(crate::specs::Coefficients::is_unfit))]
+fn is_unfit(width: Width, list: &Value, place: usize) -> bool
+    ensures { result ≡ is_unfit width (view list.now) place }
+{
+    match number_at(list, place) {
+        Some(number) => !fits(width, number),
+        None => true,
+    }
+}
+
+/// Returns the first of `count` places whose item is not a whole number of the width.
+#[tactic(auto, unfolding(crate::specs::Coefficients::first_unfit))]
+fn first_unfit(width: Width, list: &Value, count: usize) -> Option<usize>
+    ensures { result ≡ first_unfit width (view list.now) count }
+{
+    (0..count).find(|place| is_unfit(width, list, *place))
+}
+
+fn width_text(width: Width) -> &'static str
+    ensures { result.now ≡ width_text width }
+{
+    match width {
+        Width::Bits16 => "-32768..32767",
+        Width::Bits32 => "-2147483648..2147483647",
+    }
+}
+
+/// Begins a line about the values in the file `name`.
+#[tactic(auto, unfolding(crate::specs::Coefficients::values_in))]
+fn push_values_in(alloc: Global, text: &mut String, name: &str) -> Result<(), AllocError>
+    ensures { OnOk result (string_bytes text.new ≡ string_bytes text.old ++ values_in name.now) }
+{
+    text.push_str("  ")?;
+    push_quoted(alloc, text, name)?;
+    Ok(text.push_str(": values")?)
+}
+
+#[tactic(auto, unfolding(crate::specs::Coefficients::place_text))]
+fn push_place(text: &mut String, place: usize) -> Result<(), AllocError>
+    ensures { OnOk result (string_bytes text.new ≡ string_bytes text.old ++ place_text place) }
+{
+    write!(text, "[{place}] = ")
+}
+
+fn push_wants(text: &mut String, width: Width) -> Result<(), AllocError>
+    ensures { OnOk result (string_bytes text.new ≡ string_bytes text.old ++ wants_text width) }
+{
+    let wanted = width_text(width);
+    writeln!(text, ", wants {wanted}")
+}
+
+/// Adds a value that does not fit, with its place.
+#[tactic(auto, unfolding(crate::specs::Coefficients::value_line))]
+fn push_line(
+    alloc: Global,
+    text: &mut String,
+    name: &str,
+    width: Width,
+    place: usize,
+    value: &Value,
+) -> Result<(), AllocError>
+    ensures { OnOk result (string_bytes text.new ≡ string_bytes text.old
+        ++ value_line name.now width place (view value.now)) }
+{
+    push_values_in(alloc, text, name)?;
+    push_place(text, place)?;
+    push_value(alloc, text, value)?;
+    push_wants(text, width)
+}
+
+/// Adds the value at a place of a list.
+#[tactic(auto, unfolding(crate::specs::Coefficients::value_told))]
+fn push_value_at(
+    alloc: Global,
+    text: &mut String,
+    name: &str,
+    width: Width,
+    list: &Value,
+    place: usize,
+) -> Result<(), AllocError>
+    ensures { OnOk result (string_bytes text.new ≡ string_bytes text.old
+        ++ value_told name.now width (view list.now) place) }
+{
+    match list.get(place) {
+        Some(value) => push_line(alloc, text, name, width, place, value),
+        None => Ok(()),
+    }
+}
+
+#[tactic(auto, unfolding(crate::specs::Coefficients::count_text))]
+fn push_count(text: &mut String, count: usize) -> Result<(), AllocError>
+    ensures { OnOk result (string_bytes text.new ≡ string_bytes text.old ++ count_text count) }
+{
+    write!(text, " = a list of {count}")
+}
+
+#[tactic(auto, unfolding(crate::specs::Coefficients::most_text))]
+fn push_most(text: &mut String, most: usize) -> Result<(), AllocError>
+    ensures { OnOk result (string_bytes text.new ≡ string_bytes text.old ++ most_text most) }
+{
+    writeln!(text, ", wants 1..{most}")
+}
+
+/// Adds how many values a list has, and how many are wanted.
+#[tactic(auto, unfolding(crate::specs::Coefficients::count_line))]
+fn push_count_line(
+    alloc: Global,
+    text: &mut String,
+    name: &str,
+    count: usize,
+    most: usize,
+) -> Result<(), AllocError>
+    ensures { OnOk result (string_bytes text.new ≡ string_bytes text.old ++ count_line name.now count most) }
+{
+    push_values_in(alloc, text, name)?;
+    push_count(text, count)?;
+    push_most(text, most)
+}
+
+/// Adds the number of items of a list if it is outside the limits, and otherwise the first item that is.
+fn push_items(
+    alloc: Global,
+    text: &mut String,
+    name: &str,
+    limits: Limits,
+    list: &Value,
+    count: usize,
+) -> Result<(), AllocError>
+    ensures { OnOk result (string_bytes text.new ≡ string_bytes text.old
+        ++ items_told name.now limits (view list.now) count) }
+{
+    if count < 1 || count > limits.most {
+        return push_count_line(alloc, text, name, count, limits.most);
+    }
+    match first_unfit(limits.width, list, count) {
+        Some(place) => push_value_at(alloc, text, name, limits.width, list, place),
+        None => Ok(()),
+    }
+}
+
+#[tactic(auto, unfolding(crate::specs::Coefficients::list_told), using(crate::proofs::Items::item_count_view))]
+fn push_list(
+    alloc: Global,
+    text: &mut String,
+    name: &str,
+    limits: Limits,
+    list: &Value,
+) -> Result<(), AllocError>
+    ensures { OnOk result (string_bytes text.new ≡ string_bytes text.old
+        ++ list_told name.now limits (view list.now)) }
+{
+    match list.as_array() {
+        Some(items) => push_items(alloc, text, name, limits, list, items.len()),
+        None => Ok(()),
+    }
+}
+
+fn push_list_of(
+    alloc: Global,
+    text: &mut String,
+    name: &str,
+    limits: Limits,
+    table: &Value,
+) -> Result<(), AllocError>
+    ensures { OnOk result (string_bytes text.new ≡ string_bytes text.old
+        ++ lines_of (list_told name.now limits) (get (codes "values") (view table.now))) }
+{
+    match value_at(table, "values") {
+        Some(list) => push_list(alloc, text, name, limits, list),
+        None => Ok(()),
+    }
+}
+
+/// Adds what is outside the limits in the list of the file `name`.
+#[tactic(auto, unfolding(crate::specs::Coefficients::file_told))]
+fn push_file(
+    alloc: Global,
+    text: &mut String,
+    files: &[(String, Vec<u8>)],
+    limits: Limits,
+    name: &str,
+) -> Result<(), AllocError>
+    ensures { OnOk result (string_bytes text.new ≡ string_bytes text.old
+        ++ file_told (files_view files.now) limits name.now) }
+{
+    let Some(bytes) = file_named(name, files) else {
+        return Ok(());
+    };
+    match root(alloc, bytes)? {
+        Some(table) => push_list_of(alloc, text, name, limits, &table),
+        None => Ok(()),
+    }
+}
+
+/// Adds what is outside the limits in the file that an actor's table names.
+fn push_named(
+    alloc: Global,
+    text: &mut String,
+    files: &[(String, Vec<u8>)],
+    actor: &Value,
+    limits: Limits,
+) -> Result<(), AllocError>
+    ensures { OnOk result (string_bytes text.new ≡ string_bytes text.old
+        ++ named_told (files_view files.now) (view actor.now) limits) }
+{
+    match text_at(actor, "file") {
+        Some(name) => push_file(alloc, text, files, limits, name),
+        None => Ok(()),
+    }
+}
+
+fn limits_of(actor: &Value) -> Option<Limits>
+    ensures { result ≡ option_and_then kind_limits (text_at (codes "kind") (view actor.now)) }
+{
+    kind_limits(text_at(actor, "kind")?)
+}
+
+#[tactic(auto, unfolding(crate::specs::Coefficients::table_told))]
+fn push_table(
+    alloc: Global,
+    text: &mut String,
+    files: &[(String, Vec<u8>)],
+    actor: &Value,
+) -> Result<(), AllocError>
+    ensures { OnOk result (string_bytes text.new ≡ string_bytes text.old
+        ++ table_told (files_view files.now) (view actor.now)) }
+{
+    match limits_of(actor) {
+        Some(limits) => push_named(alloc, text, files, actor, limits),
+        None => Ok(()),
+    }
+}
+
+/// Adds what is outside the limits in the file of an actor, if the fault is of the actor's key `file`.
+#[tactic(auto, unfolding(crate::specs::Coefficients::values_told))]
+pub(crate) fn push_values(
+    alloc: Global,
+    text: &mut String,
+    source: Source<'_>,
+    place: &Place,
+    key: &str,
+) -> Result<(), AllocError>
+    ensures { OnOk result (string_bytes text.new ≡ string_bytes text.old ++ values_told
+        (place_view place.now) key.now (view source.entry.graph.now) (files_view source.entry.files.now)) }
+{
+    let Place::Actor(number) = place else {
+        return Ok(());
+    };
+    if key != "file" {
+        return Ok(());
+    }
+    match entry(source.graph, "actor", *number) {
+        Some(actor) => push_table(alloc, text, source.files, actor),
+        None => Ok(()),
+    }
+}
