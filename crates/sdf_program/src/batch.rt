@@ -118,6 +118,7 @@ fn run_item<'a, S: Storage, T: Threads + AllocGlobal + Clock + Sync>(
 }
 
 /// The files of a batch, of which workers take one after the other.
+#[derive(Drop)]
 struct Line<'b, 'a> {
     items: &'b [Item<'a>],
     taken: AtomicUsize,
