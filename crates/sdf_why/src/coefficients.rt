@@ -12,8 +12,8 @@ ghost use Rattle.sdf_why.specs.Actors.{lines_of};
 ghost use Rattle.sdf_why.specs.Documents.{file_key};
 ghost use Rattle.sdf_why.specs.Coefficients.{list_limits, keys_limits, kind_limits, is_unfit, first_unfit, width_text};
 ghost use Rattle.sdf_why.specs.Coefficients.{values_in, place_text, wants_text, value_line, value_told, count_text};
-ghost use Rattle.sdf_why.specs.Coefficients.{most_text, count_line, items_told, list_told, file_told, named_told, table_told};
-ghost use Rattle.sdf_why.specs.Coefficients.{values_told};
+ghost use Rattle.sdf_why.specs.Coefficients.{most_text, count_line, items_told, list_told, file_told, named_told};
+ghost use Rattle.sdf_why.specs.Coefficients.{table_told, values_told};
 
 use crate::tables::{Source, entry, root, text_at, value_at};
 use crate::words::{push_key, push_quoted, push_value};
