@@ -109,8 +109,8 @@ fn push_other(alloc: Global, text: &mut String, wanted: Wanted) -> Result<usize,
 }
 
 /// Low-passes at 8000 Hz: `pass`, `stop`, the attenuation and `shift`. The first five have few taps, and those of the
-/// fifth are not the same from both ends. The ripple of each other one depends on one frequency, of which each stands in
-/// a lane of its own, from the second one on.
+/// fifth are not the same from both ends. The ripple of each other one depends on one frequency, and each of these
+/// stands in a lane of its own, from the second one on.
 const LOW_PASSES: &[(u32, u32, u32, u32)] = &[
     (1000, 3000, 0, 14),
     (1000, 3000, 8, 14),

@@ -168,11 +168,17 @@ fn are_batches<T: Threads + AllocGlobal + Clock + Clone + Drop + Sync>(
 fn what_batches_tell(rt: HostRuntime) -> Result<(), Fail> {
     are_batches(&rt, &OPEN, BATCHES)?;
     are_batches(&rt, &TERMINAL, SAID)?;
-    is_told(
-        "a line that is refused",
-        told_around(&rt, &MUTE, "run plain.toml --into made in.wav"),
-        "5\n--\nsdfw: 48 Write\n--\n<5 -5>",
-    )
+    for line in [
+        "run plain.toml --into made in.wav",
+        "run plain.toml --into made in.wav silence.wav --parallel 1",
+    ] {
+        is_told(
+            line,
+            told_around(&rt, &MUTE, line),
+            "5\n--\nsdfw: 48 Write\n--\n<5 -5>",
+        )?;
+    }
+    Ok(())
 }
 
 /// Refuses a file that is written over while it is read.

@@ -77,18 +77,35 @@ fn is_counted(rt: &HostRuntime, outputs: u8, samples: u32) -> Result<(), Fail> {
     Ok(())
 }
 
+/// Returns a sound of two outputs and 1,000 samples: one has only samples of -16,384, the other of 8,192.
+fn steady(alloc: Global) -> Result<Vec<u8>, AllocError> {
+    let mut sound = sound_of(alloc, 2, 0)?;
+    for _ in 0..500 {
+        sound.extend_from_slice(&(-16_384i16).to_le_bytes())?;
+        sound.extend_from_slice(&8_192i16.to_le_bytes())?;
+    }
+    Ok(sound)
+}
+
+/// What is said of it.
+const STEADY: &str = "output 0: 500 frames, peak -6.0 dB, 0 samples at full scale\n\
+     output 1: 500 frames, peak -12.0 dB, 0 samples at full scale\n";
+
+/// What is said of a sound of two outputs, each of which has eight samples at full scale.
+const FULL: &str = "output 0: 500 frames, peak 0.0 dB, 8 samples at full scale\n\
+     output 1: 500 frames, peak 0.0 dB, 8 samples at full scale\n";
+
 /// Refuses a block whose samples are counted for another output, one that is left out or counted twice, and a piece
-/// that begins within a sample or a frame and is counted from its first byte.
+/// that begins within a sample or a frame and is counted from its first byte; a peak of one sign alone.
 #[test]
 fn levels_in_pieces(rt: HostRuntime) -> Result<(), Fail> {
     for outputs in 1..=8 {
         is_counted(&rt, outputs, 1_000)?;
     }
     is_counted(&rt, 2, 40_000)?;
+    for most in [16, 59, 4_096] {
+        says(levels_of(&rt, &steady(rt.alloc())?, most), STEADY)?;
+    }
     let sound = sound_of(rt.alloc(), 2, 1_000)?;
-    says(
-        levels_of(&rt, &sound, 4_096),
-        "output 0: 500 frames, peak 0.0 dB, 8 samples at full scale\noutput 1: 500 frames, peak 0.0 dB, 8 samples at full \
-         scale\n",
-    )
+    says(levels_of(&rt, &sound, 4_096), FULL)
 }

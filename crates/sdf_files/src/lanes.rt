@@ -29,8 +29,9 @@ pub(crate) struct Lanes {
 }
 
 impl Lanes {
-    /// Counts the whole blocks of `bytes`, of which there are fewer than 32,768.
+    /// Counts the whole blocks of `bytes`, so few that what is full of a lane fits 16 bits.
     pub(crate) fn of(bytes: &[u8]) -> Lanes
+        requires { length bytes.now < 524288 }
         ensures { result.blocks ≡ length bytes.now / 16 }
     {
         let blocks = bytes.len() / BLOCK;

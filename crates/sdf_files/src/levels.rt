@@ -141,9 +141,10 @@ impl Levels {
         }
     }
 
-    /// Counts whole blocks of samples at the front of `bytes`, and returns how many bytes they have. Where the number of
-    /// outputs does not divide that of lanes, a lane has samples of several outputs, and none is counted.
+    /// Counts whole blocks of samples at the front of `bytes`, and returns how many bytes they have. Counts nothing if
+    /// the number of outputs does not divide 8, since a lane would have samples of several outputs.
     fn note_blocks(&mut self, bytes: &[u8]) -> usize
+        requires { length bytes.now < 524288 }
         ensures { result ≤ length bytes.now }
     {
         let channels = self.channels();

@@ -3,8 +3,8 @@
 //!
 //! It depends on `sdf_file`, which reads a design, on `sdf_faults`, on `sdf_options` for texts that are safe to print,
 //! and on `sdf_words` for a mistake on the command line. Begin at `storage`, then `files` and `overwriting`. A run
-//! reads through `input`, where `opening` shows a size as not filled in, and writes through `output`, with `levels`, which
-//! `lanes` counts side by side, and `progress`. `world` is what commands are done with.
+//! reads through `input`, where `opening` shows a size as not filled in, and writes through `output`, with `progress`
+//! and `levels`, which counts samples side by side by `lanes`. `world` is what commands are done with.
 #![tactic(auto)]
 
 pub mod files;

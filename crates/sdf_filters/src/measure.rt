@@ -80,8 +80,8 @@ fn magnitudes_at(taps: &[i32], angles: [f64; SIDE]) -> [f64; SIDE] {
     squares.to_array().map(|square| square.max(0.0).sqrt())
 }
 
-/// Returns the magnitudes of taps that are the same from both ends. Their sum of cosines about the middle (Clenshaw 1955)
-/// needs half of them.
+/// Returns the magnitudes of taps that are the same from both ends. Their sum of cosines about the middle (Clenshaw,
+/// 1955) needs half of them.
 fn mirrored_magnitudes_at(taps: &[i32], angles: [f64; SIDE]) -> [f64; SIDE] {
     let middle = taps.len() / 2;
     let turns = doubled_cosines(angles);
@@ -107,7 +107,7 @@ fn decibels(magnitude: f64) -> f64 {
 }
 
 impl<'a> Response<'a> {
-    /// Taps that work at `rate` samples a second, of which those of what passes come to `unit`.
+    /// Returns `taps` at work at `rate` samples a second. Taps that let a constant pass come to `unit`.
     pub(crate) fn new(taps: &'a [i32], rate: f64, unit: f64) -> Response<'a> {
         Response {
             taps,

@@ -18,8 +18,8 @@ use sdf_options::printable::printable;
 use sdf_words::{Batch, Crew, Run};
 use std::alloc::{AllocError, Global};
 use std::io::Write;
-use std::sync::atomic::{AtomicUsize, Ordering};
 use std::sync::Mutex;
+use std::sync::atomic::{AtomicUsize, Ordering};
 use std::thread::{self, Threads};
 use std::time::Clock;
 
@@ -130,34 +130,64 @@ impl<'b, 'a> Line<'b, 'a> {
         let number = self.taken.fetch_add(1, Ordering::SeqCst);
         Some((number, self.items.get(number)?))
     }
+
+    /// Leaves no file to take.
+    fn stop(&self) {
+        self.taken.store(self.items.len(), Ordering::SeqCst);
+    }
 }
 
-/// Runs a plan on one file after the other, until none is left or one can't be told.
+/// Hands over what became of files, unless another worker is at the desk. Stops the line if one can't be told.
+fn hand_over<'a, O: Write, E: Write>(
+    alloc: Global,
+    line: &Line<'_, 'a>,
+    desk: &Mutex<Desk<'_, 'a, O, E>>,
+    done: &mut Vec<Done<'a>>,
+) {
+    if let Some(mut desk) = desk.try_lock() {
+        if !desk.take_over(alloc, done) {
+            line.stop();
+        }
+    }
+}
+
+/// What a worker leaves: what became of files and was not handed over, and whether memory was refused.
+#[derive(Drop)]
+struct Left<'a> {
+    done: Vec<Done<'a>>,
+    ended: Result<(), AllocError>,
+}
+
+/// Runs a plan on one file after the other, until none is left.
 ///
-/// What became of a file is handed over if no other worker is at the desk, else with the next file. Returns the rest.
+/// What became of a file is handed over if no other worker is at the desk, else with the next file, or once more at the
+/// end. A file is taken only if there is memory to keep what becomes of it, so each file that is taken can be told.
 fn work<'a, S: Storage, T: Threads + AllocGlobal + Clock + Sync, O: Write + Send, E: Write + Send>(
     world: &World<S, T>,
     course: Course<'_>,
     line: &Line<'_, 'a>,
     desk: &Mutex<Desk<'_, 'a, O, E>>,
-) -> Result<Vec<Done<'a>>, AllocError>
+) -> Left<'a>
     requires { Suits course.batching.loaded.now.design.net course.prepared.now.plan }
 {
     let alloc = world.threads.alloc();
     let mut done = Vec::new(alloc);
+    let mut ended = Ok(());
     for _ in 0..line.items.len() {
+        ended = done.reserve(1);
+        if ended.is_err() {
+            line.stop();
+            break;
+        }
         let Some((number, item)) = line.take() else {
             break;
         };
         let outcome = run_item(world, course, item);
-        done.push(Done { number, outcome })?;
-        if let Some(mut desk) = desk.try_lock() {
-            if !desk.take_over(alloc, &mut done) {
-                break;
-            }
-        }
+        done.push_reserved(Done { number, outcome });
+        hand_over(alloc, line, desk, &mut done);
     }
-    Ok(done)
+    hand_over(alloc, line, desk, &mut done);
+    Left { done, ended }
 }
 
 /// Returns how many files are run at once: one if the processors serve within it, else one for each processor.
@@ -172,6 +202,8 @@ fn files_at_once<T: Threads>(threads: &T, batch: &Batch<'_>) -> usize
 
 /// Runs a plan on files, as many at once as there are processors, and gives the greatest exit status of these runs.
 fn serve_items<
+    'd,
+    'a,
     S: Storage,
     T: Threads + AllocGlobal + Clock + Sync,
     O: Write + Send,
@@ -179,8 +211,8 @@ fn serve_items<
 >(
     world: &World<S, T>,
     course: Course<'_>,
-    items: &[Item<'_>],
-    desk: Desk<'_, '_, O, E>,
+    items: &[Item<'a>],
+    desk: Desk<'d, 'a, O, E>,
 ) -> Result<u8, Fault>
     requires { Suits course.batching.loaded.now.design.net course.prepared.now.plan }
 {
@@ -195,15 +227,18 @@ fn serve_items<
         world.threads,
         alloc,
         crew,
-        &|_: usize| -> Result<Vec<Done>, AllocError>
+        &|_: usize| -> Left
             requires { Suits course.batching.loaded.now.design.net course.prepared.now.plan }
         { work(world, course, &line, &desk) },
     );
     let mut desk = desk.into_inner();
     desk.hide_count();
-    for done in left? {
-        desk.tell_all(alloc, &mut done?);
+    let mut all = Ok(());
+    for Left { mut done, ended } in left? {
+        desk.tell_all(alloc, &mut done);
+        all = all.and(ended);
     }
+    all?;
     desk.worst()
 }
 

@@ -1,4 +1,4 @@
-//! Where workers hand over what became of the files of a batch. It is told in the order of the files.
+//! A desk: workers hand over what became of the files of a batch, and it is told in the order of the files.
 
 use crate::count::Count;
 use crate::items::Batching;
@@ -58,9 +58,12 @@ impl<'d, 'a, O: Write, E: Write> Desk<'d, 'a, O, E> {
         })
     }
 
-    /// Takes over what became of files, which it takes out of `done`, and shows how many are done. Returns whether all
-    /// could be told.
+    /// Takes over what became of files, which it takes out of `done`, and shows how many are done. Returns false if a
+    /// file can't be told.
     pub(crate) fn take_over(&mut self, alloc: Global, done: &mut Vec<Done<'a>>) -> bool {
+        if done.is_empty() {
+            return self.worst.is_ok();
+        }
         self.count.hide(self.err);
         self.tell_all(alloc, done);
         if self.worst.is_err() {

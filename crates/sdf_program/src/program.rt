@@ -152,12 +152,7 @@ struct Runs<'a> {
 }
 
 /// Reads a design, and runs it on several files. What was read stands in `sources`. Gives the exit status.
-fn run_on<
-    S: Storage,
-    T: Threads + AllocGlobal + Clock + Sync,
-    O: Write + Send,
-    E: Write + Send,
->(
+fn run_on<S: Storage, T: Threads + AllocGlobal + Clock + Sync, O: Write + Send, E: Write + Send>(
     world: &World<S, T>,
     out: &mut O,
     err: &mut E,
