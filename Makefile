@@ -75,7 +75,7 @@ documents: build
 		build/sdfw draw $$it --workers 2 | cmp - $${it%.toml}.svg || exit 1; done
 
 # Whether each design of examples/, and designs that seeds make, make the bytes that Python's own arithmetic makes, also
-# in parts (needs python3.11; about a minute).
+# in parts, behind pipes, and what stands at a terminal (needs python3.11; about two minutes).
 examples: build
 	scripts/examples
 	scripts/pipes
