@@ -6,7 +6,8 @@ use std::io::{self, Write};
 use std::test::Fail;
 use test_texts::says;
 
-/// A writer that takes so many bytes at a time, and keeps none.
+/// A writer that takes `most` bytes at a time, and keeps none.
+#[derive(Drop)]
 struct Narrow {
     most: usize,
 }
