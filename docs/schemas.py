@@ -293,12 +293,16 @@ def mistaken_answers(program):
 
 
 def on_mistakes(program):
-    """What is wrong with what docs/FORMATS.md says of these: their text is what is printed without `--json`."""
+    """What is wrong with what docs/FORMATS.md says of these: their text is what is printed without `--json`, with the
+    usage also where that leaves it out."""
     wrong = []
     for words in MISTAKES:
         plain = subprocess.run([program, *words], capture_output=True, text=True)
         said = subprocess.run([program, *words, "--json"], capture_output=True, text=True)
-        told = {"fault": 0, "name": "Usage", "text": plain.stderr}
+        _, usage, behind = said.stderr.partition(r"\n\nUsage: ")
+        whole = json.loads('"' + usage + behind.removesuffix('"}\n') + '"')
+        text = plain.stderr if "\n\nUsage: " in plain.stderr or not usage else plain.stderr.removesuffix("\n") + whole
+        told = {"fault": 0, "name": "Usage", "text": text}
         wanted = json.dumps(told, separators=(",", ":"), ensure_ascii=False) + "\n"
         if (said.returncode, said.stdout, said.stderr) != (2, "", wanted) or plain.returncode != 2:
             wrong.append(f"docs/FORMATS.md: sdfw with {[*words, '--json']} prints {said.stderr!r}, not {wanted!r}")
