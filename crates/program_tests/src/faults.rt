@@ -19,9 +19,9 @@ const FAULTS: &[Row] = &[
         "2\n--\nerror: no fault has the name 'Deadlok'\n\n  tip: did you mean 'Deadlock'?\n--\n",
     ),
     (
-        "a front of a name",
+        "a front of a name, which another name is more like",
         "explain Dead",
-        "2\n--\nerror: no fault has the name 'Dead'\n--\n",
+        "2\n--\nerror: no fault has the name 'Dead'\n\n  tip: did you mean 'Read'?\n--\n",
     ),
     (
         "a name that is like none",
