@@ -22,7 +22,8 @@ impl Write for Narrow {
     }
 }
 
-/// Returns sample `number` of a sound of so many outputs, of which each next one is quieter. Some are at full scale.
+/// Returns sample `number` of a noise with `outputs` outputs. Each output is quieter than the one before; some samples
+/// are at full scale.
 fn sample_at(state: u32, number: u32, outputs: u32) -> i16 {
     match number % 131 {
         7 => i16::MIN,
@@ -35,7 +36,7 @@ fn sample_at(state: u32, number: u32, outputs: u32) -> i16 {
     }
 }
 
-/// Returns a sound of so many outputs and samples.
+/// Returns a WAV file with `outputs` outputs and `samples` samples in all.
 fn sound_of(alloc: Global, outputs: u8, samples: u32) -> Result<Vec<u8>, AllocError> {
     let mut sound = Vec::new(alloc);
     sound.extend_from_slice(b"RIFF\0\0\0\0WAVEfmt \x10\0\0\0\x01\0")?;
@@ -50,7 +51,7 @@ fn sound_of(alloc: Global, outputs: u8, samples: u32) -> Result<Vec<u8>, AllocEr
     Ok(sound)
 }
 
-/// Returns what is said of a sound that is written so many bytes at a time.
+/// Returns the lines of levels for `sound`, written at most `most` bytes at a time.
 fn levels_of(rt: &HostRuntime, sound: &[u8], most: usize) -> Result<String, Fail> {
     let mut to = Narrow { most };
     let mut err = Vec::new(rt.alloc());
@@ -68,7 +69,7 @@ fn levels_of(rt: &HostRuntime, sound: &[u8], most: usize) -> Result<String, Fail
     }
 }
 
-/// Compares what is said of a sound that is written in longer pieces with what is said of single bytes.
+/// Compares the levels of a sound that is written in pieces with those of the same sound, written byte by byte.
 fn is_counted(rt: &HostRuntime, outputs: u8, samples: u32) -> Result<(), Fail> {
     let sound = sound_of(rt.alloc(), outputs, samples)?;
     let plain = levels_of(rt, &sound, 1)?;
@@ -78,7 +79,7 @@ fn is_counted(rt: &HostRuntime, outputs: u8, samples: u32) -> Result<(), Fail> {
     Ok(())
 }
 
-/// Returns a sound of two outputs and 1,000 samples: one has only samples of -16,384, the other of 8,192.
+/// Returns a sound with two outputs and 1,000 samples: one has only samples of -16,384, the other of 8,192.
 fn steady(alloc: Global) -> Result<Vec<u8>, AllocError> {
     let mut sound = sound_of(alloc, 2, 0)?;
     for _ in 0..500 {
@@ -88,11 +89,11 @@ fn steady(alloc: Global) -> Result<Vec<u8>, AllocError> {
     Ok(sound)
 }
 
-/// What is said of it.
+/// The levels of `steady`.
 const STEADY: &str = "output 0: 500 frames, peak -6.0 dB, 0 samples at full scale\n\
      output 1: 500 frames, peak -12.0 dB, 0 samples at full scale\n";
 
-/// What is said of a sound of two outputs, each of which has eight samples at full scale.
+/// The levels of two outputs, each with eight samples at full scale.
 const FULL: &str = "output 0: 500 frames, peak 0.0 dB, 8 samples at full scale\n\
      output 1: 500 frames, peak 0.0 dB, 8 samples at full scale\n";
 

@@ -137,7 +137,7 @@ impl<'b, 'a> Line<'b, 'a> {
     }
 }
 
-/// Hands over what became of files, unless another worker is at the desk. Stops the line if one can't be told.
+/// Hands over the outcomes in `done`, unless another worker is at the desk. Stops the line if a report fails.
 fn hand_over<'a, O: Write, E: Write>(
     alloc: Global,
     line: &Line<'_, 'a>,
@@ -151,7 +151,7 @@ fn hand_over<'a, O: Write, E: Write>(
     }
 }
 
-/// What a worker leaves: what became of files and was not handed over, and whether memory was refused.
+/// The outcomes that a worker could not hand over, and whether memory was refused to it.
 #[derive(Drop)]
 struct Left<'a> {
     done: Vec<Done<'a>>,
@@ -160,8 +160,8 @@ struct Left<'a> {
 
 /// Runs a plan on one file after the other, until none is left.
 ///
-/// What became of a file is handed over if no other worker is at the desk, else with the next file, or once more at the
-/// end. A file is taken only if there is memory to keep what becomes of it, so each file that is taken can be told.
+/// An outcome that meets another worker at the desk is handed over with the next one, or tried once more at the end. A
+/// file is taken only if memory for its outcome is there, so each file that was taken is reported.
 fn work<'a, S: Storage, T: Threads + AllocGlobal + Clock + Sync, O: Write + Send, E: Write + Send>(
     world: &World<S, T>,
     course: Course<'_>,

@@ -1,4 +1,4 @@
-//! A desk: workers hand over what became of the files of a batch, and it is told in the order of the files.
+//! The desk of a batch: workers hand over the outcomes of its files, which are reported in file order.
 
 use crate::count::Count;
 use crate::items::Batching;
@@ -8,25 +8,25 @@ use sdf_files::files::Sources;
 use std::alloc::{AllocError, Global};
 use std::io::Write;
 
-/// What became of the file of a number.
+/// The outcome of file `number`.
 #[derive(Drop)]
 pub(crate) struct Done<'a> {
     pub(crate) number: usize,
     pub(crate) outcome: Outcome<'a>,
 }
 
-/// What became of the files of a batch: each is told once those before it are.
+/// The outcomes of the files of a batch, reported in file order.
 #[derive(Drop)]
 pub(crate) struct Desk<'d, 'a, O, E> {
     out: &'d mut O,
     err: &'d mut E,
     sources: &'d mut Sources,
     batching: Batching<'d>,
-    /// What became of each file that is done and not told.
+    /// The outcome of each file that is done and not reported.
     outcomes: Vec<Option<Outcome<'a>>>,
     told: usize,
     count: Count,
-    /// The greatest exit status so far, or the fault of telling a file.
+    /// The greatest exit status so far, or the fault of a report.
     worst: Result<u8, Fault>,
 }
 
@@ -58,8 +58,8 @@ impl<'d, 'a, O: Write, E: Write> Desk<'d, 'a, O, E> {
         })
     }
 
-    /// Takes over what became of files, which it takes out of `done`, and shows how many are done. Returns false if a
-    /// file can't be told.
+    /// Moves outcomes out of `done`, reports all that can be reported, and shows how many files are done. Returns false
+    /// if a report fails.
     pub(crate) fn take_over(&mut self, alloc: Global, done: &mut Vec<Done<'a>>) -> bool {
         if done.is_empty() {
             return self.worst.is_ok();
@@ -73,12 +73,12 @@ impl<'d, 'a, O: Write, E: Write> Desk<'d, 'a, O, E> {
         true
     }
 
-    /// Shows no longer how many files are done.
+    /// Takes the line of files done away.
     pub(crate) fn hide_count(&mut self) {
         self.count.hide(self.err);
     }
 
-    /// Takes over what became of files, which it takes out of `done`, and tells all that can be told.
+    /// Moves outcomes out of `done`, and reports all that can be reported.
     pub(crate) fn tell_all(&mut self, alloc: Global, done: &mut Vec<Done<'a>>) {
         for _ in 0..done.len() {
             if let Some(done) = done.pop() {
@@ -88,7 +88,7 @@ impl<'d, 'a, O: Write, E: Write> Desk<'d, 'a, O, E> {
         self.tell_on(alloc);
     }
 
-    /// Puts what became of a file in its place.
+    /// Puts an outcome in the place of its file.
     fn put(&mut self, done: Done<'a>) {
         let Done { number, outcome } = done;
         if let Some(place) = self.outcomes.get_mut(number) {
@@ -97,7 +97,7 @@ impl<'d, 'a, O: Write, E: Write> Desk<'d, 'a, O, E> {
         self.count.done = self.count.done.saturating_add(1);
     }
 
-    /// Tells files in their order, up to the first one that is not done.
+    /// Reports files in order, up to the first one that is not done.
     fn tell_on(&mut self, alloc: Global) {
         for _ in 0..self.outcomes.len() {
             let Some(mut outcome) = self.take_next() else {
@@ -107,14 +107,14 @@ impl<'d, 'a, O: Write, E: Write> Desk<'d, 'a, O, E> {
         }
     }
 
-    /// Takes out what became of the next file, if it is done.
+    /// Takes out the outcome of the next file, if it is done.
     fn take_next(&mut self) -> Option<Outcome<'a>> {
         let outcome = self.outcomes.get_mut(self.told)?.take()?;
         self.told = self.told.saturating_add(1);
         Some(outcome)
     }
 
-    /// Tells what became of a file, unless telling one has failed.
+    /// Reports an outcome, unless an earlier report failed.
     fn tell(&mut self, alloc: Global, outcome: &mut Outcome<'a>) {
         if let Ok(worst) = &mut self.worst {
             match outcome.tell(alloc, self.out, self.err, self.batching, self.sources) {
@@ -124,7 +124,7 @@ impl<'d, 'a, O: Write, E: Write> Desk<'d, 'a, O, E> {
         }
     }
 
-    /// Returns the greatest exit status, or the fault of telling a file.
+    /// Returns the greatest exit status, or the fault of a report.
     pub(crate) fn worst(self) -> Result<u8, Fault> {
         let Desk { worst, .. } = self;
         worst

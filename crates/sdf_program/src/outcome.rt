@@ -1,4 +1,4 @@
-//! What became of a file of a batch, and what is told of it.
+//! The outcome of a file in a batch, and how it is reported.
 
 ghost use Rattle.std.specs.Prelude.{◌≡◌, MatchResult};
 ghost use Rattle.sdf_faults.specs.Statuses.{status_of};
@@ -11,7 +11,7 @@ use sdf_options::printable::printable;
 use std::alloc::{AllocError, Global};
 use std::io::Write;
 
-/// What became of the file `input`: what was said of its run, how that ended, and what is known of the sound.
+/// The outcome of the file `input`: the text of its run, the result, and what is known of the sound.
 #[derive(Drop)]
 pub(crate) struct Outcome<'a> {
     pub(crate) input: &'a str,
@@ -45,7 +45,7 @@ fn push_named(text: &mut String, name: &str, said: &str) -> Result<(), AllocErro
 }
 
 impl Outcome<'_> {
-    /// Returns what became of the file, on one line.
+    /// Returns the outcome in a line.
     fn text(&self, alloc: Global) -> Result<String, AllocError> {
         match &self.ended {
             Ok(()) => String::from_str(alloc, "done"),
@@ -64,7 +64,7 @@ impl Outcome<'_> {
         put(out, line.as_bytes())
     }
 
-    /// Returns what was said of the run, each line behind the name of the file.
+    /// Returns the text of the run, each line behind the name of the file.
     fn said_text(&self, alloc: Global) -> Result<String, AllocError> {
         let mut text = String::new(alloc);
         if let Ok(said) = str::from_utf8(&self.said) {
@@ -74,7 +74,7 @@ impl Outcome<'_> {
         Ok(text)
     }
 
-    /// Says more of the file: what was said of its run, or of its fault.
+    /// Writes the text of the run and the diagnostic of its fault to `err`.
     fn say<E: Write>(&self, alloc: Global, err: &mut E, batching: Batching<'_>, sources: &Sources) {
         if let Ok(text) = self.said_text(alloc) {
             let _ = err.write_all(text.as_bytes());
@@ -96,8 +96,8 @@ impl Outcome<'_> {
         }
     }
 
-    /// Prints what became of the file, says more if that is asked for, and gives the exit status of the run. What is
-    /// known of the sound is left in `sources`.
+    /// Reports the outcome, with diagnostics if they are asked for, and returns the exit status of the run. Leaves what
+    /// is known of the sound in `sources`.
     pub(crate) fn tell<O: Write, E: Write>(
         &mut self,
         alloc: Global,

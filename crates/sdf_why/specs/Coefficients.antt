@@ -1,4 +1,4 @@
--- What is told of a coefficient file: how many values it lists, or the first of them that does not fit.
+-- The diagnostic for a coefficient file: the length of its list, or the first value that does not fit.
 use Rattle.std.specs.Prelude.{ℕ, ◌&&◌, not, Bool, false, List, [], ◌++◌, codes, decimal, Option, Some, None, find}
 use Rattle.std.specs.Prelude.{option_and_then, is_some, nat_le, bytes_eq, if◌then◌else◌}
 use Rattle.std.specs.Option.{option_map_or}

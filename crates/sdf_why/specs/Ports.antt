@@ -1,4 +1,4 @@
--- What is told of the actors at the ends of a link: how many ports they have.
+-- The diagnostic for the actors at the ends of a link: their numbers of ports.
 use Rattle.std.specs.Prelude.{ℕ, ◌==◌, List, ◌++◌, codes, decimal, slice_get, if◌then◌else◌}
 use Rattle.sdf_actor.specs.Nets.{inputs_of, outputs_of}
 use Rattle.sdf_kit.specs.Kit.{kit_steps}

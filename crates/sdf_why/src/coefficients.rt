@@ -1,5 +1,5 @@
-//! What is told of a coefficient file: what stands at its keys, how many values it lists, or the first of them that
-//! does not fit.
+//! The diagnostic for a coefficient file: the value at a key, the length of its list, or the first value that does not
+//! fit.
 
 ghost use Rattle.std.specs.Prelude.{◌≡◌, ◌++◌, OnOk, codes, option_map, option_and_then, string_bytes};
 ghost use Rattle.toml.specs.Data.{at, get, as_integer};
