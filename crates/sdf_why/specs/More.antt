@@ -1,5 +1,5 @@
--- The part of a net's diagnostic that needs more than the tables: actors that are not connected, the channel balance at
--- a link, and numbers of ports.
+-- The part of a net's diagnostic that needs more than the tables: actors that are not connected, the channel balance
+-- at a link, and numbers of ports.
 use Rattle.std.specs.Prelude.{◌≡◌, ℕ, Bool, None, Ok, Err, Some, List, [], ◌++◌, length, codes, decimal, Option}
 use Rattle.std.specs.Prelude.{nat_lt, slice_index_or, if◌then◌else◌}
 use Rattle.std.specs.List.{flat_map, range_with_len}

@@ -1,5 +1,5 @@
-//! The part of a net's diagnostic that needs more than the tables: actors that are not connected, the channel balance at
-//! a link, and numbers of ports.
+//! The part of a net's diagnostic that needs more than the tables: actors that are not connected, the channel balance
+//! at a link, and numbers of ports.
 
 ghost use Rattle.std.specs.Prelude.{◌≡◌, ℕ, ◌++◌, [], None, IfOk, OnOk, option_map};
 ghost use Rattle.std.specs.Prelude.{string_bytes};
