@@ -23,7 +23,7 @@ use Rattle.sdf_run.specs.declared.mode.Mode.{Mode}
 use Rattle.sdf_run.specs.declared.mode.Mode.TheVariants.{Rings, Rows}
 use Rattle.sdf_sched.specs.Period.{Schedule}
 use Rattle.sdf_split.specs.Cuts.{join}
-use Rattle.sdf_split.proofs.Lists.{joined_is, joined_long}
+use Rattle.sdf_split.proofs.Theorems.{joined_is, joined_long}
 use Rattle.sdf_wav.specs.Sound.{Sound}
 use Rattle.sdf_process.specs.declared.exchange.Exchange.{Exchange}
 use Rattle.sdf_process.specs.declared.portion.Portion.{Portion}

@@ -21,7 +21,7 @@ use Rattle.sdf_sched.specs.Period.{Schedule}
 use Rattle.sdf_split.specs.Cuts.{cut, join}
 use Rattle.sdf_split.specs.Parts.{GoesOnInParts, HasParts, read_by}
 use Rattle.sdf_split.specs.Parts.{none as no_part, more as one_part}
-use Rattle.sdf_split.proofs.Lists.{joined_is, joined_long}
+use Rattle.sdf_split.proofs.Theorems.{joined_is, joined_long}
 use Rattle.sdf_wav.specs.Sound.{Sound}
 use Rattle.sdf_process.specs.declared.exchange.Exchange.{Exchange}
 use Rattle.sdf_process.specs.Output.{exchange_of, channel_samples_from, in_turn, interleaved, lists_from, lists_to}

@@ -1,31 +1,32 @@
-pub mod Wav
-pub mod Sizes
-pub mod Lists
-pub mod Outcomes
-pub mod Channels
-pub mod Contents
-pub mod Refusals
-pub mod Texts
-pub mod Opened
-pub mod Finished
-pub mod Pieces
-pub mod Sounds
-pub mod Rendering
-pub mod Outputs
-pub mod Played
-pub mod Pieced
+mod Wav
+mod Sizes
+mod Lists
+mod Outcomes
+mod Channels
+mod Contents
+mod Refusals
+mod Texts
+mod Opened
+mod Finished
+mod Pieces
+mod Sounds
+mod Rendering
+mod Outputs
+mod Played
+mod Pieced
 mod Runs
-pub mod InTurn
-pub mod InParts
-pub mod Parts
-pub mod Readings
-pub mod Taken
-pub mod Fed
-pub mod Streamed
-pub mod Came
-pub mod Flowing
-pub mod Ahead
-pub mod Starting
-pub mod Steps
-pub mod Ending
-pub mod Ways
+mod InTurn
+mod InParts
+mod Parts
+mod Readings
+mod Taken
+mod Fed
+mod Streamed
+mod Came
+mod Flowing
+mod Ahead
+mod Starting
+mod Steps
+mod Ending
+mod LastBlocks
+mod Ways

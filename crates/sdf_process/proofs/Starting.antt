@@ -116,7 +116,7 @@ module _ (t : Opened) (is : IsOpened t)
 
     -- a run that is begun can go on
     pub goes_first : (v : Stream) → v.runner ≡ t.runner → v.flow.source ≡ b.source → v.flow.left ≡ b.frames →
-        v.flow.most ≡ t.frames → v.flow.kept.items ≡ [] → v.flow.made.items ≡ [] → v.flow.output ≡ b.output →
+        v.flow.most ≡ t.first → v.flow.kept.items ≡ [] → v.flow.made.items ≡ [] → v.flow.output ≡ b.output →
         v.exchange ≡ x → v.blocking ≡ t.blocking → 1 ≤ v.rate → v.channels ≡ c.channels → v.channels ≤ MOST_CHANNELS →
         GoesOn s v r w
     goes_first v runner source left most kept made output exchange blocking rate channels few =
@@ -134,7 +134,7 @@ module _ (t : Opened) (is : IsOpened t)
               some_rate = rate;
               exchange = exchange ∙ there;
               limits = subst IsExchange (sym exchange) limits;
-              piece = subst (λ (k : ℕ). 0 < k) (sym most) is.piece;
+              piece = subst (λ (k : ℕ). 0 < k) (sym most) is.first;
               waits = λ one. none;
             };
             ahead = none_ahead s none_yet v.flow none flows;

@@ -75,6 +75,45 @@ ahead_as b g f f' left source output made ahead = record {
   whole = rw made ahead.whole;
 }
 
+-- a run goes on also if it is to take another number of frames at a time
+pub goes_by_pieces : (b : Start) (t : Stream) {r : ReaderState} {w : WriterState} (most : ℕ) → 0 < most →
+    GoesOn b t r w → GoesOn b (record {
+      runner = t.runner;
+      flow = record {
+        source = t.flow.source;
+        left = t.flow.left;
+        most = most;
+        kept = t.flow.kept;
+        made = t.flow.made;
+        spare = t.flow.spare;
+        output = t.flow.output;
+      };
+      exchange = t.exchange;
+      blocking = t.blocking;
+      rate = t.rate;
+      channels = t.channels;
+    }) r w
+goes_by_pieces b t most some (g, under) = (
+  g,
+  record {
+    ready = record {
+      can = under.ready.can;
+      goes = under.ready.goes;
+      blocking = under.ready.blocking;
+      channels = under.ready.channels;
+      few_channels = under.ready.few_channels;
+      some_rate = under.ready.some_rate;
+      exchange = under.ready.exchange;
+      limits = under.ready.limits;
+      piece = some;
+      waits = under.ready.waits;
+    };
+    ahead = ahead_as b g t.flow _ refl refl refl refl under.ahead;
+    left = under.left;
+    kept = under.kept;
+  },
+)
+
 module _ (b : Start) (g : Progress) (blocks : ℕ) (t : Stream) (y : Portion) {r : ReaderState} {w : WriterState}
     (step : IsStep b g blocks t y r w) where
   can_run : CanRun b.net b.period b.blocking y

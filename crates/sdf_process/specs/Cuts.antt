@@ -4,29 +4,38 @@ use Rattle.std.specs.Int.{div_ceil}
 use Rattle.sdf_fission.specs.Warm.{IsLeast}
 use Rattle.sdf_split.specs.Sizes.{IsPartSize}
 use Rattle.sdf_process.specs.declared.cut.Cut.{Cut}
-use Rattle.sdf_process.specs.declared.cut.TheConstants.{PART, PIECE}
+use Rattle.sdf_process.specs.declared.cut.TheConstants.{FIRST_SHARE, PART, PIECE}
 use Rattle.sdf_process.specs.declared.exchange.Exchange.{Exchange}
 
 -- the most periods that read at most this many frames and make at most as many, and at least one
 abbrev pub periods_in : ℕ → Exchange → ℕ
 periods_in frames x = max 1 (frames / max x.taken x.made)
 
--- The periods of a piece. On one thread: those in PIECE frames. In parts: for each worker a part, which has the periods
--- in PART frames, or eight warm-ups if these are longer. (At most the greatest number of 32 bits.)
-abbrev pub IsPieceSize : Exchange → Option Cut → ℕ → Type 0
-IsPieceSize x None periods = periods ≡ periods_in PIECE x
-IsPieceSize x (Some c) periods =
-    (part : ℕ) × IsLeast (IsPartSize (periods_in PART x) 1 c.warm) part ×
-    (periods ≡ max 1 (min (part * c.parts) (2 ^ 32 - 1)))
+-- The periods of a piece. On one thread: those in PIECE frames. In parts: for each worker those in `share` frames, or
+-- eight warm-ups if these are longer. (At most the greatest number of 32 bits.)
+abbrev pub IsPieceSize : ℕ → Exchange → Option Cut → ℕ → Type 0
+IsPieceSize share x None periods = periods ≡ periods_in PIECE x
+IsPieceSize share x (Some c) periods =
+    (each : ℕ) × IsLeast (IsPartSize (periods_in share x) 1 c.warm) each ×
+    (periods ≡ max 1 (min (each * c.parts) (2 ^ 32 - 1)))
+
+-- The periods of a part if this many are run at once. Each worker has an equal share of them. A share is cut into as
+-- many parts as have the periods in PART frames, and 32 warm-ups, each; or it is one part, of at least eight warm-ups.
+abbrev pub IsPartOf : Exchange → Cut → ℕ → ℕ → Type 0
+IsPartOf x c periods size =
+    let share = div_ceil periods (max 1 c.parts) in
+    let least = max (periods_in PART x) (min (c.warm * 32) (2 ^ 32 - 1)) in
+    IsLeast (IsPartSize share (max 1 (share / least)) c.warm) size
 
 -- the periods that make this many frames (at most the greatest number of 32 bits)
 abbrev pub periods_making : ℕ → Exchange → ℕ
 periods_making frames x = min (div_ceil frames x.made) (2 ^ 32 - 1)
 
--- The most parts that are run at once if this many frames are made: those of the first piece, or of all periods if
--- these are fewer. (A last period that is not whole is run alone, so there may be one part fewer.)
+-- The most parts that are run at once if this many frames are made: one for each worker, or the parts of the first
+-- piece, or of all periods, if these are fewer. (A last period that is not whole is run alone, so there may be one part
+-- fewer.)
 abbrev pub AreAtOnce : Exchange → Cut → ℕ → ℕ → Type 0
 AreAtOnce x c frames parts =
-    (piece : ℕ) × IsPieceSize x (Some c) piece × (size : ℕ) ×
-    IsLeast (IsPartSize (min piece (periods_making frames x)) (max 1 c.parts) c.warm) size ×
-    (parts ≡ div_ceil (min piece (periods_making frames x)) size)
+    (piece : ℕ) × IsPieceSize FIRST_SHARE x (Some c) piece × (size : ℕ) ×
+    IsPartOf x c (min piece (periods_making frames x)) size ×
+    (parts ≡ min (div_ceil (min piece (periods_making frames x)) size) (max 1 c.parts))

@@ -137,6 +137,7 @@ pub record IsOpened (t : Opened) : Type 0 where
   pub stands : (s : Sound) → StandsAt t.net.now t.period.now t.blocking s 0 0 [] (left_by t.runner)
   pub some : 0 < t.blocking
   pub fits : t.blocking ≤ MOST_BLOCK
+  pub first : 0 < t.first
   pub piece : 0 < t.frames
 
 -- ---- a runner that runs the next portion

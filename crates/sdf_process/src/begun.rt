@@ -9,6 +9,7 @@ ghost use Rattle.sdf_wav.specs.declared.wav.TheConstants.{MOST_CHANNELS};
 ghost use Rattle.sdf_process.specs.Streams.{StandsAt, Streams};
 ghost use Rattle.sdf_process.specs.Tasks.{IsBegun, IsScore, IsShared, IsTask};
 
+use crate::cut::{FIRST_SHARE, SHARE};
 use crate::exchange::Exchange;
 use crate::playing::{Player, Score};
 use crate::runner::Runner;
@@ -80,6 +81,7 @@ fn run_shared<T: Threads + AllocGlobal + Sync, R: Reader, W: Writer, G: Gate>(
         period: &shared.table.period,
         runner: Runner::Session(session),
         blocking: shared.table.factor,
+        first: FRAMES,
         frames: FRAMES,
     };
     run_stream(rt, reader, writer, gate, opened, begun)
@@ -103,12 +105,14 @@ fn play<T: Threads + AllocGlobal + Sync, R: Reader, W: Writer, G: Gate>(
 {
     let exchange = Exchange::of_net(score.net);
     let player = Player::open(rt.alloc(), score)?;
-    let frames = player.piece(exchange);
+    let first = player.piece(exchange, FIRST_SHARE);
+    let frames = player.piece(exchange, SHARE);
     let opened = Opened {
         net: score.net,
         period: score.period,
         runner: Runner::Player(player),
         blocking: 1,
+        first,
         frames,
     };
     run_stream(rt, reader, writer, gate, opened, begun)

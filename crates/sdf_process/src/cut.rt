@@ -1,13 +1,11 @@
 //! How a sound is cut in time.
 
-ghost use Rattle.std.specs.Prelude.{◌<◌, ◌≤◌, ℕ, List, max};
+ghost use Rattle.std.specs.Prelude.{◌≡◌, ◌<◌, ◌≤◌, ℕ, List, max};
 ghost use Rattle.sdf_graph.specs.Periods.{IsLeastPeriod};
 ghost use Rattle.sdf_graph.specs.Rates.{rates};
 ghost use Rattle.sdf_actor.specs.Graphs.{graph_of};
 ghost use Rattle.sdf_kit.specs.Kit.{kit_steps};
-ghost use Rattle.sdf_fission.specs.Warm.{IsLeast};
-ghost use Rattle.sdf_split.specs.Sizes.{IsPartSize};
-ghost use Rattle.sdf_process.specs.Cuts.{AreAtOnce, IsPieceSize};
+ghost use Rattle.sdf_process.specs.Cuts.{AreAtOnce, IsPartOf, IsPieceSize, periods_in};
 ghost use Rattle.sdf_process.specs.Output.{IsExchange, exchange_of};
 
 use crate::exchange::Exchange;
@@ -15,12 +13,21 @@ use sdf_file::Design;
 use sdf_split::part_size;
 
 /// The most frames that a piece reads or makes on one thread, unless a period has more.
-const PIECE: usize = 32_768;
+pub(crate) const PIECE: usize = 32_768;
 
-/// The most frames that a part of a piece reads or makes, unless a period or eight warm-ups have more. Longer parts
-/// have less warm-up, and threads are started less often. A part is run in stretches of `PIECE` frames, so that its
-/// lists need no more memory than those of one thread.
-const PART: usize = 131_072;
+/// The most frames that each worker reads or makes of a piece, unless a period or eight warm-ups have more. The longer
+/// a piece, the fewer threads are started.
+pub(crate) const SHARE: usize = 131_072;
+
+/// The most frames that each worker reads or makes of the first piece, in the same way. No part runs while it is read.
+pub(crate) const FIRST_SHARE: usize = 65_536;
+
+/// How many frames a part reads or makes if a piece has several for each worker. A worker whose processor is slow then
+/// runs fewer parts.
+const PART: usize = 16_384;
+
+/// How many warm-ups such a part has at least: no more than one in 32 of its periods is run twice.
+const WARM_UPS: u32 = 32;
 
 /// How a piece is cut in time: the most parts that are run at once, and the periods of warm-up before a part.
 #[derive(Clone, Copy)]
@@ -29,27 +36,39 @@ pub(crate) struct Cut {
     pub(crate) warm: u32,
 }
 
+/// Returns how many periods fit into `frames` frames, or one if none does.
+pub(crate) fn periods_in(frames: usize, exchange: Exchange) -> u32
+    requires limits { IsExchange exchange }
+    requires few { frames < 4294967296 }
+    ensures { result ≡ periods_in frames exchange }
+{
+    (frames / exchange.taken.max(exchange.made)).max(1) as u32
+}
+
 impl Cut {
     /// Returns the periods of a part if `periods` are run at once.
-    pub(crate) fn part_of(self, periods: u32) -> u32
-        ensures { IsLeast (IsPartSize periods (max 1 self.parts) self.warm) result }
+    pub(crate) fn part_of(self, exchange: Exchange, periods: u32) -> u32
+        requires { IsExchange exchange }
+        ensures { IsPartOf exchange self periods result }
     {
-        part_size(periods, self.parts.max(1), self.warm)
+        let share = periods.div_ceil(self.parts.max(1));
+        let least = periods_in(PART, exchange).max(self.warm.saturating_mul(WARM_UPS));
+        part_size(share, (share / least).max(1), self.warm)
     }
 }
 
-/// Returns how many periods make a piece: for each worker a part of up to `PART` frames, or of eight warm-ups.
-pub(crate) fn piece_periods(exchange: Exchange, cut: Option<Cut>) -> u32
-    requires { IsExchange exchange }
+/// Returns how many periods make a piece, if each worker has up to `share` frames of it, or eight warm-ups.
+pub(crate) fn piece_periods(exchange: Exchange, cut: Option<Cut>, share: usize) -> u32
+    requires limits { IsExchange exchange }
+    requires few { share < 4294967296 }
     ensures some { 0 < result }
-    ensures piece { IsPieceSize exchange cut result }
+    ensures piece { IsPieceSize share exchange cut result }
 {
-    let most = exchange.taken.max(exchange.made);
-    let piece = (PIECE / most).max(1) as u32;
-    let part = (PART / most).max(1) as u32;
     match cut {
-        Some(Cut { parts, warm }) => part_size(part, 1, warm).saturating_mul(parts).max(1),
-        None => piece,
+        Some(Cut { parts, warm }) => part_size(periods_in(share, exchange), 1, warm)
+            .saturating_mul(parts)
+            .max(1),
+        None => periods_in(PIECE, exchange),
     }
 }
 
@@ -69,6 +88,7 @@ pub fn parts_at_once(design: &Design, workers: u32, warm: u32, frames: u64) -> u
     let periods = frames
         .div_ceil(exchange.made as u64)
         .min(u64::from(u32::MAX)) as u32;
-    let piece = piece_periods(exchange, Some(cut)).min(periods);
-    piece.div_ceil(cut.part_of(piece))
+    let piece = piece_periods(exchange, Some(cut), FIRST_SHARE).min(periods);
+    let part = cut.part_of(exchange, piece);
+    piece.div_ceil(part).min(workers.max(1))
 }

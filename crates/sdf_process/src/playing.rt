@@ -15,7 +15,7 @@ ghost use Rattle.sdf_process.specs.Output.{exchange_of, lists_from, IsExchange};
 ghost use Rattle.sdf_process.specs.Streams.{CanPlay, CanPlayNext, PlaysNext, StandsAt, StaysPlayer};
 ghost use Rattle.sdf_process.specs.Tasks.{IsCut, IsPlayer, IsScore};
 
-use crate::cut::{Cut, piece_periods};
+use crate::cut::{Cut, PIECE, periods_in, piece_periods};
 use crate::exchange::Exchange;
 use crate::portion::Portion;
 use crate::samples::make_frames;
@@ -113,12 +113,13 @@ impl<'a> Player<'a> {
         self.cut.is_some()
     }
 
-    /// Returns how many frames it is best fed at a time.
-    pub(crate) fn piece(&self, exchange: Exchange) -> usize
-        requires { IsExchange exchange }
+    /// Returns how many frames it is best fed at a time, if each worker has up to `share` frames of them.
+    pub(crate) fn piece(&self, exchange: Exchange, share: usize) -> usize
+        requires limits { IsExchange exchange }
+        requires few { share < 4294967296 }
         ensures { 0 < result }
     {
-        piece_periods(exchange, self.cut) as usize * exchange.taken
+        piece_periods(exchange, self.cut, share) as usize * exchange.taken
     }
 
     /// Runs the periods of a portion on one thread.
@@ -186,8 +187,9 @@ impl<'a> Player<'a> {
             period: self.period,
             periods: portion.periods,
             warm: cut.warm,
-            size: cut.part_of(portion.periods),
-            stretch: piece_periods(portion.exchange, None),
+            size: cut.part_of(portion.exchange, portion.periods),
+            stretch: periods_in(PIECE, portion.exchange),
+            workers: cut.parts,
         };
         let workers = &mut self.workers;
         let (ran, done) = resume_split(rt, &portion, split, &self.rest, workers, meanwhile);

@@ -3,9 +3,9 @@
 ghost use Rattle.std.specs.Prelude.{◌≡◌, ◌*◌, ◌≤◌, [], length, drop, true, is_some, IfErr, IfOk};
 ghost use Rattle.sdf_actor.specs.Wires.{lists as items_of};
 ghost use Rattle.sdf_answer.specs.declared.fault.RunFault.TheVariants as run;
-ghost use Rattle.sdf_wav.specs.Device.{ReaderState};
+ghost use Rattle.sdf_wav.specs.Device.{ReaderState, WriterState};
 ghost use Rattle.sdf_process.specs.Flows.{CanStep, CanTurn, KeepsGoing, GoesOn, Start, StepsOn, StreamsFrom, TakesMost};
-ghost use Rattle.sdf_process.specs.Flows.{TurnsAll};
+ghost use Rattle.sdf_process.specs.Flows.{TurnsAll, start_of};
 ghost use Rattle.sdf_process.specs.Streams.{CanPlayNext, IsOpened, PlaysNext, StaysPlayer, Streams};
 ghost use Rattle.sdf_process.specs.Streams.{is_cut};
 ghost use Rattle.sdf_process.specs.Tasks.{IsBegun, IsPlayer};
@@ -47,7 +47,9 @@ pub(crate) struct Opened<'a> {
     pub(crate) runner: Runner<'a>,
     /// Periods in a block.
     pub(crate) blocking: u32,
-    /// Frames that are taken at a time.
+    /// Frames that are taken at first.
+    pub(crate) first: usize,
+    /// Frames that are taken at a time after that.
     pub(crate) frames: usize,
 }
 
@@ -66,6 +68,41 @@ pub(crate) struct Stream<'a> {
 }
 
 impl<'a> Stream<'a> {
+    /// Begins before the first frame.
+    fn open(alloc: Global, opened: Opened<'a>, begun: Begun) -> Stream<'a>
+        requires opened { IsOpened opened }
+        requires begun { IsBegun opened.net.now opened.period.now.repetitions begun }
+        ensures { (r : ReaderState) (w : WriterState) →
+            GoesOn (start_of opened.entry begun r w) result r w }
+    {
+        let Begun {
+            source,
+            frames: left,
+            output,
+        } = begun;
+        runs_go_on::<Kit>();
+        nets_have_periods(opened.net);
+        let exchange = Exchange::of_net(opened.net);
+        let (rate, channels) = (source.rate(), source.channels());
+        let flow = Flow {
+            source,
+            left,
+            most: opened.first,
+            kept: Vec::new(alloc),
+            made: Vec::new(alloc),
+            spare: Vec::new(alloc),
+            output,
+        };
+        Stream {
+            runner: opened.runner,
+            flow,
+            exchange,
+            blocking: opened.blocking,
+            rate,
+            channels,
+        }
+    }
+
     /// Runs a portion, and then writes what it makes and takes the next frames.
     fn run_in_turn<T: Threads + AllocGlobal + Sync, R: Reader, W: Writer, G: Gate>(
         &mut self,
@@ -227,6 +264,7 @@ fn play_while_turning<T: Threads + AllocGlobal + Sync, R: Reader, W: Writer>(
 
 /// Runs a net on the frames of a source: takes some frames, runs all whole blocks that there are, writes what they
 /// make, and so on. The last block is filled up with zeros. A run in parts at once writes and takes frames meanwhile.
+/// At first it takes as many frames as `opened.first` says, and then as `opened.frames` says.
 pub(crate) fn run_stream<T: Threads + AllocGlobal + Sync, R: Reader, W: Writer, G: Gate>(
     rt: &T,
     reader: &mut R,
@@ -240,32 +278,10 @@ pub(crate) fn run_stream<T: Threads + AllocGlobal + Sync, R: Reader, W: Writer, 
     ensures { Streams opened.entry.net.now opened.entry.period.now.repetitions begun.source
         (R.state reader.old) (R.state reader.new) (W.state writer.old) (W.state writer.new) result }
 {
-    let Begun {
-        source,
-        frames,
-        output,
-    } = begun;
-    runs_go_on::<Kit>();
-    nets_have_periods(opened.net);
-    let exchange = Exchange::of_net(opened.net);
-    let (rate, channels) = (source.rate(), source.channels());
-    let flow = Flow {
-        source,
-        left: frames,
-        most: opened.frames,
-        kept: Vec::new(rt.alloc()),
-        made: Vec::new(rt.alloc()),
-        spare: Vec::new(rt.alloc()),
-        output,
-    };
-    let mut stream = Stream {
-        runner: opened.runner,
-        flow,
-        exchange,
-        blocking: opened.blocking,
-        rate,
-        channels,
-    };
+    let most = opened.frames;
+    let mut stream = Stream::open(rt.alloc(), opened, begun);
+    stream.go_on(rt, reader, writer, gate)?;
+    stream.flow.most = most;
     while stream.flow.left > 0 {
         stream.go_on(rt, reader, writer, gate)?;
     }

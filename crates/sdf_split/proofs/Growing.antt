@@ -16,7 +16,7 @@ use Rattle.sdf_split.specs.Parts.{AreStretches, IsFinished, IsSplit, IsPart, IsW
 use Rattle.sdf_split.specs.Parts.{read_by, end_of, part_count, none as no_part, more as one_part}
 use Rattle.sdf_split.specs.Parts.{first as first_stretch, next as next_stretch}
 use Rattle.sdf_split.proofs.Joining.{one_more, stretch_more, all_read, begins, ends, ends_last}
-use Rattle.sdf_split.proofs.Lists.{joined_is, joined_long, same_lists}
+use Rattle.sdf_split.proofs.Theorems.{joined_is, joined_long, same_lists}
 use Rattle.sdf_split.proofs.Warmed.{blank, blank_at}
 
 -- the periods of the first parts
@@ -66,7 +66,8 @@ module _ {A S T M : Type 0} (s : Steps A S T) (inputs : List (List T))
       let many : length (blank {T = T} lists) ≡ length own = long ∙ sym fin.goes.count in
       let same : own ≡ join (blank lists) own = sym (same_lists (join (blank lists) own) own
       (joined_long (blank lists) own ∙ many)
-      (λ e. joined_is (blank lists) own (omega (arith, many)) e ∙ ap (λ ys. ys ++ get_or own e []) (blank_at lists e))) in
+      (λ e. joined_is (blank lists) own (omega (arith, many)) e
+      ∙ ap (λ ys. ys ++ get_or own e []) (blank_at lists e))) in
       let goes : GoesOnBy s w.net.now q rest to (front to) (join (blank lists) own) last =
       subst (λ ys. GoesOnBy s w.net.now q rest to (front to) ys last) same
       (subst (λ k. GoesOnBy s w.net.now q rest k (front to) own last) (let e : to - 0 ≡ to = omega arith in e)
@@ -118,7 +119,8 @@ module _ {A S T M : Type 0} (s : Steps A S T) (inputs : List (List T))
     all_stretches to more last within (first_stretch to' m last' order fin) = base to m last order within fin
     all_stretches to more last within (next_stretch at to' ms m mid last' before order fin) =
         subst (λ xs. Comes to xs last) (append_assoc made ms (m ∷ []))
-        (going_on at to order within (made ++ ms) mid (all_stretches at ms mid (omega (arith, order, within)) before) mid m
+        (going_on at to order within (made ++ ms) mid
+        (all_stretches at ms mid (omega (arith, order, within)) before) mid m
         last fin refl)
 
   module _ (j : ℕ) (l : j < part_count w) (made : List M) (last : Option (Rest T S))

@@ -2,6 +2,7 @@
 use Rattle.std.specs.Prelude.{◌≡◌, ℕ, ◌+◌, ◌-◌, ◌*◌, ◌^◌, ◌≤◌, ◌<◌, min, max, List, [], ◌∷◌, ◌++◌, length}
 use Rattle.std.specs.Prelude.{slice_index_or, Result, MatchResult}
 use Rattle.std.specs.Int.{div_ceil}
+use Rattle.std.specs.List.{All}
 use Rattle.sdf_graph.specs.Rates.{rates}
 use Rattle.sdf_sched.specs.Period.{IsPeriodOf}
 use Rattle.sdf_actor.specs.declared.rest.Rest.{Rest}
@@ -18,6 +19,7 @@ use Rattle.sdf_fission.specs.WarmUps.{WarmsIn}
 use Rattle.sdf_split.specs.Cuts.{cut, join}
 use Rattle.sdf_split.specs.declared.part.Made.{Made}
 use Rattle.sdf_split.specs.declared.part.Split.{Split}
+use Rattle.sdf_split.specs.declared.workers.Done.{Done}
 use Rattle.sdf_split.specs.declared.workers.Worker.{Worker}
 
 -- a period of a net, inputs that hold the periods of the run and no more, a warm-up, and parts that are no shorter
@@ -72,6 +74,10 @@ pub record IsPart {A S T M : Type 0} (s : Steps A S T) (n : Netlist A T) (q : Li
 abbrev pub end_of : ℕ → ℕ → ℕ → ℕ
 end_of size periods from = from + min size (periods - from)
 
+-- how many parts there are
+abbrev pub part_count : {A S T : Type 0} → Split A T S → ℕ
+part_count w = max (div_ceil w.periods w.size) 1
+
 -- what was made of part i, or why it was not
 abbrev pub IsMade : {A S T M : Type 0} → Steps A S T → List (List T) → (ℕ → List (List T) → M → Type 0) →
     Split A T S → Rest T S → ℕ → Result (Made M T S) RunFault → Type 0
@@ -81,15 +87,29 @@ IsMade s inputs makes w rest i r =
     (end_of w.size w.periods (i * w.size)) m.made.items m.rest)
     (λ fault. fault ≡ OutOfMemory)
 
--- and of each of the first parts, a worker each
+-- and of each of the first parts
 abbrev pub AreMade : {A S T M : Type 0} → Steps A S T → List (List T) → (ℕ → List (List T) → M → Type 0) →
-    Split A T S → Rest T S → List (Worker M T S) → Type 0
-AreMade {A} {S} {T} {M} s inputs makes w rest workers =
-    (i : ℕ) (d : Worker M T S) → i < length workers → IsMade s inputs makes w rest i (slice_index_or workers i d).made
+    Split A T S → Rest T S → List (Result (Made M T S) RunFault) → Type 0
+AreMade {A} {S} {T} {M} s inputs makes w rest places =
+    (i : ℕ) (d : Result (Made M T S) RunFault) → i < length places →
+    IsMade s inputs makes w rest i (slice_index_or places i d)
 
--- how many parts there are
-abbrev pub part_count : {A S T : Type 0} → Split A T S → ℕ
-part_count w = max (div_ceil w.periods w.size) 1
+-- this is a part, and what was made of it
+abbrev pub IsDone : {A S T M : Type 0} → Steps A S T → List (List T) → (ℕ → List (List T) → M → Type 0) →
+    Split A T S → Rest T S → Done M T S → Type 0
+IsDone s inputs makes w rest d = (d.number < part_count w) × IsMade s inputs makes w rest d.number d.made
+
+-- and so of each that a worker ran
+abbrev pub AreDone : {A S T M : Type 0} → Steps A S T → List (List T) → (ℕ → List (List T) → M → Type 0) →
+    Split A T S → Rest T S → List (Done M T S) → Type 0
+AreDone s inputs makes w rest done = All (IsDone s inputs makes w rest) done
+
+-- and of each worker
+abbrev pub AllAreDone : {A S T M : Type 0} → Steps A S T → List (List T) → (ℕ → List (List T) → M → Type 0) →
+    Split A T S → Rest T S → List (Worker M T S) → Type 0
+AllAreDone {A} {S} {T} {M} s inputs makes w rest workers =
+    (i : ℕ) (d : Worker M T S) → i < length workers →
+    AreDone s inputs makes w rest (slice_index_or workers i d).done.items
 
 -- What the outputs of stretches became, one behind the other: by the periods up to the end of each stretch, a run goes
 -- on from the rest, and its outputs are those of the stretches before with the stretch's own behind them.

@@ -1,7 +1,7 @@
 //! Calls that are made at once, beside another one.
 //!
 //! `thread::for_each_mut` halves a list, so that threads start threads. Here one thread starts all others and then does
-//! work of its own: where a new thread shares its maker's processor at first, the last part begins sooner.
+//! work of its own: where a new thread shares its maker's processor at first, the last worker begins sooner.
 
 ghost use Rattle.std.specs.Prelude.{◌≡◌, ◌+◌, ◌<◌, ◌^◌, length};
 ghost use denote.Param.Send.{IsSync, IsSend};

@@ -7,7 +7,8 @@ ghost use Rattle.sdf_answer.specs.Answer.{periods_of};
 ghost use Rattle.sdf_answer.specs.Feeds.{GoesOnBy};
 ghost use Rattle.sdf_answer.specs.declared.fault.RunFault.TheVariants.{OutOfMemory};
 ghost use Rattle.sdf_fission.specs.Laws.{WasLeft};
-ghost use Rattle.sdf_split.specs.Parts.{AreStretches, IsSplit, IsWarmedUp, IsFinished, IsPart, end_of, read_by};
+ghost use Rattle.sdf_split.specs.Parts.{AreStretches, IsSplit, IsWarmedUp, IsFinished, IsPart, end_of, part_count};
+ghost use Rattle.sdf_split.specs.Parts.{read_by};
 
 use crate::ends::Ends;
 use sdf_actor::{Actor, Net, Rest};
@@ -18,7 +19,8 @@ use std::alloc::Global;
 use std::mem;
 
 /// A run of `periods` periods of a net in parts of `size` periods, each after `warm` periods of warm-up except the
-/// first. A part is run in stretches of up to `stretch` periods, so that its lists need no more memory.
+/// first, by up to `workers` workers at once. A part is run in stretches of up to `stretch` periods, so that its lists
+/// need no more memory.
 #[derive_where(Clone, Copy)]
 pub struct Split<'a, A: Actor> {
     pub net: &'a Net<A>,
@@ -27,6 +29,17 @@ pub struct Split<'a, A: Actor> {
     pub warm: u32,
     pub size: u32,
     pub stretch: u32,
+    pub workers: u32,
+}
+
+impl<'a, A: Actor> Split<'a, A> {
+    /// Returns the number of parts, which is 1 if `periods` is 0.
+    pub(crate) fn count(self) -> usize
+        requires { 0 < self.size }
+        ensures { result ≡ part_count self.entry }
+    {
+        self.periods.div_ceil(self.size).max(1) as usize
+    }
 }
 
 /// The periods from one number to another.

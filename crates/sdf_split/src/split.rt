@@ -1,21 +1,81 @@
 //! Runs that are split in time.
 
-ghost use Rattle.std.specs.Prelude.{◌≡◌, ◌<◌, ℕ, List, length, MatchResult};
+ghost use Rattle.std.specs.Prelude.{◌≡◌, ◌<◌, ℕ, List, length, slice_index_or, MatchResult, IfOk};
 ghost use Rattle.sdf_actor.specs.Rests.{IsRest};
 ghost use Rattle.sdf_answer.specs.Answer.{periods_of};
 ghost use Rattle.sdf_answer.specs.declared.fault.RunFault.TheVariants.{OutOfMemory};
 ghost use Rattle.sdf_fission.specs.Laws.{WasLeft};
-ghost use Rattle.sdf_split.specs.Parts.{IsSplit, AreMade, IsMade, part_count, GoesOnInParts};
+ghost use Rattle.sdf_split.specs.Parts.{AllAreDone, AreDone, AreMade, IsSplit, part_count, GoesOnInParts};
 
 use crate::beside::for_each_beside;
 use crate::ends::Ends;
 use crate::part::{Made, Split};
-use crate::workers::{Worker, Workers, work};
+use crate::workers::{Done, Line, Worker, Workers, work};
 use sdf_actor::{Actor, Rest};
 use sdf_answer::RunFault;
 use sdf_answer::laws::nets_have_periods;
-use std::alloc::Global;
+use std::alloc::{AllocError, Global};
+use std::mem;
 use std::thread::Threads;
+
+/// Returns a place for each part. Each is `OutOfMemory` until what a worker made of the part is put there.
+fn empty_places<A: Actor, E: Ends<A::Token>>(
+    alloc: Global,
+    ends: &E,
+    split: Split<'_, A>,
+    rest: &Rest<A::Token, A::State>,
+) -> Result<Vec<Result<Made<E::Made, A::Token, A::State>, RunFault>>, AllocError>
+    requires { IsSplit A.steps (E.inputs ends.now) split }
+    ensures made { IfOk result (λ v. AreMade A.steps (E.inputs ends.now) (E.makes ends.now) split.entry rest.now
+        v.items) }
+    ensures all { IfOk result (λ v. length v.items ≡ part_count split.entry) }
+{
+    let mut places = Vec::new(alloc);
+    for _ in 0..split.count() {
+        places.push(Err(RunFault::OutOfMemory))?;
+    }
+    Ok(places)
+}
+
+/// Moves what a worker made of parts to their places.
+fn place<A: Actor, E: Ends<A::Token>>(
+    ends: &E,
+    split: Split<'_, A>,
+    rest: &Rest<A::Token, A::State>,
+    done: &mut Vec<Done<E::Made, A::Token, A::State>>,
+    places: &mut [Result<Made<E::Made, A::Token, A::State>, RunFault>],
+)
+    requires done { AreDone A.steps (E.inputs ends.now) (E.makes ends.now) split rest.now done.old.items }
+    requires made { AreMade A.steps (E.inputs ends.now) (E.makes ends.now) split rest.now places.old }
+    requires all { length places.old ≡ part_count split }
+    ensures made { AreMade A.steps (E.inputs ends.now) (E.makes ends.now) split.entry rest.now places.new }
+    ensures count { length places.new ≡ length places.old }
+{
+    for _ in 0..done.len() {
+        if let Some(Done { number, made }) = done.pop() {
+            places[number] = made;
+        }
+    }
+}
+
+/// Moves what all workers made of parts to their places.
+fn place_all<A: Actor, E: Ends<A::Token>>(
+    ends: &E,
+    split: Split<'_, A>,
+    rest: &Rest<A::Token, A::State>,
+    workers: &mut [Worker<E::Made, A::Token, A::State>],
+    places: &mut [Result<Made<E::Made, A::Token, A::State>, RunFault>],
+)
+    requires done { AllAreDone A.steps (E.inputs ends.now) (E.makes ends.now) split rest.now workers.old }
+    requires made { AreMade A.steps (E.inputs ends.now) (E.makes ends.now) split rest.now places.old }
+    requires all { length places.old ≡ part_count split }
+    ensures made { AreMade A.steps (E.inputs ends.now) (E.makes ends.now) split.entry rest.now places.new }
+    ensures count { length places.new ≡ length places.old }
+{
+    for i in 0..workers.len() {
+        place(ends, split, rest, &mut workers[i].done, places);
+    }
+}
 
 /// Takes out what the stretches of all parts made, in order, and the state in which the last one leaves the net.
 fn taken<A: Actor, E: Ends<A::Token>>(
@@ -23,11 +83,11 @@ fn taken<A: Actor, E: Ends<A::Token>>(
     ends: &E,
     split: Split<'_, A>,
     rest: &Rest<A::Token, A::State>,
-    workers: &mut [Worker<E::Made, A::Token, A::State>],
+    places: &mut [Result<Made<E::Made, A::Token, A::State>, RunFault>],
 ) -> Result<(Vec<E::Made>, Rest<A::Token, A::State>), RunFault>
     requires split { IsSplit A.steps (E.inputs ends.now) split }
-    requires made { AreMade A.steps (E.inputs ends.now) (E.makes ends.now) split rest.now workers.old }
-    requires all { length workers.old ≡ part_count split }
+    requires made { AreMade A.steps (E.inputs ends.now) (E.makes ends.now) split rest.now places.old }
+    requires all { length places.old ≡ part_count split }
     ensures { MatchResult result
         (λ r. GoesOnInParts A.steps split.entry.net.now split.entry.period.now.repetitions (E.inputs ends.now)
         (E.makes ends.now) rest.now split.entry.periods r.0.items r.1)
@@ -36,15 +96,36 @@ fn taken<A: Actor, E: Ends<A::Token>>(
     nets_have_periods(split.net);
     let mut all = Vec::new(alloc);
     let mut last = None;
-    for i in 0..workers.len() {
-        let Made { mut made, rest } = workers[i].take()?;
+    for i in 0..places.len() {
+        let part = mem::replace(&mut places[i], Err(RunFault::OutOfMemory));
+        let Made { mut made, rest } = part?;
         all.append(&mut made)?;
         last = Some(rest);
     }
     Ok((all, last.unwrap()))
 }
 
-/// Runs all parts at once, a worker each, and `meanwhile` beside them. Takes out what the parts made.
+/// Puts what all workers made of the parts in order, and returns the state in which the last part leaves the net.
+fn gather<A: Actor, E: Ends<A::Token>>(
+    alloc: Global,
+    ends: &E,
+    split: Split<'_, A>,
+    rest: &Rest<A::Token, A::State>,
+    workers: &mut [Worker<E::Made, A::Token, A::State>],
+) -> Result<(Vec<E::Made>, Rest<A::Token, A::State>), RunFault>
+    requires split { IsSplit A.steps (E.inputs ends.now) split }
+    requires done { AllAreDone A.steps (E.inputs ends.now) (E.makes ends.now) split rest.now workers.old }
+    ensures { MatchResult result
+        (λ r. GoesOnInParts A.steps split.entry.net.now split.entry.period.now.repetitions (E.inputs ends.now)
+        (E.makes ends.now) rest.now split.entry.periods r.0.items r.1)
+        (λ fault. fault ≡ OutOfMemory) }
+{
+    let mut places = empty_places(alloc, ends, split, rest)?;
+    place_all(ends, split, rest, workers, &mut places);
+    taken(alloc, ends, split, rest, &mut places)
+}
+
+/// Runs all parts by workers at once, and `meanwhile` beside them. Returns what the parts made.
 fn run_parts<R: Threads + Sync, A: Actor, E: Ends<A::Token>, G: FnMut() -> B, B>(
     rt: &R,
     alloc: Global,
@@ -59,7 +140,6 @@ fn run_parts<R: Threads + Sync, A: Actor, E: Ends<A::Token>, G: FnMut() -> B, B>
 )
     requires split { IsSplit A.steps (E.inputs ends.now) split }
     requires rest { WasLeft A.steps split.net.now split.period.now.repetitions rest.now }
-    requires all { length workers.old ≡ part_count split }
     requires meanwhile { G.pre meanwhile.old }
     ensures ran { MatchResult result.0
         (λ r. GoesOnInParts A.steps split.entry.net.now split.entry.period.now.repetitions (E.inputs ends.now)
@@ -67,26 +147,27 @@ fn run_parts<R: Threads + Sync, A: Actor, E: Ends<A::Token>, G: FnMut() -> B, B>
         (λ fault. fault ≡ OutOfMemory) }
     ensures meanwhile { G.step meanwhile.old result.1 meanwhile.new }
 {
+    let line = Line::new();
     let done = for_each_beside(
         rt,
         workers,
-        &|i: usize, worker: &mut Worker<E::Made, A::Token, A::State>|
+        &|_: usize, worker: &mut Worker<E::Made, A::Token, A::State>|
             requires { IsSplit A.steps (E.inputs ends.now) split
-                × WasLeft A.steps split.net.now split.period.now.repetitions rest.now
-                × (i < part_count split) }
-            ensures { IsMade A.steps (E.inputs ends.entry.now) (E.makes ends.entry.now) split.entry rest.entry.now i
-                worker.exit.now.made }
-        { work(alloc, ends, split, rest, i, worker) },
+                × WasLeft A.steps split.net.now split.period.now.repetitions rest.now }
+            ensures { AreDone A.steps (E.inputs ends.entry.now) (E.makes ends.entry.now) split.entry rest.entry.now
+                worker.exit.now.done.items }
+        { work(alloc, ends, split, rest, &line, worker) },
         meanwhile,
     );
-    (taken(alloc, ends, split, rest, workers), done)
+    (gather(alloc, ends, split, rest, workers), done)
 }
 
-/// Goes on from a rest as `resume_one` does, in parts that are run at once. Each part except the first is run after a
-/// warm-up on the periods before it, and in stretches. Returns what the outputs of the stretches became, in order, and
-/// what the run leaves. The memory of `workers` is used again.
+/// Goes on from a rest as `resume_one` does, in parts that up to `split.workers` workers run at once. Each part except
+/// the first is run after a warm-up on the periods before it, and in stretches. Returns what the outputs of the
+/// stretches became, in order, and what the run leaves. The memory of `workers` is used again.
 ///
-/// Each part has a thread of its own. `meanwhile` is run once in this one, also if memory is refused.
+/// Each worker has a thread of its own if one can be made. It takes one part after the other, so that a worker whose
+/// processor is slow runs fewer. `meanwhile` is run once in this thread, also if memory is refused.
 pub fn resume_split<R: Threads + Sync, A: Actor, E: Ends<A::Token>, G: FnMut() -> B, B>(
     rt: &R,
     ends: &E,
@@ -110,10 +191,12 @@ pub fn resume_split<R: Threads + Sync, A: Actor, E: Ends<A::Token>, G: FnMut() -
 {
     nets_have_periods(split.net);
     let alloc = workers.alloc;
-    let count = split.periods.div_ceil(split.size).max(1) as usize;
-    match workers.take_on(count, split.size.div_ceil(split.stretch)) {
+    let parts = split.count();
+    let threads = parts.min(split.workers.max(1) as usize);
+    let stretches = split.size.div_ceil(split.stretch) as usize;
+    match workers.take_on(threads, parts.div_ceil(threads).saturating_mul(stretches)) {
         Ok(()) => {
-            let all = &mut workers.all[..count];
+            let all = &mut workers.all[..threads];
             run_parts(rt, alloc, ends, split, rest, all, meanwhile)
         }
         Err(refused) => (Err(refused.into()), meanwhile()),

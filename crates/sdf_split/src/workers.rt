@@ -1,21 +1,51 @@
 //! Workers that run the parts of a sound, and their memory.
 
-ghost use Rattle.std.specs.Prelude.{◌≡◌, ◌≤◌, ◌<◌, length, OnOk};
+ghost use Rattle.std.specs.Prelude.{◌≤◌, ◌<◌, length, IfSome, OnOk};
 ghost use Rattle.sdf_fission.specs.Laws.{WasLeft};
-ghost use Rattle.sdf_split.specs.Parts.{IsSplit, IsMade, part_count};
+ghost use Rattle.sdf_split.specs.Parts.{AreDone, IsSplit};
 
 use crate::ends::Ends;
 use crate::part::{Made, Memory, Split, part};
 use sdf_actor::{Actor, Rest};
 use sdf_answer::RunFault;
 use std::alloc::{AllocError, Global};
-use std::mem;
+use std::sync::atomic::{AtomicUsize, Ordering};
 
-/// A worker: its memory, and what it made of its last part.
+/// The parts of a split run, of which workers take one after the other.
+#[derive(Drop)]
+pub(crate) struct Line {
+    taken: AtomicUsize,
+}
+
+impl Line {
+    /// Begins before the first part.
+    pub(crate) fn new() -> Line {
+        Line {
+            taken: AtomicUsize::new(0),
+        }
+    }
+
+    /// Takes the next of `count` parts, if one is left.
+    fn take(&self, count: usize) -> Option<usize>
+        ensures { IfSome result (λ i. i < count) }
+    {
+        let i = self.taken.fetch_add(1, Ordering::SeqCst);
+        if i < count { Some(i) } else { None }
+    }
+}
+
+/// A part that was run: its number, and what was made of it.
+#[derive(Drop)]
+pub(crate) struct Done<M, T, S> {
+    pub(crate) number: usize,
+    pub(crate) made: Result<Made<M, T, S>, RunFault>,
+}
+
+/// A worker: its memory, and the parts that it ran of a piece.
 #[derive(Drop)]
 pub(crate) struct Worker<M, T, S> {
     memory: Memory<M, T>,
-    pub(crate) made: Result<Made<M, T, S>, RunFault>,
+    pub(crate) done: Vec<Done<M, T, S>>,
 }
 
 impl<M: Drop, T: Copy, S: Drop> Worker<M, T, S> {
@@ -23,44 +53,47 @@ impl<M: Drop, T: Copy, S: Drop> Worker<M, T, S> {
     fn new(alloc: Global) -> Worker<M, T, S> {
         Worker {
             memory: Memory::none(alloc),
-            made: Err(RunFault::OutOfMemory),
+            done: Vec::new(alloc),
         }
     }
 
-    /// Takes up to `most` of `spares`, which what the outputs of stretches become uses again.
-    fn stock(&mut self, spares: &mut Vec<M>, most: u32) -> Result<(), AllocError> {
-        for _ in 0..most {
+    /// Tops up its spares to `most` from `spares`.
+    fn stock(&mut self, spares: &mut Vec<M>, most: usize) -> Result<(), AllocError> {
+        for _ in self.memory.spares.len()..most {
             if let Some(spare) = spares.pop() {
                 self.memory.spares.push(spare)?;
             }
         }
         Ok(())
     }
-
-    /// Takes out what the worker made of its last part.
-    pub(crate) fn take(&mut self) -> Result<Made<M, T, S>, RunFault>
-        ensures { result ≡ self.old.made }
-    {
-        mem::replace(&mut self.made, Err(RunFault::OutOfMemory))
-    }
 }
 
-/// Runs part `i` of a split run.
+/// Runs parts of a split run, one after the other, until none is left. A part is taken only if memory to keep what is
+/// made of it is there.
 pub(crate) fn work<A: Actor, E: Ends<A::Token>>(
     alloc: Global,
     ends: &E,
     split: Split<'_, A>,
     rest: &Rest<A::Token, A::State>,
-    i: usize,
+    line: &Line,
     worker: &mut Worker<E::Made, A::Token, A::State>,
 )
     requires split { IsSplit A.steps (E.inputs ends.now) split }
     requires rest { WasLeft A.steps split.net.now split.period.now.repetitions rest.now }
-    requires known { i < part_count split }
-    ensures { IsMade A.steps (E.inputs ends.now) (E.makes ends.now) split.entry rest.now i worker.new.made }
+    ensures { AreDone A.steps (E.inputs ends.now) (E.makes ends.now) split.entry rest.now worker.new.done.items }
 {
-    let from = i as u32 * split.size;
-    worker.made = part(alloc, ends, split, rest, from, &mut worker.memory);
+    worker.done.clear();
+    for _ in 0..split.count() {
+        if worker.done.reserve(1).is_err() {
+            return;
+        }
+        let Some(number) = line.take(split.count()) else {
+            return;
+        };
+        let from = number as u32 * split.size;
+        let made = part(alloc, ends, split, rest, from, &mut worker.memory);
+        worker.done.push_reserved(Done { number, made });
+    }
 }
 
 /// The workers of a sound, whose memory lasts from piece to piece.
@@ -89,7 +122,7 @@ impl<M: Drop, T: Copy, S: Drop> Workers<M, T, S> {
 
     /// Takes on workers until there are `count`, and hands them the memory that was given back, for up to `most`
     /// stretches each.
-    pub(crate) fn take_on(&mut self, count: usize, most: u32) -> Result<(), AllocError>
+    pub(crate) fn take_on(&mut self, count: usize, most: usize) -> Result<(), AllocError>
         ensures { OnOk result (count ≤ length self.new.all.items) }
     {
         for _ in self.all.len()..count {

@@ -36,5 +36,6 @@ run_stream-requires-clause-opened g c κs within =
       stands = c.in_ok-player.ensures.stands;
       some = search rules;
       fits = search rules;
+      first = c.piece-first.ensures;
       piece = c.piece-frames.ensures;
     }

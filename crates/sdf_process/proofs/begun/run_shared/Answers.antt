@@ -31,5 +31,6 @@ run_stream-requires-clause-opened g c κs within =
       some = omega (arith, c.requires.shared.table.table.some);
       fits = session_fits t c.requires.shared
           (c.nets_have_periods.ensures t.table.now.period c.requires.shared.table.period);
+      first = search rules;
       piece = search rules;
     }

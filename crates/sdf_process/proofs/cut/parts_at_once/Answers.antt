@@ -7,25 +7,12 @@ use Rattle.sdf_graph.specs.Periods.{IsLeastPeriod}
 use Rattle.sdf_graph.specs.Rates.{rates}
 use Rattle.sdf_actor.specs.Graphs.{graph_of}
 use Rattle.sdf_kit.specs.Kit.{kit_steps}
-use Rattle.sdf_fission.specs.Warm.{IsLeast}
-use Rattle.sdf_split.specs.Sizes.{IsPartSize}
-use Rattle.sdf_process.specs.Cuts.{AreAtOnce}
+use Rattle.sdf_process.specs.Cuts.{AreAtOnce, IsPartOf}
 use Rattle.sdf_process.specs.Output.{exchange_of}
 use Rattle.sdf_process.proofs.cut.parts_at_once.Goals as goal
 
--- what so many parts hold makes no more
-ceil_few : (a b m : ℕ) → 0 < b → a ≤ m * b → div_ceil a b ≤ m
-ceil_few a b m some few =
-    elim (cases_lt m (div_ceil a b)) [
-      | inl more ↦ absurd (omega (arith, (div_ceil_times a b some).1, mul-le-mul_right b more, suc-mul m b, few))
-      | inr within ↦ within
-    ]
-
 pub returns-clause-few : goal.returns-clause-few
-returns-clause-few c =
-    subst (λ parts. parts ≤ max 1 c.args.workers) (sym c.div_ceil-2.ensures)
-    (ceil_few c.min-piece.result c.part_of.result (max 1 c.args.workers) c.part_of.ensures.is.some
-    c.part_of.ensures.is.few)
+returns-clause-few c = omega (arith, c.min.ensures, c.max.ensures)
 
 pub returns-clause-parts : goal.returns-clause-parts
 returns-clause-parts c = λ q period.
@@ -37,11 +24,14 @@ returns-clause-parts c = λ q period.
     c.min-periods.ensures ∙ (ap (min c.div_ceil.result) c.from.ensures ∙
     ap (λ k. min k 4294967295) c.div_ceil.ensures) in
     let piece = c.min-piece.ensures ∙ ap (min c.piece_periods.result) periods in
-    subst (λ x. AreAtOnce x (record { parts = c.args.workers; warm = c.args.warm }) c.args.frames c.div_ceil-2.result)
+    subst (λ x. AreAtOnce x (record { parts = c.args.workers; warm = c.args.warm }) c.args.frames c.min.result)
     same (
       c.piece_periods.result,
       c.piece_periods.ensures.piece,
-      c.part_of.result,
-      subst (λ k. IsLeast (IsPartSize k (max 1 c.args.workers) c.args.warm) c.part_of.result) piece c.part_of.ensures,
-      c.div_ceil-2.ensures ∙ ap (λ k. div_ceil k c.part_of.result) piece,
+      c.part_of-part.result,
+      subst (λ k. IsPartOf c.of_net-exchange.result (record { parts = c.args.workers; warm = c.args.warm }) k
+          c.part_of-part.result) piece c.part_of-part.ensures,
+      c.min.ensures ∙ (ap (λ k. min k c.max.result)
+          (c.div_ceil-2.ensures ∙ ap (λ k. div_ceil k c.part_of-part.result) piece)
+          ∙ ap (min _) (let z : c.max.result ≡ max 1 c.args.workers = omega (arith, c.max.ensures) in z)),
     )

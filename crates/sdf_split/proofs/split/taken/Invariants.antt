@@ -1,13 +1,14 @@
 use Rattle.std.proofs.Common.{◌≤◌, ◌<◌, ℕ, length, get_or}
-use Rattle.sdf_split.specs.declared.workers.Worker.{Worker}
+use Rattle.std.specs.Prelude.{Result}
+use Rattle.sdf_answer.specs.declared.fault.RunFault.{RunFault}
+use Rattle.sdf_split.specs.declared.part.Made.{Made}
 use Rattle.sdf_split.specs.Parts.{IsMade}
 use Rattle.sdf_split.proofs.Growing.{Grown}
 use Rattle.sdf_split.proofs.split.taken.Given as goal
 
 abbrev pub invariant-loop-i : goal.invariant-loop-i
 invariant-loop-i g l = record {
-  left : (k : ℕ) (d : Worker _ _ _) → l.i ≤ k → k < length l.workers →
-      IsMade g.A.Actor.steps (g.E.Ends.inputs l.ends) (g.E.Ends.makes l.ends) l.split l.rest k
-      (get_or l.workers k d).made;
+  left : (k : ℕ) (d : Result (Made _ _ _) RunFault) → l.i ≤ k → k < length l.places →
+      IsMade g.A.Actor.steps (g.E.Ends.inputs l.ends) (g.E.Ends.makes l.ends) l.split l.rest k (get_or l.places k d);
   grown : Grown g.A.Actor.steps (g.E.Ends.inputs l.ends) (g.E.Ends.makes l.ends) l.split l.rest l.i l.all.items l.last;
 }

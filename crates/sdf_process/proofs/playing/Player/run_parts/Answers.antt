@@ -33,7 +33,7 @@ resume_split-ran-requires-clause-split g c κs within =
       short = omega (arith, y.fits);
       some = c.part_of.ensures.is.some;
       long = search rules;
-      stretch = c.piece_periods.ensures.some;
+      stretch = omega (arith, c.periods_in.ensures);
     }
 
 pub returns-in-Ok-clause-plays : goal.returns-in-Ok-clause-plays

@@ -1,4 +1,4 @@
--- Lists with others behind them.
+-- Lists with others behind them: what proofs of other crates cite of this one.
 use Rattle.std.proofs.Common.{◌≡◌, ℕ, zero, suc, ◌≤◌, List, [], ◌∷◌, length, get_or, refl, sym, ap, append-nil, arith}
 use Rattle.std.proofs.lemmas.List.{ext_get_or}
 use Rattle.sdf_actor.specs.Rests.{AreJoined}

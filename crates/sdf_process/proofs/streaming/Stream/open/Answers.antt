@@ -1,0 +1,10 @@
+use Rattle.std.proofs.Common.{refl, rules}
+use Rattle.sdf_process.proofs.Starting.{goes_first}
+use Rattle.sdf_process.proofs.streaming.Stream.open.Goals as goal
+
+pub returns : goal.returns
+returns c = λ r w.
+    let x = c.of_net-exchange in
+    goes_first c.args.opened c.requires.opened c.nets_have_periods.ensures c.args.begun c.requires.begun x.result
+    x.ensures.value x.ensures.limits c.runs_go_on.ensures r w _ refl refl refl refl (search rules) (search rules) refl
+    refl refl c.rate-rate.ensures.above_0 c.channels-channels.ensures.value c.channels-channels.ensures.few
