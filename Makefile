@@ -104,8 +104,8 @@ allocations:
 	scripts/allocations
 
 # Seconds and memory on noise, in turn with C for the same processor, and with sox and ffmpeg where they are installed
-# (needs python3 and gcc); then what `run --parallel` gains on all cores and on one, beside C that cuts the sound in the
-# same way and four copies of one thread at once.
+# (needs python3 and gcc); then what `run --parallel` gains on all cores and on one, beside C that cuts the sound in a
+# part for each thread, and four copies of one thread at once.
 bench: build
 	python3 bench/run.py --cpu $(CPU)
 	python3 bench/parallel.py --program $(CPU)=build/sdfw

@@ -1,6 +1,6 @@
 #!/usr/bin/env python3
-"""Times `run --parallel` beside one thread, beside C that cuts the sound in the same way, and beside four copies of one
-thread at once: what the machine can give.
+"""Times `run --parallel` beside one thread, beside C that cuts the sound in a part for each thread, and beside four
+copies of one thread at once: what the machine can give.
 
 The ways take turns on noise at full scale. Of each design and length there is a line for each program: the least and
 the median seconds of one thread, of 1, 2 and 4 workers, and of C by 1, 2 and 4 threads; and by the least seconds what

@@ -27,8 +27,8 @@ def reads_of_sdfw(lists):
         lists.refuse(f"sdfw run - - {runner}: failing reads", words, "read", only(NO_READ, period), sound=sound)
 
 
-# The bytes that two workers make of a piece: 131,072 frames of one channel for each.
-PIECE = 2 * 131072 * 2
+# The bytes that two workers make of the first piece, and of each other one: so many frames of one channel for each.
+FIRST, PIECE = 2 * 65536 * 2, 2 * 131072 * 2
 
 
 def counted(allowed):
@@ -47,12 +47,12 @@ def were_left(sizes, left):
 
 
 def pieces_of_sdfw(lists):
-    """A parallel run of a sound of two whole pieces and some frames, in parts of several stretches. While a piece is
-    run, the one before it is written and the next one is read. So a read that fails leaves all whole pieces but the
-    last, a write a front, and refused memory what was made before."""
-    name, words = "sdfw run three pieces parts", run_words("pieces.toml", "longest.wav", "parts")
-    for call, allowed, sizes in (("read", only(NO_READ, PIECE), (0, 44, 44 + PIECE)),
-                                 ("memory", ample_or(NO_MEMORY, 2048), (0, 44, 44 + PIECE, 44 + 2 * PIECE))):
+    """A parallel run of a sound of two whole pieces and some frames, in several parts for each worker, of several
+    stretches each. While a piece is run, the one before it is written and the next one is read. So a read that fails
+    leaves all whole pieces but the last, a write a front, and refused memory what was made before."""
+    name, words = "sdfw run three pieces parts", run_words("delayed.toml", "longest.wav", "parts")
+    for call, allowed, sizes in (("read", only(NO_READ, FIRST), (0, 44, 44 + FIRST)),
+                                 ("memory", ample_or(NO_MEMORY, 2048), (0, 44, 44 + FIRST, 44 + FIRST + PIECE))):
         judge, left = counted(allowed)
         lists.refuse(f"{name}: {call} refused", words, call, judge)
         if left:
@@ -65,14 +65,14 @@ def pieces_of_sdfw(lists):
         for sound in (None, "cut.wav"):
             place = "standard input" if sound else "IN"
             cases.append((f"{place} is a FIFO of {frames} frames",
-                          lambda given=(data, sound, 44 + PIECE * pieces): cut_off(*given)))
+                          lambda given=(data, sound, 44 + FIRST * pieces): cut_off(*given)))
     lists.cases(f"{name}: a sound that ends too soon", cases)
 
 
 def cut_off(data, sound, size):
     """Whether a run from a FIFO that ends within the samples leaves a front of so many bytes, as one from a file."""
-    words = stream_words("pieces.toml", "parts") if sound else run_words("pieces.toml", "cut.wav", "parts")
-    whole = run(run_words("pieces.toml", "longest.wav", "parts")).output
+    words = stream_words("delayed.toml", "parts") if sound else run_words("delayed.toml", "cut.wav", "parts")
+    whole = run(run_words("delayed.toml", "longest.wav", "parts")).output
     same = from_fifo(words, "cut.wav", data, sound)
     (Folder.here() / "cut.wav").write_bytes(data)
     left = fails(run(words, sound=sound), (4, b"sdfw: 43 Truncated\n"), text=whole[:size])

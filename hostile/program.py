@@ -206,7 +206,7 @@ def outputs_of_sdfw(lists):
     lists.cases("sdfw: 10,240,000 samples", [(" ".join(more), lambda more=more: makes_all(more)) for more in ways])
     lists.cases("sdfw: parts at work at the same time, in pieces", [
         *((f"--parallel {workers}", lambda workers=workers: at_once(workers)) for workers in (2, 3, 4)),
-        ("a sound of eight pieces", in_pieces),
+        ("a sound of nine pieces", in_pieces),
         ("its reads and writes", meanwhile)])
 
 

@@ -6,7 +6,7 @@ use std::thread::{Threads, available_parallelism};
 use std::time::Clock;
 use test_texts::says;
 
-/// A parallel run writes what one thread writes. A worker runs two periods of `stretched` at a time, so sixteen
+/// A parallel run writes what one thread writes. A worker runs one period of `stretched` at first, so sixteen periods
 /// keep five workers busy. The filter of `kept` keeps five inputs, and the loop of `lasting` keeps its samples for
 /// ever.
 const PARALLEL: &[Row] = &[

@@ -1,6 +1,7 @@
 //! Which runner a command uses, seen in what is written of a sound that ends too soon: one thread has written the
-//! header alone when it finds that out, rows and rings all whole pieces of 4,096 frames, and a parallel run all but the
-//! last of its whole pieces of 131,072 frames for each worker, since it runs that one while it reads on.
+//! header alone when it finds that out, rows and rings all whole pieces of 4,096 frames. A parallel run has written all
+//! but the last of its whole pieces, since it runs that one while it reads on: the first piece has 65,536 frames for
+//! each worker, and each other one 131,072.
 
 use crate::commands::{Around, OPEN, serve_line};
 use std::alloc::{AllocError, Global};
@@ -99,15 +100,15 @@ const ROWS: &[Row] = &[
     ),
     (
         "in parallel, a frame more than a piece, which is run while more is read",
-        262_145,
+        131_073,
         "run heavy.toml - - --parallel 2",
         "4 44 true sdfw: 43 Truncated\n",
     ),
     (
         "in parallel, a frame more than two pieces",
-        524_289,
+        393_217,
         "run heavy.toml - - --parallel 2",
-        "4 524332 true sdfw: 43 Truncated\n",
+        "4 262188 true sdfw: 43 Truncated\n",
     ),
     (
         "in parallel, one worker alone",

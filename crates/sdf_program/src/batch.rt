@@ -109,6 +109,10 @@ fn run_item<'a, S: Storage, T: Threads + AllocGlobal + Clock + Sync>(
         &mut heard,
     );
     let settled = settle(alloc, world.storage, item, ended, &mut heard.refused);
+    if settled.is_ok() {
+        // The outcome may wait for those of earlier files, and nothing more is told of the sound.
+        heard = Sources::new(alloc);
+    }
     Outcome {
         input: item.input,
         said,
