@@ -1,5 +1,5 @@
-pub mod Works
-pub mod Crews
-pub mod Refusals
-pub mod Sharing
-pub mod Known
+mod Works
+mod Crews
+mod Refusals
+mod Sharing
+mod Known

@@ -1,8 +1,8 @@
-pub mod Greatest
-pub mod Deep
-pub mod Escapes
-pub mod Joined
-pub mod Apart
-pub mod Lowest
-pub mod Known
-pub mod Drawable
+mod Greatest
+mod Deep
+mod Escapes
+mod Joined
+mod Apart
+mod Lowest
+mod Known
+mod Drawable

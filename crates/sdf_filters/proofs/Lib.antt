@@ -1,7 +1,7 @@
-pub mod PhaseSums
-pub mod Mirrored
-pub mod Splits
-pub mod Values
-pub mod Counts
-pub mod Differing
-pub mod Files
+mod PhaseSums
+mod Mirrored
+mod Splits
+mod Values
+mod Counts
+mod Differing
+mod Files

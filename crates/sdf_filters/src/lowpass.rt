@@ -97,8 +97,8 @@ impl Lowpass {
 
     /// So many taps, whole numbers of 16 bits, of which each phase's come to `2^shift`: so a constant stays what it is.
     ///
-    /// They are the sinc's values rounded. If a phase's sum is not exact, the taps that rounding moved most the other way
-    /// are moved, in pairs that keep them symmetric. That they are near the sinc's no clause says.
+    /// They are the sinc's values rounded. If a phase's sum is not exact, the taps that rounding moved most the other
+    /// way are moved, in pairs that keep them symmetric. That they are near the sinc's no clause says.
     pub fn taps(&self, alloc: Global, count: usize) -> Result<Vec<i32>, FilterFault>
         requires some { 0 < count }
         requires few { count ≤ MOST_TAPS }

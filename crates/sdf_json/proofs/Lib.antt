@@ -1,8 +1,8 @@
-pub mod Depths
-pub mod FlatDesigns
-pub mod FlatTables
-pub mod FlatLayers
-pub mod FlatFaults
-pub mod FlatSchedules
-pub mod FlatKinds
-pub mod KindPorts
+mod Depths
+mod FlatDesigns
+mod FlatTables
+mod FlatLayers
+mod FlatFaults
+mod FlatSchedules
+mod FlatKinds
+mod KindPorts

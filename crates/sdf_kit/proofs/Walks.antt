@@ -1,5 +1,6 @@
 -- How many stretches sums go by.
-use Rattle.std.proofs.Common.{◌≡◌, ℕ, suc, ◌+◌, ◌-◌, ◌*◌, ◌<◌, ◌≤◌, List, length, drop, get_or, Bool, true, ◌⊎◌, inl, inr}
+use Rattle.std.proofs.Common.{◌≡◌, ℕ, suc, ◌+◌, ◌-◌, ◌*◌, ◌<◌, ◌≤◌, List, length, drop, get_or, Bool, true, ◌⊎◌, inl}
+use Rattle.std.proofs.Common.{inr}
 use Rattle.std.proofs.Common.{sym, ◌∙◌, ap, true≢false, arith}
 use Rattle.std.specs.Prelude.{◌&&◌, ◌||◌, nat_le, nat_lt}
 use Rattle.std.proofs.lemmas.Bool.{cases_lt}

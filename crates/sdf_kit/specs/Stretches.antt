@@ -1,5 +1,6 @@
 -- Stretches of taps: as many sixteens as no lane of their products with 16-bit samples needs more than 32 bits for.
-use Rattle.std.specs.Prelude.{ℕ, zero, suc, ◌≡◌, ◌<◌, ◌≤◌, ◌+◌, ◌-◌, ◌*◌, ◌/◌, max, List, [], ◌∷◌, ℤ, unsigned_abs, length}
+use Rattle.std.specs.Prelude.{ℕ, zero, suc, ◌≡◌, ◌<◌, ◌≤◌, ◌+◌, ◌-◌, ◌*◌, ◌/◌, max, List, [], ◌∷◌, ℤ, unsigned_abs}
+use Rattle.std.specs.Prelude.{length}
 use Rattle.std.specs.Prelude.{take, drop, ◌%◌, ◌^◌, slice_index_or, FitsSigned, Bool, true, ◌&&◌, ◌||◌, nat_lt, nat_le}
 use Rattle.std.specs.Int.{w16, w32}
 use Rattle.std.specs.List.{list_all}
@@ -36,8 +37,8 @@ walked n [] = 0
 walked zero (x ∷ xs) = 1 + walked (x - 1) xs
 walked (suc n) (x ∷ xs) = walked n xs
 
--- whether sums of loud samples of 16 bits go by stretches: one begins at each sixteen, and if samples of up branches can
--- be split, the stretches after the first one of each branch cost less than a second pass over the sixteens
+-- whether sums of loud samples of 16 bits go by stretches: one begins at each sixteen, and if samples of up branches
+-- can be split, the stretches after the first one of each branch cost less than a second pass over the sixteens
 abbrev pub is_wide : List ℕ → ℕ → ℕ → Bool
 is_wide lens up peak = list_all (λ n. nat_lt 0 n) lens
     && (nat_lt peak LEAST_PEAK_TO_SPLIT

@@ -1,1 +1,1 @@
-pub mod Printing
+mod Printing

@@ -1,6 +1,6 @@
-pub mod Lists
-pub mod Deadlocks
-pub mod Suiting
-pub mod Weighing
-pub mod Placing
-pub mod Tabling
+mod Lists
+mod Deadlocks
+mod Suiting
+mod Weighing
+mod Placing
+mod Tabling

@@ -1,5 +1,5 @@
 mod FirstLines
 mod Pieces
-pub mod Profiled
+mod Profiled
 mod Ranges
 mod Unread

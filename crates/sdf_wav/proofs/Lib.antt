@@ -1,19 +1,19 @@
-pub mod Known
-pub mod Numbers
-pub mod Moves
-pub mod DataAt
-pub mod Samples
-pub mod Frames
-pub mod Written
-pub mod PiecesOut
-pub mod StepReads
-pub mod Formats
-pub mod Walk
-pub mod FaultsRead
-pub mod Total
-pub mod Exact
-pub mod Opens
-pub mod PiecesIn
-pub mod Round
-pub mod Canonical
+mod Known
+mod Numbers
+mod Moves
+mod DataAt
+mod Samples
+mod Frames
+mod Written
+mod PiecesOut
+mod StepReads
+mod Formats
+mod Walk
+mod FaultsRead
+mod Total
+mod Exact
+mod Opens
+mod PiecesIn
+mod Round
+mod Canonical
 pub mod Theorems

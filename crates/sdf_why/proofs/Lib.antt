@@ -1,9 +1,9 @@
-pub mod Chains
-pub mod Rounds
-pub mod Items
-pub mod Lines
-pub mod Pieces
-pub mod Roots
-pub mod Edges
-pub mod Grown
+mod Chains
+mod Rounds
+mod Items
+mod Lines
+mod Pieces
+mod Roots
+mod Edges
+mod Grown
 pub mod Theorems

@@ -1,1 +1,1 @@
-pub mod Named
+mod Named
