@@ -105,6 +105,12 @@ const ROWS: &[Row] = &[
         "4 44 true sdfw: 43 Truncated\n",
     ),
     (
+        "in parallel, a frame less than two pieces",
+        393_215,
+        "run heavy.toml - - --parallel 2",
+        "4 44 true sdfw: 43 Truncated\n",
+    ),
+    (
         "in parallel, a frame more than two pieces",
         393_217,
         "run heavy.toml - - --parallel 2",

@@ -1,5 +1,5 @@
 -- A step of a run: its next blocks are run, what is made is written, and the next frames are taken.
-use Rattle.std.proofs.Common.{◌≡◌, Result, Ok, Err, ℕ, ◌+◌, ◌-◌, ◌*◌, ◌%◌, ◌≤◌, ◌<◌, ℤ, List, [], ◌++◌, length, drop}
+use Rattle.std.proofs.Common.{◌≡◌, Result, Ok, Err, ℕ, ◌+◌, ◌-◌, ◌*◌, ◌/◌, ◌%◌, ◌≤◌, ◌<◌, ℤ, List, [], ◌++◌, length, drop}
 use Rattle.std.proofs.Common.{false, true, refl, sym}
 use Rattle.std.specs.Prelude.{IfOk, MatchResult}
 use Rattle.std.specs.Int.{div_ceil}
@@ -25,7 +25,7 @@ use Rattle.sdf_process.specs.Output.{in_turn}
 use Rattle.sdf_process.specs.Streams.{CanRun, CanRunNext, GoesBy, Makes, RunsNext, is_cut, left_by}
 use Rattle.sdf_process.proofs.Ahead.{made_ahead, none_ahead, none_left}
 use Rattle.sdf_process.proofs.Flowing.{within_size}
-use Rattle.sdf_process.proofs.Sizes.{minus, positive}
+use Rattle.sdf_process.proofs.Sizes.{frames_small, minus, periods_small, positive}
 use Rattle.sdf_process.proofs.Streamed.{kept_follows, kept_on, stands_on, writes_whole}
 
 -- what is said of an answer, in other words where it is Ok
@@ -266,6 +266,23 @@ module _ (b : Start) (g : Progress) (t : Stream) {r : ReaderState} {w : WriterSt
       subst (λ (l : List ℤ). 2 * length l ≤ c.size) (sym (ap (λ (z : Progress). z.samples) under.ahead.is))
       (within_size b under.ready.can under.ahead.before under.ahead.flows) in
       omega (arith, kept_long, size, under.ready.can.fits)
+
+  -- its whole blocks have so many periods, which make so many frames
+  module _ (f len : ℕ) (same : f ≡ t.channels) (long : len ≡ length t.flow.kept.items) where
+    abbrev blocks : ℕ
+    blocks = len / (t.blocking * t.exchange.taken * f)
+
+    pub periods_few : blocks * t.blocking ≤ 4294967295
+    periods_few = periods_small t.blocking t.exchange.taken t.exchange.made f t.channels len
+        (omega (arith, under.ready.blocking, under.ready.can.some)) under.ready.limits.some_taken
+        under.ready.limits.few_made same (omega (arith, under.ready.channels, under.ready.can.one))
+        (omega (arith, long, kept_few))
+
+    pub frames_few : blocks * t.blocking * t.exchange.made ≤ 288230376084602880
+    frames_few = frames_small t.blocking t.exchange.taken t.exchange.made f t.channels len
+        (omega (arith, under.ready.blocking, under.ready.can.some)) under.ready.limits.some_taken
+        under.ready.limits.few_made same (omega (arith, under.ready.channels, under.ready.can.one))
+        (omega (arith, long, kept_few))
 
   -- the frames that were made are written, and more is taken
   pub turned_on : (f : Flow) {r' : ReaderState} {w' : WriterState} →

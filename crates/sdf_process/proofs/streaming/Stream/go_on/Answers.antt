@@ -6,9 +6,8 @@ use Rattle.sdf_wav.specs.Sound.{Sound}
 use Rattle.sdf_process.specs.declared.flow.Flow.{Flow}
 use Rattle.sdf_process.proofs.Flowing.{memory_refused}
 use Rattle.sdf_process.proofs.Refusals.{fails_by}
-use Rattle.sdf_process.proofs.Sizes.{frames_small, periods_small}
-use Rattle.sdf_process.proofs.Steps.{answered, block_is, kept_few, kept_whole, some_inputs, step_by, turned_on}
-use Rattle.sdf_process.proofs.Steps.{where_ok}
+use Rattle.sdf_process.proofs.Steps.{answered, block_is, frames_few, kept_whole, periods_few, some_inputs, step_by}
+use Rattle.sdf_process.proofs.Steps.{turned_on, where_ok}
 use Rattle.sdf_process.proofs.streaming.Stream.go_on.Goals as goal
 
 pub turn-requires : goal.turn-requires
@@ -49,63 +48,29 @@ returns-in_err-self-clause-goes g c = λ b on.
 
 pub overflow_mul-periods : goal.overflow_mul-periods
 overflow_mul-periods g c =
-    let b = c.requires.on.0 in
-    let p = c.requires.on.1.0 in
-    let under = c.requires.on.1.1 in
-    let t = c.args.self.now in
-    let f = c.from.result in
-    Fits-of_lt (omega (
-      arith,
-      periods_small t.blocking t.exchange.taken t.exchange.made f t.channels c.len.result
-          (omega (arith, under.ready.blocking, under.ready.can.some)) under.ready.limits.some_taken
-          under.ready.limits.few_made c.from.ensures (omega (arith, under.ready.channels, under.ready.can.one))
-          (omega (arith, c.len.ensures, kept_few b p t under)),
-    ))
+    let h = c.requires.on in
+    let few = periods_few h.0 h.1.0 c.args.self.now h.1.1 c.from.result c.len.result c.from.ensures c.len.ensures in
+    Fits-of_lt (omega (arith, few))
 
 pub overflow_cast-portion : goal.overflow_cast-portion
 overflow_cast-portion g c =
-    let b = c.requires.on.0 in
-    let p = c.requires.on.1.0 in
-    let under = c.requires.on.1.1 in
-    let t = c.args.self.now in
-    let f = c.from.result in
-    Fits-of_lt (omega (
-      arith,
-      periods_small t.blocking t.exchange.taken t.exchange.made f t.channels c.len.result
-          (omega (arith, under.ready.blocking, under.ready.can.some)) under.ready.limits.some_taken
-          under.ready.limits.few_made c.from.ensures (omega (arith, under.ready.channels, under.ready.can.one))
-          (omega (arith, c.len.ensures, kept_few b p t under)),
-    ))
+    let h = c.requires.on in
+    let few = periods_few h.0 h.1.0 c.args.self.now h.1.1 c.from.result c.len.result c.from.ensures c.len.ensures in
+    Fits-of_lt (omega (arith, few))
 
 pub overflow_mul-portion : goal.overflow_mul-portion
 overflow_mul-portion g c =
-    let b = c.requires.on.0 in
-    let p = c.requires.on.1.0 in
-    let under = c.requires.on.1.1 in
-    let t = c.args.self.now in
-    let f = c.from.result in
-    Fits-of_lt (omega (
-      arith,
-      frames_small t.blocking t.exchange.taken t.exchange.made f t.channels c.len.result
-          (omega (arith, under.ready.blocking, under.ready.can.some)) under.ready.limits.some_taken
-          under.ready.limits.few_made c.from.ensures (omega (arith, under.ready.channels, under.ready.can.one))
-          (omega (arith, c.len.ensures, kept_few b p t under)),
-    ))
+    let h = c.requires.on in
+    let few = frames_few h.0 h.1.0 c.args.self.now h.1.1 c.from.result c.len.result c.from.ensures c.len.ensures in
+    Fits-of_lt (omega (arith, few))
 
 pub invariant_of-portion : goal.invariant_of-portion
 invariant_of-portion g c =
-    let b = c.requires.on.0 in
-    let p = c.requires.on.1.0 in
-    let under = c.requires.on.1.1 in
-    let t = c.args.self.now in
-    let f = c.from.result in
+    let h = c.requires.on in
     record {
-      fits = periods_small t.blocking t.exchange.taken t.exchange.made f t.channels c.len.result
-          (omega (arith, under.ready.blocking, under.ready.can.some)) under.ready.limits.some_taken
-          under.ready.limits.few_made c.from.ensures (omega (arith, under.ready.channels, under.ready.can.one))
-          (omega (arith, c.len.ensures, kept_few b p t under));
-      limits = under.ready.limits;
-      some = some_inputs b t under.ready;
+      fits = periods_few h.0 h.1.0 c.args.self.now h.1.1 c.from.result c.len.result c.from.ensures c.len.ensures;
+      limits = h.1.1.ready.limits;
+      some = some_inputs h.0 c.args.self.now h.1.1.ready;
     }
 
 pub run-requires-clause-step : goal.run-requires-clause-step
