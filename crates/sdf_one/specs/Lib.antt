@@ -4,4 +4,5 @@ pub mod AtOnce
 pub mod Cycles
 pub mod Many
 pub mod Sweeps
+pub mod Lengths
 pub mod Fired

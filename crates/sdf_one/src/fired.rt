@@ -5,6 +5,7 @@ ghost use Rattle.sdf_actor.specs.Wires.{lists};
 ghost use Rattle.sdf_one.specs.Fired.{IsPassage, TakeWhatItMakes, HasFiredPeriods};
 
 use crate::cycles::make_cycles;
+use crate::lengths::block_periods;
 use crate::run::Run;
 use crate::setup::make_works;
 use sdf_actor::{Actor, Net};
@@ -14,27 +15,11 @@ use sdf_answer::{Queue, Sizes};
 use sdf_sched::Period;
 use std::alloc::{AllocError, Global};
 
-/// How many samples of an input a block of periods reads, where a period reads no more.
-const BLOCK: usize = 4096;
-
 /// How often each node has fired before a run.
 fn none_done(alloc: Global, repetitions: &[u32]) -> Result<Vec<usize>, AllocError>
     ensures { IfOk result (λ v. v.items ≡ map (λ _. 0) repetitions.now) }
 {
     repetitions.iter().map(|_| 0usize).collect(alloc)
-}
-
-/// How many periods make a block of some thousand samples, where a period reads so many.
-fn block_periods(samples: usize) -> u32
-    requires { 0 < samples }
-    ensures some { 0 < result }
-    ensures few { result ≤ 4096 }
-{
-    if samples > BLOCK {
-        1
-    } else {
-        (BLOCK / samples) as u32
-    }
 }
 
 /// A net, its period, and the inputs on which it is run for `periods` periods.
@@ -72,7 +57,7 @@ pub(crate) fn fired<'a, A: Actor>(
     let cycles = make_cycles(alloc, net)?;
     let works = make_works(alloc, net, &sizes, filler)?;
     let repetitions = period.repetitions();
-    let size = block_periods(net.samples_in());
+    let size = block_periods(net, repetitions, periods);
     let queues = renew_queues(alloc, net, repetitions, size, filler, spares)?;
     let done = none_done(alloc, repetitions)?;
     let mut run = Run {

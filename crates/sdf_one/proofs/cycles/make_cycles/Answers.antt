@@ -1,16 +1,11 @@
-use Rattle.std.proofs.Common.{◌≡◌, ◌<◌, ℕ, List, length, get_or, ap, ◌∙◌, subst, arith, below_more}
-use Rattle.std.proofs.lemmas.List.{get_or_append_left, get_or_push, get_or_default, length-map}
-use Rattle.sdf_graph.specs.Rates.{Edge, Shape, IsShape, IsAlike, rates, sum_to, rate_at, channel, no_channel}
+use Rattle.std.proofs.Common.{◌≡◌, ◌<◌, ℕ, length, get_or, ap, ◌∙◌, subst, arith, below_more}
+use Rattle.std.proofs.lemmas.List.{get_or_append_left, get_or_push, length-map}
+use Rattle.sdf_graph.specs.Rates.{Shape, IsShape, IsAlike, rates, sum_to, rate_at, channel}
 use Rattle.sdf_actor.specs.Graphs.{graph_of, channel_of}
 use Rattle.sdf_actor.specs.Nets.{node, wiring, cycle_of}
-use Rattle.sdf_one.proofs.Readings.{vec_long}
+use Rattle.sdf_one.proofs.Readings.{the_channel, vec_long}
 use Rattle.sdf_one.proofs.cycles.make_cycles.Goals as goal
 use Rattle.sdf_one.proofs.cycles.make_cycles.Goals.{After-channel-item}
-
-the_channel : (items : List Edge) (x : Shape) (e : Edge) (i : ℕ) → e ≡ get_or items i e → i < length items →
-    items ≡ x.channels → e ≡ channel x i
-the_channel items x e i is l list = is
-    ∙ (get_or_default items i e no_channel l ∙ ap (λ cs. get_or cs i no_channel) list)
 
 -- the channel that is read is one of the graph's
 edge : (g : Rattle.sdf_one.proofs.cycles.make_cycles.Given.Over) (c : After-channel-item g) →
