@@ -1,6 +1,6 @@
 -- A step of a run: its next blocks are run, what is made is written, and the next frames are taken.
-use Rattle.std.proofs.Common.{◌≡◌, Result, Ok, Err, ℕ, ◌+◌, ◌-◌, ◌*◌, ◌/◌, ◌%◌, ◌≤◌, ◌<◌, ℤ, List, [], ◌++◌, length, drop}
-use Rattle.std.proofs.Common.{false, true, refl, sym}
+use Rattle.std.proofs.Common.{◌≡◌, Result, Ok, Err, ℕ, ◌+◌, ◌-◌, ◌*◌, ◌/◌, ◌%◌, ◌≤◌, ◌<◌, ℤ, List, [], ◌++◌, length}
+use Rattle.std.proofs.Common.{drop, false, true, refl, sym}
 use Rattle.std.specs.Prelude.{IfOk, MatchResult}
 use Rattle.std.specs.Int.{div_ceil}
 use Rattle.std.proofs.Math.Nat.{mul-mod_left}
@@ -267,7 +267,7 @@ module _ (b : Start) (g : Progress) (t : Stream) {r : ReaderState} {w : WriterSt
       (within_size b under.ready.can under.ahead.before under.ahead.flows) in
       omega (arith, kept_long, size, under.ready.can.fits)
 
-  -- its whole blocks have so many periods, which make so many frames
+  -- its whole blocks have few periods, which make few frames
   module _ (f len : ℕ) (same : f ≡ t.channels) (long : len ≡ length t.flow.kept.items) where
     abbrev blocks : ℕ
     blocks = len / (t.blocking * t.exchange.taken * f)

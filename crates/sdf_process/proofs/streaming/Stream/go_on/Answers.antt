@@ -1,4 +1,4 @@
-use Rattle.std.proofs.Common.{◌/◌, ◌*◌, ◌≤◌, ℕ, length, drop, refl, ap, ◌∙◌, arith}
+use Rattle.std.proofs.Common.{◌≡◌, ◌/◌, ◌*◌, ◌≤◌, ℕ, length, drop, refl, ap, ◌∙◌, arith}
 use Rattle.std.proofs.Math.Facts.{Fits-of_lt}
 use Rattle.std.proofs.Math.Nat.{div-mul-le_self}
 use Rattle.sdf_faults.specs.declared.fault.Fault.TheVariants.{OutOfMemory}
@@ -9,6 +9,7 @@ use Rattle.sdf_process.proofs.Refusals.{fails_by}
 use Rattle.sdf_process.proofs.Steps.{answered, block_is, frames_few, kept_whole, periods_few, some_inputs, step_by}
 use Rattle.sdf_process.proofs.Steps.{turned_on, where_ok}
 use Rattle.sdf_process.proofs.streaming.Stream.go_on.Goals as goal
+use Rattle.sdf_process.proofs.streaming.Stream.go_on.Goals.{After-len}
 
 pub turn-requires : goal.turn-requires
 turn-requires g c =
@@ -46,29 +47,33 @@ returns-in_err-self-clause-goes g c = λ b on.
     fails_by c.from_residual.result OutOfMemory _ _ c.from_residual.ensures.1
     (memory_refused b on.1.ready.can on.1.ahead.before on.1.ahead.flows OutOfMemory refl)
 
-pub overflow_mul-periods : goal.overflow_mul-periods
-overflow_mul-periods g c =
+-- the whole blocks that are kept have few periods, and these make few frames
+few : (g : Rattle.sdf_process.proofs.streaming.Stream.go_on.Given.Over) (c : After-len g) →
+    let t = c.args.self.now in
+    let periods : ℕ = c.len.result / (t.blocking * t.exchange.taken * c.from.result) * t.blocking in
+    (periods ≤ 4294967295) × (periods * t.exchange.made ≤ 288230376084602880)
+few g c =
     let h = c.requires.on in
-    let few = periods_few h.0 h.1.0 c.args.self.now h.1.1 c.from.result c.len.result c.from.ensures c.len.ensures in
-    Fits-of_lt (omega (arith, few))
+    let t = c.args.self.now in
+    let long : c.len.result ≡ length t.flow.kept.items = omega (arith, c.len.ensures) in (
+      periods_few h.0 h.1.0 t h.1.1 c.from.result c.len.result c.from.ensures long,
+      frames_few h.0 h.1.0 t h.1.1 c.from.result c.len.result c.from.ensures long,
+    )
+
+pub overflow_mul-periods : goal.overflow_mul-periods
+overflow_mul-periods g c = Fits-of_lt (omega (arith, (few g (goal.at.overflow_mul-periods g c).After-len).0))
 
 pub overflow_cast-portion : goal.overflow_cast-portion
-overflow_cast-portion g c =
-    let h = c.requires.on in
-    let few = periods_few h.0 h.1.0 c.args.self.now h.1.1 c.from.result c.len.result c.from.ensures c.len.ensures in
-    Fits-of_lt (omega (arith, few))
+overflow_cast-portion g c = Fits-of_lt (omega (arith, (few g (goal.at.overflow_cast-portion g c).After-len).0))
 
 pub overflow_mul-portion : goal.overflow_mul-portion
-overflow_mul-portion g c =
-    let h = c.requires.on in
-    let few = frames_few h.0 h.1.0 c.args.self.now h.1.1 c.from.result c.len.result c.from.ensures c.len.ensures in
-    Fits-of_lt (omega (arith, few))
+overflow_mul-portion g c = Fits-of_lt (omega (arith, (few g (goal.at.overflow_mul-portion g c).After-len).1))
 
 pub invariant_of-portion : goal.invariant_of-portion
 invariant_of-portion g c =
     let h = c.requires.on in
     record {
-      fits = periods_few h.0 h.1.0 c.args.self.now h.1.1 c.from.result c.len.result c.from.ensures c.len.ensures;
+      fits = (few g (goal.at.invariant_of-portion g c).After-len).0;
       limits = h.1.1.ready.limits;
       some = some_inputs h.0 c.args.self.now h.1.1.ready;
     }
