@@ -1,8 +1,20 @@
--- How long the blocks of a run are.
-use Rattle.std.specs.Prelude.{ℕ, ◌*◌, ◌≤◌, ◌<◌, List, slice_index}
+-- How many periods a block of a run has.
+use Rattle.std.specs.Prelude.{◌≡◌, ◌⊎◌, ℕ, ◌*◌, ◌≤◌, ◌<◌, List, slice_index}
 use Rattle.sdf_graph.specs.Rates.{Rates}
 
--- so many periods of q put at most so many samples on each of the channels
-abbrev pub PutAtMost : Rates → List ℕ → ℕ → ℕ → ℕ → Type 0
-PutAtMost r q channels periods most = (c : ℕ) → c < channels →
-    periods * r.produced c (slice_index q (r.source c)) ≤ most
+-- the most samples that a period of q puts on one of the first channels
+pub record IsMostPut (r : Rates) (q : List ℕ) (channels most : ℕ) : Type 0 where
+  pub above : (c : ℕ) → c < channels → r.produced c (slice_index q (r.source c)) ≤ most
+  pub reached : (most ≡ 0) ⊎ ((c : ℕ) × (c < channels) × (r.produced c (slice_index q (r.source c)) ≡ most))
+
+-- so many periods of a run, of which each reads and puts so many samples, read at most 4,096 and put at most 65,536
+pub record Fit (read put periods many : ℕ) : Type 0 where
+  pub within : many ≤ periods
+  pub reads : many * read ≤ 4096
+  pub puts : many * put ≤ 65536
+
+-- as many as fit, but one where none does
+pub record AreBlock (read put periods many : ℕ) : Type 0 where
+  pub some : 0 < many
+  pub fit : 1 < many → Fit read put periods many
+  pub most : (more : ℕ) → Fit read put periods more → more ≤ many

@@ -1,14 +1,17 @@
 //! How many periods a block of a run has.
 
-ghost use Rattle.std.specs.Prelude.{◌≡◌, ◌*◌, ◌≤◌, ◌<◌, ℕ, length, slice_index};
-ghost use Rattle.sdf_actor.specs.Graphs.{graph_of};
+ghost use Rattle.std.specs.Prelude.{◌≡◌, ◌≤◌, ◌<◌, ℕ, List, length, slice_index};
+ghost use Rattle.sdf_graph.specs.Periods.{IsLeastPeriod};
 ghost use Rattle.sdf_graph.specs.Rates.{rates};
-ghost use Rattle.sdf_one.specs.Lengths.{PutAtMost};
+ghost use Rattle.sdf_actor.specs.Graphs.{graph_of};
+ghost use Rattle.sdf_actor.specs.declared.sides.Lists.TheVariants.{Inputs};
+ghost use Rattle.sdf_actor.specs.Sides.{period_samples};
+ghost use Rattle.sdf_one.specs.Lengths.{AreBlock, IsMostPut};
 
 use sdf_actor::{Actor, Net};
 use sdf_answer::rooms::put_in;
 
-/// The most samples that a block of more than one period reads.
+/// The most samples of an input that a block of more than one period reads.
 const MOST_READ: usize = 4096;
 
 /// The most samples that a block of more than one period puts on a channel.
@@ -18,7 +21,7 @@ const MOST_PUT: usize = 65_536;
 fn most_put<A: Actor>(net: &Net<A>, repetitions: &[u32]) -> usize
     requires all { length repetitions.now ≡ length net.now.nodes }
     requires short { (a : ℕ) → a < length repetitions.now → slice_index repetitions.now a ≤ 65536 }
-    ensures { PutAtMost (rates (graph_of A.steps net.now)) repetitions.now (length net.now.wires) 1 result }
+    ensures { IsMostPut (rates (graph_of A.steps net.now)) repetitions.now (length net.now.wires) result }
 {
     let graph = net.graph();
     let mut most = 0;
@@ -28,25 +31,26 @@ fn most_put<A: Actor>(net: &Net<A>, repetitions: &[u32]) -> usize
     most
 }
 
-/// Returns how many periods of `read` samples, which put at most `put` on a channel, make a block of `periods`.
-fn periods_that_fit(read: usize, put: usize, periods: u32) -> u32
-    ensures some { 0 < result }
+/// Returns how many periods make a block of a run of `periods`, if each reads `read` samples of an input and puts at
+/// most `put` on a channel.
+fn block_of(read: usize, put: usize, periods: u32) -> u32
+    requires { 0 < read }
     ensures few { result ≤ 4096 }
-    ensures fits { 1 < result → (result ≤ periods) × (result * read ≤ 4096) × (result * put ≤ 65536) }
+    ensures block { AreBlock read put periods result }
 {
-    let most = (MOST_READ / read.max(1)).min(MOST_PUT / put.max(1));
+    let most = (MOST_READ / read).min(MOST_PUT / put.max(1));
     (most as u32).min(periods).max(1)
 }
 
-/// Returns how many periods make a block of a run of `periods`.
+/// Returns how many periods make a block of a run of `periods`. A run of few periods then has small queues.
 pub(crate) fn block_periods<A: Actor>(net: &Net<A>, repetitions: &[u32], periods: u32) -> u32
     requires all { length repetitions.now ≡ length net.now.nodes }
     requires short { (a : ℕ) → a < length repetitions.now → slice_index repetitions.now a ≤ 65536 }
     ensures some { 0 < result }
     ensures few { result ≤ 4096 }
-    ensures short { 1 < result → result ≤ periods }
-    ensures fits { 1 < result →
-        PutAtMost (rates (graph_of A.steps net.now)) repetitions.now (length net.now.wires) result 65536 }
+    ensures block { let r = rates (graph_of A.steps net.now) in (q : List ℕ) → IsLeastPeriod r q →
+        (put : ℕ) × IsMostPut r repetitions.now (length net.now.wires) put
+        × AreBlock (period_samples net.now.nodes Inputs q) put periods result }
 {
-    periods_that_fit(net.samples_in(), most_put(net, repetitions), periods)
+    block_of(net.samples_in(), most_put(net, repetitions), periods)
 }
