@@ -47,9 +47,9 @@ def were_left(sizes, left):
 
 
 def pieces_of_sdfw(lists):
-    """A parallel run of a sound of two whole pieces and some frames, in several parts for each worker, of several
-    stretches each. While a piece is run, the one before it is written and the next one is read. So a read that fails
-    leaves all whole pieces but the last, a write a front, and refused memory what was made before."""
+    """A parallel run of a sound of two whole pieces and some frames, in parts of several stretches each. While a piece
+    is run, the one before it is written and the next one is read. So a read that fails leaves all whole pieces but the
+    last, a write a front, and refused memory what was made before."""
     name, words = "sdfw run three pieces parts", run_words("delayed.toml", "longest.wav", "parts")
     for call, allowed, sizes in (("read", only(NO_READ, FIRST), (0, 44, 44 + FIRST)),
                                  ("memory", ample_or(NO_MEMORY, 2048), (0, 44, 44 + FIRST, 44 + FIRST + PIECE))):

@@ -19,8 +19,8 @@ IsPieceSize share x (Some c) periods =
     (each : ℕ) × IsLeast (IsPartSize (periods_in share x) 1 c.warm) each ×
     (periods ≡ max 1 (min (each * c.parts) (2 ^ 32 - 1)))
 
--- The periods of a part if this many are run at once. Each worker has an equal share of them. A share is cut into as
--- many parts as have the periods in PART frames, and 32 warm-ups, each; or it is one part, of at least eight warm-ups.
+-- The periods of a part if this many are run at once. An equal share of them for each worker is cut into as many parts
+-- as have the periods in PART frames, and 32 warm-ups, each; or it is one part, of at least eight warm-ups.
 abbrev pub IsPartOf : Exchange → Cut → ℕ → ℕ → Type 0
 IsPartOf x c periods size =
     let share = div_ceil periods (max 1 c.parts) in

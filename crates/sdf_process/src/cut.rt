@@ -22,11 +22,11 @@ pub(crate) const SHARE: usize = 131_072;
 /// The most frames that each worker reads or makes of the first piece, in the same way. No part runs while it is read.
 pub(crate) const FIRST_SHARE: usize = 65_536;
 
-/// How many frames a part reads or makes if a piece has several for each worker. A worker whose processor is slow then
-/// runs fewer parts.
+/// The least frames that a part reads or makes if a piece has several for each worker. A worker whose processor is slow
+/// then runs fewer parts.
 const PART: usize = 16_384;
 
-/// How many warm-ups such a part has at least: no more than one in 32 of its periods is run twice.
+/// The least warm-ups of such a part, so that no more than one in 32 of its periods is run twice.
 const WARM_UPS: u32 = 32;
 
 /// How a piece is cut in time: the most parts that are run at once, and the periods of warm-up before a part.
@@ -57,7 +57,8 @@ impl Cut {
     }
 }
 
-/// Returns how many periods make a piece, if each worker has up to `share` frames of it, or eight warm-ups.
+/// Returns how many periods make a piece, if each worker has up to `share` frames of it, or eight warm-ups. A piece that
+/// is not cut has up to `PIECE` frames.
 pub(crate) fn piece_periods(exchange: Exchange, cut: Option<Cut>, share: usize) -> u32
     requires limits { IsExchange exchange }
     requires few { share < 4294967296 }
