@@ -1,17 +1,18 @@
 -- How many periods a block of a run has.
 use Rattle.std.specs.Prelude.{◌≡◌, ◌⊎◌, ℕ, ◌*◌, ◌≤◌, ◌<◌, List, slice_index}
 use Rattle.sdf_graph.specs.Rates.{Rates}
+use Rattle.sdf_one.specs.declared.lengths.TheConstants.{MOST_PUT, MOST_READ}
 
 -- the most samples that a period of q puts on one of the first channels
 pub record IsMostPut (r : Rates) (q : List ℕ) (channels most : ℕ) : Type 0 where
   pub above : (c : ℕ) → c < channels → r.produced c (slice_index q (r.source c)) ≤ most
   pub reached : (most ≡ 0) ⊎ ((c : ℕ) × (c < channels) × (r.produced c (slice_index q (r.source c)) ≡ most))
 
--- so many periods of a run, of which each reads and puts so many samples, read at most 4,096 and put at most 65,536
+-- so many periods of a run, of which each reads and puts so many samples, read and put no more than a block may
 pub record Fit (read put periods many : ℕ) : Type 0 where
   pub within : many ≤ periods
-  pub reads : many * read ≤ 4096
-  pub puts : many * put ≤ 65536
+  pub reads : many * read ≤ MOST_READ
+  pub puts : many * put ≤ MOST_PUT
 
 -- as many as fit, but one where none does
 pub record AreBlock (read put periods many : ℕ) : Type 0 where

@@ -2,7 +2,7 @@
 use Rattle.std.proofs.Common.{◌≡◌, inl, inr, Result, Ok, Err, ℕ, zero, suc, ◌+◌, ◌*◌, ◌≤◌, ◌<◌, ℤ, pos, List, [], ◌∷◌}
 use Rattle.std.proofs.Common.{◌++◌, length, map, get_or, refl, sym, ap, ◌∙◌, subst, arith, ◌⊎◌}
 use Rattle.std.specs.Int.{w16, saturate_signed}
-use Rattle.std.specs.Prelude.{IsErrAnd, MatchResult}
+use Rattle.std.specs.Prelude.{IfErr, IsErrAnd}
 use Rattle.std.specs.List.{range_with_len}
 use Rattle.std.proofs.lemmas.Bool.{cases_lt}
 use Rattle.std.proofs.lemmas.List.{get_or_past, get_or_append_left, get_or-append-add, length-take-le}
@@ -117,12 +117,12 @@ piece_full n q s few more e l = from_at few more (exchange_of n q) s e l
 -- so a piece fails by memory alone
 pub piece_refused : {X : Type 0} (n : Netlist Kit ℤ) (q : List ℕ) (s : Sound) (x : Exchange) → x ≡ exchange_of n q →
     (at many : ℕ) (inputs : List (List ℤ)) → inputs ≡ lists_from at many x s →
-    (e : RunFault) (r : Result X RunFault) (P : X → Type 0) → IsRunFault n q many inputs e →
-    IsErrAnd r (λ f. f ≡ e) → MatchResult r P (λ f. f ≡ OutOfMemory)
-piece_refused n q s x is at many inputs given e (Err f) P why from =
+    (e : RunFault) (r : Result X RunFault) → IsRunFault n q many inputs e → IsErrAnd r (λ f. f ≡ e) →
+    IfErr r (λ f. f ≡ OutOfMemory)
+piece_refused n q s x is at many inputs given e (Err f) why from =
     from ∙ run_fault_by n q many inputs e (subst (HasInputs n q many)
     (sym (given ∙ ap (λ y. lists_from at many y s) is)) (piece_given n q s at many)) why
-piece_refused n q s x is at many inputs given e (Ok v) P why from = absurd from
+piece_refused n q s x is at many inputs given e (Ok v) why from = absurd from
 
 -- ---- what it makes
 

@@ -34,7 +34,7 @@ use Rattle.sdf_process.specs.Output.{exchange_of, in_turn, interleaved, lists_fr
 use Rattle.sdf_process.specs.Run.{AreFrames}
 use Rattle.sdf_process.specs.Sources.{reading_of, Takes, TakesAll}
 use Rattle.sdf_process.specs.Stages.{PutsOutput}
-use Rattle.sdf_process.specs.Tasks.{IsPlayer}
+use Rattle.sdf_process.specs.Tasks.{IsPlayer, cut_by}
 
 -- The first blocks of j periods of a sound were run by net n: this is what the run left, and these are the bytes of the
 -- first frames of what it made of them.
@@ -80,7 +80,7 @@ left_by (runner.Player v) = Some v.rest
 -- frames are written and taken while parts are run at once
 abbrev pub is_cut : Runner → Bool
 is_cut (runner.Session v) = false
-is_cut (runner.Player v) = is_some v.cut
+is_cut (runner.Player v) = is_some (cut_by v.manner)
 
 -- of a player all frames are written that it makes
 abbrev pub WritesOf : Runner → ℕ → ℕ → Type 0
@@ -117,16 +117,9 @@ pub record Makes (n : Netlist Kit ℤ) (p : Schedule) (j : ℕ) (s : Sound) (few
       (bytes ++ sample_bytes (in_turn made)) left
   pub whole : AreWhole (exchange_of n p.repetitions).outputs frames made
 
--- a player can play the portion
-pub record CanPlay (v : Player) (y : Portion) : Type 0 where
-  pub player : IsPlayer v
-  pub exchange : y.exchange ≡ exchange_of v.net.now v.period.now.repetitions
-  pub rest : (fed : List (List ℤ)) × (few : ℕ)
-      × IsRest kit_steps v.net.now fed (firings v.period.now.repetitions few) v.rest
-
--- and plays the same net then, cut in the same way
+-- the player plays the same net by the same period, cut in the same way
 abbrev pub StaysPlayer : Player → Player → Type 0
-StaysPlayer v w = (w.net ≡ v.net) × (w.period ≡ v.period) × (w.cut ≡ v.cut)
+StaysPlayer v w = (w.net ≡ v.net) × (w.period ≡ v.period) × (cut_by w.manner ≡ cut_by v.manner)
 
 -- a run of net n that was fed nothing yet
 pub record IsOpened (t : Opened) : Type 0 where
@@ -169,14 +162,21 @@ FeedsNext v now y made = (n : Netlist Kit ℤ) (p : Schedule) (j : ℕ) (s : Sou
     FeedsBy n p j v → CanRun n p j y → Follows n p j s few blocks bytes v.rest y →
     Makes n p j s few blocks y.frames bytes made now.rest × FeedsBy n p j now
 
+-- a net can be played on the portion, from what it left
+abbrev pub CanPlay : Netlist Kit ℤ → Schedule → Rest ℤ (List ℤ) → Portion → Type 0
+CanPlay n p rest y = (j : ℕ) × CanRun n p j y × IsFollowed n p j (Some rest) y
+
+-- and then, whatever sound it played, it made these frames of the next blocks, and left this
+abbrev pub Plays : Netlist Kit ℤ → Schedule → Rest ℤ (List ℤ) → Rest ℤ (List ℤ) → Portion → List (List ℤ) → Type 0
+Plays n p rest last y made = (j : ℕ) (s : Sound) (few blocks : ℕ) (bytes : List ℕ) →
+    Follows n p j s few blocks bytes (Some rest) y → Makes n p j s few blocks y.frames bytes made (Some last)
+
 -- the same of a player
 abbrev pub CanPlayNext : Player → Portion → Type 0
-CanPlayNext v y = (j : ℕ) × CanRun v.net.now v.period.now j y × IsFollowed v.net.now v.period.now j (Some v.rest) y
+CanPlayNext v y = CanPlay v.net.now v.period.now v.rest y
 
 abbrev pub PlaysNext : Player → Player → Portion → List (List ℤ) → Type 0
-PlaysNext v now y made = (j : ℕ) (s : Sound) (few blocks : ℕ) (bytes : List ℕ) →
-    Follows v.net.now v.period.now j s few blocks bytes (Some v.rest) y →
-    Makes v.net.now v.period.now j s few blocks y.frames bytes made (Some now.rest)
+PlaysNext v now y made = Plays v.net.now v.period.now v.rest now.rest y made
 
 -- So far a run came that reads and writes as it goes: these samples were read, and these are the bytes of the frames of
 -- so many periods of them.

@@ -14,6 +14,8 @@ use Rattle.sdf_sched.specs.Period.{IsPeriodOf}
 use Rattle.sdf_wav.specs.PiecesIn.{Reading, known_frames, IsReading}
 use Rattle.sdf_wav.specs.declared.wav.TheConstants.{MOST_CHANNELS}
 use Rattle.sdf_process.specs.declared.cut.Cut.{Cut}
+use Rattle.sdf_process.specs.declared.playing.Manner.{Manner}
+use Rattle.sdf_process.specs.declared.playing.Manner.TheVariants as manner
 use Rattle.sdf_process.specs.declared.playing.Player.{Player}
 use Rattle.sdf_process.specs.declared.playing.Score.{Score}
 use Rattle.sdf_process.specs.declared.begun.Begun.{Begun}
@@ -45,10 +47,15 @@ IsScore t = IsPeriodOf (rates (graph_of kit_steps t.net.now)) t.period.now
 abbrev pub IsCut : Netlist Kit ℤ → List ℕ → Option Cut → Type 0
 IsCut n q cut = IfSome cut (λ (c : Cut). WarmsIn kit_steps n q c.warm)
 
+-- how a player cuts a sound, unless one thread plays it
+abbrev pub cut_by : Manner → Option Cut
+cut_by (manner.Whole memory) = None
+cut_by (manner.Parts cut workers) = Some cut
+
 -- a player of a net by one of its periods
 pub record IsPlayer (v : Player) : Type 0 where
   pub period : IsPeriodOf (rates (graph_of kit_steps v.net.now)) v.period.now
-  pub cut : IsCut v.net.now v.period.now.repetitions v.cut
+  pub cut : IsCut v.net.now v.period.now.repetitions (cut_by v.manner)
 
 -- nothing was read of a content of so many frames
 pub record IsUnheard (c : Reading) (frames : ℕ) : Type 0 where

@@ -49,7 +49,8 @@ impl Cut {
     /// Returns the periods of a part if `periods` are run at once.
     pub(crate) fn part_of(self, exchange: Exchange, periods: u32) -> u32
         requires { IsExchange exchange }
-        ensures { IsPartOf exchange self periods result }
+        ensures part { IsPartOf exchange self periods result }
+        ensures long { self.warm ≤ result }
     {
         let share = periods.div_ceil(self.parts.max(1));
         let least = periods_in(PART, exchange).max(self.warm.saturating_mul(WARM_UPS));
@@ -57,8 +58,8 @@ impl Cut {
     }
 }
 
-/// Returns how many periods make a piece, if each worker has up to `share` frames of it, or eight warm-ups. A piece that
-/// is not cut has up to `PIECE` frames.
+/// Returns how many periods make a piece, if each worker has up to `share` frames of it, or eight warm-ups. A piece
+/// that is not cut has up to `PIECE` frames.
 pub(crate) fn piece_periods(exchange: Exchange, cut: Option<Cut>, share: usize) -> u32
     requires limits { IsExchange exchange }
     requires few { share < 4294967296 }

@@ -2,18 +2,21 @@
 //! left, and their memory, which it uses again.
 
 ghost use Rattle.std.specs.Prelude.{◌≡◌, ◌*◌, ◌≤◌, ◌<◌, [], IfErr, IfOk, IfSome, IfNone, MatchResult, Some, is_some};
-ghost use Rattle.std.specs.Prelude.{true};
+ghost use Rattle.std.specs.Prelude.{false, true};
 ghost use Rattle.sdf_actor.specs.Wires.{lists as items_of};
 ghost use Rattle.sdf_answer.specs.Feeds.{GoesOnBy};
 ghost use Rattle.sdf_answer.specs.declared.fault.RunFault.TheVariants as run;
 ghost use Rattle.sdf_fission.specs.WarmUps.{IsLasting};
+ghost use Rattle.sdf_graph.specs.Rates.{rates};
+ghost use Rattle.sdf_actor.specs.Graphs.{graph_of};
 ghost use Rattle.sdf_kit.specs.Kit.{kit_steps};
+ghost use Rattle.sdf_sched.specs.Period.{IsPeriodOf};
 ghost use Rattle.sdf_faults.specs.declared.fault.Fault.TheVariants.{OutOfMemory};
 ghost use Rattle.sdf_wav.specs.Sound.{Sound};
 ghost use Rattle.sdf_process.specs.declared.cut.Cut.{Cut};
 ghost use Rattle.sdf_process.specs.Output.{exchange_of, lists_from, IsExchange};
-ghost use Rattle.sdf_process.specs.Streams.{CanPlay, CanPlayNext, PlaysNext, StandsAt, StaysPlayer};
-ghost use Rattle.sdf_process.specs.Tasks.{IsCut, IsPlayer, IsScore};
+ghost use Rattle.sdf_process.specs.Streams.{CanPlay, CanPlayNext, Plays, PlaysNext, StandsAt, StaysPlayer};
+ghost use Rattle.sdf_process.specs.Tasks.{IsCut, IsPlayer, IsScore, cut_by};
 
 use crate::cut::{Cut, PIECE, periods_in, piece_periods};
 use crate::exchange::Exchange;
@@ -40,23 +43,80 @@ pub(crate) struct Score<'a> {
     pub(crate) parts: u32,
 }
 
+/// What one thread keeps of a piece, for the next one.
+#[derive(Drop)]
+pub(crate) struct Memory {
+    /// The input lists.
+    inputs: Vec<Vec<i32>>,
+    /// The memory of the run.
+    spares: Spares<i32>,
+    /// The memory of its frames.
+    frames: Vec<Vec<i16>>,
+}
+
+impl Memory {
+    /// Keeps nothing yet.
+    fn none(alloc: Global) -> Memory {
+        Memory {
+            inputs: Vec::new(alloc),
+            spares: Spares::none(alloc),
+            frames: Vec::new(alloc),
+        }
+    }
+
+    /// Plays a portion from what the periods before left, and makes frames of what it makes.
+    fn play(
+        &mut self,
+        alloc: Global,
+        net: &Net<Kit>,
+        period: &Period,
+        rest: &mut Rest<i32, Kept>,
+        portion: Portion<'_>,
+    ) -> Result<Vec<Vec<i16>>, RunFault>
+        requires period { IsPeriodOf (rates (graph_of kit_steps net.now)) period.now }
+        requires can { CanPlay net.now period.now rest.old portion }
+        ensures plays { IfOk result (λ v. Plays net.now period.now rest.old rest.new portion.entry
+            (items_of v.items)) }
+        ensures refused { IfErr result (λ f. f ≡ run.OutOfMemory) }
+    {
+        let mut made = mem::replace(&mut self.frames, Vec::new(alloc));
+        let spare = made.pop().unwrap_or(Vec::new(alloc));
+        made.clear();
+        let lists = portion.lists(alloc, &mut self.inputs)?;
+        let passage = Passage {
+            net,
+            period,
+            periods: portion.periods,
+            inputs: &lists,
+        };
+        let (ran, last) = resume_one_in(alloc, passage, rest, &mut self.spares)?;
+        self.inputs = lists;
+        *rest = last;
+        let frames = make_frames(&ran.outputs, portion.frames, spare)?;
+        self.spares.give_back(ran.outputs);
+        made.reserve(1)?;
+        made.push_reserved(frames);
+        Ok(made)
+    }
+}
+
+/// How pieces are played.
+#[derive(Drop)]
+pub(crate) enum Manner {
+    /// On one thread.
+    Whole(Memory),
+    /// In parts at once, cut in this way, by these workers.
+    Parts(Cut, Workers<Vec<i16>, i32, Kept>),
+}
+
 /// A net that plays a sound.
 #[derive(Drop)]
 pub(crate) struct Player<'a> {
     pub(crate) net: &'a Net<Kit>,
     pub(crate) period: &'a Period,
-    /// How pieces are cut, unless they are run on one thread.
-    pub(crate) cut: Option<Cut>,
     /// What the periods before left.
     pub(crate) rest: Rest<i32, Kept>,
-    /// The input lists of the last piece on one thread.
-    inputs: Vec<Vec<i32>>,
-    /// The memory of runs on one thread.
-    spares: Spares<i32>,
-    /// The memory of their frames.
-    frames: Vec<Vec<i16>>,
-    /// The workers that run parts.
-    workers: Workers<Vec<i16>, i32, Kept>,
+    pub(crate) manner: Manner,
 }
 
 /// Returns how a sound is cut in time, if it is to be run in several parts and the net is known to forget.
@@ -87,30 +147,39 @@ impl<'a> Player<'a> {
             (λ e. e ≡ OutOfMemory) }
         ensures stands { IfOk result (λ v. (s : Sound) → StandsAt score.entry.net.now score.entry.period.now 1 s 0 0 []
             (Some v.rest)) }
-        ensures parts { IfOk result (λ v. IfSome v.cut (λ (c : Cut). c.parts ≡ score.entry.parts)) }
-        ensures whole { IfOk result (λ v. IfNone v.cut (2 ≤ score.entry.parts →
+        ensures parts { IfOk result (λ v. IfSome (cut_by v.manner) (λ (c : Cut). c.parts ≡ score.entry.parts)) }
+        ensures whole { IfOk result (λ v. IfNone (cut_by v.manner) (2 ≤ score.entry.parts →
             IsLasting kit_steps score.entry.net.now)) }
     {
         net_facts(score.net);
-        let cut = cut_of(alloc, score)?;
+        let manner = match cut_of(alloc, score)? {
+            Some(cut) => Manner::Parts(cut, Workers::none(alloc)),
+            None => Manner::Whole(Memory::none(alloc)),
+        };
         let rest = score.net.first_rest(alloc)?;
         Ok(Player {
             net: score.net,
             period: score.period,
-            cut,
             rest,
-            inputs: Vec::new(alloc),
-            spares: Spares::none(alloc),
-            frames: Vec::new(alloc),
-            workers: Workers::none(alloc),
+            manner,
         })
+    }
+
+    /// Returns how pieces are cut, unless one thread plays them.
+    fn cut(&self) -> Option<Cut>
+        ensures { result ≡ cut_by self.now.manner }
+    {
+        match &self.manner {
+            Manner::Whole(_) => None,
+            Manner::Parts(cut, _) => Some(*cut),
+        }
     }
 
     /// Returns whether it runs parts at once.
     pub(crate) fn is_cut(&self) -> bool
-        ensures { result ≡ is_some self.now.cut }
+        ensures { result ≡ is_some (cut_by self.now.manner) }
     {
-        self.cut.is_some()
+        self.cut().is_some()
     }
 
     /// Returns how many frames it is best fed at a time, if each worker has up to `share` frames of them.
@@ -119,49 +188,22 @@ impl<'a> Player<'a> {
         requires few { share < 4294967296 }
         ensures { 0 < result }
     {
-        piece_periods(exchange, self.cut, share) as usize * exchange.taken
-    }
-
-    /// Runs the periods of a portion on one thread.
-    fn play(&mut self, alloc: Global, portion: Portion<'_>) -> Result<Vec<Vec<i32>>, RunFault>
-        requires { CanPlay self.old portion }
-        ensures made { let o = self.old in let q = o.period.now.repetitions in MatchResult result
-            (λ r. GoesOnBy kit_steps o.net.now q o.rest portion.entry.periods
-            (lists_from 0 portion.entry.periods portion.entry.exchange portion.entry.input.now)
-            (items_of r.items) self.new.rest)
-            (λ e. e ≡ run.OutOfMemory) }
-        ensures stays { StaysPlayer self.old self.new }
-    {
-        let lists = portion.lists(alloc, &mut self.inputs)?;
-        let passage = Passage {
-            net: self.net,
-            period: self.period,
-            periods: portion.periods,
-            inputs: &lists,
-        };
-        let (ran, last) = resume_one_in(alloc, passage, &self.rest, &mut self.spares)?;
-        self.inputs = lists;
-        self.rest = last;
-        Ok(ran.outputs)
+        piece_periods(exchange, self.cut(), share) as usize * exchange.taken
     }
 
     /// Runs a portion on one thread, and makes frames of what it makes.
     fn run_whole(&mut self, alloc: Global, portion: Portion<'_>) -> Result<Vec<Vec<i16>>, RunFault>
         requires player { IsPlayer self.old }
+        requires whole { is_some (cut_by self.old.manner) ≡ false }
         requires can { CanPlayNext self.old portion }
         ensures plays { IfOk result (λ v. PlaysNext self.old self.new portion.entry (items_of v.items)) }
         ensures refused { IfErr result (λ f. f ≡ run.OutOfMemory) }
         ensures stays { StaysPlayer self.old self.new }
     {
-        let mut made = mem::replace(&mut self.frames, Vec::new(alloc));
-        let spare = made.pop().unwrap_or(Vec::new(alloc));
-        made.clear();
-        let lists = self.play(alloc, portion)?;
-        let frames = make_frames(&lists, portion.frames, spare)?;
-        self.spares.give_back(lists);
-        made.reserve(1)?;
-        made.push_reserved(frames);
-        Ok(made)
+        let Manner::Whole(memory) = &mut self.manner else {
+            unreachable!()
+        };
+        memory.play(alloc, self.net, self.period, &mut self.rest, portion)
     }
 
     /// Runs a portion in parts at once, each of which makes its own frames, and `meanwhile` beside them.
@@ -172,7 +214,7 @@ impl<'a> Player<'a> {
         meanwhile: &mut G,
     ) -> (Result<Vec<Vec<i16>>, RunFault>, B)
         requires player { IsPlayer self.old }
-        requires cut { is_some self.old.cut ≡ true }
+        requires cut { is_some (cut_by self.old.manner) ≡ true }
         requires can { CanPlayNext self.old portion }
         requires all { portion.frames ≡ portion.periods * portion.exchange.made }
         requires meanwhile { G.pre meanwhile.old }
@@ -181,7 +223,9 @@ impl<'a> Player<'a> {
         ensures stays { StaysPlayer self.old self.new }
         ensures meanwhile { G.step meanwhile.old result.1 meanwhile.new }
     {
-        let cut = self.cut.unwrap();
+        let Manner::Parts(cut, workers) = &mut self.manner else {
+            unreachable!()
+        };
         let split = Split {
             net: self.net,
             period: self.period,
@@ -191,7 +235,6 @@ impl<'a> Player<'a> {
             stretch: periods_in(PIECE, portion.exchange),
             workers: cut.parts,
         };
-        let workers = &mut self.workers;
         let (ran, done) = resume_split(rt, &portion, split, &self.rest, workers, meanwhile);
         match ran {
             Ok((parts, last)) => {
@@ -228,9 +271,9 @@ impl<'a> Player<'a> {
     pub(crate) fn give_back(&mut self, frames: Vec<Vec<i16>>)
         ensures { StaysPlayer self.old self.new × (self.new.rest ≡ self.old.rest) }
     {
-        match self.cut {
-            Some(_) => self.workers.give_back(frames),
-            None => self.frames = frames,
+        match &mut self.manner {
+            Manner::Whole(memory) => memory.frames = frames,
+            Manner::Parts(_, workers) => workers.give_back(frames),
         }
     }
 }

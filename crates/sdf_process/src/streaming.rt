@@ -8,7 +8,7 @@ ghost use Rattle.sdf_process.specs.Flows.{CanStep, CanTurn, KeepsGoing, GoesOn, 
 ghost use Rattle.sdf_process.specs.Flows.{TurnsAll, start_of};
 ghost use Rattle.sdf_process.specs.Streams.{CanPlayNext, IsOpened, PlaysNext, StaysPlayer, Streams};
 ghost use Rattle.sdf_process.specs.Streams.{is_cut};
-ghost use Rattle.sdf_process.specs.Tasks.{IsBegun, IsPlayer};
+ghost use Rattle.sdf_process.specs.Tasks.{IsBegun, IsPlayer, cut_by};
 
 use crate::begun::Begun;
 use crate::exchange::Exchange;
@@ -240,7 +240,7 @@ fn play_while_turning<T: Threads + AllocGlobal + Sync, R: Reader, W: Writer>(
     portion: Portion<'_>,
 ) -> (Result<Vec<Vec<i16>>, RunFault>, Result<(), Fault>)
     requires player { IsPlayer player.old }
-    requires cut { is_some player.old.cut ≡ true }
+    requires cut { is_some (cut_by player.old.manner) ≡ true }
     requires can { CanPlayNext player.old portion }
     requires all { portion.frames ≡ portion.periods * portion.exchange.made }
     requires ahead { CanTurn flow.old (R.state reader.old) (W.state writer.old) }

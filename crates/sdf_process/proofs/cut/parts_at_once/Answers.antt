@@ -27,7 +27,7 @@ returns-clause-parts c = λ q period.
       c.piece_periods.ensures.piece,
       c.part_of-part.result,
       subst (λ k. IsPartOf c.of_net-exchange.result (record { parts = c.args.workers; warm = c.args.warm }) k
-          c.part_of-part.result) piece c.part_of-part.ensures,
+          c.part_of-part.result) piece c.part_of-part.ensures.part,
       c.min.ensures ∙ (ap (λ k. min k c.max.result)
           (c.div_ceil-2.ensures ∙ ap (λ k. div_ceil k c.part_of-part.result) piece)
           ∙ ap (min _) (let z : c.max.result ≡ max 1 c.args.workers = omega (arith, c.max.ensures) in z)),

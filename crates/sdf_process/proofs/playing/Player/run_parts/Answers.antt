@@ -1,4 +1,4 @@
-use Rattle.std.proofs.Common.{◌≡◌, ◌*◌, ◌∙◌, ap, refl, sym, subst, Some, arith, rules}
+use Rattle.std.proofs.Common.{◌≡◌, ◌*◌, ◌∙◌, ap, refl, sym, subst, Some, arith}
 use Rattle.std.proofs.lemmas.Result.{MatchResult-at_ok}
 use Rattle.sdf_actor.specs.Wires.{lists as items_of}
 use Rattle.sdf_answer.specs.Answer.{HasInputs}
@@ -9,7 +9,7 @@ use Rattle.sdf_answer.proofs.Theorems.{nets_can_run}
 use Rattle.sdf_process.specs.declared.exchange.Exchange.{Exchange}
 use Rattle.sdf_process.specs.Output.{exchange_of, interleaved, lists_from}
 use Rattle.sdf_process.specs.Streams.{AreWhole}
-use Rattle.sdf_process.specs.Tasks.{IsCut}
+use Rattle.sdf_process.specs.Tasks.{IsCut, cut_by}
 use Rattle.sdf_process.proofs.InParts.{in_parts}
 use Rattle.sdf_process.proofs.Pieced.{blocks_made, held_is, plays_on}
 use Rattle.sdf_process.proofs.Played.{piece_full, piece_given}
@@ -29,10 +29,10 @@ resume_split-ran-requires-clause-split g c κs within =
           (sym can.exchange) (piece_given n p.repetitions y.input.now 0 y.periods);
       full = subst (λ (x : Exchange). AreFull n p.repetitions y.periods (lists_from 0 y.periods x y.input.now))
           (sym can.exchange) (piece_full n p.repetitions y.input.now 0 y.periods);
-      warm_up = subst (IsCut n p.repetitions) c.unwrap-cut.ensures c.requires.player.cut;
+      warm_up = subst (IsCut n p.repetitions) (ap cut_by c.in-Parts.is) c.requires.player.cut;
       short = omega (arith, y.fits);
-      some = c.part_of.ensures.is.some;
-      long = search rules;
+      some = c.part_of.ensures.part.is.some;
+      long = c.part_of.ensures.long;
       stretch = omega (arith, c.periods_in.ensures);
     }
 
