@@ -37,16 +37,22 @@ pub record IsOneMore {A S T : Type 0} (s : Steps A S T) (n : Netlist A T) (input
       take ((wiring s n).rates.consumed c (k + 1)) (W c) ≡
       take ((wiring s n).rates.consumed c k) (V c) ++ block_of (sizes s Input (node n a) k) (wire n c).to.1 t
 
-module _ {A S T : Type 0} (s : Steps A S T) (n : Netlist A T) (good : IsNet s n)
-    (inputs : List (List T)) (a k : ℕ) (known : a < length n.nodes) (V : ℕ → List T)
-    (local : IsLocal (wiring s n) (answers s n inputs) a k V) (t b : List T)
-    (t_long : length t ≡ start_at (sizes s Input (node n a) k) (inputs_of s (node n a)))
-    (b_long : length b ≡ start_at (sizes s Output (node n a) k) (outputs_of s (node n a)))
-    (answered : b ≡ answer_of s inputs (node n a) (taken_before (wiring s n) V a k) t)
-    -- what it takes of a channel to itself it had put there
-    (own : (c : ℕ) → c < length n.wires → (wire n c).from.0 ≡ a → (wire n c).to.0 ≡ a →
-    IsPrefix (take ((wiring s n).rates.consumed c k) (V c)
-    ++ block_of (sizes s Input (node n a) k) (wire n c).to.1 t) (V c)) where
+-- t and b may be the blocks of its firing k
+pub record AreBlocks {A S T : Type 0} (s : Steps A S T) (n : Netlist A T) (inputs : List (List T)) (a k : ℕ)
+    (V : ℕ → List T) (t b : List T) : Type 0 where
+  pub t_long : length t ≡ start_at (sizes s Input (node n a) k) (inputs_of s (node n a))
+  pub b_long : length b ≡ start_at (sizes s Output (node n a) k) (outputs_of s (node n a))
+  pub answered : b ≡ answer_of s inputs (node n a) (taken_before (wiring s n) V a k) t
+  -- what it takes of a channel to itself it had put there
+  pub own : (c : ℕ) → c < length n.wires → (wire n c).from.0 ≡ a → (wire n c).to.0 ≡ a →
+      IsPrefix (take ((wiring s n).rates.consumed c k) (V c)
+      ++ block_of (sizes s Input (node n a) k) (wire n c).to.1 t) (V c)
+
+module _ {A S T : Type 0} {s : Steps A S T} {n : Netlist A T} (good : IsNet s n) {inputs : List (List T)} {a k : ℕ}
+    (known : a < length n.nodes) {V : ℕ → List T} (local : IsLocal (wiring s n) (answers s n inputs) a k V)
+    {t b : List T} (blocks : AreBlocks s n inputs a k V t b) where
+  open blocks use {t_long, b_long, answered, own}
+
   wired : IsWired (wiring s n)
   wired = nets_are_wired s n good
 
@@ -85,9 +91,9 @@ module _ {A S T : Type 0} (s : Steps A S T) (n : Netlist A T) (good : IsNet s n)
       length (now c) ≡ (wiring s n).rates.consumed c (k + 1) - (wiring s n).rates.consumed c k
   now_long c l e =
       let p : ℕ = (wire n c).to.1 in
-      let h = port_of s n good wired a known c l e in
-      let before = consumed_is s n good wired a known c k e in
-      let after = consumed_is s n good wired a known c (k + 1) e in
+      let h = port_of good known c l e in
+      let before = consumed_is good known c k e in
+      let after = consumed_is good known c (k + 1) e in
       omega (arith, block_long p h)
 
   all_long : (c : ℕ) → c < length n.wires → (wiring s n).rates.target c ≡ a →
@@ -192,7 +198,7 @@ module _ {A S T : Type 0} (s : Steps A S T) (n : Netlist A T) (good : IsNet s n)
     given = λ c l e. W_out c e;
     answers_it = answered ∙ (ap (λ p. answer_of s inputs (node n a) p t) past_same
         ∙ ap (λ u. answer_of s inputs (node n a) (taken_before (wiring s n) W a k) u) (sym now_t));
-    long = b_long ∙ all_out s n good wired a known k;
+    long = b_long ∙ all_out good known k;
   })
 
   past_is : taken_before (wiring s n) W a (k + 1) ≡ taken_before (wiring s n) V a k ++ t ∷ []

@@ -52,22 +52,20 @@ module _ {A S T : Type 0} (s : Steps A S T)
     own_local : (a : ℕ) → a < length n.nodes → (t : (a < length n.nodes) ⊎ (length n.nodes ≤ a)) →
         IsLocal (wiring s n) (answers s n inputs) a (done a) (pick a t)
     own_local a l (inl h) = subst (λ i. IsLocal (wiring s n) (answers s n inputs) a i (stand a h).own) (counts a l)
-        (as_local s n good inputs (stand_of n seats places e0 d0 a) (stand a h) a (placed.is a e0 d0 h))
+        (as_local good (stand a h) (placed.is a e0 d0 h))
     own_local a l (inr h) = absurd (omega arith)
 
     own_sent : (a : ℕ) → a < length n.nodes → (t : (a < length n.nodes) ⊎ (length n.nodes ≤ a)) →
         (c : ℕ) (y : Producer T Global AnyItems) → c < length n.wires → (wire n c).from.0 ≡ a →
         sent (get_or (stand_of n seats places e0 d0 a).outs.items (wire n c).from.1 y) ≡ pick a t c
-    own_sent a l (inl h) c y m e = sent_at s n good inputs (stand_of n seats places e0 d0 a) (stand a h) a
-        (placed.is a e0 d0 h) c y m e
+    own_sent a l (inl h) c y m e = sent_at good (stand a h) (placed.is a e0 d0 h) c y m e
     own_sent a l (inr h) c y m e = absurd (omega arith)
 
     own_received : (a : ℕ) → a < length n.nodes → (t : (a < length n.nodes) ⊎ (length n.nodes ≤ a)) →
         (c : ℕ) (x : Consumer T Global AnyItems) → c < length n.wires → (wire n c).to.0 ≡ a →
         received (get_or (stand_of n seats places e0 d0 a).ins.items (wire n c).to.1 x) ≡
         take ((wiring s n).rates.consumed c (done a)) (pick a t c)
-    own_received a l (inl h) c x m e = received_at s n good inputs (stand_of n seats places e0 d0 a) (stand a h) a
-        (placed.is a e0 d0 h) c x m e ∙ ap (λ i. take ((wiring s n).rates.consumed c i)
+    own_received a l (inl h) c x m e = received_at good (stand a h) (placed.is a e0 d0 h) c x m e ∙ ap (λ i. take ((wiring s n).rates.consumed c i)
         ((stand a h).own c)) (counts a l)
     own_received a l (inr h) c x m e = absurd (omega arith)
 
