@@ -65,9 +65,9 @@ begins_where s z ins outs (Inner actor j state taken put lengths) goes = record 
 begins_where s z ins outs (Source ext next block) goes = absurd goes
 begins_where s z ins outs (Sink ext) goes = absurd goes
 
-module _ {A S T Z : Type 0} (g : Holding A S T Z) (many_of : Cycling g) (d : Work A T S) where
+module _ {A S T Z : Type 0} (g : Holding A S T Z) (cycling : Cycling g) (d : Work A T S) where
   open g use {s, n, net, z, y, cycles, inputs, many, k, a, known, works, qs, outputs, st}
-  open many_of use {fits, times, held, ahead.{m, others, below}}
+  open cycling use {fits, times, held, ahead.{m, others, below}}
 
   abbrev ins : List ℕ
   ins = (wiring s n).ins a
@@ -82,7 +82,7 @@ module _ {A S T Z : Type 0} (g : Holding A S T Z) (many_of : Cycling g) (d : Wor
   puts = y.puts.items
 
   begins_so : Begins (get_or works a d)
-  begins_so = begins_where s z ins outs (get_or works a d) (many_of.goes d)
+  begins_so = begins_where s z ins outs (get_or works a d) (cycling.goes d)
 
   open begins_so use {actor, state, taken as taken', put as put', lengths}
 
@@ -110,7 +110,7 @@ module _ {A S T Z : Type 0} (g : Holding A S T Z) (many_of : Cycling g) (d : Wor
   w0 = Inner actor 0 state taken' put' lengths
 
   goes : GoesByMany s z w0 ins outs
-  goes = subst (λ w. GoesByMany s z w ins outs) begins_so.is (many_of.goes d)
+  goes = subst (λ w. GoesByMany s z w ins outs) begins_so.is (cycling.goes d)
 
   apart : (p q : ℕ) → p < length ins → q < length outs → get_or ins p 0 ≡ get_or outs q 0 → ⊥
   apart = goes.1
@@ -135,7 +135,7 @@ module _ {A S T Z : Type 0} (g : Holding A S T Z) (many_of : Cycling g) (d : Wor
   its_turns = turning g actor.now inner.0
 
   own : m a ≡ k a + firings
-  own = many_of.ahead.own ∙ ap (λ v. k a + times * cycle_of s v) inner.0
+  own = cycling.ahead.own ∙ ap (λ v. k a + times * cycle_of s v) inner.0
 
   begins : k a % turns ≡ 0
   begins = sym (inner.1 ∙ ap (phase s actor.now) (blocks_are_counted s n st.history a (k a)))

@@ -111,7 +111,7 @@ sweep_on s r r' x y z i still before moved here none b l may = go (cases_lt b i)
     go (inr past) = here (still none).1 (subst (λ b. MayFire s r b) (let e : b ≡ i = omega arith in e) back)
 
 -- what a step of a run stands on
-pub net_known : {A S T : Type 0} (s : Steps A S T) (r : Run A T S) → IsSwept s r → Known s r.net.now
+net_known : {A S T : Type 0} (s : Steps A S T) (r : Run A T S) → IsSwept s r → Known s r.net.now
 net_known s r sw = record { good = sw.good; wired = nets_are_wired s r.net.now sw.good }
 
 -- at the same ports and queues
@@ -134,7 +134,7 @@ abbrev pub swept_node : {A S T : Type 0} (s : Steps A S T) (r : Run A T S) (sw :
 swept_node s r sw a known = record { s = s; r = r; sw = sw; a = a; known = known }
 
 -- what a runner holds there
-abbrev pub holding : {A S T : Type 0} → Swept A S T → Holding A S T Global
+abbrev holding : {A S T : Type 0} → Swept A S T → Holding A S T Global
 holding p = record {
   base = record {
     s = p.s;
@@ -330,7 +330,7 @@ module _ {A S T : Type 0} (p : Swept A S T) (times : ℕ)
       stays = λ e. absurd (true≢false e);
     }
 
--- what firings of it leave
+-- what its firings leave in a runner
 module _ {A S T : Type 0} (p : Swept A S T) where
   open p use {s, r, sw, a, known}
 
