@@ -54,8 +54,8 @@ fire_row-requires-clause-filled g c = λ κs within.
       b.1,
       b.2,
       subst (λ v. IsFilling g.A.Actor.steps c.args.scene.now.net.now (lists c.args.scene.now.inputs.now) b.0 b.1 b.2
-          (actors_of front) 0 (λ a. get_or c.args.stage.now.done.items a 0) v
-          c.args.stage.now.queues.items front) (sym (states g at))
+          (actors_of front) 0 (λ a. get_or c.args.stage.now.done.items a 0) v c.args.stage.now.queues.items front)
+          (sym (states g at))
           (filling_front b.3 b.4 c.requires.blocks c.requires.few (loaded g at) front (split.front_len ∙ count)
           (front_same c.load_row-many.new.jobs split.front count)),
     )
@@ -68,8 +68,8 @@ returns-clause-between g c = λ many low high st is.
     let count = c.load_row-many.ensures.many in
     c.fire_row.ensures.settled many low high
     (subst (λ v. IsFilling g.A.Actor.steps c.args.scene.now.net.now (lists c.args.scene.now.inputs.now) many low high
-    (actors_of front) 0 (λ a. get_or c.args.stage.now.done.items a 0) v c.args.stage.now.queues.items
-    front) (sym (states g at))
+    (actors_of front) 0 (λ a. get_or c.args.stage.now.done.items a 0) v c.args.stage.now.queues.items front)
+    (sym (states g at))
     (filling_front st is c.requires.blocks c.requires.few (loaded g at) front (split.front_len ∙ count)
     (front_same c.load_row-many.new.jobs split.front count)))
 
