@@ -2,11 +2,9 @@
 use Rattle.std.proofs.Common.{◌≡◌, ℕ, ◌+◌, ◌≤◌, ◌<◌, List, [], ◌∷◌, ◌++◌, length, get_or, take, refl, sym, ap, ◌∙◌}
 use Rattle.std.proofs.Common.{subst, arith, vec_len}
 use Rattle.std.specs.Global.{Global}
-use Rattle.std.specs.declared.vec.Vec.{Vec}
 use Rattle.std.proofs.lemmas.List.Edits.{length-between}
 use mathlib.Core.List.{IsPrefix}
 use Rattle.rtrb.specs.Ring.{received}
-use Rattle.rtrb.specs.declared.producer.Producer.{Producer}
 use Rattle.rtrb.specs.declared.consumer.Consumer.{Consumer}
 use Rattle.rtrb.specs.declared.AnyItems.{AnyItems}
 use Rattle.sdf_actor.specs.Steps.{Steps}
@@ -49,24 +47,27 @@ module _ {A S T : Type 0} {s : Steps A S T} {n : Netlist A T} (good : IsNet s n)
     {x : Stand A T S} (st : IsStand s n inputs x) (one : OneFiring s n inputs x) where
   open one use {t, b, w, held}
 
+  -- what it moves at each port
+  abbrev g : ℕ → ℕ
+  g = sizes s Input (node n x.actor) x.done
+
+  abbrev h : ℕ → ℕ
+  h = sizes s Output (node n x.actor) x.done
+
   wired : IsWired (wiring s n)
   wired = nets_are_wired s n good
 
   took_then : (c : ℕ) (d : Consumer T Global AnyItems) → c < length n.wires → (wire n c).to.0 ≡ x.actor →
       received (get_or held.ins.items (wire n c).to.1 d) ≡
-      take ((wiring s n).rates.consumed c x.done) (st.own c)
-      ++ block_of (sizes s Input (node n x.actor) x.done) (wire n c).to.1 t
+      take ((wiring s n).rates.consumed c x.done) (st.own c) ++ block_of g (wire n c).to.1 t
   took_then c d l e =
-      let at : (wire n c).to.1 < length x.ins.items =
-      vec_in x.ins (wire n c).to.1 (in_in good st refl c l e) in
-      (held.drew (wire n c).to.1 d at).received_then ∙ ap
-      (λ r. r ++ block_of (sizes s Input (node n x.actor) x.done) (wire n c).to.1 t)
-      (received_at good st refl c d l e)
+      let at : (wire n c).to.1 < length x.ins.items = vec_in x.ins (wire n c).to.1 (in_in good st refl c l e) in
+      (held.drew (wire n c).to.1 d at).received_then
+      ∙ ap (λ r. r ++ block_of g (wire n c).to.1 t) (received_at good st refl c d l e)
 
   -- what it took of a channel to itself it had put there
   own_taken : (c : ℕ) → c < length n.wires → (wire n c).from.0 ≡ x.actor → (wire n c).to.0 ≡ x.actor →
-      IsPrefix (take ((wiring s n).rates.consumed c x.done) (st.own c)
-      ++ block_of (sizes s Input (node n x.actor) x.done) (wire n c).to.1 t) (st.own c)
+      IsPrefix (take ((wiring s n).rates.consumed c x.done) (st.own c) ++ block_of g (wire n c).to.1 t) (st.own c)
   own_taken c l f e =
       let at : (wire n c).to.1 < vec_len x.ins = in_in good st refl c l e in
       let after : (wire n c).to.1 < length held.ins.items = vec_in held.ins (wire n c).to.1 (omega (arith, held.ins_is)) in
@@ -86,8 +87,7 @@ module _ {A S T : Type 0} {s : Steps A S T} {n : Netlist A T} (good : IsNet s n)
     own = own_taken;
   })
 
-  on : HasGoneOn st 1 (λ i. block_of (sizes s Input (node n x.actor) x.done) i t)
-      (λ i. block_of (sizes s Output (node n x.actor) x.done) i b) w
+  on : HasGoneOn st 1 (λ i. block_of g i t) (λ i. block_of h i b) w
   on = record {
     left = let l = one.left in omega arith;
     W = more.0;
@@ -96,36 +96,24 @@ module _ {A S T : Type 0} {s : Steps A S T} {n : Netlist A T} (good : IsNet s n)
         (one.moved x.asked (taken_before (wiring s n) st.own x.actor x.done) st.at);
     into = more.1.into;
     out = λ i p.
-        let q : i < length ((wiring s n).outs x.actor) =
-        omega (arith, outs_long good st.known) in
+        let q : i < length ((wiring s n).outs x.actor) = omega (arith, outs_long good st.known) in
         let is = wired.outs_are x.actor i st.known q in
-        more.1.out (get_or ((wiring s n).outs x.actor) i 0) is.1 ∙
-        ap (λ r. st.own (get_or ((wiring s n).outs x.actor) i 0) ++ r)
-        (out_block good st.known x.done i b p);
+        more.1.out (get_or ((wiring s n).outs x.actor) i 0) is.1
+        ∙ ap (λ r. st.own (get_or ((wiring s n).outs x.actor) i 0) ++ r) (out_block good st.known x.done i b p);
     taken_count = λ i p.
-        let h : ℕ → ℕ = sizes s Input (node n x.actor) x.done in
-        let inside = block_in h i (inputs_of s (node n x.actor)) p in
-        let long = length-between t (start_at h i) (start_at h i + h i) (omega (arith, one.t_long)) in
+        let inside = block_in g i (inputs_of s (node n x.actor)) p in
+        let long = length-between t (start_at g i) (start_at g i + g i) (omega (arith, one.t_long)) in
         let rise : (wiring s n).rates.consumed (get_or ((wiring s n).ins x.actor) i 0) x.done ≤
         (wiring s n).rates.consumed (get_or ((wiring s n).ins x.actor) i 0) (x.done + 1) =
         wired.sound.consumed_rises (get_or ((wiring s n).ins x.actor) i 0) x.done (x.done + 1) (omega arith) in
-        omega (
-          arith,
-          consumed_in good st.known i x.done p,
-          consumed_in good st.known i (x.done + 1) p,
-        );
+        omega (arith, consumed_in good st.known i x.done p, consumed_in good st.known i (x.done + 1) p);
     put_count = λ i p.
-        let h : ℕ → ℕ = sizes s Output (node n x.actor) x.done in
         let inside = block_in h i (outputs_of s (node n x.actor)) p in
         let long = length-between b (start_at h i) (start_at h i + h i) (omega (arith, one.b_long)) in
         let rise : (wiring s n).rates.produced (get_or ((wiring s n).outs x.actor) i 0) x.done ≤
         (wiring s n).rates.produced (get_or ((wiring s n).outs x.actor) i 0) (x.done + 1) =
         wired.sound.produced_rises (get_or ((wiring s n).outs x.actor) i 0) x.done (x.done + 1) (omega arith) in
-        omega (
-          arith,
-          produced_out good st.known i x.done p,
-          produced_out good st.known i (x.done + 1) p,
-        );
+        omega (arith, produced_out good st.known i x.done p, produced_out good st.known i (x.done + 1) p);
   }
 
   pub fired : IsStand s n inputs (stand_after x 1 w held) × HasMoved s n x (stand_after x 1 w held)

@@ -1,7 +1,6 @@
 use Rattle.std.proofs.Common.{rules, ◌≡◌, ◌<◌, ℕ, [], length, get_or, refl, sym, ap, ◌∙◌, subst, arith}
 use Rattle.rtrb.specs.Ring.{IsPair, sent, known_items}
-use Rattle.sdf_actor.specs.Nets.{wire, wiring, node, inputs_of}
-use Rattle.sdf_actor.specs.Wires.{wire_of}
+use Rattle.sdf_actor.specs.Nets.{wire, wiring}
 use Rattle.sdf_actor.proofs.Theorems.{nets_are_wired}
 use Rattle.sdf_rings.specs.Ends.{Drew, Gave}
 use Rattle.sdf_rings.proofs.Each.{each_then}
