@@ -308,7 +308,8 @@ module _ {k : Kit} (t : Turns) (j many : ℕ) {n m : ℕ} (below : j < kit_steps
 
   pub gathers_all : k ≡ Gather t → m ≡ n
   gathers_all is =
-      gives is j many t.run (λ _. omega arith) put ∙ sym (takes is j many t.run (turn_rate t (some_ways is below)) taken)
+      gives is j many t.run (λ _. omega arith) put
+      ∙ sym (takes is j many t.run (turn_rate t (some_ways is below)) taken)
 
 -- the runs of kinds whose rates are known by the ports of a kit
 module _ {k x : Kit} (is : k ≡ x) {p : Ports} (same : p ≡ (behaviour k).ports) (are : ArePorts p) where
