@@ -3,13 +3,13 @@
 ghost use Rattle.sdf_options.specs.Limits.{AreWithinLimits};
 
 use sdf_analyze::analyze;
-use sdf_document::kinds_text;
 use sdf_draw::{dot, svg};
 use sdf_faults::Fault;
 use sdf_file::{Design, check_text};
 use sdf_files::files::put;
 use sdf_files::world::World;
 use sdf_json::{analysis_json, check_json, kinds_json, schedule_json};
+use sdf_kinds::kinds_text;
 use sdf_options::Options;
 use sdf_plan::planning::plan;
 use sdf_plan::schedule::schedule;

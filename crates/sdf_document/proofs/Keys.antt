@@ -3,13 +3,14 @@ use Rattle.std.proofs.Common.{◌≡◌, ◌∙◌, ◌<◌, ◌≤◌, ◌+◌,
 use Rattle.std.proofs.Common.{get_or, ap, refl, sym, append_assoc, append-nil}
 use Rattle.std.proofs.lemmas.List.{drop_all, drop_more}
 use Rattle.toml.specs.Data.{Members}
-use Rattle.sdf_document.specs.declared.row.Key.{Key}
+use Rattle.sdf_kinds.specs.declared.row.KeyForm.{KeyForm}
 use Rattle.sdf_document.specs.declared.key.KeyValue.{KeyValue}
 use Rattle.sdf_document.specs.declared.fault.ReadFault.{ReadFault}
 use Rattle.sdf_document.specs.declared.fault.ReadFault.TheVariants as errors
 use Rattle.sdf_document.specs.Fault.{Fault, fault_view, Fails, ◌>>=◌}
 use Rattle.sdf_document.specs.Lists.{Lookup}
-use Rattle.sdf_document.specs.Rows.{keys_view}
+use Rattle.sdf_kinds.specs.Keys.{key_name}
+use Rattle.sdf_kinds.specs.Rows.{keys_view}
 use Rattle.sdf_document.specs.Kinds.{formed_at, values_at, HasForm, HaveForms}
 
 -- values, and those that are read after them
@@ -23,29 +24,31 @@ regroup done v (Ok vs) = ap Ok (append_assoc done (v ∷ []) vs)
 regroup done v (Err f) = refl
 
 module _ (a : ℕ) (files : Lookup) (ms : Members) where
-  pub value_more : (done : List KeyValue) (ks : List Key) (i : ℕ) (k : Key) (v : KeyValue)
-      (total : Result (List KeyValue) Fault) → i < length ks
-      → formed_at a files (get_or ks i k).0.now (get_or ks i k).1 ms ≡ Ok v →
+  pub value_more : (done : List KeyValue) (ks : List KeyForm) (i : ℕ) (k : KeyForm) (v : KeyValue)
+      (name : List ℕ) (total : Result (List KeyValue) Fault) → i < length ks → name ≡ key_name (get_or ks i k).0
+      → formed_at a files name (get_or ks i k).1 ms ≡ Ok v →
       values_after done (values_at a files (keys_view (drop i ks)) ms) ≡ total
       → values_after (done ++ v ∷ []) (values_at a files (keys_view (drop (i + 1) ks)) ms) ≡ total
   unfolding values_at
-  value_more done ks i k v total lt h so_far =
+  value_more done ks i k v name total lt named given so_far =
+      let h = ap (λ n. formed_at a files n (get_or ks i k).1 ms) (sym named) ∙ given in
       let step : values_at a files (keys_view (drop i ks)) ms ≡
       (values_at a files (keys_view (drop (i + 1) ks)) ms >>= λ vs. Ok (v ∷ vs)) =
       rw (drop_more ks i k lt, h) refl in
       regroup done v (values_at a files (keys_view (drop (i + 1) ks)) ms) ∙ (ap (values_after done) (sym step) ∙ so_far)
 
-  pub value_fail : (x : ReadFault) (done : List KeyValue) (ks : List Key) (i : ℕ) (k : Key)
-      (total : Result (List KeyValue) Fault) → i < length ks
-      → Fails x (formed_at a files (get_or ks i k).0.now (get_or ks i k).1 ms) →
+  pub value_fail : (x : ReadFault) (done : List KeyValue) (ks : List KeyForm) (i : ℕ) (k : KeyForm) (name : List ℕ)
+      (total : Result (List KeyValue) Fault) → i < length ks → name ≡ key_name (get_or ks i k).0
+      → Fails x (formed_at a files name (get_or ks i k).1 ms) →
       values_after done (values_at a files (keys_view (drop i ks)) ms) ≡ total → Fails x total
   unfolding values_at
-  value_fail errors.OutOfMemory done ks i k total lt h so_far = tt
-  value_fail (errors.Document f) done ks i k total lt h so_far =
+  value_fail errors.OutOfMemory done ks i k name total lt named given so_far = tt
+  value_fail (errors.Document f) done ks i k name total lt named given so_far =
+      let h = ap (λ n. formed_at a files n (get_or ks i k).1 ms) (sym named) ∙ given in
       let step : values_at a files (keys_view (drop i ks)) ms ≡ Err (fault_view f) = rw (drop_more ks i k lt, h) refl in
       sym so_far ∙ ap (values_after done) step
 
-  pub values_done : (done : List KeyValue) (ks : List Key) (i : ℕ) (total : Result (List KeyValue) Fault) →
+  pub values_done : (done : List KeyValue) (ks : List KeyForm) (i : ℕ) (total : Result (List KeyValue) Fault) →
       length ks ≤ i
       → values_after done (values_at a files (keys_view (drop i ks)) ms) ≡ total → total ≡ Ok done
   unfolding values_at
@@ -54,8 +57,8 @@ module _ (a : ℕ) (files : Lookup) (ms : Members) where
       sym so_far ∙ (ap (values_after done) step ∙ ap Ok (append-nil done))
 
 module _ (looked : Bool) where
-  pub forms_more : (all ks : List Key) (done left : List KeyValue) (i : ℕ) (k : Key) (v : KeyValue) → i < length ks →
-      HasForm looked (get_or ks i k).1 v
+  pub forms_more : (all ks : List KeyForm) (done left : List KeyValue) (i : ℕ) (k : KeyForm) (v : KeyValue) →
+      i < length ks → HasForm looked (get_or ks i k).1 v
       → ((rest : List KeyValue) → HaveForms looked (keys_view (drop i ks)) rest →
       HaveForms looked (keys_view all) (done ++ rest))
       → HaveForms looked (keys_view (drop (i + 1) ks)) left →
@@ -64,7 +67,7 @@ module _ (looked : Bool) where
       let more : HaveForms looked (keys_view (drop i ks)) (v ∷ left) = rw (drop_more ks i k lt) (has, h) in
       rw (append_assoc done (v ∷ []) left) (so_far (v ∷ left) more)
 
-  pub forms_done : (all ks : List Key) (done : List KeyValue) (i : ℕ) → length ks ≤ i
+  pub forms_done : (all ks : List KeyForm) (done : List KeyValue) (i : ℕ) → length ks ≤ i
       → ((rest : List KeyValue) → HaveForms looked (keys_view (drop i ks)) rest →
       HaveForms looked (keys_view all) (done ++ rest)) → HaveForms looked (keys_view all) done
   forms_done all ks done i le so_far =

@@ -5,14 +5,14 @@ use Rattle.std.specs.List.{list_any}
 use Rattle.toml.specs.Data.{Data, Members, as_table}
 use Rattle.sdf_document.specs.declared.entry.ActorEntry.{ActorEntry}
 use Rattle.sdf_document.specs.declared.entry.KindEntry.{KindEntry}
-use Rattle.sdf_document.specs.declared.row.KindWord.{KindWord}
+use Rattle.sdf_kinds.specs.declared.row.Kind.{Kind}
 use Rattle.sdf_document.specs.declared.key.KeyValue.TheVariants.{Natural, Optional}
 use Rattle.sdf_document.specs.Fault.{actor, Fault, wrong_type, bad_name, name_twice, ◌>>=◌, or_fault}
 use Rattle.sdf_document.specs.Tables.{known_keys}
 use Rattle.sdf_document.specs.Values.{text_at}
 use Rattle.sdf_document.specs.Names.{is_name}
 use Rattle.sdf_document.specs.Lists.{Lookup}
-use Rattle.sdf_document.specs.Rows.{row_of, shared_keys}
+use Rattle.sdf_kinds.specs.Rows.{row_of, shared_keys}
 use Rattle.sdf_document.specs.Kinds.{word_at, actor_keys, kind_at, values_at, optional, natural, first, second}
 use Rattle.sdf_document.specs.Kinds.{HaveForms, IsWithin}
 
@@ -42,7 +42,7 @@ name_at a names ms = do
   if list_any (bytes_eq s) names then Err (name_twice a) else Ok s
 
 -- actor a of a kind has no other keys than an actor of this kind may have
-abbrev pub keys_at : ℕ → KindWord → Members → Result (Unit {0}) Fault
+abbrev pub keys_at : ℕ → Kind → Members → Result (Unit {0}) Fault
 keys_at a word ms = known_keys (actor a) (actor_keys (row_of word).keys ms) ms
 
 -- actor a, after actors of these names

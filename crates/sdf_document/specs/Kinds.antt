@@ -3,10 +3,10 @@ use Rattle.std.specs.Prelude.{ℕ, ℤ, pos, ◌&&◌, Bool, ◌≤◌, ◌≤�
 use Rattle.std.specs.Prelude.{None, Result, Ok, Err, IfSome, nat_le, bytes_eq, is_some, int_le, true}
 use Rattle.std.specs.Prelude.{IsTrue, if◌then◌else◌}
 use Rattle.toml.specs.Data.{Data, Members, get_member}
-use Rattle.sdf_document.specs.declared.row.KindWord.{KindWord}
-use Rattle.sdf_document.specs.declared.row.KindWord.TheVariants as word
-use Rattle.sdf_document.specs.declared.row.Form.{Form}
-use Rattle.sdf_document.specs.declared.row.Form.TheVariants as forms
+use Rattle.sdf_kinds.specs.declared.row.Kind.{Kind}
+use Rattle.sdf_kinds.specs.declared.row.Kind.TheVariants as kind
+use Rattle.sdf_kinds.specs.declared.row.Form.{Form}
+use Rattle.sdf_kinds.specs.declared.row.Form.TheVariants as forms
 use Rattle.sdf_document.specs.declared.key.KeyValue.{KeyValue}
 use Rattle.sdf_document.specs.declared.key.KeyValue.TheVariants.{Natural, Optional, Integer, List as Listed}
 use Rattle.sdf_document.specs.declared.entry.KindEntry.{KindEntry}
@@ -14,20 +14,20 @@ use Rattle.sdf_document.specs.declared.entry.KindEntry.TheVariants.{Input, Outpu
 use Rattle.sdf_document.specs.declared.entry.KindEntry.TheVariants.{Fork, Gain, Delay, Table, Deal, Gather, Clip}
 use Rattle.sdf_document.specs.declared.entry.KindEntry.TheVariants.{Offset}
 use Rattle.sdf_document.specs.Fault.{actor, Fault, kit_value, missing_key, unknown_kind, ◌>>=◌, or_fault}
-use Rattle.sdf_document.specs.Rows.{KeyRow, row_of, kinds, shared_keys}
+use Rattle.sdf_kinds.specs.Rows.{KeyRow, row_of, kinds, shared_keys}
 use Rattle.sdf_document.specs.Values.{text_at, within_natural, natural_in, within_integer, integer_in}
 use Rattle.sdf_document.specs.Lists.{Lookup, ListValue, no_list, list_at, IsListed}
 
 -- ---- the kind that an actor's table names
 
-abbrev pub is_kind : ℕ → List ℕ → KindWord → Bool
+abbrev pub is_kind : ℕ → List ℕ → Kind → Bool
 is_kind format s k = bytes_eq s (row_of k).word && nat_le (row_of k).since format
 
 -- the kind of a word in a format
-abbrev pub kind_named : ℕ → List ℕ → Option KindWord
+abbrev pub kind_named : ℕ → List ℕ → Option Kind
 kind_named format s = find (is_kind format s) kinds
 
-unfoldable pub word_at : ℕ → ℕ → Members → Result KindWord Fault
+unfoldable pub word_at : ℕ → ℕ → Members → Result Kind Fault
 word_at a format ms = do
   s ← text_at (actor a) (codes "kind") ms
   or_fault (unknown_kind a) (kind_named format s)
@@ -134,21 +134,21 @@ abbrev pub fourth : List KeyValue → KeyValue
 fourth vs = third (rest vs)
 
 -- a kind with the values of its keys, in their order
-abbrev pub entry_of : KindWord → List KeyValue → KindEntry
-entry_of word.Input vs = Input (natural (first vs)) (natural (second vs))
-entry_of word.Output vs = Output (natural (first vs)) (natural (second vs))
-entry_of word.Fir vs = Fir (natural (first vs)) (natural (second vs)) (natural (third vs)) (list (fourth vs))
-entry_of word.Decimate vs = Decimate (natural (first vs))
-entry_of word.Interpolate vs = Interpolate (natural (first vs))
-entry_of word.Add vs = Add (natural (first vs))
-entry_of word.Fork vs = Fork (natural (first vs))
-entry_of word.Gain vs = Gain (integer (first vs)) (natural (second vs))
-entry_of word.Delay vs = Delay (natural (first vs))
-entry_of word.Table vs = Table (integer (first vs)) (list (second vs))
-entry_of word.Deal vs = Deal (natural (first vs)) (natural (second vs))
-entry_of word.Gather vs = Gather (natural (first vs)) (natural (second vs))
-entry_of word.Clip vs = Clip (integer (first vs)) (integer (second vs))
-entry_of word.Offset vs = Offset (integer (first vs))
+abbrev pub entry_of : Kind → List KeyValue → KindEntry
+entry_of kind.Input vs = Input (natural (first vs)) (natural (second vs))
+entry_of kind.Output vs = Output (natural (first vs)) (natural (second vs))
+entry_of kind.Fir vs = Fir (natural (first vs)) (natural (second vs)) (natural (third vs)) (list (fourth vs))
+entry_of kind.Decimate vs = Decimate (natural (first vs))
+entry_of kind.Interpolate vs = Interpolate (natural (first vs))
+entry_of kind.Add vs = Add (natural (first vs))
+entry_of kind.Fork vs = Fork (natural (first vs))
+entry_of kind.Gain vs = Gain (integer (first vs)) (natural (second vs))
+entry_of kind.Delay vs = Delay (natural (first vs))
+entry_of kind.Table vs = Table (integer (first vs)) (list (second vs))
+entry_of kind.Deal vs = Deal (natural (first vs)) (natural (second vs))
+entry_of kind.Gather vs = Gather (natural (first vs)) (natural (second vs))
+entry_of kind.Clip vs = Clip (integer (first vs)) (integer (second vs))
+entry_of kind.Offset vs = Offset (integer (first vs))
 
 -- what is said of a value beside the key `least` holds: the least value of a clip is at most its greatest
 abbrev pub is_ordered : KindEntry → Bool
@@ -159,7 +159,7 @@ is_ordered kind = true
 abbrev pub in_order : ℕ → KindEntry → Result KindEntry Fault
 in_order a k = if is_ordered k then Ok k else Err (kit_value (actor a) (codes "greatest"))
 
-unfoldable pub kind_at : ℕ → Lookup → KindWord → Members → Result KindEntry Fault
+unfoldable pub kind_at : ℕ → Lookup → Kind → Members → Result KindEntry Fault
 kind_at a files k ms = do
   vs ← values_at a files (row_of k).keys ms
   in_order a (entry_of k vs)
@@ -179,21 +179,21 @@ HaveForms looked [] vs = Unit {0}
 HaveForms looked (k ∷ ks) vs = HasForm looked k.form (first vs) × HaveForms looked ks (rest vs)
 
 -- the row of a kind with its values, and these values
-abbrev pub kind_values : KindEntry → KindWord × List KeyValue
-kind_values (Input channel block) = (word.Input, Natural channel ∷ Natural block ∷ [])
-kind_values (Output channel block) = (word.Output, Natural channel ∷ Natural block ∷ [])
-kind_values (Fir up down shift taps) = (word.Fir, Natural up ∷ Natural down ∷ Natural shift ∷ Listed taps ∷ [])
-kind_values (Decimate factor) = (word.Decimate, Natural factor ∷ [])
-kind_values (Interpolate factor) = (word.Interpolate, Natural factor ∷ [])
-kind_values (Add ways) = (word.Add, Natural ways ∷ [])
-kind_values (Fork ways) = (word.Fork, Natural ways ∷ [])
-kind_values (Gain gain shift) = (word.Gain, Integer gain ∷ Natural shift ∷ [])
-kind_values (Delay length) = (word.Delay, Natural length ∷ [])
-kind_values (Table offset values) = (word.Table, Integer offset ∷ Listed values ∷ [])
-kind_values (Deal ways run) = (word.Deal, Natural ways ∷ Natural run ∷ [])
-kind_values (Gather ways run) = (word.Gather, Natural ways ∷ Natural run ∷ [])
-kind_values (Clip least greatest) = (word.Clip, Integer least ∷ Integer greatest ∷ [])
-kind_values (Offset value) = (word.Offset, Integer value ∷ [])
+abbrev pub kind_values : KindEntry → Kind × List KeyValue
+kind_values (Input channel block) = (kind.Input, Natural channel ∷ Natural block ∷ [])
+kind_values (Output channel block) = (kind.Output, Natural channel ∷ Natural block ∷ [])
+kind_values (Fir up down shift taps) = (kind.Fir, Natural up ∷ Natural down ∷ Natural shift ∷ Listed taps ∷ [])
+kind_values (Decimate factor) = (kind.Decimate, Natural factor ∷ [])
+kind_values (Interpolate factor) = (kind.Interpolate, Natural factor ∷ [])
+kind_values (Add ways) = (kind.Add, Natural ways ∷ [])
+kind_values (Fork ways) = (kind.Fork, Natural ways ∷ [])
+kind_values (Gain gain shift) = (kind.Gain, Integer gain ∷ Natural shift ∷ [])
+kind_values (Delay length) = (kind.Delay, Natural length ∷ [])
+kind_values (Table offset values) = (kind.Table, Integer offset ∷ Listed values ∷ [])
+kind_values (Deal ways run) = (kind.Deal, Natural ways ∷ Natural run ∷ [])
+kind_values (Gather ways run) = (kind.Gather, Natural ways ∷ Natural run ∷ [])
+kind_values (Clip least greatest) = (kind.Clip, Integer least ∷ Integer greatest ∷ [])
+kind_values (Offset value) = (kind.Offset, Integer value ∷ [])
 
 -- the values of a kind are within the limits of its row, and in order
 abbrev pub IsWithin : Bool → KindEntry → Type 0

@@ -2,8 +2,6 @@ pub mod Fault
 pub mod Tables
 pub mod Values
 pub mod Names
-pub mod Rows
-pub mod Listing
 pub mod Lists
 pub mod Kinds
 pub mod Actors

@@ -7,7 +7,7 @@ use Rattle.sdf_document.specs.declared.entry.LinkEntry.{LinkEntry}
 use Rattle.sdf_document.specs.Fault.{link, Fault, kit_value, wrong_type, bad_port, ◌>>=◌, or_fault}
 use Rattle.sdf_document.specs.Tables.{known_keys}
 use Rattle.sdf_document.specs.Values.{text_at, integers_at}
-use Rattle.sdf_document.specs.declared.row.Width.TheVariants.{Bits32}
+use Rattle.sdf_kinds.specs.declared.row.Width.TheVariants.{Bits32}
 use Rattle.sdf_document.specs.Lists.{fits}
 
 pub record LinkValue : Type 0 where

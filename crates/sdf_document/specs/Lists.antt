@@ -5,8 +5,8 @@ use Rattle.std.specs.Prelude.{if◌then◌else◌, string_bytes, String, Vec}
 use Rattle.std.specs.List.{list_all}
 use Rattle.std.specs.declared.alloc.Global.{Global}
 use Rattle.toml.specs.Data.{Data, Members, get_member, as_str}
-use Rattle.sdf_document.specs.declared.row.Width.{Width}
-use Rattle.sdf_document.specs.declared.row.Width.TheVariants.{Bits16, Bits32}
+use Rattle.sdf_kinds.specs.declared.row.Width.{Width}
+use Rattle.sdf_kinds.specs.declared.row.Width.TheVariants.{Bits16, Bits32}
 use Rattle.sdf_document.specs.declared.file.Files.{Files as FilesGiven}
 use Rattle.sdf_document.specs.declared.file.Files.TheVariants as files
 use Rattle.sdf_document.specs.Fault.{actor, file, Fault, kit_value, not_toml, no_file, missing_key, wrong_type}

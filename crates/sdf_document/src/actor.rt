@@ -14,10 +14,10 @@ use crate::file::Files;
 use crate::key::{KeyValue, actor_keys, values_at};
 use crate::kind::{kind_at, natural, optional, word_at};
 use crate::name::{is_name, is_taken, put_name};
-use crate::row::{KindWord, row_of, shared_keys};
 use crate::table::test_keys;
 use crate::value::text_at;
 use indexmap::IndexSet;
+use sdf_kinds::{Kind, row_of, shared_keys};
 use std::alloc::Global;
 use std::vec;
 use toml::{Table, Value};
@@ -45,12 +45,7 @@ fn name_at<'a>(
 }
 
 /// Refuses the least key that an actor of a kind can't have.
-fn test_actor_keys(
-    alloc: Global,
-    actor: usize,
-    word: KindWord,
-    table: &Table,
-) -> Result<(), ReadFault>
+fn test_actor_keys(alloc: Global, actor: usize, word: Kind, table: &Table) -> Result<(), ReadFault>
     ensures { Gives (λ x. x) result (keys_at actor word (table_view table.now)) }
 {
     let known = actor_keys(alloc, row_of(word).keys, table)?;

@@ -6,7 +6,7 @@ ghost use Rattle.toml.specs.View.{table_view};
 ghost use Rattle.sdf_document.specs.Fault.{Gives};
 ghost use Rattle.sdf_document.specs.Tables.{texts_of};
 ghost use Rattle.sdf_document.specs.Lists.{lookup_of, are_read};
-ghost use Rattle.sdf_document.specs.Rows.{keys_view};
+ghost use Rattle.sdf_kinds.specs.Rows.{keys_view};
 ghost use Rattle.sdf_document.specs.Kinds.{written_at, names_of_keys, actor_keys, natural_at, optional_at, integer_at};
 ghost use Rattle.sdf_document.specs.Kinds.{formed_at, values_at, HasForm, HaveForms};
 
@@ -14,8 +14,8 @@ use crate::entry::ListEntry;
 use crate::fault::{DocumentFault, Place, ReadFault};
 use crate::file::Files;
 use crate::list::{Limits, list_at};
-use crate::row::{Form, Key, shared_keys};
 use crate::value::{at, integer_in, natural_in};
+use sdf_kinds::{Form, KeyForm, shared_keys};
 use std::alloc::{AllocError, Global};
 use toml::Table;
 
@@ -39,12 +39,16 @@ fn written_at(table: &Table, name: &'static str, form: Form) -> &'static str
 }
 
 #[tactic(auto, using(std::proofs::lemmas::List::map_push, std::proofs::lemmas::List::map_more))]
-fn push_names(names: &mut Vec<&'static str>, keys: &[Key], table: &Table) -> Result<(), AllocError>
+fn push_names(
+    names: &mut Vec<&'static str>,
+    keys: &[KeyForm],
+    table: &Table,
+) -> Result<(), AllocError>
     ensures { OnOk result (texts_of names.new.items ≡
         texts_of names.old.items ++ names_of_keys (table_view table.now) (keys_view keys.now)) }
 {
     for key in keys {
-        names.push(written_at(table, key.0, key.1))?;
+        names.push(written_at(table, key.0.name(), key.1))?;
     }
     Ok(())
 }
@@ -52,7 +56,7 @@ fn push_names(names: &mut Vec<&'static str>, keys: &[Key], table: &Table) -> Res
 /// The keys that an actor's table may have, with these of its kind.
 pub(crate) fn actor_keys(
     alloc: Global,
-    keys: &[Key],
+    keys: &[KeyForm],
     table: &Table,
 ) -> Result<Vec<&'static str>, AllocError>
     ensures { IfOk result (λ v. texts_of v.items ≡ actor_keys (keys_view keys.now) (table_view table.now)) }
@@ -169,7 +173,7 @@ pub(crate) fn values_at(
     alloc: Global,
     actor: usize,
     files: Files<'_>,
-    keys: &[Key],
+    keys: &[KeyForm],
     table: &Table,
 ) -> Result<Vec<KeyValue>, ReadFault>
     ensures given { Gives (λ v. v.items) result (values_at actor (lookup_of files.entry) (keys_view keys.now)
@@ -178,7 +182,7 @@ pub(crate) fn values_at(
 {
     let mut values = Vec::new(alloc);
     for key in keys {
-        let value = formed_at(alloc, actor, files, key.0, key.1, table)?;
+        let value = formed_at(alloc, actor, files, key.0.name(), key.1, table)?;
         values.push(value)?;
     }
     Ok(values)

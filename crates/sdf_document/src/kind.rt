@@ -4,7 +4,7 @@ ghost use Rattle.std.specs.Vec.Iter.{into_iter_items};
 ghost use Rattle.toml.specs.View.{table_view};
 ghost use Rattle.sdf_document.specs.Fault.{Gives};
 ghost use Rattle.sdf_document.specs.Lists.{lookup_of, are_read};
-ghost use Rattle.sdf_document.specs.Rows.{row_of};
+ghost use Rattle.sdf_kinds.specs.Rows.{row_of};
 ghost use Rattle.sdf_document.specs.Kinds.{is_kind, kind_named, word_at, natural, optional, integer, list, first, rest};
 ghost use Rattle.sdf_document.specs.Kinds.{entry_of, is_ordered, kind_at, HaveForms, IsWithin};
 
@@ -12,13 +12,13 @@ use crate::entry::{KindEntry, ListEntry};
 use crate::fault::{DocumentFault, Place, ReadFault};
 use crate::file::Files;
 use crate::key::{KeyValue, values_at};
-use crate::row::{KindWord, kinds, row_of};
 use crate::value::text_at;
+use sdf_kinds::{Kind, kinds, row_of};
 use std::alloc::Global;
 use std::vec;
 use toml::Table;
 
-fn is_kind(format: u32, text: &str, kind: KindWord) -> bool
+fn is_kind(format: u32, text: &str, kind: Kind) -> bool
     ensures { result ≡ is_kind format text.now kind }
 {
     let row = row_of(kind);
@@ -26,7 +26,7 @@ fn is_kind(format: u32, text: &str, kind: KindWord) -> bool
 }
 
 /// Returns the kind of a word, if it is one of a format up to `format`.
-pub fn kind_named(format: u32, text: &str) -> Option<KindWord>
+pub fn kind_named(format: u32, text: &str) -> Option<Kind>
     ensures { result ≡ kind_named format text.now }
 {
     kinds()
@@ -37,7 +37,7 @@ pub fn kind_named(format: u32, text: &str) -> Option<KindWord>
 
 /// The kind that an actor's table names.
 #[tactic(auto, unfolding(crate::specs::Kinds::word_at))]
-pub(crate) fn word_at(actor: usize, format: u32, table: &Table) -> Result<KindWord, ReadFault>
+pub(crate) fn word_at(actor: usize, format: u32, table: &Table) -> Result<Kind, ReadFault>
     ensures { Gives (λ k. k) result (word_at actor format (table_view table.now)) }
 {
     let text = text_at(Place::Actor(actor), "kind", table)?;
@@ -95,61 +95,61 @@ fn list(alloc: Global, values: &mut vec::IntoIter<KeyValue>) -> ListEntry
 }
 
 /// A kind with the values of its keys, in their order.
-fn entry_of(alloc: Global, kind: KindWord, mut left: vec::IntoIter<KeyValue>) -> KindEntry
+fn entry_of(alloc: Global, kind: Kind, mut left: vec::IntoIter<KeyValue>) -> KindEntry
     ensures { result ≡ entry_of kind (into_iter_items left) }
 {
     let values = &mut left;
     match kind {
-        KindWord::Input => KindEntry::Input {
+        Kind::Input => KindEntry::Input {
             channel: natural(values),
             block: natural(values),
         },
-        KindWord::Output => KindEntry::Output {
+        Kind::Output => KindEntry::Output {
             channel: natural(values),
             block: natural(values),
         },
-        KindWord::Fir => KindEntry::Fir {
+        Kind::Fir => KindEntry::Fir {
             up: natural(values),
             down: natural(values),
             shift: natural(values),
             taps: list(alloc, values),
         },
-        KindWord::Decimate => KindEntry::Decimate {
+        Kind::Decimate => KindEntry::Decimate {
             factor: natural(values),
         },
-        KindWord::Interpolate => KindEntry::Interpolate {
+        Kind::Interpolate => KindEntry::Interpolate {
             factor: natural(values),
         },
-        KindWord::Add => KindEntry::Add {
+        Kind::Add => KindEntry::Add {
             ways: natural(values),
         },
-        KindWord::Fork => KindEntry::Fork {
+        Kind::Fork => KindEntry::Fork {
             ways: natural(values),
         },
-        KindWord::Gain => KindEntry::Gain {
+        Kind::Gain => KindEntry::Gain {
             gain: integer(values),
             shift: natural(values),
         },
-        KindWord::Delay => KindEntry::Delay {
+        Kind::Delay => KindEntry::Delay {
             length: natural(values),
         },
-        KindWord::Table => KindEntry::Table {
+        Kind::Table => KindEntry::Table {
             offset: integer(values),
             values: list(alloc, values),
         },
-        KindWord::Deal => KindEntry::Deal {
+        Kind::Deal => KindEntry::Deal {
             ways: natural(values),
             run: natural(values),
         },
-        KindWord::Gather => KindEntry::Gather {
+        Kind::Gather => KindEntry::Gather {
             ways: natural(values),
             run: natural(values),
         },
-        KindWord::Clip => KindEntry::Clip {
+        Kind::Clip => KindEntry::Clip {
             least: integer(values),
             greatest: integer(values),
         },
-        KindWord::Offset => KindEntry::Offset {
+        Kind::Offset => KindEntry::Offset {
             value: integer(values),
         },
     }
@@ -171,7 +171,7 @@ pub(crate) fn kind_at(
     alloc: Global,
     actor: usize,
     files: Files<'_>,
-    kind: KindWord,
+    kind: Kind,
     table: &Table,
 ) -> Result<KindEntry, ReadFault>
     ensures given { Gives (λ k. k) result (kind_at actor (lookup_of files.entry) kind (table_view table.now)) }

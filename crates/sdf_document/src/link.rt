@@ -11,10 +11,10 @@ ghost use Rattle.sdf_document.specs.Links.{link_keys};
 use crate::entry::LinkEntry;
 use crate::fault::{DocumentFault, Place, ReadFault, Spot};
 use crate::list::all_of;
-use crate::row::Width;
 use crate::table::test_keys;
 use crate::value::{at, integers_at, text_at};
 use indexmap::IndexSet;
+use sdf_kinds::Width;
 use std::alloc::Global;
 use toml::{Table, Value};
 

@@ -11,8 +11,8 @@ use crate::entry::ListEntry;
 use crate::fault::{DocumentFault, Place, ReadFault, Spot};
 use crate::file::{Files, coefficients, file_named};
 use crate::name::is_file_name;
-use crate::row::Width;
 use crate::value::{at, integers_at};
+use sdf_kinds::Width;
 use std::alloc::{AllocError, Global};
 use toml::{Table, Value};
 

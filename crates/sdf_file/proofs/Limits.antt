@@ -4,7 +4,7 @@ use Rattle.std.proofs.Common.{Ok}
 use Rattle.std.specs.Prelude.{◌&&◌, nat_le, IsTrue, length}
 use Rattle.std.specs.List.{list_all}
 use Rattle.std.proofs.Math.Dec.{leb-suc-suc}
-use Rattle.sdf_document.specs.declared.row.Width.TheVariants as width
+use Rattle.sdf_kinds.specs.declared.row.Width.TheVariants as width
 use Rattle.sdf_document.specs.Lists.{fits, is_list}
 use Rattle.std.proofs.lemmas.Bool.Decides.{leb_tells}
 use Rattle.sdf_kit.specs.Fault.{has_16_bits, is_between}

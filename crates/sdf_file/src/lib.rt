@@ -1,9 +1,9 @@
 //! Designs from files, and the texts that say what a design and its schedule are.
 //!
-//! It stands on `sdf_document`, which reads the files as entries, on `sdf_actor` and `sdf_kit`, whose nets and kinds of
-//! actors it makes of them, and on `sdf_graph`; the text of a schedule is of a period of `sdf_sched` and a table of
-//! `sdf_prec`. Begin at `design`; the definitions are in `specs/Designs.antt`, `specs/Texts.antt` and
-//! `specs/Schedules.antt`.
+//! It stands on `sdf_document`, which reads the files as entries within the limits of `sdf_kinds`, on `sdf_actor` and
+//! `sdf_kit`, whose nets and kinds of actors it makes of them, and on `sdf_graph`; the text of a schedule is of a
+//! period of `sdf_sched` and a table of `sdf_prec`. Begin at `design`; the definitions are in `specs/Designs.antt`,
+//! `specs/Texts.antt` and `specs/Schedules.antt`.
 #![tactic(auto)]
 
 pub mod design;

@@ -4,7 +4,7 @@ ghost use Rattle.std.specs.Prelude.{string_bytes};
 ghost use Rattle.std.specs.List.{All};
 ghost use Rattle.std.specs.Result.{result_map_both};
 ghost use Rattle.sdf_actor.specs.declared.node.Node.TheVariants.{Inner};
-ghost use Rattle.sdf_document.specs.declared.row.Width.TheVariants as width;
+ghost use Rattle.sdf_kinds.specs.declared.row.Width.TheVariants as width;
 ghost use Rattle.sdf_limits.specs.declared.TheConstants.{MOST_CHANNEL, MOST_FACTOR, MOST_SHIFT, MOST_TAPS};
 ghost use Rattle.sdf_document.specs.Lists.{is_list};
 ghost use Rattle.sdf_kit.specs.declared.kit.Kit.TheVariants as kits;

@@ -1,8 +1,10 @@
 -- The taps of a phase, and what they come to.
-use Rattle.std.specs.Prelude.{◌≡◌, ℕ, zero, suc, ◌+◌, ◌-◌, ◌*◌, ◌<◌, ◌%◌, ◌==◌, if◌then◌else◌, cond, Bool, true}
+use Rattle.std.specs.Prelude.{◌≡◌, ℕ, zero, suc, ◌+◌, ◌-◌, ◌*◌, ◌/◌, ◌%◌, ◌<◌, ◌≤◌, ◌==◌, if◌then◌else◌, cond}
+use Rattle.std.specs.Prelude.{Bool, true}
 use Rattle.std.specs.Prelude.{false, nat_lt, ℤ, pos, negsuc, ◌+ℤ◌}
 use Rattle.std.specs.Prelude.{◌-ℤ◌, FitsSigned, List, length, slice_index_or}
 use Rattle.std.specs.Int.{w16}
+use Rattle.sdf_filters.specs.declared.order.Way.{Way}
 
 -- tap n, counted from 0; 0 past the end
 abbrev pub tap : List ℤ → ℕ → ℤ
@@ -49,6 +51,17 @@ pub record AreMoved (up phase : ℕ) (rise : Bool) (times : ℕ) (old new : List
   pub sum : phase_sum new up phase ≡ phase_sum old up phase +ℤ steps rise times
   pub others : (q : ℕ) → (q ≡ phase → ⊥) → (q + phase + 1 ≡ up → ⊥) → phase_sum new up q ≡ phase_sum old up q
   pub symmetric : IsSymmetric old → IsSymmetric new
+
+-- taps of a way's phase have moved by so many steps, each with its mirror image
+abbrev pub AreMovedBy : Way → ℕ → List ℤ → List ℤ → Type 0
+AreMovedBy way times old new = AreMoved way.up way.phase way.rise (weight way.up way.phase * times) old new
+
+-- whole phases make up so many taps, and a way's turns are some of its phase, of which none is another's mirror image
+pub record AreTurns (way : Way) (count : ℕ) : Type 0 where
+  pub phase : way.phase < way.up
+  pub whole : count % way.up ≡ 0
+  pub turns : way.turns ≤ count / way.up
+  pub apart : 2 * way.phase + 1 ≡ way.up → 2 * way.turns ≤ count / way.up
 
 -- z is one of -32768 .. 32767
 abbrev pub has_16_bits : ℤ → Bool

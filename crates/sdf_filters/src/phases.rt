@@ -3,7 +3,7 @@
 ghost use Rattle.std.specs.Prelude.{◌≡◌, ◌<◌, ◌≤◌, ◌+◌, ◌-◌, ◌*◌, ◌/◌, ◌%◌, ◌⊎◌, ◌+ℤ◌, ℕ, length, slice_set};
 ghost use Rattle.std.specs.Prelude.{unsigned_abs, OnOk, IfErr, MatchResult};
 ghost use Rattle.sdf_filters.specs.Phases.{tap, counted, phase_sum, steps, has_16_bits, Have16Bits, AreMoved};
-ghost use Rattle.sdf_filters.specs.Phases.{IsSumMoved, IsSymmetric, IsEven, weight};
+ghost use Rattle.sdf_filters.specs.Phases.{AreTurns, AreMovedBy, weight};
 ghost use Rattle.sdf_filters.specs.Lowpass.{IsTapFault};
 
 use crate::fault::FilterFault;
@@ -92,10 +92,7 @@ pub(crate) fn step_tap(taps: &mut [i32], place: usize, rise: bool) -> Result<(),
 
 /// Moves a tap of a phase and its mirror image by one step, by its turn.
 fn step_turn(taps: &mut [i32], way: Way, turn: usize) -> Result<(), FilterFault>
-    requires phase { way.phase < way.up }
-    requires whole { length taps.old % way.up ≡ 0 }
-    requires turns { way.turns ≤ length taps.old / way.up }
-    requires apart { 2 * way.phase + 1 ≡ way.up → 2 * way.turns ≤ length taps.old / way.up }
+    requires turns { AreTurns way (length taps.old) }
     requires turn { turn < way.turns }
     ensures moves { OnOk result (AreMoved way.up way.phase way.rise (weight way.up way.phase) taps.old taps.new) }
     ensures fault { IfErr result IsTapFault }
@@ -108,12 +105,8 @@ fn step_turn(taps: &mut [i32], way: Way, turn: usize) -> Result<(), FilterFault>
 
 /// Moves each tap of some turns by one step.
 fn move_each(taps: &mut [i32], way: Way) -> Result<(), FilterFault>
-    requires phase { way.phase < way.up }
-    requires whole { length taps.old % way.up ≡ 0 }
-    requires turns { way.turns ≤ length taps.old / way.up }
-    requires apart { 2 * way.phase + 1 ≡ way.up → 2 * way.turns ≤ length taps.old / way.up }
-    ensures moves { OnOk result (AreMoved way.up way.phase way.rise (weight way.up way.phase * way.turns)
-        taps.old taps.new) }
+    requires turns { AreTurns way (length taps.old) }
+    ensures moves { OnOk result (AreMovedBy way way.turns taps.old taps.new) }
     ensures fault { IfErr result IsTapFault }
 {
     for turn in 0..way.turns {
@@ -126,13 +119,9 @@ fn move_each(taps: &mut [i32], way: Way) -> Result<(), FilterFault>
 fn move_few(taps: &mut [i32], reals: &[f64], way: Way, times: u64) -> Result<(), FilterFault>
     requires same { length reals.now ≡ length taps.old }
     requires few { length taps.old ≤ MOST_TAPS }
-    requires phase { way.phase < way.up }
-    requires whole { length taps.old % way.up ≡ 0 }
-    requires turns { way.turns ≤ length taps.old / way.up }
-    requires apart { 2 * way.phase + 1 ≡ way.up → 2 * way.turns ≤ length taps.old / way.up }
+    requires turns { AreTurns way (length taps.old) }
     requires some { 0 < way.turns }
-    ensures moves { OnOk result (AreMoved way.up way.phase way.rise (weight way.up way.phase * times)
-        taps.old taps.new) }
+    ensures moves { OnOk result (AreMovedBy way times taps.old taps.new) }
     ensures fault { IfErr result IsTapFault }
 {
     for _ in 0..times {
@@ -146,13 +135,9 @@ fn move_few(taps: &mut [i32], reals: &[f64], way: Way, times: u64) -> Result<(),
 fn move_many(taps: &mut [i32], reals: &[f64], way: Way, times: u64) -> Result<(), FilterFault>
     requires same { length reals.now ≡ length taps.old }
     requires few { length taps.old ≤ MOST_TAPS }
-    requires phase { way.phase < way.up }
-    requires whole { length taps.old % way.up ≡ 0 }
-    requires turns { way.turns ≤ length taps.old / way.up }
-    requires apart { 2 * way.phase + 1 ≡ way.up → 2 * way.turns ≤ length taps.old / way.up }
+    requires turns { AreTurns way (length taps.old) }
     requires some { 0 < way.turns }
-    ensures moves { OnOk result (AreMoved way.up way.phase way.rise (weight way.up way.phase * times)
-        taps.old taps.new) }
+    ensures moves { OnOk result (AreMovedBy way times taps.old taps.new) }
     ensures fault { IfErr result IsTapFault }
 {
     let mut tree = tree_of(taps, reals, way);
@@ -168,13 +153,9 @@ fn move_many(taps: &mut [i32], reals: &[f64], way: Way, times: u64) -> Result<()
 fn move_soonest(taps: &mut [i32], reals: &[f64], way: Way, times: u64) -> Result<(), FilterFault>
     requires same { length reals.now ≡ length taps.old }
     requires few { length taps.old ≤ MOST_TAPS }
-    requires phase { way.phase < way.up }
-    requires whole { length taps.old % way.up ≡ 0 }
-    requires turns { way.turns ≤ length taps.old / way.up }
-    requires apart { 2 * way.phase + 1 ≡ way.up → 2 * way.turns ≤ length taps.old / way.up }
+    requires turns { AreTurns way (length taps.old) }
     requires some { 0 < way.turns }
-    ensures moves { OnOk result (AreMoved way.up way.phase way.rise (weight way.up way.phase * times)
-        taps.old taps.new) }
+    ensures moves { OnOk result (AreMovedBy way times taps.old taps.new) }
     ensures fault { IfErr result IsTapFault }
 {
     if times > FEW_STEPS && way.turns > FEW_TAPS {
@@ -188,13 +169,9 @@ fn move_soonest(taps: &mut [i32], reals: &[f64], way: Way, times: u64) -> Result
 fn move_round(taps: &mut [i32], reals: &[f64], way: Way) -> Result<(), FilterFault>
     requires same { length reals.now ≡ length taps.old }
     requires few { length taps.old ≤ MOST_TAPS }
-    requires phase { way.phase < way.up }
-    requires whole { length taps.old % way.up ≡ 0 }
-    requires turns { way.turns ≤ length taps.old / way.up }
-    requires apart { 2 * way.phase + 1 ≡ way.up → 2 * way.turns ≤ length taps.old / way.up }
+    requires turns { AreTurns way (length taps.old) }
     requires some { 0 < way.turns }
-    ensures moves { OnOk result (AreMoved way.up way.phase way.rise (weight way.up way.phase * way.turns)
-        taps.old taps.new) }
+    ensures moves { OnOk result (AreMovedBy way way.turns taps.old taps.new) }
     ensures fault { IfErr result IsTapFault }
 {
     if is_round(taps, reals, way) {
@@ -213,13 +190,9 @@ pub(crate) fn move_rounds(
 ) -> Result<(), FilterFault>
     requires same { length reals.now ≡ length taps.old }
     requires few { length taps.old ≤ MOST_TAPS }
-    requires phase { way.phase < way.up }
-    requires whole { length taps.old % way.up ≡ 0 }
-    requires turns { way.turns ≤ length taps.old / way.up }
-    requires apart { 2 * way.phase + 1 ≡ way.up → 2 * way.turns ≤ length taps.old / way.up }
+    requires turns { AreTurns way (length taps.old) }
     requires some { 0 < way.turns }
-    ensures moves { OnOk result (AreMoved way.up way.phase way.rise (weight way.up way.phase * times)
-        taps.old taps.new) }
+    ensures moves { OnOk result (AreMovedBy way times taps.old taps.new) }
     ensures fault { IfErr result IsTapFault }
 {
     let many = way.turns as u64;

@@ -4,11 +4,11 @@ use Rattle.std.specs.Prelude.{ℤ, codes}
 use Rattle.std.specs.List.{AllByRecursion}
 use Rattle.serde_json.specs.Data.{Data, no_members, depth, string}
 use Rattle.serde_json.specs.Read.{max_depth}
-use Rattle.sdf_document.specs.declared.row.KindWord.{KindWord}
-use Rattle.sdf_document.specs.declared.row.Form.{Form}
-use Rattle.sdf_document.specs.declared.row.Form.TheVariants.{Natural, Optional, Integer, FromLeast}
-use Rattle.sdf_document.specs.declared.row.Form.TheVariants.{List as ListForm}
-use Rattle.sdf_document.specs.Rows.{KeyRow, row_of, kinds, shared_keys}
+use Rattle.sdf_kinds.specs.declared.row.Kind.{Kind}
+use Rattle.sdf_kinds.specs.declared.row.Form.{Form}
+use Rattle.sdf_kinds.specs.declared.row.Form.TheVariants.{Natural, Optional, Integer, FromLeast}
+use Rattle.sdf_kinds.specs.declared.row.Form.TheVariants.{List as ListForm}
+use Rattle.sdf_kinds.specs.Rows.{KeyRow, row_of, kinds, shared_keys}
 use Rattle.sdf_json.specs.declared.ports.Amount.{Amount}
 use Rattle.sdf_json.specs.declared.ports.Amount.TheVariants.{Zero, One, Block, Up, Down, Factor, Ways, Run}
 use Rattle.sdf_json.specs.declared.ports.PortRow.{PortRow}
@@ -71,7 +71,7 @@ key_flat k =
 keys_flat : (ks : List KeyRow) → IsFlat 2 (list_of (map key_value ks))
 keys_flat ks = let inner = map_flat 1 key_value ks key_flat in omega (arith, inner)
 
-kind_flat : (k : KindWord) → IsFlat 3 (kind_value k)
+kind_flat : (k : Kind) → IsFlat 3 (kind_value k)
 kind_flat k =
     let front = (codes "keys", list_of (map key_value (row_of k).keys))
     ∷ (codes "name", string (row_of k).word) ∷ (codes "since", natural (row_of k).since) ∷ [] in

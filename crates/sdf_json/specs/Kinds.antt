@@ -2,12 +2,12 @@
 use Rattle.std.specs.Prelude.{ℕ, ℤ, pos, negsuc, true, false, List, [], ◌∷◌, map, codes, Option, Some, None}
 use Rattle.serde_json.specs.Data.{Data, null, boolean, number, string, object, no_members}
 use Rattle.serde_json.specs.Find.{of_integer}
-use Rattle.sdf_document.specs.declared.row.KindWord.{KindWord}
-use Rattle.sdf_document.specs.declared.row.Width.TheVariants.{Bits16, Bits32}
-use Rattle.sdf_document.specs.declared.row.Form.{Form}
-use Rattle.sdf_document.specs.declared.row.Form.TheVariants.{Natural, Optional, Integer, FromLeast}
-use Rattle.sdf_document.specs.declared.row.Form.TheVariants.{List as ListForm}
-use Rattle.sdf_document.specs.Rows.{KeyRow, row_of, kinds, shared_keys}
+use Rattle.sdf_kinds.specs.declared.row.Kind.{Kind}
+use Rattle.sdf_kinds.specs.declared.row.Width.TheVariants.{Bits16, Bits32}
+use Rattle.sdf_kinds.specs.declared.row.Form.{Form}
+use Rattle.sdf_kinds.specs.declared.row.Form.TheVariants.{Natural, Optional, Integer, FromLeast}
+use Rattle.sdf_kinds.specs.declared.row.Form.TheVariants.{List as ListForm}
+use Rattle.sdf_kinds.specs.Rows.{KeyRow, row_of, kinds, shared_keys}
 use Rattle.sdf_json.specs.declared.ports.Amount.{Amount}
 use Rattle.sdf_json.specs.declared.ports.Amount.TheVariants.{Zero, One, Block, Up, Down, Factor, Ways, Run}
 use Rattle.sdf_json.specs.declared.ports.PortRow.{PortRow}
@@ -79,7 +79,7 @@ key_value k = object
 -- ---- kinds
 
 -- the keys of a kind, its name, the first format that has it, and its ports
-abbrev pub kind_value : KindWord → Data
+abbrev pub kind_value : Kind → Data
 kind_value k = object (with (with no_members ((codes "keys", list_of (map key_value (row_of k).keys))
     ∷ (codes "name", string (row_of k).word) ∷ (codes "since", natural (row_of k).since) ∷ []))
     (port_members (ports_of k)))

@@ -6,10 +6,10 @@ use Rattle.sdf_actor.specs.Nets.{inputs_of, outputs_of, cycle_of}
 use Rattle.sdf_actor.specs.Graphs.{rate_of}
 use Rattle.sdf_kit.specs.declared.kit.Kit.{Kit}
 use Rattle.sdf_kit.specs.Kit.{kit_steps}
-use Rattle.sdf_document.specs.declared.row.KindWord.{KindWord}
-use Rattle.sdf_document.specs.declared.row.KindWord.TheVariants as word
+use Rattle.sdf_kinds.specs.declared.row.Kind.{Kind}
+use Rattle.sdf_kinds.specs.declared.row.Kind.TheVariants as kind
 use Rattle.sdf_document.specs.declared.key.KeyValue.{KeyValue}
-use Rattle.sdf_document.specs.Rows.{KeyRow, row_of}
+use Rattle.sdf_kinds.specs.Rows.{KeyRow, row_of}
 use Rattle.sdf_document.specs.Kinds.{entry_of, natural, first, rest}
 use Rattle.sdf_file.specs.Designs.{node_of}
 use Rattle.sdf_json.specs.declared.ports.Amount.{Amount}
@@ -25,21 +25,21 @@ steady inputs takes outputs puts =
 abbrev pub turned : Amount → Amount → PortRow
 turned inputs outputs = record { inputs = inputs; takes = Run; outputs = outputs; puts = Run; cycle = Ways }
 
-abbrev pub ports_of : KindWord → PortRow
-ports_of word.Input = steady Zero Zero One Block
-ports_of word.Output = steady One Block Zero Zero
-ports_of word.Fir = steady One Down One Up
-ports_of word.Decimate = steady One Factor One One
-ports_of word.Interpolate = steady One One One Factor
-ports_of word.Add = steady Ways One One One
-ports_of word.Fork = steady One One Ways One
-ports_of word.Gain = steady One One One One
-ports_of word.Delay = steady One One One One
-ports_of word.Table = steady One One One One
-ports_of word.Deal = turned One Ways
-ports_of word.Gather = turned Ways One
-ports_of word.Clip = steady One One One One
-ports_of word.Offset = steady One One One One
+abbrev pub ports_of : Kind → PortRow
+ports_of kind.Input = steady Zero Zero One Block
+ports_of kind.Output = steady One Block Zero Zero
+ports_of kind.Fir = steady One Down One Up
+ports_of kind.Decimate = steady One Factor One One
+ports_of kind.Interpolate = steady One One One Factor
+ports_of kind.Add = steady Ways One One One
+ports_of kind.Fork = steady One One Ways One
+ports_of kind.Gain = steady One One One One
+ports_of kind.Delay = steady One One One One
+ports_of kind.Table = steady One One One One
+ports_of kind.Deal = turned One Ways
+ports_of kind.Gather = turned Ways One
+ports_of kind.Clip = steady One One One One
+ports_of kind.Offset = steady One One One One
 
 -- ---- that a kind has them
 
@@ -48,7 +48,7 @@ abbrev pub value_of : List ℕ → List KeyRow → List KeyValue → ℕ
 value_of name [] vs = 0
 value_of name (k ∷ ks) vs = if bytes_eq k.name name then natural (first vs) else value_of name ks (rest vs)
 
-abbrev pub amount_in : KindWord → List KeyValue → Amount → ℕ
+abbrev pub amount_in : Kind → List KeyValue → Amount → ℕ
 amount_in k vs Zero = 0
 amount_in k vs One = 1
 amount_in k vs Block = value_of (codes "block") (row_of k).keys vs
@@ -74,5 +74,5 @@ pub record HasPorts (row : PortRow) (amount : Amount → ℕ) (node : Node Kit) 
       rate_of kit_steps Output node p j ≡ moved_by row.cycle row.outputs (amount row.puts) p j
 
 abbrev pub KindsHaveTheirPorts : Type 0
-KindsHaveTheirPorts = (k : KindWord) (vs : List KeyValue) →
+KindsHaveTheirPorts = (k : Kind) (vs : List KeyValue) →
     HasPorts (ports_of k) (amount_in k vs) (node_of (entry_of k vs))

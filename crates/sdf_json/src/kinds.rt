@@ -3,7 +3,7 @@
 ghost use Rattle.std.specs.Prelude.{◌≡◌, IfOk, OnOk, map, string_bytes};
 ghost use Rattle.serde_json.specs.Data.{put as with_member};
 ghost use Rattle.serde_json.specs.View.{view, members_view};
-ghost use Rattle.sdf_document.specs.Rows.{key_view, keys_view, kinds};
+ghost use Rattle.sdf_kinds.specs.Rows.{key_view, keys_view, kinds};
 ghost use Rattle.sdf_json.specs.Values.{with, IsLineOf};
 ghost use Rattle.sdf_json.specs.Ports.{ports_of};
 ghost use Rattle.sdf_json.specs.Kinds.{amount_value, port_members, needed, optional, range_of, absent, range_members};
@@ -11,7 +11,7 @@ ghost use Rattle.sdf_json.specs.Kinds.{more_members, key_value, kind_value, kind
 
 use crate::ports::{Amount, ports_of};
 use crate::values::{Members, line_of, put_number, put_text};
-use sdf_document::{Form, Key, KindWord, Width, kinds, row_of, shared_keys};
+use sdf_kinds::{Form, KeyForm, Kind, Width, kinds, row_of, shared_keys};
 use serde_json::{Map, Value, put};
 use std::alloc::{AllocError, Global};
 
@@ -45,7 +45,7 @@ fn put_amount(
 }
 
 /// Adds the ports of a kind.
-fn put_ports(members: &mut Members, alloc: Global, kind: KindWord) -> Result<(), AllocError>
+fn put_ports(members: &mut Members, alloc: Global, kind: Kind) -> Result<(), AllocError>
     ensures { OnOk result (members_view members.new.entries ≡
         with (members_view members.old.entries) (port_members (ports_of kind))) }
 {
@@ -146,11 +146,11 @@ fn put_more(members: &mut Members, alloc: Global, form: Form) -> Result<(), Allo
     }
 }
 
-fn key_value(alloc: Global, key: &Key) -> Result<Value, AllocError>
+fn key_value(alloc: Global, key: &KeyForm) -> Result<Value, AllocError>
     ensures { IfOk result (λ v. view v ≡ key_value (key_view key.now)) }
 {
     let mut members = Map::new(alloc);
-    put_text(&mut members, alloc, "name", key.0)?;
+    put_text(&mut members, alloc, "name", key.0.name())?;
     put_range(&mut members, alloc, range_of(key.1))?;
     put_more(&mut members, alloc, key.1)?;
     Ok(Value::Object(members))
@@ -158,7 +158,7 @@ fn key_value(alloc: Global, key: &Key) -> Result<Value, AllocError>
 
 /// Returns the values of `keys`, in their order.
 #[tactic(auto, using(std::proofs::lemmas::List::map_more))]
-fn key_values(alloc: Global, keys: &[Key]) -> Result<Vec<Value>, AllocError>
+fn key_values(alloc: Global, keys: &[KeyForm]) -> Result<Vec<Value>, AllocError>
     ensures { IfOk result (λ list. map view list.items ≡ map key_value (keys_view keys.now)) }
 {
     let mut list = Vec::new(alloc);
@@ -168,7 +168,7 @@ fn key_values(alloc: Global, keys: &[Key]) -> Result<Vec<Value>, AllocError>
     Ok(list)
 }
 
-fn kind_value(alloc: Global, kind: KindWord) -> Result<Value, AllocError>
+fn kind_value(alloc: Global, kind: Kind) -> Result<Value, AllocError>
     ensures { IfOk result (λ v. view v ≡ kind_value kind) }
 {
     let row = row_of(kind);

@@ -4,7 +4,7 @@ ghost use Rattle.std.specs.Prelude.{◌≡◌};
 ghost use Rattle.sdf_json.specs.Ports.{steady, ports_of, KindsHaveTheirPorts};
 ghost use Rattle.sdf_json.specs.declared.ports.Amount.TheVariants as amount;
 
-use sdf_document::KindWord;
+use sdf_kinds::Kind;
 
 /// A number of ports, samples or firings: none, one, or the value of the key that it is named for.
 #[derive(Clone, Copy, Debug, PartialEq, Eq)]
@@ -63,22 +63,23 @@ fn turned(inputs: Amount, outputs: Amount) -> PortRow
 }
 
 /// Returns the ports of `kind`.
-pub(crate) fn ports_of(kind: KindWord) -> PortRow
+pub(crate) fn ports_of(kind: Kind) -> PortRow
     ensures { result ≡ ports_of kind }
 {
     let one = Amount::One;
     match kind {
-        KindWord::Input => steady(Amount::Zero, Amount::Zero, one, Amount::Block),
-        KindWord::Output => steady(one, Amount::Block, Amount::Zero, Amount::Zero),
-        KindWord::Fir => steady(one, Amount::Down, one, Amount::Up),
-        KindWord::Decimate => steady(one, Amount::Factor, one, one),
-        KindWord::Interpolate => steady(one, one, one, Amount::Factor),
-        KindWord::Add => steady(Amount::Ways, one, one, one),
-        KindWord::Fork => steady(one, one, Amount::Ways, one),
-        KindWord::Deal => turned(one, Amount::Ways),
-        KindWord::Gather => turned(Amount::Ways, one),
-        KindWord::Gain | KindWord::Delay | KindWord::Table | KindWord::Clip | KindWord::Offset =>
-            steady(one, one, one, one),
+        Kind::Input => steady(Amount::Zero, Amount::Zero, one, Amount::Block),
+        Kind::Output => steady(one, Amount::Block, Amount::Zero, Amount::Zero),
+        Kind::Fir => steady(one, Amount::Down, one, Amount::Up),
+        Kind::Decimate => steady(one, Amount::Factor, one, one),
+        Kind::Interpolate => steady(one, one, one, Amount::Factor),
+        Kind::Add => steady(Amount::Ways, one, one, one),
+        Kind::Fork => steady(one, one, Amount::Ways, one),
+        Kind::Deal => turned(one, Amount::Ways),
+        Kind::Gather => turned(Amount::Ways, one),
+        Kind::Gain | Kind::Delay | Kind::Table | Kind::Clip | Kind::Offset => steady(
+            one, one, one, one,
+        ),
     }
 }
 

@@ -250,22 +250,30 @@ gather_run t kept some = record {
 }
 
 -- a kit that is of a kind: how many samples its firings take and put, and what they leave and put
-module _ (k x : Kit) (is : k ≡ x) (j many : ℕ) where
-  pub takes : (r n : ℕ) → ((i : ℕ) → total_in kit_steps x (phase kit_steps x i) ≡ r) → n ≡ sum_in kit_steps k j many →
-      n ≡ many * r
-  takes r n rate e =
+module _ {k x : Kit} (is : k ≡ x) (j many : ℕ) where
+  pub takes : (r : ℕ) {n : ℕ} → ((i : ℕ) → total_in kit_steps x (phase kit_steps x i) ≡ r) →
+      n ≡ sum_in kit_steps k j many → n ≡ many * r
+  takes r rate e =
       e ∙ (ap (λ y. sum_in kit_steps y j many) is ∙ same_sums (λ i. total_in kit_steps x (phase kit_steps x (j + i))) r
       (λ i. rate (j + i)) many)
 
-  pub gives : (r n : ℕ) → ((i : ℕ) → total_out kit_steps x (phase kit_steps x i) ≡ r) → n ≡ sum_out kit_steps k j many →
-      n ≡ many * r
-  gives r n rate e =
+  pub gives : (r : ℕ) {n : ℕ} → ((i : ℕ) → total_out kit_steps x (phase kit_steps x i) ≡ r) →
+      n ≡ sum_out kit_steps k j many → n ≡ many * r
+  gives r rate e =
       e ∙ (ap (λ y. sum_out kit_steps y j many) is ∙ same_sums (λ i. total_out kit_steps x (phase kit_steps x (j + i)))
       r (λ i. rate (j + i)) many)
 
-  module _ {size : ℕ} {kept : List ℤ} {after : List ℤ → List ℤ} {all : ℕ → List ℤ → List ℤ}
-      (run : IsRun kit_steps x size kept after all) (taken : List ℤ)
-      (long : length taken ≡ sum_in kit_steps k j many) where
+  -- where each firing takes one sample, or puts one
+  pub takes_one : {n : ℕ} → ((i : ℕ) → total_in kit_steps x (phase kit_steps x i) ≡ 1) →
+      n ≡ sum_in kit_steps k j many → n ≡ many
+  takes_one rate e = omega (arith, takes 1 rate e)
+
+  pub gives_one : {n : ℕ} → ((i : ℕ) → total_out kit_steps x (phase kit_steps x i) ≡ 1) →
+      n ≡ sum_out kit_steps k j many → n ≡ many
+  gives_one rate e = omega (arith, gives 1 rate e)
+
+  module _ {size : ℕ} {kept taken : List ℤ} {after : List ℤ → List ℤ} {all : ℕ → List ℤ → List ℤ}
+      (run : IsRun kit_steps x size kept after all) (long : length taken ≡ sum_in kit_steps k j many) where
     pub leaves : after taken ≡ state_at kit_steps k j kept taken many
     leaves =
         sym (ap (λ y. state_at kit_steps y j kept taken many) is
@@ -278,6 +286,11 @@ module _ (k x : Kit) (is : k ≡ x) (j many : ℕ) where
         ∙ run_puts kit_steps x size kept after all run j taken many
         (long ∙ ap (λ y. sum_in kit_steps y j many) is))
 
+-- as many as there are firings, or as these put
+pub counts : (f : ℕ → ℤ) {n m : ℕ} {xs : List ℤ} → xs ≡ map f (range_with_len 0 n) → n ≡ m →
+    xs ≡ map f (range_with_len 0 m)
+counts f are same = are ∙ ap (λ n. map f (range_with_len 0 n)) same
+
 -- a cycle with a phase has one
 pub some_ways : {k x : Kit} {j : ℕ} → k ≡ x → j < kit_steps.cycle k → 0 < kit_steps.cycle x
 some_ways {k} {x} {j} is below =
@@ -285,34 +298,34 @@ some_ways {k} {x} {j} is below =
     omega (arith, here)
 
 -- of what is dealt or gathered as much is put as taken
-module _ (k : Kit) (t : Turns) (j many n m : ℕ) (below : j < kit_steps.cycle k)
+module _ {k : Kit} (t : Turns) (j many : ℕ) {n m : ℕ} (below : j < kit_steps.cycle k)
     (taken : n ≡ sum_in kit_steps k j many) (put : m ≡ sum_out kit_steps k j many) where
   pub deals_all : k ≡ Deal t → m ≡ n
   deals_all is =
-      gives k (Deal t) is j many t.run m
+      gives is j many t.run
       (λ i. turn_total t.ways t.run (phase kit_steps (Deal t) i) (mod_below i t.ways (some_ways is below))) put ∙
-      sym (takes k (Deal t) is j many t.run n (λ _. omega arith) taken)
+      sym (takes is j many t.run (λ _. omega arith) taken)
 
   pub gathers_all : k ≡ Gather t → m ≡ n
   gathers_all is =
-      gives k (Gather t) is j many t.run m (λ _. omega arith) put ∙
-      sym (takes k (Gather t) is j many t.run n (turn_rate t (some_ways is below)) taken)
+      gives is j many t.run (λ _. omega arith) put
+      ∙ sym (takes is j many t.run (turn_rate t (some_ways is below)) taken)
 
 -- the runs of kinds whose rates are known by the ports of a kit
-module _ (k x : Kit) (is : k ≡ x) (p : Ports) (same : p ≡ (behaviour k).ports) (are : ArePorts p) where
+module _ {k x : Kit} (is : k ≡ x) {p : Ports} (same : p ≡ (behaviour k).ports) (are : ArePorts p) where
   ports : ArePorts (behaviour x).ports
   ports = subst (λ y. ArePorts (behaviour y).ports) is (subst ArePorts same are)
 
-module _ (k : Kit) (p : Ports) (same : p ≡ (behaviour k).ports) (are : ArePorts p) (kept : List ℤ) where
-  pub fir_runs : (f : Filter) → k ≡ Fir f → length kept ≡ (behaviour k).kept →
+module _ {k : Kit} {p : Ports} (same : p ≡ (behaviour k).ports) (are : ArePorts p) (kept : List ℤ) where
+  pub fir_runs : {f : Filter} → k ≡ Fir f → length kept ≡ (behaviour k).kept →
       IsRun kit_steps (Fir f) f.down kept (kept_next kept) (λ i xs. run_put f i kept xs)
-  fir_runs f is keeps = let x = ports k (Fir f) is p same are in
+  fir_runs {f} is keeps = let x = ports is same are in
       fir_run f kept x.outputs.some x.inputs.some (keeps ∙ ap (λ y. (behaviour y).kept) is)
 
-  pub decimate_runs : (m : ℕ) → k ≡ Decimate m → IsRun kit_steps (Decimate m) m kept (λ _. kept)
+  pub decimate_runs : {m : ℕ} → k ≡ Decimate m → IsRun kit_steps (Decimate m) m kept (λ _. kept)
       (λ i xs. map (λ n. sample xs (n * m)) (range_with_len 0 i))
-  decimate_runs m is = let x = ports k (Decimate m) is p same are in decimate_run m kept x.inputs.some
+  decimate_runs {m} is = let x = ports is same are in decimate_run m kept x.inputs.some
 
-  pub interpolate_runs : (up : ℕ) → k ≡ Interpolate up →
+  pub interpolate_runs : {up : ℕ} → k ≡ Interpolate up →
       IsRun kit_steps (Interpolate up) 1 kept (λ _. kept) (λ i xs. map (upsampled up xs) (range_with_len 0 (i * up)))
-  interpolate_runs up is = let x = ports k (Interpolate up) is p same are in interpolate_run up kept x.outputs.some
+  interpolate_runs {up} is = let x = ports is same are in interpolate_run up kept x.outputs.some

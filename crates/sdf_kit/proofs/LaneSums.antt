@@ -132,14 +132,14 @@ halves_total a l =
     ap (λ z. (pos 65536 *ℤ z) +ℤ wrap low) ups ∙ (ap (λ z. (pos 65536 *ℤ up) +ℤ z) lows ∙ both.2)
 
 -- a total by those of its halves
-pub wide_total : (a u l : List ℤ) (high low : ℤ) {r : ℤ} → AreLanes w32 8 a →
+pub wide_total : {a u l : List ℤ} {high low r : ℤ} → AreLanes w32 8 a →
     u ≡ map (λ x. int_shr x 16) (map (to_z w32) (map (of_z w32) a)) → AreLanes w32 8 u →
     l ≡ map low_half (map (to_z w32) (map (of_z w32) a)) → AreLanes w32 8 l →
     high ≡ to_z w32 (of_z w32 (wrap (total (map (to_z w32) (map (of_z w32) u))))) →
     low ≡ to_z w32 (of_z w32 (wrap (total (map (to_z w32) (map (of_z w32) l))))) →
     r ≡ (pos 65536 *ℤ to_z w32 (of_z w32 high)) +ℤ to_z w32 (of_z w32 low) → FitsSigned w64 r →
     to_z w64 (of_z w64 r) ≡ total a
-wide_total a u l high low {r} la eu lu el ll eh eo is fits =
+wide_total {a} {u} {l} {high} {low} {r} la eu lu el ll eh eo is fits =
     let u_is : map (to_z w32) (map (of_z w32) u) ≡ map (λ x. int_shr x 16) a =
     same_lanes w32 u lu.fits ∙ (eu ∙ ap (map (λ x. int_shr x 16)) (same_lanes w32 a la.fits)) in
     let l_is : map (to_z w32) (map (of_z w32) l) ≡ map low_half a =

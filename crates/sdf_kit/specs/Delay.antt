@@ -2,8 +2,8 @@
 use Rattle.std.specs.Prelude.{ℕ, ◌-◌, ◌≤◌, nat_lt, nat_le, cond, pos, ◌++◌, take, Result, Ok}
 use Rattle.sdf_limits.specs.declared.TheConstants.{MOST_DELAY}
 use Rattle.sdf_kit.specs.declared.fault.KitFault.{KitFault}
-use Rattle.sdf_kit.specs.declared.fault.Kind.TheVariants as kinds
-use Rattle.sdf_kit.specs.declared.fault.Key.TheVariants as keys
+use Rattle.sdf_kinds.specs.declared.row.Kind.TheVariants as kinds
+use Rattle.sdf_kinds.specs.declared.key.Key.TheVariants as keys
 use Rattle.sdf_kit.specs.Fault.{tested}
 use Rattle.sdf_kit.specs.Samples.{sample}
 use Rattle.sdf_kit.specs.Ports.{steady}

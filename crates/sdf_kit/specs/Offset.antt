@@ -2,8 +2,8 @@
 use Rattle.std.specs.Prelude.{ℤ, ◌+ℤ◌, FitsSigned, [], ◌∷◌, Result, Ok}
 use Rattle.std.specs.Int.{w16}
 use Rattle.sdf_kit.specs.declared.fault.KitFault.{KitFault}
-use Rattle.sdf_kit.specs.declared.fault.Kind.TheVariants as kinds
-use Rattle.sdf_kit.specs.declared.fault.Key.TheVariants as keys
+use Rattle.sdf_kinds.specs.declared.row.Kind.TheVariants as kinds
+use Rattle.sdf_kinds.specs.declared.key.Key.TheVariants as keys
 use Rattle.sdf_kit.specs.Fault.{has_16_bits, tested}
 use Rattle.sdf_kit.specs.Samples.{sample, saturated}
 use Rattle.sdf_kit.specs.Ports.{steady}

@@ -3,8 +3,8 @@ use Rattle.std.specs.Prelude.{ℕ, ◌≤◌, Result, Ok}
 use Rattle.sdf_limits.specs.declared.TheConstants.{LEAST_WAYS, MOST_WAYS, MOST_RUN}
 use Rattle.sdf_kit.specs.Factors.{AreWays}
 use Rattle.sdf_kit.specs.declared.fault.KitFault.{KitFault}
-use Rattle.sdf_kit.specs.declared.fault.Kind.{Kind}
-use Rattle.sdf_kit.specs.declared.fault.Key.TheVariants as keys
+use Rattle.sdf_kinds.specs.declared.row.Kind.{Kind}
+use Rattle.sdf_kinds.specs.declared.key.Key.TheVariants as keys
 use Rattle.sdf_kit.specs.Fault.{is_between, tested}
 
 pub record Turns : Type 0 where

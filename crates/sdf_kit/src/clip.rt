@@ -4,8 +4,9 @@ ghost use Rattle.std.specs.Prelude.{◌≡◌, ◌≤ℤ◌, length, map};
 ghost use Rattle.sdf_kit.specs.Ports.{ArePorts};
 ghost use Rattle.sdf_kit.specs.Clip.{clip, limits_of, clipped};
 
-use crate::fault::{Key, Kind, KitFault, check, has_16_bits};
+use crate::fault::{KitFault, check, has_16_bits};
 use crate::ports::Ports;
+use sdf_kinds::{Key, Kind};
 use std::marker::Model;
 
 /// Puts each sample, but `least` where it is below that, and `greatest` where it is above that.

@@ -64,6 +64,7 @@ fn lower(a: i32x8) -> i32x8
 }
 
 /// The totals of four vectors.
+#[tactic(auto, using(crate::proofs::LaneTotals::passed))]
 fn totals(a: i32x8, b: i32x8, c: i32x8, d: i32x8) -> i32x4
     requires a { AreLanes w32 8 a }
     requires b { AreLanes w32 8 b }
@@ -85,6 +86,7 @@ fn load(x: &[i16], at: usize) -> i16x16
 }
 
 /// Sixteen products more.
+#[tactic(auto, using(crate::proofs::LaneTotals::passed))]
 fn more(sums: i32x8, h: i16x16, x: i16x16) -> i32x8
     requires sums { AreLanes w32 8 sums }
     requires h { AreLanes w16 16 h }
@@ -100,6 +102,7 @@ fn more(sums: i32x8, h: i16x16, x: i16x16) -> i32x8
 // The loops over sixteens go by their places: by their numbers, each turn would take more instructions.
 
 /// The products of taps and samples, summed lane by lane.
+#[tactic(auto, using(crate::proofs::LaneTotals::passed))]
 #[inline(always)]
 fn sums(h: &[i16], x: &[i16]) -> i32x8
     requires whole { length h.now % 16 ≡ 0 }
@@ -136,6 +139,7 @@ pub(crate) struct FourDots {
 }
 
 /// The products of the same taps and samples of four places, summed lane by lane.
+#[tactic(auto, using(crate::proofs::LaneTotals::passed))]
 #[inline(always)]
 fn four_sums(h: &[i16], x: &[i16], y: &[i16], z: &[i16], w: &[i16]) -> FourSums
     requires whole { length h.now % 16 ≡ 0 }
@@ -170,6 +174,7 @@ fn four_sums(h: &[i16], x: &[i16], y: &[i16], z: &[i16], w: &[i16]) -> FourSums
 }
 
 /// Four dot products with the same taps, each within 32 bits.
+#[tactic(auto, using(crate::proofs::LaneTotals::passed))]
 pub(crate) fn dots(h: &[i16], x: &[i16], y: &[i16], z: &[i16], w: &[i16]) -> i32x4
     requires whole { length h.now % 16 ≡ 0 }
     requires h_short { Each1 (FitsSigned w16) h.now }
@@ -189,6 +194,7 @@ pub(crate) fn dots(h: &[i16], x: &[i16], y: &[i16], z: &[i16], w: &[i16]) -> i32
 }
 
 /// A dot product within 32 bits.
+#[tactic(auto, using(crate::proofs::LaneTotals::passed))]
 pub(crate) fn dot(h: &[i16], x: &[i16]) -> i32
     requires whole { length h.now % 16 ≡ 0 }
     requires h_short { Each1 (FitsSigned w16) h.now }
@@ -208,6 +214,7 @@ fn join(high: i32, low: i32) -> i64
 }
 
 /// The totals of four vectors, of more than 32 bits.
+#[tactic(auto, using(crate::proofs::LaneTotals::passed))]
 #[inline(always)]
 fn wide_totals(a: i32x8, b: i32x8, c: i32x8, d: i32x8) -> FourDots
     requires a { AreLanes w32 8 a }
@@ -230,6 +237,7 @@ fn wide_totals(a: i32x8, b: i32x8, c: i32x8, d: i32x8) -> FourDots
 }
 
 /// Four dot products with the taps of a stretch.
+#[tactic(auto, using(crate::proofs::LaneTotals::passed))]
 #[inline(always)]
 pub(crate) fn stretch_dots(h: &[i16], x: &[i16], y: &[i16], z: &[i16], w: &[i16]) -> FourDots
     requires whole { length h.now % 16 ≡ 0 }
@@ -253,6 +261,7 @@ pub(crate) fn stretch_dots(h: &[i16], x: &[i16], y: &[i16], z: &[i16], w: &[i16]
 }
 
 /// A dot product with the taps of a stretch.
+#[tactic(auto, using(crate::proofs::LaneTotals::passed))]
 pub(crate) fn stretch_dot(h: &[i16], x: &[i16]) -> i64
     requires whole { length h.now % 16 ≡ 0 }
     requires stretch { IsStretch (length h.now / 16) h.now }

@@ -4,11 +4,12 @@ ghost use Rattle.std.specs.Prelude.{◌≡◌, length};
 ghost use Rattle.sdf_kit.specs.Ports.{ArePorts};
 ghost use Rattle.sdf_kit.specs.Turns.{turns_of};
 ghost use Rattle.sdf_kit.specs.Gather.{gather};
-ghost use Rattle.sdf_kit.specs.declared.fault.Kind.TheVariants as kinds;
+ghost use Rattle.sdf_kinds.specs.declared.row.Kind.TheVariants as kinds;
 
-use crate::fault::{Kind, KitFault};
+use crate::fault::KitFault;
 use crate::ports::Ports;
 use crate::turns::Turns;
+use sdf_kinds::Kind;
 use std::marker::Model;
 
 /// Gathers its input ports, `run` samples from each in turn:

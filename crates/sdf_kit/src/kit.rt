@@ -1,14 +1,13 @@
 //! The kinds of actor as one type, which only dispatches.
 //!
-//! A new kind is:
+//! A new kind, beside its row (see `row.rt` of `sdf_kinds`), is:
 //! 1. a file in `specs/` with its values, their limits, its ports, its step and its formula, as a `Behaviour`;
 //! 2. a module here with its struct, whose `new`, `ports` and `run` have that as their contracts; `run` fires once or
 //!   many times;
-//! 3. its name, and those of its new keys, in `fault.rt` and `specs/Fault.antt`;
-//! 4. a variant, a constructor and an arm of each `match` below, and a row of `specs/Kit.antt`;
-//! 5. a case in `specs/PutsFit.antt` (its blocks have their lengths) and in `proofs/Formulas.antt` (it puts its
+//! 3. a variant, a constructor and an arm of each `match` below, and a row of `specs/Kit.antt`;
+//! 4. a case in `specs/PutsFit.antt` (its blocks have their lengths) and in `proofs/Formulas.antt` (it puts its
 //!   formula);
-//! 6. a lemma in `proofs/KindRuns.antt`: what its `run` puts is what the firings put one by one.
+//! 5. a lemma in `proofs/KindRuns.antt`: what its `run` puts is what the firings put one by one.
 
 ghost use Rattle.std.specs.Prelude.{◌≡◌, ◌≤◌};
 ghost use Rattle.sdf_actor.specs.Steps.{Steps, total_in, total_out, PutsFit};
@@ -23,7 +22,7 @@ ghost use Rattle.sdf_kit.specs.Clip.{limits_of};
 ghost use Rattle.sdf_kit.specs.Offset.{value_of};
 ghost use Rattle.sdf_kit.specs.Kit.{behaviour, kit_steps, kit_of};
 ghost use Rattle.sdf_kit.specs.PutsFit.{kit_puts_fit};
-ghost use Rattle.sdf_kit.specs.declared.fault.Kind.TheVariants as kinds;
+ghost use Rattle.sdf_kinds.specs.declared.row.Kind.TheVariants as kinds;
 ghost use Rattle.sdf_kit.specs.declared.kit.Kit.TheVariants as kits;
 
 use crate::add::Add;

@@ -4,8 +4,9 @@ ghost use Rattle.std.specs.Prelude.{◌≡◌, length, map};
 ghost use Rattle.sdf_kit.specs.Ports.{ArePorts};
 ghost use Rattle.sdf_kit.specs.Offset.{offset, value_of, raised};
 
-use crate::fault::{Key, Kind, KitFault, check, has_16_bits};
+use crate::fault::{KitFault, check, has_16_bits};
 use crate::ports::Ports;
+use sdf_kinds::{Key, Kind};
 use std::marker::Model;
 
 /// Adds `value` to each sample and clamps the sum.

@@ -5,8 +5,9 @@ ghost use Rattle.sdf_kit.specs.Ports.{ArePortRates};
 ghost use Rattle.sdf_kit.specs.Turns.{turns_of};
 ghost use Rattle.sdf_kit.specs.declared.ports.PortRates.TheVariants.{Every, InTurn};
 
-use crate::fault::{Key, Kind, KitFault, check, is_between};
+use crate::fault::{KitFault, check, is_between};
 use crate::ports::PortRates;
+use sdf_kinds::{Key, Kind};
 use sdf_limits::{LEAST_WAYS, MOST_RUN, MOST_WAYS};
 use std::marker::Model;
 

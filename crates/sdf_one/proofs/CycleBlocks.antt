@@ -5,29 +5,26 @@ use Rattle.std.proofs.Common.{add-one}
 use Rattle.std.specs.List.{flat_map, sum_by}
 use Rattle.std.proofs.Math.Nat.{suc-mul, mul-le-mul_right}
 use Rattle.std.proofs.lemmas.Nat.{mod-mul-add}
-use Rattle.sdf_actor.specs.declared.node.Node.TheVariants as node
-use Rattle.sdf_actor.specs.Steps.{Steps, total_out}
+use Rattle.sdf_actor.specs.Steps.{total_out}
 use Rattle.sdf_actor.specs.Histories.{spread}
-use Rattle.sdf_actor.specs.Nets as nets
-use Rattle.sdf_actor.specs.Nets.{Netlist, wiring}
-use Rattle.sdf_one.specs.declared.cycles.Cycles.{Cycles}
+use Rattle.sdf_actor.specs.Nets.{wiring}
 use Rattle.sdf_answer.specs.Held.{Held}
 use Rattle.sdf_answer.specs.Blocks.{samples}
-use Rattle.sdf_answer.specs.Sizes.{Rows, AreSizes, at_phase}
-use Rattle.sdf_one.specs.Cycles.{AreCycles, IsInTurn}
+use Rattle.sdf_answer.specs.Sizes.{at_phase}
+use Rattle.sdf_one.specs.Cycles.{IsInTurn}
 use Rattle.sdf_node.specs.Many.{joined}
 use Rattle.sdf_answer.specs.Blocks.{front_at, dealt}
 use Rattle.sdf_one.proofs.ManyWorks.{place}
 use Rattle.sdf_one.proofs.WholeCycles as cycle
 use Rattle.sdf_one.proofs.Joined.{joined_none, joined_part}
-use Rattle.sdf_one.proofs.Known.{Known}
+use Rattle.sdf_one.proofs.Holding.{Turning}
 use Rattle.sdf_one.proofs.Parts.{flat_map_same, none_of, spread_none}
 use Rattle.sdf_one.proofs.Turns.{turned, joined_same, grouped, joined_reach, consecutive, spread_whole}
 use Rattle.sdf_one.proofs.Turns.{spread_long, spread_parts}
 
-module _ {A S T : Type 0} (s : Steps A S T) (n : Netlist A T) (net : Known s n) (z : Rows) (sizes : AreSizes s n z)
-    (y : Cycles) (cycles : AreCycles s n y) (a : ℕ) (known : a < length n.nodes) (x : A)
-    (is : nets.node n a ≡ node.Inner x) (times : ℕ) where
+module _ {A S T : Type 0} (its : Turning A S T) (times : ℕ) where
+  open its use {s, n, net, z, y, a, known, x}
+
   abbrev ins : List ℕ
   ins = (wiring s n).ins a
 
@@ -68,13 +65,11 @@ module _ {A S T : Type 0} (s : Steps A S T) (n : Netlist A T) (net : Known s n) 
 
   next_taken : (i c : ℕ) → c < length n.wires → (wiring s n).rates.target c ≡ a →
       taken_by c i + get_or (takes_at i) c 0 ≡ taken_by c (suc i)
-  next_taken i c l e = sym (ap (taken_by c) (sym (add-one i))
-      ∙ (cycle.plan s n net z sizes y cycles a known x is i).taken c l e)
+  next_taken i c l e = sym (ap (taken_by c) (sym (add-one i)) ∙ (cycle.plan its i).taken c l e)
 
   next_put : (i c : ℕ) → c < length n.wires → (wiring s n).rates.source c ≡ a →
       put_by c i + get_or (puts_at i) c 0 ≡ put_by c (suc i)
-  next_put i c l e = sym (ap (put_by c) (sym (add-one i))
-      ∙ (cycle.plan s n net z sizes y cycles a known x is i).put c l e)
+  next_put i c l e = sym (ap (put_by c) (sym (add-one i)) ∙ (cycle.plan its i).put c l e)
 
   -- what they take
   module _ (qs : List (Held T)) (turn_in : IsInTurn ((wiring s n).ins a) z.takes (s.cycle x)) where
@@ -119,7 +114,7 @@ module _ {A S T : Type 0} (s : Steps A S T) (n : Netlist A T) (net : Known s n) 
 
             from : taken_by c (t * turns + 0) ≡ t * get_or takes c 0
             from = ap (taken_by c) (let v : t * turns + 0 ≡ t * turns = omega arith in v)
-                ∙ cycle.taken_by s n net z sizes y cycles a known x is c at.0 at.1 t
+                ∙ cycle.taken_by its c at.0 at.1 t
 
             wide : taken_by c (t * turns + turns) - taken_by c (t * turns + 0) ≡ get_or takes c 0
             wide =
@@ -130,7 +125,7 @@ module _ {A S T : Type 0} (s : Steps A S T) (n : Netlist A T) (net : Known s n) 
                   arith,
                   next,
                   from,
-                  cycle.taken_by s n net z sizes y cycles a known x is c at.0 at.1 (suc t),
+                  cycle.taken_by its c at.0 at.1 (suc t),
                   suc-mul t (get_or takes c 0),
                 )
 
@@ -151,7 +146,7 @@ module _ {A S T : Type 0} (s : Steps A S T) (n : Netlist A T) (net : Known s n) 
         omega (arith, next, up, h)
 
     whole_long : (e : ℕ) → e < firings → length (piece e) ≡ sum_by (λ c. get_or (puts_at e) c 0) outs
-    whole_long e l = long e l ∙ cycle.out_is s n net z sizes y cycles a known x is e
+    whole_long e l = long e l ∙ cycle.out_is its e
 
     cycle_long : (t : ℕ) → t < times → length (cycle_piece t) ≡ more
     cycle_long t l =
@@ -168,11 +163,11 @@ module _ {A S T : Type 0} (s : Steps A S T) (n : Netlist A T) (net : Known s n) 
           arith,
           reach,
           none,
-          cycle.put_ahead s n net z sizes y cycles a known x is t,
+          cycle.put_ahead its t,
         )
 
     outs_once : (u v : ℕ) → u < length outs → v < length outs → get_or outs u 0 ≡ get_or outs v 0 → u ≡ v
-    outs_once = (cycle.fits_ports s n net z sizes y cycles a known x is 0).outs_are.once
+    outs_once = (cycle.fits_ports its 0).outs_are.once
 
     module _ (t : ℕ) (l : t < times) where
       abbrev g : ℕ → ℕ → List T
@@ -221,8 +216,8 @@ module _ {A S T : Type 0} (s : Steps A S T) (n : Netlist A T) (net : Known s n) 
             reach,
             none,
             next,
-            cycle.put_by s n net z sizes y cycles a known x is c at.0 at.1 t,
-            cycle.put_by s n net z sizes y cycles a known x is c at.0 at.1 (suc t),
+            cycle.put_by its c at.0 at.1 t,
+            cycle.put_by its c at.0 at.1 (suc t),
             suc-mul t (get_or puts c 0),
           )
 

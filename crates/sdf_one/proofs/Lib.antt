@@ -1,5 +1,6 @@
 mod Firing
 mod Known
+mod Holding
 mod Standing
 mod Works
 mod Ends

@@ -7,11 +7,10 @@ use Rattle.std.proofs.lemmas.Bool.{cases_eq, eq-eqb, ne_eqb}
 use Rattle.sdf_graph.specs.Sequences.{IsEnabled}
 use Rattle.sdf_actor.specs.declared.node.Node.{Node}
 use Rattle.sdf_actor.specs.declared.node.Node.TheVariants.{Source, Sink, Inner}
-use Rattle.sdf_actor.specs.Steps.{Steps}
 use Rattle.sdf_actor.specs.Histories.{taken, taken_before, spread}
 use Rattle.sdf_actor.specs.Nets.{Netlist, node, wiring, answers, SourceReaches, InputsReach, IsHistoryOf}
 use Rattle.sdf_actor.specs.Laws.{after_firing, HistoryGrowsByFiring}
-use Rattle.sdf_one.proofs.Known.{Known}
+use Rattle.sdf_one.proofs.Holding.{Holding, Ahead}
 
 -- sources that find the samples of many firings find those of fewer
 source_reaches : {A T : Type 0} (inputs : List (List T)) (many k : ℕ → ℕ) (a : ℕ) (x : Node A) →
@@ -25,12 +24,12 @@ pub reaches : {A T : Type 0} (n : Netlist A T) (inputs : List (List T)) (many k 
     ((b : ℕ) → b < length n.nodes → k b ≤ many b) → InputsReach n inputs k
 reaches n inputs many k reach h b l = source_reaches inputs many k b (node n b) (reach b l) (h b l)
 
-module _ {A S T : Type 0} (s : Steps A S T) (n : Netlist A T) (net : Known s n) (inputs : List (List T)) (k top : ℕ → ℕ)
-    (a : ℕ) (known : a < length n.nodes)
-    (reach : InputsReach n inputs top) (V : ℕ → List T) (r : IsHistoryOf s n inputs k V) where
+module _ {A S T Z : Type 0} (g : Holding A S T Z) where
+  open g use {s, n, net, inputs, many, k, a, known, st}
+
   -- a history at counts m that goes on from this one
   abbrev pub GoesOn : (ℕ → ℕ) → Type 0
-  GoesOn m = (W : ℕ → List T) × IsHistoryOf s n inputs m W × ((c : ℕ) → (more : List T) × (W c ≡ V c ++ more))
+  GoesOn m = (W : ℕ → List T) × IsHistoryOf s n inputs m W × ((c : ℕ) → (more : List T) × (W c ≡ st.history c ++ more))
 
   -- what the node takes in its next firings is there
   abbrev pub HasCome : ℕ → Type 0
@@ -39,24 +38,31 @@ module _ {A S T : Type 0} (s : Steps A S T) (n : Netlist A T) (net : Known s n) 
       (wiring s n).rates.consumed c (k a + i) ≤ (wiring s n).rates.initial c
       + (wiring s n).rates.produced c (k ((wiring s n).rates.source c))
 
-  pub goes_on : HistoryGrowsByFiring s → (i : ℕ) (m : ℕ → ℕ) → m a ≡ k a + i → ((b : ℕ) → (a ≡ b → ⊥) → m b ≡ k b) →
-      ((b : ℕ) → b < length n.nodes → m b ≤ top b) → HasCome i → GoesOn m
-  goes_on grows zero m own others below come = (
-    V,
-    subst (λ j. IsHistoryOf s n inputs j V) along r,
-    λ c. ([], sym (append-nil (V c))),
+  pub goes_on : HistoryGrowsByFiring s → InputsReach n inputs many → (i : ℕ) (h : Ahead g i) → HasCome i → GoesOn h.m
+  goes_on grows reach zero h come = (
+    st.history,
+    subst (λ j. IsHistoryOf s n inputs j st.history) along st.is,
+    λ c. ([], sym (append-nil (st.history c))),
   )
     where
+      open h use {m, own, others}
+
       same : (b : ℕ) → (a ≡ b) ⊎ (a ≡ b → ⊥) → k b ≡ m b
       same b (inl e) = ap k (sym e) ∙ ((let z : k a ≡ k a + 0 = omega arith in z) ∙ (sym own ∙ ap m e))
       same b (inr ne) = sym (others b ne)
 
       along : k ≡ m
       along = λ j b. same b (cases_eq a b) j
-  goes_on grows (suc i) m own others below come = go (goes_on grows i mid mid_own (λ b ne. mid_other b ne)
-      (λ b l. mid_below b l (cases_eq a b)) (λ c l e. let rise =
-      net.wired.sound.consumed_rises c (k a + i) (k a + suc i) (omega arith) in omega (arith, come c l e)))
+  goes_on grows reach (suc i) h come = go (goes_on grows reach i (record {
+    m = mid;
+    own = mid_own;
+    others = mid_other;
+    below = λ b l. mid_below b l (cases_eq a b);
+  }) (λ c l e. let rise = net.wired.sound.consumed_rises c (k a + i) (k a + suc i) (omega arith) in
+      omega (arith, come c l e)))
     where
+      open h use {m, own, others, below}
+
       mid : ℕ → ℕ
       mid b = k b + cond (eqb a b) i 0
 
@@ -72,7 +78,7 @@ module _ {A S T : Type 0} (s : Steps A S T) (n : Netlist A T) (net : Known s n) 
       apart : (b : ℕ) → (a ≡ b → ⊥) → m b ≡ mid b
       apart b ne = others b ne ∙ sym (mid_other b ne)
 
-      mid_below : (b : ℕ) → b < length n.nodes → (a ≡ b) ⊎ (a ≡ b → ⊥) → mid b ≤ top b
+      mid_below : (b : ℕ) → b < length n.nodes → (a ≡ b) ⊎ (a ≡ b → ⊥) → mid b ≤ many b
       mid_below b l (inl e) = let here : mid b + 1 ≡ m b = ap (λ d. mid d + 1) (sym e) ∙ (sym one ∙ ap m e) in
           omega (arith, below b l)
       mid_below b l (inr ne) = omega (arith, apart b ne, below b l)
@@ -93,8 +99,8 @@ module _ {A S T : Type 0} (s : Steps A S T) (n : Netlist A T) (net : Known s n) 
       go : GoesOn mid → GoesOn m
       go (W, is, more) = (
         after_firing s n inputs mid W a,
-        grows n inputs mid m a W net.good known on one apart (reaches n inputs top m reach below) is,
-        λ c. ((more c).0 ++ last c, ap (λ ys. ys ++ last c) (more c).1 ∙ append_assoc (V c) (more c).0 (last c)),
+        grows n inputs mid m a W net.good known on one apart (reaches n inputs many m reach below) is,
+        λ c. ((more c).0 ++ last c, ap (λ ys. ys ++ last c) (more c).1 ∙ append_assoc (st.history c) (more c).0 (last c)),
       )
         where
           last : ℕ → List T

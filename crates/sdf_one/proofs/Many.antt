@@ -15,50 +15,60 @@ use Rattle.std.specs.declared.vec.Vec.{Vec}
 use Rattle.sdf_graph.specs.Sequences.{IsEnabled, tokens}
 use Rattle.sdf_actor.specs.declared.node.Node.TheVariants as node
 use Rattle.sdf_actor.specs.Steps.{Steps, phase, total_in, total_out, sum_in, block_at, state_at, puts_to}
-use Rattle.sdf_actor.specs.Steps.{state_after, PutsFit}
+use Rattle.sdf_actor.specs.Steps.{state_after}
 use Rattle.sdf_actor.specs.Histories.{taken, taken_before, spread}
 use Rattle.sdf_actor.specs.Nets as nets
 use Rattle.sdf_actor.specs.Nets.{Netlist, wiring, cycle_of, InputsReach}
 use Rattle.sdf_actor.specs.Laws.{HistoryGrowsByFiring}
-use Rattle.sdf_one.specs.declared.cycles.Cycles.{Cycles}
 use Rattle.sdf_one.specs.declared.work.Work.{Work}
 use Rattle.sdf_one.specs.declared.work.Work.TheVariants.{Source, Sink, Inner}
 use Rattle.sdf_answer.specs.Held.{Held}
-use Rattle.sdf_answer.specs.Blocks.{nothing, samples, room, at_ports, front, HoldManyBlocks}
-use Rattle.sdf_answer.specs.Sizes.{Rows, IsPlan, AreSizes, at_phase}
-use Rattle.sdf_one.specs.Cycles.{AreCycles, IsInTurn}
+use Rattle.sdf_answer.specs.Blocks.{nothing, samples, room, at_ports, front}
+use Rattle.sdf_answer.specs.Sizes.{Rows, IsPlan, at_phase}
 use Rattle.sdf_one.specs.Firings.{made, phase_at, IsActor, IsFired}
 use Rattle.sdf_node.specs.Many.{joined}
 use Rattle.sdf_answer.specs.Blocks.{front_at, dealt}
 use Rattle.sdf_answer.proofs.Theorems.{blocks_are_counted, nodes_take_theirs}
 use Rattle.sdf_one.specs.Many.{GoesByMany, Fit, CanFireMany, AreManyFired}
-use Rattle.sdf_one.specs.Runs.{HasBlocks, IsWork, Stands}
+use Rattle.sdf_one.specs.Runs.{HasBlocks, Stands}
 use Rattle.sdf_one.proofs.CycleBlocks as blocks
 use Rattle.sdf_one.proofs.ManyWorks.{inner_work, worked_same, its_blocks, stands_along, puts_chained, taken_at}
 use Rattle.sdf_one.proofs.ManyWorks.{parts_long}
 use Rattle.sdf_one.proofs.AtPorts.{at_one, at_sum, at_zero}
 use Rattle.sdf_one.proofs.WholeCycles as cycle
 use Rattle.sdf_one.proofs.Joined.{joined_none}
-use Rattle.sdf_one.proofs.Known.{Known, ins_all}
-use Rattle.sdf_one.proofs.Longer.{reaches}
+use Rattle.sdf_one.proofs.Known.{ins_all}
+use Rattle.sdf_one.proofs.Holding.{Turning, Holding, Cycling, After, Does, turning}
 use Rattle.sdf_one.proofs.Parts.{flat_map_same, spread_none}
 use Rattle.sdf_one.proofs.Standing as standing
 use Rattle.sdf_one.proofs.Turns.{joined_piece}
 
-module _ {A S T Z : Type 0} (s : Steps A S T) (fits : (x : A) → PutsFit s x) (n : Netlist A T) (net : Known s n)
-    (z : Rows) (sizes : AreSizes s n z) (y : Cycles) (cycles : AreCycles s n y) (inputs : List (List T))
-    (many k : ℕ → ℕ) (a : ℕ) (known : a < length n.nodes)
-    (works : List (Work A T S)) (qs : List (Held T)) (outputs : List (Vec T Z))
-    (st : Stands s n inputs many k works qs outputs)
-    (actor : Bor A) (state : S) (taken' put' : Vec T Global) (lengths : Vec ℕ Global)
-    (does : (d : Work A T S) → get_or works a d ≡ Inner actor 0 state taken' put' lengths)
-    (apart : (p q : ℕ) → p < length ((wiring s n).ins a) → q < length ((wiring s n).outs a) →
-    get_or ((wiring s n).ins a) p 0 ≡ get_or ((wiring s n).outs a) q 0 → ⊥)
-    (turn_in : IsInTurn ((wiring s n).ins a) z.takes (s.cycle actor.now))
-    (turn_out : IsInTurn ((wiring s n).outs a) z.puts (s.cycle actor.now))
-    (times : ℕ) (m : ℕ → ℕ) (own : m a ≡ k a + times * s.cycle actor.now)
-    (others : (b : ℕ) → (a ≡ b → ⊥) → m b ≡ k b) (below : (b : ℕ) → b < length n.nodes → m b ≤ many b)
-    (held : HoldManyBlocks times ((wiring s n).ins a) y.takes.items qs) where
+-- an actor's work at the beginning of its cycle
+record Begins {A S T : Type 0} (w : Work A T S) : Type 0 where
+  actor : Bor A
+  state : S
+  taken : Vec T Global
+  put : Vec T Global
+  lengths : Vec ℕ Global
+  is : w ≡ Inner actor 0 state taken put lengths
+
+begins_where : {A S T : Type 0} (s : Steps A S T) (z : Rows) (ins outs : List ℕ) (w : Work A T S) →
+    GoesByMany s z w ins outs → Begins w
+begins_where s z ins outs (Inner actor j state taken put lengths) goes = record {
+  actor = actor;
+  state = state;
+  taken = taken;
+  put = put;
+  lengths = lengths;
+  is = ap (λ v. Inner actor v state taken put lengths) goes.0;
+}
+begins_where s z ins outs (Source ext next block) goes = absurd goes
+begins_where s z ins outs (Sink ext) goes = absurd goes
+
+module _ {A S T Z : Type 0} (g : Holding A S T Z) (cycling : Cycling g) (d : Work A T S) where
+  open g use {s, n, net, z, y, cycles, inputs, many, k, a, known, works, qs, outputs, st}
+  open cycling use {fits, times, held, ahead.{m, others, below}}
+
   abbrev ins : List ℕ
   ins = (wiring s n).ins a
 
@@ -70,6 +80,11 @@ module _ {A S T Z : Type 0} (s : Steps A S T) (fits : (x : A) → PutsFit s x) (
 
   abbrev puts : List ℕ
   puts = y.puts.items
+
+  begins_so : Begins (get_or works a d)
+  begins_so = begins_where s z ins outs (get_or works a d) (cycling.goes d)
+
+  open begins_so use {actor, state, taken as taken', put as put', lengths}
 
   -- how many firings a cycle has, and all of them
   abbrev turns : ℕ
@@ -94,35 +109,45 @@ module _ {A S T Z : Type 0} (s : Steps A S T) (fits : (x : A) → PutsFit s x) (
   abbrev w0 : Work A T S
   w0 = Inner actor 0 state taken' put' lengths
 
+  goes : GoesByMany s z w0 ins outs
+  goes = subst (λ w. GoesByMany s z w ins outs) begins_so.is (cycling.goes d)
+
+  apart : (p q : ℕ) → p < length ins → q < length outs → get_or ins p 0 ≡ get_or outs q 0 → ⊥
+  apart = goes.1
+
   abbrev size : ℕ
   size = sum_by (λ c. get_or takes c 0) ins
 
   abbrev more : ℕ
   more = sum_by (λ c. get_or puts c 0) outs
 
-  is_work : IsWork s inputs outputs (many a) (nets.node n a) (taken_before (wiring s n) st.history a (k a)) w0
-  is_work = subst (IsWork s inputs outputs (many a) (nets.node n a) (taken_before (wiring s n) st.history a (k a)))
-      (does w0) (st.each a w0 known)
+  is_work : Does g a w0
+  is_work = subst (Does g a) begins_so.is (st.each a d known)
 
   inner :
       (nets.node n a ≡ node.Inner actor.now) × (0 ≡
       phase s actor.now (length (taken_before (wiring s n) st.history a (k a)))) ×
       (state ≡ state_after s actor.now (taken_before (wiring s n) st.history a (k a)))
       × HasBlocks s actor.now taken' put' lengths
-  inner = inner_work s inputs outputs (many a) (nets.node n a) (taken_before (wiring s n) st.history a (k a)) actor 0
-      state taken' put' lengths is_work
+  inner = inner_work g actor 0 state taken' put' lengths is_work
+
+  abbrev its_turns : Turning A S T
+  its_turns = turning g actor.now inner.0
+
+  own : m a ≡ k a + firings
+  own = cycling.ahead.own ∙ ap (λ v. k a + times * cycle_of s v) inner.0
 
   begins : k a % turns ≡ 0
   begins = sym (inner.1 ∙ ap (phase s actor.now) (blocks_are_counted s n st.history a (k a)))
 
   plan : (i : ℕ) → IsPlan s n a i (takes_at i) (puts_at i)
-  plan = cycle.plan s n net z sizes y cycles a known actor.now inner.0
+  plan = cycle.plan its_turns
 
   in_is : (i : ℕ) → total_in s actor.now (i % turns) ≡ sum_by (λ c. get_or (takes_at i) c 0) ins
-  in_is = cycle.in_is s n net z sizes y cycles a known actor.now inner.0
+  in_is = cycle.in_is its_turns
 
   out_is : (i : ℕ) → total_out s actor.now (i % turns) ≡ sum_by (λ c. get_or (puts_at i) c 0) outs
-  out_is = cycle.out_is s n net z sizes y cycles a known actor.now inner.0
+  out_is = cycle.out_is its_turns
 
   none_taken : (c : ℕ) → taken_by c 0 ≡ 0
   none_taken = net.wired.sound.consumed_none
@@ -137,11 +162,11 @@ module _ {A S T Z : Type 0} (s : Steps A S T) (fits : (x : A) → PutsFit s x) (
 
   cycles_taken : (c : ℕ) → c < length n.wires → (wiring s n).rates.target c ≡ a → (t : ℕ) →
       taken_by c (t * turns) ≡ t * get_or takes c 0
-  cycles_taken = cycle.taken_by s n net z sizes y cycles a known actor.now inner.0
+  cycles_taken = cycle.taken_by its_turns
 
   cycles_put : (c : ℕ) → c < length n.wires → (wiring s n).rates.source c ≡ a → (t : ℕ) →
       put_by c (t * turns) ≡ t * get_or puts c 0
-  cycles_put = cycle.put_by s n net z sizes y cycles a known actor.now inner.0
+  cycles_put = cycle.put_by its_turns
 
   -- in a channel into it stands what all of them take
   all_held : (p : ℕ) → p < length ins → taken_by (get_or ins p 0) firings ≤ length (samples qs (get_or ins p 0))
@@ -154,7 +179,7 @@ module _ {A S T Z : Type 0} (s : Steps A S T) (fits : (x : A) → PutsFit s x) (
   stood : (c : ℕ) → c < length n.wires → length (samples qs c)
       + (wiring s n).rates.consumed c (k ((wiring s n).rates.target c)) ≡
       (wiring s n).rates.initial c + (wiring s n).rates.produced c (k ((wiring s n).rates.source c))
-  stood c l = standing.standing s n net z sizes inputs many k a known works qs outputs st w0 c l
+  stood c l = standing.standing g w0 c l
 
   come : (c : ℕ) → c < length n.wires → (wiring s n).rates.target c ≡ a →
       taken_by c (k a + firings) ≤ (wiring s n).rates.initial c + put_by c (k ((wiring s n).rates.source c))
@@ -166,30 +191,29 @@ module _ {A S T Z : Type 0} (s : Steps A S T) (fits : (x : A) → PutsFit s x) (
       omega (
         arith,
         stood c l,
-        cycle.ahead_in s n net z sizes y cycles a known actor.now inner.0 (k a) begins c l e firings,
+        cycle.ahead_in its_turns (k a) begins c l e firings,
       )
 
-  -- they can be done
-  pub can_fire : Fit w0 size more times → firings < 2 ^ 63 →
+  can_fire : Fit w0 size more times → firings < 2 ^ 63 →
       ((c : ℕ) → c < length n.wires → tokens (wiring s n).rates m c ≤ room qs c) →
       CanFireMany s times ins outs takes puts w0 qs
   can_fire fit few roomy = record {
     ins_are = record {
       known = ports_known;
       sized = cycles.takes_all ∙ sym st.channels;
-      once = (cycle.fits_ports s n net z sizes y cycles a known actor.now inner.0 0).ins_are.once;
+      once = (cycle.fits_ports its_turns 0).ins_are.once;
     };
     outs_are = record {
       known = λ p l. omega (arith, (net.wired.outs_are a p known l).0, st.channels);
       sized = cycles.puts_all ∙ sym st.channels;
-      once = (cycle.fits_ports s n net z sizes y cycles a known actor.now inner.0 0).outs_are.once;
+      once = (cycle.fits_ports its_turns 0).outs_are.once;
     };
     held = held;
     room = rooms;
     work = (
       inner.3.some,
-      cycle.all_in s n net z sizes y cycles a known actor.now inner.0 times,
-      cycle.all_out s n net z sizes y cycles a known actor.now inner.0 times,
+      cycle.all_in its_turns times,
+      cycle.all_out its_turns times,
       fit.0,
       fit.1,
       omega (arith, one.0),
@@ -199,8 +223,7 @@ module _ {A S T Z : Type 0} (s : Steps A S T) (fits : (x : A) → PutsFit s x) (
   }
     where
       one : Fit w0 size more 1
-      one = its_blocks s n net z sizes y cycles inputs outputs (many a) a known
-          (taken_before (wiring s n) st.history a (k a)) w0 is_work
+      one = its_blocks g w0 is_work
 
       rooms : (i : ℕ) → i < length outs → length (samples qs (get_or outs i 0))
           + times * get_or puts (get_or outs i 0) 0 ≤ room qs (get_or outs i 0)
@@ -215,7 +238,7 @@ module _ {A S T Z : Type 0} (s : Steps A S T) (fits : (x : A) → PutsFit s x) (
             arith,
             roomy c is.0,
             stood c is.0,
-            cycle.ahead_out s n net z sizes y cycles a known actor.now inner.0 (k a) begins c is.0 is.1 firings,
+            cycle.ahead_out its_turns (k a) begins c is.0 is.1 firings,
             cycles_put c is.0 is.1 times,
           )
         where
@@ -224,6 +247,15 @@ module _ {A S T Z : Type 0} (s : Steps A S T) (fits : (x : A) → PutsFit s x) (
 
           loop : c < length n.wires → (wiring s n).rates.target c ≡ a → ⊥
           loop l e = let at = ins_all s n net a known c l e in apart at.0 i at.1 h at.2
+
+  -- they can be done
+  pub can_fire_many : Fit (get_or works a d) size more times → times * cycle_of s (nets.node n a) < 2 ^ 63 →
+      ((c : ℕ) → c < length n.wires → tokens (wiring s n).rates m c ≤ room qs c) →
+      CanFireMany s times ins outs takes puts (get_or works a d) qs
+  can_fire_many fit few roomy =
+      subst (λ w. CanFireMany s times ins outs takes puts w qs) (sym begins_so.is)
+      (can_fire (subst (λ w. Fit w size more times) begins_so.is fit)
+      (subst (λ v. times * cycle_of s v < 2 ^ 63) inner.0 few) roomy)
 
   -- what firing i of them takes
   abbrev f : ℕ → List T
@@ -294,7 +326,7 @@ module _ {A S T Z : Type 0} (s : Steps A S T) (fits : (x : A) → PutsFit s x) (
 
   -- a cycle's block, channel by channel, is its firings' blocks, one after another
   all_taken : whole ≡ joined f firings
-  all_taken = blocks.all_taken s n net z sizes y cycles a known actor.now inner.0 times qs turn_in
+  all_taken = blocks.all_taken its_turns times qs goes.2
 
   block_is : (i : ℕ) → i < firings → block_at s actor.now 0 whole i ≡ f i
   block_is i l =
@@ -387,15 +419,18 @@ module _ {A S T Z : Type 0} (s : Steps A S T) (fits : (x : A) → PutsFit s x) (
   piece_is : (i : ℕ) → i < firings → piece i ≡ s.puts actor.now (i % turns) (state_i i) (front (takes_at i) ins (q i))
   piece_is i l = λ e. s.puts actor.now (phase_is i e) (state_i i) ((block_is i l ∙ sym (front_is i l)) e)
 
+  -- a runner after i of them
+  abbrev after : (i : ℕ) → Stands s n inputs many (kk i) (set works a (w i)) (q i) outputs → Holding A S T Z
+  after i at = record g { k = kk i; works = set works a (w i); qs = q i; st = at }
+
   module _ (i : ℕ) (l : i < firings) (at : Stands s n inputs many (kk i) (set works a (w i)) (q i) outputs) where
     abbrev past : List (List T)
     past = taken_before (wiring s n) at.history a (kk i a)
 
     here : (nets.node n a ≡ node.Inner actor.now) × (i % turns ≡ phase s actor.now (length past))
         × (state_i i ≡ state_after s actor.now past) × HasBlocks s actor.now taken' put' lengths
-    here =
-        inner_work s inputs outputs (many a) (nets.node n a) past actor (i % turns) (state_i i) taken' put' lengths
-        (subst (IsWork s inputs outputs (many a) (nets.node n a) past) (its i w0) (at.each a w0 known))
+    here = inner_work (after i at) actor (i % turns) (state_i i) taken' put' lengths
+        (subst (Does (after i at) a) (its i w0) (at.each a w0 known))
 
     took : (e : ℕ) → e < kk i a → length (taken (wiring s n) at.history a e) ≡ total_in s actor.now (e % turns)
     took e h =
@@ -468,19 +503,24 @@ module _ {A S T Z : Type 0} (s : Steps A S T) (fits : (x : A) → PutsFit s x) (
     up b h (inr ne) = omega (arith, kk_other (suc i) b ne, others b ne, below b h)
 
     next_stands : HistoryGrowsByFiring s → InputsReach n inputs many →
-        Stands s n inputs many (kk (suc i)) (set works a (w (suc i)))
-        (q (suc i)) outputs
+        Stands s n inputs many (kk (suc i)) (set works a (w (suc i))) (q (suc i)) outputs
     next_stands grows reach =
-        standing.fired_stands s n net z sizes inputs many (kk i) a known (set works a (w i)) (q i) outputs at w0
-        (kk (suc i)) enabled (kk_own (suc i) ∙ ((let v : k a + suc i ≡ k a + i + 1 = omega arith in v)
-        ∙ ap (λ v. v + 1) (sym (kk_own i)))) (λ b ne. kk_other (suc i) b ne ∙ sym (kk_other i b ne))
-        (reaches n inputs many (kk (suc i)) reach (λ b h. up b h (cases_eq a b))) (subst IsActor (sym (its i w0)) tt)
-        grows (w (suc i)) (q (suc i))
-        (subst (λ x. IsFired s ins outs (at_phase z.takes (phase_at x)) (at_phase z.puts (phase_at x)) x (w (suc i))
+        standing.fired_stands (after i at) w0 (record {
+          m = kk (suc i);
+          own = kk_own (suc i) ∙ ((let v : k a + suc i ≡ k a + i + 1 = omega arith in v)
+              ∙ ap (λ v. v + 1) (sym (kk_own i)));
+          others = λ b ne. kk_other (suc i) b ne ∙ sym (kk_other i b ne);
+          below = λ b h. up b h (cases_eq a b);
+        }) enabled reach (subst IsActor (sym (its i w0)) tt) grows (record {
+          works = set works a (w (suc i));
+          same_works = length-set works a (w (suc i)) ∙ sym (length-set works a (w i));
+          w = w (suc i);
+          its = its (suc i);
+          rest = λ b d ne. rest (suc i) b d ne ∙ sym (rest i b d ne);
+          qs = q (suc i);
+          same_queues = q_long (suc i) ∙ sym (q_long i);
+        }) (subst (λ x. IsFired s ins outs (at_phase z.takes (phase_at x)) (at_phase z.puts (phase_at x)) x (w (suc i))
         (q i) (q (suc i))) (sym (its i w0)) fired_one)
-        (q_long (suc i) ∙ sym (q_long i)) (set works a (w (suc i)))
-        (length-set works a (w (suc i)) ∙ sym (length-set works a (w i)))
-        (its (suc i)) (λ b d ne. rest (suc i) b d ne ∙ sym (rest i b d ne))
 
   abbrev Stood : ℕ → Type 0
   Stood i = Stands s n inputs many (kk i) (set works a (w i)) (q i) outputs
@@ -488,12 +528,10 @@ module _ {A S T Z : Type 0} (s : Steps A S T) (fits : (x : A) → PutsFit s x) (
 
   begun : Stood 0
   begun = (
-    stands_along s n inputs many k (kk 0) works (set works a (w 0)) qs (q 0) outputs
-        (λ e b. sym (none b (cases_eq a b)) e) st (length-set works a (w 0)) (q_long 0)
+    stands_along g (λ e b. sym (none b (cases_eq a b)) e) (length-set works a (w 0)) (q_long 0)
         (λ c h. let g : c < length qs = omega (arith, h, st.channels) in
         q_samples 0 c g ∙ (append-nil (cut 0 c) ∙ ap (λ v. drop v (samples qs c))
-        (ap (λ v. at_ports ins v c) (none_taken c) ∙ at_zero ins c)))
-        (λ b d h is. same b d h is (cases_eq a b)),
+        (ap (λ v. at_ports ins v c) (none_taken c) ∙ at_zero ins c))) (λ b d h is. same b d is (cases_eq a b)),
     λ e h. absurd (let no : e < 0 = h in omega arith),
   )
     where
@@ -501,20 +539,12 @@ module _ {A S T Z : Type 0} (s : Steps A S T) (fits : (x : A) → PutsFit s x) (
       none b (inl e) = subst (λ b. kk 0 b ≡ k b) e (kk_own 0 ∙ (let v : k a + 0 ≡ k a = omega arith in v))
       none b (inr ne) = kk_other 0 b ne
 
-      same : (b : ℕ) (d : Work A T S) → b < length n.nodes →
-          IsWork s inputs outputs (many b) (nets.node n b) (taken_before (wiring s n) st.history b (k b))
-          (get_or works b d) → (a ≡ b) ⊎ (a ≡ b → ⊥) →
-          IsWork s inputs outputs (many b) (nets.node n b) (taken_before (wiring s n) st.history b (k b))
-          (get_or (set works a (w 0)) b d)
-      same b d h is (inl e) =
-          subst (λ b. IsWork s inputs outputs (many b) (nets.node n b) (taken_before (wiring s n) st.history b (k b))
-          (get_or (set works a (w 0)) b d)) e
-          (subst (IsWork s inputs outputs (many a) (nets.node n a) (taken_before (wiring s n) st.history a (k a)))
-          (sym (its 0 d)) (subst (λ v. IsWork s inputs outputs (many a) (nets.node n a)
-          (taken_before (wiring s n) st.history a (k a)) (Inner actor v state taken' put' lengths))
-          (sym (mod-eq_of_lt inner.3.some)) is_work))
-      same b d h is (inr ne) = subst (IsWork s inputs outputs (many b) (nets.node n b)
-          (taken_before (wiring s n) st.history b (k b))) (sym (rest 0 b d ne)) is
+      same : (b : ℕ) (d : Work A T S) → Does g b (get_or works b d) → (a ≡ b) ⊎ (a ≡ b → ⊥) →
+          Does g b (get_or (set works a (w 0)) b d)
+      same b d is (inl e) =
+          subst (λ b. Does g b (get_or (set works a (w 0)) b d)) e (subst (Does g a) (sym (its 0 d))
+          (subst (λ v. Does g a (Inner actor v state taken' put' lengths)) (sym (mod-eq_of_lt inner.3.some)) is_work))
+      same b d is (inr ne) = subst (Does g b) (sym (rest 0 b d ne)) is
 
   chain : HistoryGrowsByFiring s → InputsReach n inputs many → (i : ℕ) → i ≤ firings → Stood i
   chain grows reach zero h = begun
@@ -532,7 +562,7 @@ module _ {A S T Z : Type 0} (s : Steps A S T) (fits : (x : A) → PutsFit s x) (
   all_dealt : ((e : ℕ) → e < firings → length (piece e) ≡ total_out s actor.now (e % turns)) → (c : ℕ) →
       made_by firings c ≡ dealt puts outs more all c times
   all_dealt long c =
-      blocks.all_dealt s n net z sizes y cycles a known actor.now inner.0 times turn_out piece long c ∙
+      blocks.all_dealt its_turns times goes.3 piece long c ∙
       ap (λ b. dealt puts outs more b c times) (sym (puts_chained s actor.now 0 state whole firings))
 
   all_cut : (c : ℕ) → c < length n.wires →
@@ -545,106 +575,37 @@ module _ {A S T Z : Type 0} (s : Steps A S T) (fits : (x : A) → PutsFit s x) (
       go (inr ne) = none_at c (times * get_or takes c 0) h ne ∙ sym (none_at c (taken_by c firings) h ne)
 
   -- and what they leave stands at the counts after them
-  pub fired_stands : HistoryGrowsByFiring s → InputsReach n inputs many → (after : Work A T S) (qs' : List (Held T)) →
-      AreManyFired s times ins outs takes puts w0 after qs qs' → length qs' ≡ length qs →
-      (works' : List (Work A T S)) → length works' ≡ length works → ((d : Work A T S) → get_or works' a d ≡ after) →
-      ((b : ℕ) (d : Work A T S) → (a ≡ b → ⊥) → get_or works' b d ≡ get_or works b d) →
-      Stands s n inputs many m works' qs' outputs
-  fired_stands grows reach after qs' fired same_queues works' same_works is others_are =
+  pub stands_many : HistoryGrowsByFiring s → InputsReach n inputs many → (p : After g) →
+      AreManyFired s times ins outs takes puts (get_or works a d) p.w qs p.qs →
+      Stands s n inputs many m p.works p.qs outputs
+  stands_many grows reach p all_fired =
       let at = chain grows reach firings (omega arith) in
-      stands_along s n inputs many (kk firings) m (set works a (w firings)) works' (q firings) qs' outputs
-      (λ e b. count b (cases_eq a b) e) at.0
-      (same_works ∙ sym (length-set works a (w firings))) (same_queues ∙ sym (q_long firings))
+      stands_along (after firings at.0) (λ e b. count b (cases_eq a b) e)
+      (p.same_works ∙ sym (length-set works a (w firings))) (p.same_queues ∙ sym (q_long firings))
       (λ c h. let g : c < length qs = omega (arith, h, st.channels) in
       fired.queues c g ∙ ((λ κ. drop (all_cut c h κ) (samples qs c) ++ sym (all_dealt at.1 c) κ)
       ∙ sym (q_samples firings c g)))
-      (λ b d h x. each at.0 b d h x (cases_eq a b))
+      (λ b d h x. each at.0 b d x (cases_eq a b))
     where
+      fired : AreManyFired s times ins outs takes puts w0 p.w qs p.qs
+      fired = subst (λ w. AreManyFired s times ins outs takes puts w p.w qs p.qs) begins_so.is all_fired
+
       count : (b : ℕ) → (a ≡ b) ⊎ (a ≡ b → ⊥) → kk firings b ≡ m b
       count b (inl e) = subst (λ b. kk firings b ≡ m b) e (kk_own firings ∙ sym own)
       count b (inr ne) = kk_other firings b ne ∙ sym (others b ne)
 
       -- it is at the beginning of a cycle again
       ends : firings % turns ≡ 0
-      ends = cycle.begins s n net z sizes y cycles a known actor.now inner.0 times
+      ends = cycle.begins its_turns times
 
       each : (at : Stands s n inputs many (kk firings) (set works a (w firings)) (q firings) outputs) (b : ℕ)
-          (d : Work A T S) → b < length n.nodes →
-          IsWork s inputs outputs (many b) (nets.node n b) (taken_before (wiring s n) at.history b (kk firings b))
-          (get_or (set works a (w firings)) b d) → (a ≡ b) ⊎ (a ≡ b → ⊥) →
-          IsWork s inputs outputs (many b) (nets.node n b) (taken_before (wiring s n) at.history b (kk firings b))
-          (get_or works' b d)
-      each at b d h x (inl e) =
-          subst (λ b. IsWork s inputs outputs (many b) (nets.node n b)
-          (taken_before (wiring s n) at.history b (kk firings b)) (get_or works' b d)) e
-          (subst (IsWork s inputs outputs (many a) (nets.node n a)
-          (taken_before (wiring s n) at.history a (kk firings a))) (sym (is d))
-          (worked_same s inputs outputs (many a) times (nets.node n a)
-          (taken_before (wiring s n) at.history a (kk firings a)) actor 0 state taken' put' lengths
-          whole after fired.work
-          (subst (λ v. IsWork s inputs outputs (many a) (nets.node n a)
-          (taken_before (wiring s n) at.history a (kk firings a)) (Inner actor v (state_i firings) taken' put' lengths))
-          ends
-          (subst (IsWork s inputs outputs (many a) (nets.node n a)
-          (taken_before (wiring s n) at.history a (kk firings a))) (its firings d)
-          (subst (λ b. IsWork s inputs outputs (many b) (nets.node n b)
-          (taken_before (wiring s n) at.history b (kk firings b))
-          (get_or (set works a (w firings)) b d)) (sym e) x)))))
-      each at b d h x (inr ne) =
-          subst (IsWork s inputs outputs (many b) (nets.node n b)
-          (taken_before (wiring s n) at.history b (kk firings b)))
-          (rest firings b d ne ∙ sym (others_are b d ne)) x
-
--- the same, of a node's work as it stands
-module _ {A S T Z : Type 0} (s : Steps A S T) (fits : (x : A) → PutsFit s x) (n : Netlist A T) (net : Known s n)
-    (z : Rows) (sizes : AreSizes s n z) (y : Cycles) (cycles : AreCycles s n y) (inputs : List (List T))
-    (many k : ℕ → ℕ) (a : ℕ) (known : a < length n.nodes)
-    (works : List (Work A T S)) (qs : List (Held T)) (outputs : List (Vec T Z))
-    (st : Stands s n inputs many k works qs outputs)
-    (times : ℕ) (m : ℕ → ℕ) (own : m a ≡ k a + times * cycle_of s (nets.node n a))
-    (others : (b : ℕ) → (a ≡ b → ⊥) → m b ≡ k b) (below : (b : ℕ) → b < length n.nodes → m b ≤ many b)
-    (held : HoldManyBlocks times ((wiring s n).ins a) y.takes.items qs) where
-  node_is : (actor : Bor A) (j : ℕ) (state : S) (taken put : Vec T Global) (lengths : Vec ℕ Global) →
-      ((d : Work A T S) → get_or works a d ≡ Inner actor j state taken put lengths) →
-      nets.node n a ≡ node.Inner actor.now
-  node_is actor j state taken put lengths does =
-      (inner_work s inputs outputs (many a) (nets.node n a) (taken_before (wiring s n) st.history a (k a)) actor j
-      state taken put lengths
-      (subst (IsWork s inputs outputs (many a) (nets.node n a) (taken_before (wiring s n) st.history a (k a)))
-      (does (Inner actor j state taken put lengths))
-      (st.each a (Inner actor j state taken put lengths) known))).0
-
-  pub can_fire_many : (w : Work A T S) → ((d : Work A T S) → get_or works a d ≡ w) →
-      GoesByMany s z w ((wiring s n).ins a) ((wiring s n).outs a) →
-      Fit w (sum_by (λ c. get_or y.takes.items c 0) ((wiring s n).ins a))
-      (sum_by (λ c. get_or y.puts.items c 0) ((wiring s n).outs a)) times →
-      times * cycle_of s (nets.node n a) < 2 ^ 63 →
-      ((c : ℕ) → c < length n.wires → tokens (wiring s n).rates m c ≤ room qs c) →
-      CanFireMany s times ((wiring s n).ins a) ((wiring s n).outs a) y.takes.items y.puts.items w qs
-  can_fire_many (Inner actor j state taken put lengths) does goes fit few roomy =
-      let its = node_is actor j state taken put lengths does in
-      subst (λ v. CanFireMany s times ((wiring s n).ins a) ((wiring s n).outs a) y.takes.items y.puts.items
-      (Inner actor v state taken put lengths) qs) (sym goes.0)
-      (can_fire s fits n net z sizes y cycles inputs many k a known works qs outputs st actor state taken put lengths
-      (λ d. does d ∙ ap (λ v. Inner actor v state taken put lengths) goes.0) goes.1 goes.2 goes.3 times m
-      (own ∙ ap (λ v. k a + times * cycle_of s v) its) others below held fit
-      (subst (λ v. times * cycle_of s v < 2 ^ 63) its few) roomy)
-  can_fire_many (Source ext next block) does goes fit few roomy = absurd goes
-  can_fire_many (Sink ext) does goes fit few roomy = absurd goes
-
-  pub stands_many : (w : Work A T S) → ((d : Work A T S) → get_or works a d ≡ w) →
-      GoesByMany s z w ((wiring s n).ins a) ((wiring s n).outs a) → HistoryGrowsByFiring s → InputsReach n inputs many →
-      (after : Work A T S) (qs' : List (Held T)) → AreManyFired s times ((wiring s n).ins a) ((wiring s n).outs a)
-      y.takes.items y.puts.items w after qs qs' → length qs' ≡ length qs →
-      (works' : List (Work A T S)) → length works' ≡ length works → ((d : Work A T S) → get_or works' a d ≡ after) →
-      ((b : ℕ) (d : Work A T S) → (a ≡ b → ⊥) → get_or works' b d ≡ get_or works b d) →
-      Stands s n inputs many m works' qs' outputs
-  stands_many (Inner actor j state taken put lengths) does goes grows reach after qs' fired =
-      fired_stands s fits n net z sizes y cycles inputs many k a known works qs outputs st actor state taken put lengths
-      (λ d. does d ∙ ap (λ v. Inner actor v state taken put lengths) goes.0) goes.1 goes.2 goes.3 times m
-      (own ∙ ap (λ v. k a + times * cycle_of s v) (node_is actor j state taken put lengths does)) others below held
-      grows reach after qs'
-      (subst (λ v. AreManyFired s times ((wiring s n).ins a) ((wiring s n).outs a) y.takes.items y.puts.items
-      (Inner actor v state taken put lengths) after qs qs') goes.0 fired)
-  stands_many (Source ext next block) does goes grows reach after qs' fired = absurd goes
-  stands_many (Sink ext) does goes grows reach after qs' fired = absurd goes
+          (d : Work A T S) → Does (after firings at) b (get_or (set works a (w firings)) b d) →
+          (a ≡ b) ⊎ (a ≡ b → ⊥) → Does (after firings at) b (get_or p.works b d)
+      each at b d x (inl e) =
+          let now : Holding A S T Z = after firings at in
+          subst (λ b. Does now b (get_or p.works b d)) e (subst (Does now a) (sym (p.its d))
+          (worked_same now times actor 0 state taken' put' lengths whole p.w fired.work
+          (subst (λ v. Does now a (Inner actor v (state_i firings) taken' put' lengths)) ends
+          (subst (Does now a) (its firings d)
+          (subst (λ b. Does now b (get_or (set works a (w firings)) b d)) (sym e) x)))))
+      each at b d x (inr ne) = subst (Does (after firings at) b) (rest firings b d ne ∙ sym (p.rest b d ne)) x

@@ -15,38 +15,35 @@ use Rattle.sdf_actor.specs.Steps.{Steps, phase, sum_in, sum_out, block_at, state
 use Rattle.sdf_actor.specs.Steps.{state_after}
 use Rattle.sdf_actor.specs.Histories.{Wiring, taken, taken_before}
 use Rattle.sdf_actor.specs.Nets as nets
-use Rattle.sdf_actor.specs.Nets.{Netlist, wiring}
-use Rattle.sdf_one.specs.declared.cycles.Cycles.{Cycles}
+use Rattle.sdf_actor.specs.Nets.{wiring}
 use Rattle.sdf_one.specs.declared.work.Work.{Work}
 use Rattle.sdf_one.specs.declared.work.Work.TheVariants.{Source, Sink, Inner}
 use Rattle.sdf_answer.specs.Held.{Held}
 use Rattle.sdf_answer.specs.Blocks.{samples}
-use Rattle.sdf_answer.specs.Sizes.{Rows, AreSizes}
-use Rattle.sdf_one.specs.Cycles.{AreCycles}
 use Rattle.sdf_node.specs.Many.{joined}
 use Rattle.sdf_one.specs.Many.{HasRows, Fit, HaveManyWorked}
 use Rattle.sdf_one.specs.Runs.{HasBlocks, IsWork, Stands}
 use Rattle.sdf_one.proofs.WholeCycles as cycle
-use Rattle.sdf_one.proofs.Known.{Known}
+use Rattle.sdf_one.proofs.Holding.{Holding, Does, turning}
 
 -- what an actor's work says of its node
-pub inner_work : {A S T Z : Type 0} (s : Steps A S T) (inputs : List (List T)) (outputs : List (Vec T Z)) (many : ℕ)
+inner_of : {A S T Z : Type 0} (s : Steps A S T) (inputs : List (List T)) (outputs : List (Vec T Z)) (many : ℕ)
     (x : Node A) (past : List (List T)) (actor : Bor A) (j : ℕ) (state : S) (taken put : Vec T Global)
     (lengths : Vec ℕ Global) →
     IsWork s inputs outputs many x past (Inner actor j state taken put lengths) →
     (x ≡ node.Inner actor.now) × (j ≡ phase s actor.now (length past)) × (state ≡ state_after s actor.now past)
     × HasBlocks s actor.now taken put lengths
-inner_work s inputs outputs many (node.Source ext block) past actor j state taken put lengths is = absurd is
-inner_work s inputs outputs many (node.Sink ext block) past actor j state taken put lengths is = absurd is
-inner_work s inputs outputs many (node.Inner x) past actor j state taken put lengths is = (
+inner_of s inputs outputs many (node.Source ext block) past actor j state taken put lengths is = absurd is
+inner_of s inputs outputs many (node.Sink ext block) past actor j state taken put lengths is = absurd is
+inner_of s inputs outputs many (node.Inner x) past actor j state taken put lengths is = (
   ap node.Inner (sym is.0),
   is.1 ∙ ap (λ y. phase s y (length past)) (sym is.0),
   is.2 ∙ ap (λ y. state_after s y past) (sym is.0),
   subst (λ y. HasBlocks s y taken put lengths) (sym is.0) is.3,
 )
 
--- and stays where its blocks keep their room
-pub worked_same : {A S T Z : Type 0} (s : Steps A S T) (inputs : List (List T)) (outputs : List (Vec T Z))
+-- and it stays where its blocks keep their room
+worked_of : {A S T Z : Type 0} (s : Steps A S T) (inputs : List (List T)) (outputs : List (Vec T Z))
     (many times : ℕ)
     (x : Node A) (past : List (List T)) (actor : Bor A) (j : ℕ) (state : S) (taken put : Vec T Global)
     (lengths : Vec ℕ Global) (b : List T) (y : Work A T S) →
@@ -54,7 +51,7 @@ pub worked_same : {A S T Z : Type 0} (s : Steps A S T) (inputs : List (List T)) 
     IsWork s inputs outputs many x past
     (Inner actor j (state_at s actor.now j state b (times * s.cycle actor.now)) taken put lengths) →
     IsWork s inputs outputs many x past y
-worked_same s inputs outputs many times (node.Inner x) past actor j state taken put lengths b
+worked_of s inputs outputs many times (node.Inner x) past actor j state taken put lengths b
     (Inner actor' j' state' taken' put' lengths') worked is =
     let same : lengths'.items ≡ lengths.items = ap (λ v. v.items) worked.5 in
     let blocks = is.3 in (
@@ -71,72 +68,73 @@ worked_same s inputs outputs many times (node.Inner x) past actor j state taken 
         lengths_are = λ i h. ap (λ ls. get_or ls i 0) same ∙ blocks.lengths_are i h;
       },
     )
-worked_same s inputs outputs many times (node.Source ext block) past actor j state taken put lengths b y worked is =
+worked_of s inputs outputs many times (node.Source ext block) past actor j state taken put lengths b y worked is =
     absurd is
-worked_same s inputs outputs many times (node.Sink ext block) past actor j state taken put lengths b y worked is =
+worked_of s inputs outputs many times (node.Sink ext block) past actor j state taken put lengths b y worked is =
     absurd is
-worked_same s inputs outputs many times (node.Inner x) past actor j state taken put lengths b (Source ext next block)
+worked_of s inputs outputs many times (node.Inner x) past actor j state taken put lengths b (Source ext next block)
     worked is = absurd worked
-worked_same s inputs outputs many times (node.Inner x) past actor j state taken put lengths b (Sink ext) worked is =
+worked_of s inputs outputs many times (node.Inner x) past actor j state taken put lengths b (Sink ext) worked is =
     absurd worked
 
--- an actor's blocks have room for a cycle, and its phases have their rows
-module _ {A S T Z : Type 0} (s : Steps A S T) (n : Netlist A T) (net : Known s n) (z : Rows) (sizes : AreSizes s n z)
-    (y : Cycles) (cycles : AreCycles s n y) (inputs : List (List T)) (outputs : List (Vec T Z)) (many a : ℕ)
-    (known : a < length n.nodes) (past : List (List T)) where
-  pub its_blocks : (w : Work A T S) → IsWork s inputs outputs many (nets.node n a) past w →
+-- where a runner holds a node's work
+module _ {A S T Z : Type 0} (g : Holding A S T Z) where
+  open g use {s, n, z, y, inputs, many, k, a, works, qs, outputs, st}
+
+  abbrev past : List (List T)
+  past = taken_before (wiring s n) st.history a (k a)
+
+  pub inner_work : (actor : Bor A) (j : ℕ) (state : S) (taken put : Vec T Global) (lengths : Vec ℕ Global) →
+      Does g a (Inner actor j state taken put lengths) →
+      (nets.node n a ≡ node.Inner actor.now) × (j ≡ phase s actor.now (length past))
+      × (state ≡ state_after s actor.now past) × HasBlocks s actor.now taken put lengths
+  inner_work = inner_of s inputs outputs (many a) (nets.node n a) past
+
+  pub worked_same : (times : ℕ) (actor : Bor A) (j : ℕ) (state : S) (taken put : Vec T Global)
+      (lengths : Vec ℕ Global) (b : List T) (w : Work A T S) →
+      HaveManyWorked s times (Inner actor j state taken put lengths) b w →
+      Does g a (Inner actor j (state_at s actor.now j state b (times * s.cycle actor.now)) taken put lengths) →
+      Does g a w
+  worked_same times = worked_of s inputs outputs (many a) times (nets.node n a) past
+
+  -- an actor's blocks have room for a cycle, and its phases have their rows
+  pub its_blocks : (w : Work A T S) → Does g a w →
       Fit w (sum_by (λ c. get_or y.takes.items c 0) ((wiring s n).ins a))
       (sum_by (λ c. get_or y.puts.items c 0) ((wiring s n).outs a)) 1
   its_blocks (Source ext next block) is = tt
   its_blocks (Sink ext) is = tt
   its_blocks (Inner actor j state taken put lengths) is =
-      let it = inner_work s inputs outputs many (nets.node n a) past actor j state taken put lengths is in
+      let it = inner_work actor j state taken put lengths is in
+      let its = turning g actor.now it.0 in
       let turn : 1 * s.cycle actor.now ≡ s.cycle actor.now = omega arith in (
-        omega (
-          arith,
-          it.3.taken_cycle,
-          cycle.all_in s n net z sizes y cycles a known actor.now it.0 1,
-          ap (sum_in s actor.now 0) turn,
-        ),
-        omega (
-          arith,
-          it.3.put_cycle,
-          cycle.all_out s n net z sizes y cycles a known actor.now it.0 1,
-          ap (sum_out s actor.now 0) turn,
-        ),
+        omega (arith, it.3.taken_cycle, cycle.all_in its 1, ap (sum_in s actor.now 0) turn),
+        omega (arith, it.3.put_cycle, cycle.all_out its 1, ap (sum_out s actor.now 0) turn),
       )
 
-  pub has_rows : (w : Work A T S) → IsWork s inputs outputs many (nets.node n a) past w →
-      HasRows s z w ((wiring s n).ins a) ((wiring s n).outs a)
+  pub has_rows : (w : Work A T S) → Does g a w → HasRows s z w ((wiring s n).ins a) ((wiring s n).outs a)
   has_rows (Source ext next block) is = tt
   has_rows (Sink ext) is = tt
   has_rows (Inner actor j state taken put lengths) is =
-      let it = inner_work s inputs outputs many (nets.node n a) past actor j state taken put lengths is in (
-        cycle.rows_in s n net z sizes y cycles a known actor.now it.0,
-        cycle.rows_out s n net z sizes y cycles a known actor.now it.0,
-      )
+      let it = inner_work actor j state taken put lengths is in
+      let its = turning g actor.now it.0 in
+      (cycle.rows_in its, cycle.rows_out its)
 
--- a run stands where what it holds is the same
-pub stands_along : {A S T Z : Type 0} (s : Steps A S T) (n : Netlist A T) (inputs : List (List T)) (many k m : ℕ → ℕ)
-    (works works' : List (Work A T S)) (qs qs' : List (Held T)) (outputs : List (Vec T Z)) → k ≡ m →
-    (st : Stands s n inputs many k works qs outputs) → length works' ≡ length works → length qs' ≡ length qs →
-    ((c : ℕ) → c < length n.wires → samples qs' c ≡ samples qs c) →
-    ((b : ℕ) (d : Work A T S) → b < length n.nodes →
-    IsWork s inputs outputs (many b) (nets.node n b) (taken_before (wiring s n) st.history b (k b))
-    (get_or works b d) →
-    IsWork s inputs outputs (many b) (nets.node n b) (taken_before (wiring s n) st.history b (k b))
-    (get_or works' b d)) →
-    Stands s n inputs many m works' qs' outputs
-stands_along s n inputs many k m works works' qs qs' outputs same st same_works same_queues left each =
-    subst (λ j. Stands s n inputs many j works' qs' outputs) same
-    (record {
-      history = st.history;
-      is = st.is;
-      channels = same_queues ∙ st.channels;
-      left = λ c l. left c l ∙ st.left c l;
-      nodes = same_works ∙ st.nodes;
-      each = λ b d l. each b d l (st.each b d l);
-    })
+  -- a run stands where what it holds is the same
+  pub stands_along : {m : ℕ → ℕ} {works' : List (Work A T S)} {qs' : List (Held T)} → k ≡ m →
+      length works' ≡ length works → length qs' ≡ length qs →
+      ((c : ℕ) → c < length n.wires → samples qs' c ≡ samples qs c) →
+      ((b : ℕ) (d : Work A T S) → b < length n.nodes → Does g b (get_or works b d) → Does g b (get_or works' b d)) →
+      Stands s n inputs many m works' qs' outputs
+  stands_along {m} {works'} {qs'} same same_works same_queues left each =
+      subst (λ j. Stands s n inputs many j works' qs' outputs) same
+      (record {
+        history = st.history;
+        is = st.is;
+        channels = same_queues ∙ st.channels;
+        left = λ c l. left c l ∙ st.left c l;
+        nodes = same_works ∙ st.nodes;
+        each = λ b d l. each b d l (st.each b d l);
+      })
 
 -- what so many firings put is what each puts, one after another
 pub puts_chained : {A S T : Type 0} (s : Steps A S T) (x : A) (j : ℕ) (state : S) (b : List T) (i : ℕ) →

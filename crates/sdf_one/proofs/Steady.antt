@@ -2,23 +2,20 @@
 use Rattle.std.proofs.Common.{◌≡◌, ℕ, zero, suc, ◌+◌, ◌*◌, ◌%◌, ◌≤◌, ◌<◌, List, length, get_or, sym, ap, ◌∙◌, subst}
 use Rattle.std.proofs.Common.{arith}
 use Rattle.std.proofs.Math.Nat.{mod-one}
-use Rattle.std.specs.declared.vec.Vec.{Vec}
-use Rattle.sdf_actor.specs.Steps.{Steps}
 use Rattle.sdf_actor.specs.Nets as nets
-use Rattle.sdf_actor.specs.Nets.{Netlist, wiring, cycle_of}
+use Rattle.sdf_actor.specs.Nets.{wiring, cycle_of}
 use Rattle.sdf_one.specs.declared.work.Work.{Work}
-use Rattle.sdf_answer.specs.Held.{Held}
 use Rattle.sdf_answer.specs.Blocks.{samples}
-use Rattle.sdf_answer.specs.Sizes.{Rows, IsPlan, AreSizes, at_phase, phase_of}
+use Rattle.sdf_answer.specs.Sizes.{IsPlan, at_phase, phase_of}
 use Rattle.sdf_one.specs.Firings.{phase_at}
-use Rattle.sdf_one.specs.Runs.{Stands}
-use Rattle.sdf_one.proofs.Known.{Known, ins_all}
+use Rattle.sdf_one.proofs.Known.{ins_all}
+use Rattle.sdf_one.proofs.Holding.{Holding}
 use Rattle.sdf_one.proofs.Standing as standing
 
-module _ {A S T Z : Type 0} (s : Steps A S T) (n : Netlist A T) (net : Known s n) (z : Rows) (sizes : AreSizes s n z)
-    (inputs : List (List T)) (many k : ℕ → ℕ) (a : ℕ) (known : a < length n.nodes)
-    (works : List (Work A T S)) (qs : List (Held T)) (outputs : List (Vec T Z))
-    (st : Stands s n inputs many k works qs outputs) (d : Work A T S) (one_phase : cycle_of s (nets.node n a) ≡ 1) where
+module _ {A S T Z : Type 0} (g : Holding A S T Z) (d : Work A T S)
+    (one_phase : cycle_of g.s (nets.node g.n g.a) ≡ 1) where
+  open g use {s, n, net, z, sizes, k, a, known, works, qs}
+
   abbrev pub takes : List ℕ
   takes = at_phase z.takes (phase_at (get_or works a d))
 
@@ -28,7 +25,7 @@ module _ {A S T Z : Type 0} (s : Steps A S T) (n : Netlist A T) (net : Known s n
   same_phase : (i : ℕ) → phase_of s (nets.node n a) i ≡ phase_at (get_or works a d)
   same_phase i =
       let none : (j : ℕ) → phase_of s (nets.node n a) j ≡ 0 = (λ j. at_zero j) in
-      none i ∙ sym (standing.at s n net z sizes inputs many k a known works qs outputs st d ∙ none (k a))
+      none i ∙ sym (standing.at g d ∙ none (k a))
     where
       at_zero : (j : ℕ) → phase_of s (nets.node n a) j ≡ 0
       at_zero j = ap (λ c. j % c) one_phase ∙ mod-one j
@@ -71,5 +68,5 @@ module _ {A S T Z : Type 0} (s : Steps A S T) (n : Netlist A T) (net : Known s n
       subst (λ b. times * get_or takes b 0 ≤ length (samples qs b)) at.2 (held at.0 at.1) in
       let mine : (wiring s n).rates.consumed c (k ((wiring s n).rates.target c)) ≡ (wiring s n).rates.consumed c (k a) =
       ap (λ b. (wiring s n).rates.consumed c (k b)) e in
-      let stood = standing.standing s n net z sizes inputs many k a known works qs outputs st d c l in
+      let stood = standing.standing g d c l in
       omega (arith, stood, all_taken c l e times)

@@ -2,6 +2,7 @@
 use Rattle.std.proofs.Common.{◌≡◌, ℕ, zero, suc, ◌+◌, ◌-◌, ◌*◌, ◌^◌, ◌≤◌, ◌<◌, List, [], ◌∷◌, length, map, get_or, set}
 use Rattle.std.proofs.Common.{sum, cond, Bool, true, false, true≢false, IsTrue, refl, sym, ap, ◌∙◌, subst, inl, inr}
 use Rattle.std.proofs.Common.{◌⊎◌, arith}
+use Rattle.std.specs.Global.{Global}
 use Rattle.std.specs.List.{sum_by}
 use Rattle.std.proofs.Math.Nat.{mul-le-mul}
 use Rattle.std.proofs.lemmas.List.{length-map, length-set, get_or-set_same, get_or-set_other, get_or_default}
@@ -13,8 +14,7 @@ use Rattle.sdf_graph.specs.Rates.{IsSound}
 use Rattle.sdf_graph.proofs.Theorems.{lists_sum_within}
 use Rattle.sdf_sched.proofs.Theorems.{stuck_counts_mean_deadlock}
 use Rattle.sdf_actor.specs.Steps.{Steps, PutsFit}
-use Rattle.sdf_actor.specs.Histories.{taken_before}
-use Rattle.sdf_actor.specs.Nets.{node, wiring, InputsReach}
+use Rattle.sdf_actor.specs.Nets.{node, wiring}
 use Rattle.sdf_actor.specs.Wires.{lists}
 use Rattle.sdf_actor.specs.Laws.{HistoryGrowsByFiring}
 use Rattle.sdf_actor.proofs.Theorems.{nets_are_wired}
@@ -26,13 +26,13 @@ use Rattle.sdf_answer.specs.Sizes.{phase_of, at_phase}
 use Rattle.sdf_one.specs.Firings.{phase_at, IsActor}
 use Rattle.sdf_one.specs.AtOnce.{GoesAtOnce, CanFireAtOnceAt, AreFiredAt}
 use Rattle.sdf_one.specs.Many.{HasRows, GoesByMany, Fit, GoManyAt, CanFireManyAt, AreManyFiredAt, firings_in}
-use Rattle.sdf_one.specs.Runs.{IsWork, Stands, IsInRun, FiresAlone, CanFireAt, IsFiredAt}
+use Rattle.sdf_one.specs.Runs.{Stands, IsInRun, FiresAlone, CanFireAt, IsFiredAt}
 use Rattle.sdf_answer.specs.Answer.{periods_of}
 use Rattle.sdf_one.specs.Sweeps.{Sweeps, IsSwept, MayFire, HasRoom, Keeps, IsMoved, AreHeld}
 use Rattle.sdf_one.proofs.Readings.{some_of}
 use Rattle.sdf_one.proofs.AtOnce as at_once
 use Rattle.sdf_one.proofs.Known.{Known}
-use Rattle.sdf_one.proofs.Longer.{reaches}
+use Rattle.sdf_one.proofs.Holding.{Holding, Ahead, Cycling, After, Does}
 use Rattle.sdf_one.proofs.Many.{can_fire_many, stands_many}
 use Rattle.sdf_one.proofs.ManyWorks.{its_blocks, has_rows}
 use Rattle.sdf_one.proofs.Standing as standing
@@ -111,7 +111,7 @@ sweep_on s r r' x y z i still before moved here none b l may = go (cases_lt b i)
     go (inr past) = here (still none).1 (subst (λ b. MayFire s r b) (let e : b ≡ i = omega arith in e) back)
 
 -- what a step of a run stands on
-pub net_known : {A S T : Type 0} (s : Steps A S T) (r : Run A T S) → IsSwept s r → Known s r.net.now
+net_known : {A S T : Type 0} (s : Steps A S T) (r : Run A T S) → IsSwept s r → Known s r.net.now
 net_known s r sw = record { good = sw.good; wired = nets_are_wired s r.net.now sw.good }
 
 -- at the same ports and queues
@@ -121,43 +121,66 @@ holds_along ins ins' sizes sizes' qs qs' i s q h =
     subst (λ x. HoldBlocks x sizes' qs') i (subst (λ x. HoldBlocks ins x qs') s
     (subst (λ x. HoldBlocks ins sizes x) q h))
 
--- node a of a run may fire exactly where it has firings left and its channels hold what the next one takes
-module _ {A S T : Type 0} (s : Steps A S T) (r : Run A T S) (sw : IsSwept s r) (net : Known s r.net.now) (a : ℕ)
-    (known : a < length r.net.now.nodes) (d : Work A T S) where
+-- a node of a run that is swept
+pub record Swept (A S T : Type 0) : Type 0 where
+  pub s : Steps A S T
+  pub r : Run A T S
+  pub sw : IsSwept s r
+  pub a : ℕ
+  pub known : a < length r.net.now.nodes
+
+abbrev pub swept_node : {A S T : Type 0} (s : Steps A S T) (r : Run A T S) (sw : IsSwept s r) (a : ℕ) →
+    a < length r.net.now.nodes → Swept A S T
+swept_node s r sw a known = record { s = s; r = r; sw = sw; a = a; known = known }
+
+-- what a runner holds there
+abbrev holding : {A S T : Type 0} → Swept A S T → Holding A S T Global
+holding p = record {
+  base = record {
+    s = p.s;
+    n = p.r.net.now;
+    net = net_known p.s p.r p.sw;
+    z = p.r.sizes;
+    sizes = p.sw.sizes;
+    y = p.r.cycles;
+    cycles = p.sw.cycles;
+  };
+  a = p.a;
+  known = p.known;
+  inputs = lists p.r.inputs.now;
+  many = periods_of p.r.repetitions.now p.r.periods;
+  k = λ b. get_or p.r.done.items b 0;
+  works = p.r.works.items;
+  qs = p.r.queues.items;
+  outputs = p.r.outputs.items;
+  st = p.sw.stands;
+}
+
+-- the node may fire exactly where it has firings left and its channels hold what the next one takes
+module _ {A S T : Type 0} (p : Swept A S T) (d : Work A T S) where
+  open p use {s, r, sw, a, known}
+
   pub phase_in : phase_at (get_or r.works.items a d) < length r.sizes.takes
-  phase_in =
-      let at = standing.at s r.net.now net r.sizes sw.sizes (lists r.inputs.now)
-      (periods_of r.repetitions.now r.periods) (λ b. get_or r.done.items b 0) a known r.works.items r.queues.items
-      r.outputs.items sw.stands d in
-      omega (arith, at, sw.sizes.takes_known a (get_or r.done.items a 0) known)
+  phase_in = omega (arith, standing.at (holding p) d, sw.sizes.takes_known a (get_or r.done.items a 0) known)
 
   pub ports_in : ArePorts ((wiring s r.net.now).ins a) (at_phase r.sizes.takes (phase_at (get_or r.works.items a d)))
       (length r.queues.items)
-  ports_in = standing.ports_in s r.net.now net r.sizes sw.sizes (lists r.inputs.now)
-      (periods_of r.repetitions.now r.periods) (λ b. get_or r.done.items b 0) a known r.works.items r.queues.items
-      r.outputs.items sw.stands d
+  ports_in = standing.ports_in (holding p) d
 
   pub may_from : get_or r.done.items a 0 < r.high * get_or r.repetitions.now a 0 →
       HoldBlocks ((wiring s r.net.now).ins a) (at_phase r.sizes.takes (phase_at (get_or r.works.items a d)))
       r.queues.items → MayFire s r a
-  may_from left holds = (
-    known,
-    left,
-    standing.enabled s r.net.now net r.sizes sw.sizes (lists r.inputs.now)
-        (periods_of r.repetitions.now r.periods) (λ b. get_or r.done.items b 0) a known r.works.items r.queues.items
-        r.outputs.items sw.stands d holds,
-  )
+  may_from left holds = (known, left, standing.enabled (holding p) d holds)
 
   pub may_holds : MayFire s r a → HoldBlocks ((wiring s r.net.now).ins a)
       (at_phase r.sizes.takes (phase_at (get_or r.works.items a d))) r.queues.items
-  may_holds may = standing.held s r.net.now net r.sizes sw.sizes (lists r.inputs.now)
-      (periods_of r.repetitions.now r.periods) (λ b. get_or r.done.items b 0) a known r.works.items r.queues.items
-      r.outputs.items sw.stands d may.2
+  may_holds may = standing.held (holding p) d may.2
 
--- so many firings of node a of a run stay within the block
-module _ {A S T : Type 0} (s : Steps A S T) (r : Run A T S) (sw : IsSwept s r) (net : Known s r.net.now) (a : ℕ)
-    (known : a < length r.net.now.nodes) (times : ℕ)
-    (inside : get_or r.done.items a 0 + times ≤ r.high * get_or r.repetitions.now a 0) where
+-- so many firings of the node stay within the block
+module _ {A S T : Type 0} (p : Swept A S T) (times : ℕ)
+    (inside : get_or p.r.done.items p.a 0 + times ≤ p.r.high * get_or p.r.repetitions.now p.a 0) where
+  open p use {s, r, sw, a, known}
+
   abbrev before : ℕ → ℕ
   before b = get_or r.done.items b 0
 
@@ -204,21 +227,22 @@ module _ {A S T : Type 0} (s : Steps A S T) (r : Run A T S) (sw : IsSwept s r) (
       omega arith in e) in
       omega (arith, below b l)
 
-  reached : InputsReach r.net.now (lists r.inputs.now) after
-  reached = reaches r.net.now (lists r.inputs.now) (periods_of r.repetitions.now r.periods) after sw.reach within
+  abbrev ahead : Ahead (holding p) times
+  ahead = record { m = after; own = own; others = others; below = within }
 
   -- so the queues have room
   rooms : (c : ℕ) → c < length r.net.now.wires → tokens (wiring s r.net.now).rates after c ≤ room r.queues.items c
   rooms c l =
       let w = (wiring s r.net.now).rates in
+      let sound = (net_known s r sw).wired.sound in
       let x : ℕ = w.source c in
       let y : ℕ = w.target c in
       let up : w.produced c (after x) ≤ w.produced c (r.high * get_or r.repetitions.now x 0) =
-      net.wired.sound.produced_rises c (after x) (r.high * get_or r.repetitions.now x 0)
-      (below x (net.wired.sound.source_in c l)) in
+      sound.produced_rises c (after x) (r.high * get_or r.repetitions.now x 0)
+      (below x (sound.source_in c l)) in
       let down : w.consumed c (sw.low * get_or r.repetitions.now y 0) ≤ w.consumed c (after y) =
-      net.wired.sound.consumed_rises c (sw.low * get_or r.repetitions.now y 0) (after y)
-      (above y (net.wired.sound.target_in c l)) in
+      sound.consumed_rises c (sw.low * get_or r.repetitions.now y 0) (after y)
+      (above y (sound.target_in c l)) in
       omega (arith, sw.fits c l)
 
   few : before a + times < 2 ^ 63
@@ -229,8 +253,7 @@ module _ {A S T : Type 0} (s : Steps A S T) (r : Run A T S) (sw : IsSwept s r) (
       omega (arith, inside)
 
   at : (d : Work A T S) → phase_at (get_or r.works.items a d) ≡ phase_of s (node r.net.now a) (before a)
-  at d = standing.at s r.net.now net r.sizes sw.sizes (lists r.inputs.now) (periods_of r.repetitions.now r.periods)
-      before a known r.works.items r.queues.items r.outputs.items sw.stands d
+  at d = standing.at (holding p) d
 
   in_run : IsInRun r a times
   in_run = record {
@@ -307,47 +330,53 @@ module _ {A S T : Type 0} (s : Steps A S T) (r : Run A T S) (sw : IsSwept s r) (
       stays = λ e. absurd (true≢false e);
     }
 
+-- what its firings leave in a runner
+module _ {A S T : Type 0} (p : Swept A S T) where
+  open p use {s, r, sw, a, known}
+
+  its_work : Work A T S
+  its_work = some_of r.works.items a (omega (arith, sw.stands.nodes, known))
+
+  abbrev left_by : {times : ℕ} (r' : Run A T S) → FiresAlone r r' a times → After (holding p)
+  left_by r' alone = record {
+    works = r'.works.items;
+    same_works = alone.works;
+    w = get_or r'.works.items a its_work;
+    its = λ d. get_or_default r'.works.items a d its_work (omega (arith, alone.works, sw.stands.nodes, known));
+    rest = alone.others;
+    qs = r'.queues.items;
+    same_queues = alone.queues;
+  }
+
 -- a firing of an actor that may fire
-module _ {A S T : Type 0} (s : Steps A S T) (r : Run A T S) (sw : IsSwept s r) (net : Known s r.net.now) (a : ℕ)
-    (may : MayFire s r a)
-    (actor : (d : Work A T S) → IsActor (get_or r.works.items a d)) where
+module _ {A S T : Type 0} (p : Swept A S T) (may : MayFire p.s p.r p.a)
+    (actor : (d : Work A T S) → IsActor (get_or p.r.works.items p.a d)) where
+  open p use {s, r, sw, a}
+
   next : get_or r.done.items a 0 + 1 ≤ r.high * get_or r.repetitions.now a 0
   next = omega (arith, may.1)
 
   pub can_fire : CanFireAt s r a
   can_fire = record {
-    inside = in_run s r sw net a may.0 1 next;
+    inside = in_run p 1 next;
     can = λ d.
-        standing.can_fire s r.net.now net r.sizes sw.sizes (lists r.inputs.now) (periods_of r.repetitions.now r.periods)
-        (λ b. get_or r.done.items b 0) a may.0 r.works.items r.queues.items r.outputs.items sw.stands d
-        (after s r sw net a may.0 1 next) may.2 (own s r sw net a may.0 1 next) (others s r sw net a may.0 1 next)
-        (reached s r sw net a may.0 1 next) (actor d) (rooms s r sw net a may.0 1 next);
+        standing.can_fire (holding p) d (ahead p 1 next) may.2 sw.reach (actor d) (rooms p 1 next);
   }
 
   module _ (grows : HistoryGrowsByFiring s) (r' : Run A T S) (fired : IsFiredAt s r r' a) where
-    filler : Work A T S
-    filler = some_of r.works.items a (omega (arith, sw.stands.nodes, may.0))
-
-    stands : Stands s r.net.now (lists r.inputs.now) (periods_of r.repetitions.now r.periods)
-        (after s r sw net a may.0 1 next) r'.works.items r'.queues.items r'.outputs.items
+    stands : Stands s r.net.now (lists r.inputs.now) (periods_of r.repetitions.now r.periods) (after p 1 next)
+        r'.works.items r'.queues.items r'.outputs.items
     stands =
-        subst (λ x. Stands s r.net.now (lists r.inputs.now) (periods_of r.repetitions.now r.periods)
-        (after s r sw net a may.0 1 next) r'.works.items r'.queues.items x.items) (sym fired.lists)
-        (standing.fired_stands s r.net.now net r.sizes sw.sizes (lists r.inputs.now)
-        (periods_of r.repetitions.now r.periods) (λ b. get_or r.done.items b 0) a may.0 r.works.items
-        r.queues.items r.outputs.items sw.stands filler
-        (after s r sw net a may.0 1 next) may.2 (own s r sw net a may.0 1 next) (others s r sw net a may.0 1 next)
-        (reached s r sw net a may.0 1 next) (actor filler)
-        grows (get_or r'.works.items a filler) r'.queues.items (fired.fired filler) fired.alone.queues r'.works.items
-        fired.alone.works
-        (λ e. get_or_default r'.works.items a e filler (omega (arith, fired.alone.works, sw.stands.nodes, may.0)))
-        fired.alone.others)
+        subst (λ x. Stands s r.net.now (lists r.inputs.now) (periods_of r.repetitions.now r.periods) (after p 1 next)
+        r'.works.items r'.queues.items x.items) (sym fired.lists)
+        (standing.fired_stands (holding p) (its_work p) (ahead p 1 next) may.2 sw.reach (actor (its_work p)) grows
+        (left_by p r' fired.alone) (fired.fired (its_work p)))
 
     pub swept : IsSwept s r'
-    swept = swept_on s r sw net a may.0 1 next r' fired.alone (fired.fired filler).rooms stands
+    swept = swept_on p 1 next r' fired.alone (fired.fired (its_work p)).rooms stands
 
     pub moved : IsMoved r r' true
-    moved = moved_by s r sw net a may.0 1 next r' fired.alone (fired.fired filler).rooms stands (omega arith)
+    moved = moved_by p 1 next r' fired.alone (fired.fired (its_work p)).rooms stands (omega arith)
 
 -- the work of a node of a run, as it is read
 pub goes_at : {A S T : Type 0} (s : Steps A S T) (r : Run A T S) (a : ℕ) → a < length r.works.items →
@@ -365,97 +394,66 @@ pub actor_at : {A S T : Type 0} (works : List (Work A T S)) (a : ℕ) → a < le
 actor_at works a known w is actor d = subst IsActor (is ∙ get_or_default works a w d known) actor
 
 -- so many firings at once of one whose firings can be done so
-module _ {A S T : Type 0} (s : Steps A S T) (r : Run A T S) (sw : IsSwept s r) (net : Known s r.net.now) (a : ℕ)
-    (known : a < length r.net.now.nodes) (times : ℕ)
-    (inside : get_or r.done.items a 0 + times ≤ r.high * get_or r.repetitions.now a 0)
-    (goes : (d : Work A T S) → GoesAtOnce s (get_or r.works.items a d) ((wiring s r.net.now).ins a)
-    ((wiring s r.net.now).outs a)) (held : AreHeld s r a times) where
+module _ {A S T : Type 0} (p : Swept A S T) (times : ℕ)
+    (inside : get_or p.r.done.items p.a 0 + times ≤ p.r.high * get_or p.r.repetitions.now p.a 0)
+    (goes : (d : Work A T S) → GoesAtOnce p.s (get_or p.r.works.items p.a d) ((wiring p.s p.r.net.now).ins p.a)
+    ((wiring p.s p.r.net.now).outs p.a)) (held : AreHeld p.s p.r p.a times) where
+  open p use {s, r, sw, a}
+
   pub can_fire_at_once : CanFireAtOnceAt s r a times
   can_fire_at_once = record {
-    inside = in_run s r sw net a known times inside;
-    can = λ d.
-        at_once.can_fire s r.net.now net r.sizes sw.sizes (lists r.inputs.now) (periods_of r.repetitions.now r.periods)
-        (λ b. get_or r.done.items b 0) a known r.works.items r.queues.items r.outputs.items sw.stands d (goes d)
-        times (after s r sw net a known times inside) (own s r sw net a known times inside)
-        (others s r sw net a known times inside) (within s r sw net a known times inside) (held d 0) sw.reach
-        (rooms s r sw net a known times inside);
+    inside = in_run p times inside;
+    can = λ d. at_once.can_fire (holding p) d (goes d) (ahead p times inside) (held d 0) sw.reach (rooms p times inside);
   }
 
   module _ (grows : HistoryGrowsByFiring s) (r' : Run A T S) (fired : AreFiredAt s r r' a times) where
-    first : Work A T S
-    first = some_of r.works.items a (omega (arith, sw.stands.nodes, known))
-
     all_stand : Stands s r.net.now (lists r.inputs.now) (periods_of r.repetitions.now r.periods)
-        (after s r sw net a known times inside) r'.works.items r'.queues.items r'.outputs.items
+        (after p times inside) r'.works.items r'.queues.items r'.outputs.items
     all_stand =
-        at_once.fired_stands s r.net.now net r.sizes sw.sizes (lists r.inputs.now)
-        (periods_of r.repetitions.now r.periods) (λ b. get_or r.done.items b 0) a known r.works.items r.queues.items
-        r.outputs.items sw.stands first (goes first)
-        times (after s r sw net a known times inside) (own s r sw net a known times inside)
-        (others s r sw net a known times inside) (within s r sw net a known times inside) (held first 0) grows
-        sw.reach sw.apart (get_or r'.works.items a first) r'.queues.items r'.outputs.items (fired.fired first)
-        fired.alone.queues
-        fired.alone.outputs r'.works.items fired.alone.works
-        (λ e. get_or_default r'.works.items a e first (omega (arith, fired.alone.works, sw.stands.nodes, known)))
-        fired.alone.others
+        at_once.fired_stands (holding p) (its_work p) (goes (its_work p)) (ahead p times inside) (held (its_work p) 0)
+        grows sw.reach sw.apart (left_by p r' fired.alone) r'.outputs.items (fired.fired (its_work p))
+        fired.alone.outputs
 
     pub swept_at_once : IsSwept s r'
-    swept_at_once = swept_on s r sw net a known times inside r' fired.alone (fired.fired first).rooms all_stand
+    swept_at_once = swept_on p times inside r' fired.alone (fired.fired (its_work p)).rooms all_stand
 
     pub moved_at_once : 0 < times → IsMoved r r' true
-    moved_at_once some = moved_by s r sw net a known times inside r' fired.alone
-        (fired.fired first).rooms all_stand some
+    moved_at_once = moved_by p times inside r' fired.alone (fired.fired (its_work p)).rooms all_stand
 
 -- so many cycles of an actor through its blocks
-module _ {A S T : Type 0} (s : Steps A S T) (fits : (x : A) → PutsFit s x) (r : Run A T S) (sw : IsSwept s r)
-    (net : Known s r.net.now) (a : ℕ) (known : a < length r.net.now.nodes) (times : ℕ)
-    (inside : get_or r.done.items a 0 + firings_in s r a times ≤ r.high * get_or r.repetitions.now a 0)
-    (go : GoManyAt s r a times) where
+module _ {A S T : Type 0} (p : Swept A S T) (fits : (x : A) → PutsFit p.s x) (times : ℕ)
+    (inside : get_or p.r.done.items p.a 0 + firings_in p.s p.r p.a times ≤ p.r.high * get_or p.r.repetitions.now p.a 0)
+    (go : GoManyAt p.s p.r p.a times) where
+  open p use {s, r, sw, a}
+
   abbrev all : ℕ
   all = firings_in s r a times
 
-  does : (d e : Work A T S) → get_or r.works.items a e ≡ get_or r.works.items a d
-  does d e = get_or_default r.works.items a e d (omega (arith, sw.stands.nodes, known))
+  abbrev cycling : Cycling (holding p)
+  cycling = record { fits = fits; goes = go.goes; times = times; ahead = ahead p all inside; held = go.held }
 
   pub can_fire_many_at : CanFireManyAt s r a times
   can_fire_many_at = record {
-    inside = in_run s r sw net a known all inside;
+    inside = in_run p all inside;
     can = λ d.
-        can_fire_many s fits r.net.now net r.sizes sw.sizes r.cycles sw.cycles (lists r.inputs.now)
-        (periods_of r.repetitions.now r.periods) (λ b. get_or r.done.items b 0) a known r.works.items r.queues.items
-        r.outputs.items sw.stands
-        times (after s r sw net a known all inside) (own s r sw net a known all inside)
-        (others s r sw net a known all inside) (within s r sw net a known all inside) go.held
-        (get_or r.works.items a d) (does d) (go.goes d) (go.fit d)
-        (let v : all < 2 ^ 63 = omega (arith, few s r sw net a known all inside) in v)
-        (rooms s r sw net a known all inside);
+        can_fire_many (holding p) cycling d (go.fit d)
+        (let v : all < 2 ^ 63 = omega (arith, few p all inside) in v) (rooms p all inside);
   }
 
   module _ (grows : HistoryGrowsByFiring s) (r' : Run A T S) (fired : AreManyFiredAt s r r' a times) where
-    its : Work A T S
-    its = some_of r.works.items a (omega (arith, sw.stands.nodes, known))
-
     many_stand : Stands s r.net.now (lists r.inputs.now) (periods_of r.repetitions.now r.periods)
-        (after s r sw net a known all inside) r'.works.items r'.queues.items r'.outputs.items
+        (after p all inside) r'.works.items r'.queues.items r'.outputs.items
     many_stand =
         subst (λ x. Stands s r.net.now (lists r.inputs.now) (periods_of r.repetitions.now r.periods)
-        (after s r sw net a known all inside) r'.works.items r'.queues.items x.items) (sym fired.lists)
-        (stands_many s fits r.net.now net r.sizes sw.sizes r.cycles sw.cycles (lists r.inputs.now)
-        (periods_of r.repetitions.now r.periods) (λ b. get_or r.done.items b 0) a known r.works.items r.queues.items
-        r.outputs.items sw.stands
-        times (after s r sw net a known all inside) (own s r sw net a known all inside)
-        (others s r sw net a known all inside) (within s r sw net a known all inside) go.held
-        (get_or r.works.items a its) (does its) (go.goes its) grows sw.reach
-        (get_or r'.works.items a its) r'.queues.items (fired.fired its) fired.alone.queues r'.works.items
-        fired.alone.works
-        (λ e. get_or_default r'.works.items a e its (omega (arith, fired.alone.works, sw.stands.nodes, known)))
-        fired.alone.others)
+        (after p all inside) r'.works.items r'.queues.items x.items) (sym fired.lists)
+        (stands_many (holding p) cycling (its_work p) grows sw.reach (left_by p r' fired.alone)
+        (fired.fired (its_work p)))
 
     pub swept_many : IsSwept s r'
-    swept_many = swept_on s r sw net a known all inside r' fired.alone (fired.fired its).rooms many_stand
+    swept_many = swept_on p all inside r' fired.alone (fired.fired (its_work p)).rooms many_stand
 
     pub moved_many : 0 < all → IsMoved r r' true
-    moved_many some = moved_by s r sw net a known all inside r' fired.alone (fired.fired its).rooms many_stand some
+    moved_many = moved_by p all inside r' fired.alone (fired.fired (its_work p)).rooms many_stand
 
 -- a node that fired has fired more often
 pub further : {A S T : Type 0} (s : Steps A S T) (r r' : Run A T S) (a times : ℕ) → IsSwept s r →
@@ -467,84 +465,73 @@ further s r r' a times sw known alone some =
     (omega (arith, sw.all, known)) in
     omega (arith, now, some)
 
--- the ports of a node of a run, its work as it is read, and what its cycles move
-module _ {A S T : Type 0} (s : Steps A S T) (r : Run A T S) (sw : IsSwept s r) (net : Known s r.net.now) (a : ℕ)
-    (known : a < length r.net.now.nodes) (w : Work A T S) (is : w ≡ get_or r.works.items a w) where
-  work_is : IsWork s (lists r.inputs.now) r.outputs.items (periods_of r.repetitions.now r.periods a) (node r.net.now a)
-      (taken_before (wiring s r.net.now) sw.stands.history a (get_or r.done.items a 0)) w
-  work_is = subst (IsWork s (lists r.inputs.now) r.outputs.items (periods_of r.repetitions.now r.periods a)
-      (node r.net.now a) (taken_before (wiring s r.net.now) sw.stands.history a (get_or r.done.items a 0)))
-      (sym is) (sw.stands.each a w known)
+-- the node's work as it is read, its ports, and what its cycles move there
+module _ {A S T : Type 0} (p : Swept A S T) {w : Work A T S} {ins outs takes puts : List ℕ} {qs : List (Held T)}
+    (is : w ≡ get_or p.r.works.items p.a w) (into : ins ≡ (wiring p.s p.r.net.now).ins p.a)
+    (from : outs ≡ (wiring p.s p.r.net.now).outs p.a) (by : takes ≡ p.r.cycles.takes.items)
+    (on : puts ≡ p.r.cycles.puts.items) (queues : qs ≡ p.r.queues.items) where
+  open p use {s, r, sw, a, known}
 
-  rows_are : HasRows s r.sizes w ((wiring s r.net.now).ins a) ((wiring s r.net.now).outs a)
-  rows_are = has_rows s r.net.now net r.sizes sw.sizes r.cycles sw.cycles (lists r.inputs.now) r.outputs.items
-      (periods_of r.repetitions.now r.periods a) a known
-      (taken_before (wiring s r.net.now) sw.stands.history a (get_or r.done.items a 0)) w work_is
+  work_is : Does (holding p) a w
+  work_is = subst (Does (holding p) a) (sym is) (sw.stands.each a w known)
 
-  module _ (ins outs takes puts : List ℕ) (qs : List (Held T)) (into : ins ≡ (wiring s r.net.now).ins a)
-      (from : outs ≡ (wiring s r.net.now).outs a) (by : takes ≡ r.cycles.takes.items)
-      (on : puts ≡ r.cycles.puts.items) (queues : qs ≡ r.queues.items) where
-    in_sum : sum_by (λ c. get_or takes c 0) ins ≡
-        sum_by (λ c. get_or r.cycles.takes.items c 0) ((wiring s r.net.now).ins a)
-    in_sum = λ i. sum_by (λ c. get_or (by i) c 0) (into i)
+  in_sum : sum_by (λ c. get_or takes c 0) ins ≡
+      sum_by (λ c. get_or r.cycles.takes.items c 0) ((wiring s r.net.now).ins a)
+  in_sum = λ i. sum_by (λ c. get_or (by i) c 0) (into i)
 
-    out_sum : sum_by (λ c. get_or puts c 0) outs ≡
-        sum_by (λ c. get_or r.cycles.puts.items c 0) ((wiring s r.net.now).outs a)
-    out_sum = λ i. sum_by (λ c. get_or (on i) c 0) (from i)
+  out_sum : sum_by (λ c. get_or puts c 0) outs ≡
+      sum_by (λ c. get_or r.cycles.puts.items c 0) ((wiring s r.net.now).outs a)
+  out_sum = λ i. sum_by (λ c. get_or (on i) c 0) (from i)
 
-    pub rows_at : HasRows s r.sizes w ins outs
-    rows_at = subst (λ x. HasRows s r.sizes w x outs) (sym into)
-        (subst (λ x. HasRows s r.sizes w ((wiring s r.net.now).ins a) x) (sym from) rows_are)
+  pub rows_at : HasRows s r.sizes w ins outs
+  rows_at = subst (λ x. HasRows s r.sizes w x outs) (sym into)
+      (subst (λ x. HasRows s r.sizes w ((wiring s r.net.now).ins a) x) (sym from) (has_rows (holding p) w work_is))
 
-    pub blocks_at : Fit w (sum_by (λ c. get_or takes c 0) ins) (sum_by (λ c. get_or puts c 0) outs) 1
-    blocks_at =
-        subst (λ v. Fit w v (sum_by (λ c. get_or puts c 0) outs) 1) (sym in_sum)
-        (subst (λ v. Fit w (sum_by (λ c. get_or r.cycles.takes.items c 0) ((wiring s r.net.now).ins a)) v 1)
-        (sym out_sum)
-        (its_blocks s r.net.now net r.sizes sw.sizes r.cycles sw.cycles (lists r.inputs.now) r.outputs.items
-        (periods_of r.repetitions.now r.periods a) a known
-        (taken_before (wiring s r.net.now) sw.stands.history a (get_or r.done.items a 0)) w work_is))
+  pub blocks_at : Fit w (sum_by (λ c. get_or takes c 0) ins) (sum_by (λ c. get_or puts c 0) outs) 1
+  blocks_at =
+      subst (λ v. Fit w v (sum_by (λ c. get_or puts c 0) outs) 1) (sym in_sum)
+      (subst (λ v. Fit w (sum_by (λ c. get_or r.cycles.takes.items c 0) ((wiring s r.net.now).ins a)) v 1)
+      (sym out_sum) (its_blocks (holding p) w work_is))
 
-    pub ins_at : ArePorts ins takes (length qs)
-    ins_at =
-        let ports = ports_in s r sw net a known w in
-        let all : length takes ≡ length r.queues.items =
-        ap length by ∙ (sw.cycles.takes_all ∙ sym sw.stands.channels) in
-        subst (λ x. ArePorts x takes (length qs)) (sym into)
-        (subst (λ x. ArePorts ((wiring s r.net.now).ins a) takes (length x)) (sym queues)
-        (record { known = ports.known; sized = all; once = ports.once }))
+  pub ins_at : ArePorts ins takes (length qs)
+  ins_at =
+      let ports = ports_in p w in
+      let all : length takes ≡ length r.queues.items =
+      ap length by ∙ (sw.cycles.takes_all ∙ sym sw.stands.channels) in
+      subst (λ x. ArePorts x takes (length qs)) (sym into)
+      (subst (λ x. ArePorts ((wiring s r.net.now).ins a) takes (length x)) (sym queues)
+      (record { known = ports.known; sized = all; once = ports.once }))
 
-    pub outs_at : ArePorts outs puts (length qs)
-    outs_at =
-        let all : length puts ≡ length r.queues.items = ap length on ∙ (sw.cycles.puts_all ∙ sym sw.stands.channels) in
-        subst (λ x. ArePorts x puts (length qs)) (sym from)
-        (subst (λ x. ArePorts ((wiring s r.net.now).outs a) puts (length x)) (sym queues)
-        (record {
-          known = λ p l. omega (arith, (net.wired.outs_are a p known l).0, sw.stands.channels);
-          sized = all;
-          once = λ p q l h. net.wired.outs_once a p q known l h;
-        }))
+  pub outs_at : ArePorts outs puts (length qs)
+  outs_at =
+      let all : length puts ≡ length r.queues.items = ap length on ∙ (sw.cycles.puts_all ∙ sym sw.stands.channels) in
+      subst (λ x. ArePorts x puts (length qs)) (sym from)
+      (subst (λ x. ArePorts ((wiring s r.net.now).outs a) puts (length x)) (sym queues)
+      (record {
+        known = λ q l. omega (arith, ((net_known s r sw).wired.outs_are a q known l).0, sw.stands.channels);
+        sized = all;
+        once = λ u v l h. (net_known s r sw).wired.outs_once a u v known l h;
+      }))
 
-    pub go_at : (times : ℕ) → GoesByMany s r.sizes w ins outs → HoldManyBlocks times ins takes qs →
-        Fit w (sum_by (λ c. get_or takes c 0) ins) (sum_by (λ c. get_or puts c 0) outs) times → GoManyAt s r a times
-    go_at times goes held fit = record {
-      goes = λ d. subst (λ x. GoesByMany s r.sizes x ((wiring s r.net.now).ins a) ((wiring s r.net.now).outs a))
-          (is ∙ get_or_default r.works.items a w d place_in)
-          (subst (λ x. GoesByMany s r.sizes w x ((wiring s r.net.now).outs a)) into
-          (subst (λ x. GoesByMany s r.sizes w ins x) from goes));
-      held = subst (λ x. HoldManyBlocks times x r.cycles.takes.items r.queues.items) into
-          (subst (λ x. HoldManyBlocks times ins x r.queues.items) by
-          (subst (λ x. HoldManyBlocks times ins takes x) queues held));
-      fit = λ d. subst (λ x. Fit x (sum_by (λ c. get_or r.cycles.takes.items c 0) ((wiring s r.net.now).ins a))
-          (sum_by (λ c. get_or r.cycles.puts.items c 0) ((wiring s r.net.now).outs a)) times)
-          (is ∙ get_or_default r.works.items a w d place_in)
-          (subst (λ v. Fit w v (sum_by (λ c. get_or r.cycles.puts.items c 0) ((wiring s r.net.now).outs a)) times)
-          in_sum
-          (subst (λ v. Fit w (sum_by (λ c. get_or takes c 0) ins) v times) out_sum fit));
-    }
-      where
-        place_in : a < length r.works.items
-        place_in = omega (arith, sw.stands.nodes, known)
+  pub go_at : (times : ℕ) → GoesByMany s r.sizes w ins outs → HoldManyBlocks times ins takes qs →
+      Fit w (sum_by (λ c. get_or takes c 0) ins) (sum_by (λ c. get_or puts c 0) outs) times → GoManyAt s r a times
+  go_at times goes held fit = record {
+    goes = λ d. subst (λ x. GoesByMany s r.sizes x ((wiring s r.net.now).ins a) ((wiring s r.net.now).outs a))
+        (is ∙ get_or_default r.works.items a w d place_in)
+        (subst (λ x. GoesByMany s r.sizes w x ((wiring s r.net.now).outs a)) into
+        (subst (λ x. GoesByMany s r.sizes w ins x) from goes));
+    held = subst (λ x. HoldManyBlocks times x r.cycles.takes.items r.queues.items) into
+        (subst (λ x. HoldManyBlocks times ins x r.queues.items) by
+        (subst (λ x. HoldManyBlocks times ins takes x) queues held));
+    fit = λ d. subst (λ x. Fit x (sum_by (λ c. get_or r.cycles.takes.items c 0) ((wiring s r.net.now).ins a))
+        (sum_by (λ c. get_or r.cycles.puts.items c 0) ((wiring s r.net.now).outs a)) times)
+        (is ∙ get_or_default r.works.items a w d place_in)
+        (subst (λ v. Fit w v (sum_by (λ c. get_or r.cycles.puts.items c 0) ((wiring s r.net.now).outs a)) times) in_sum
+        (subst (λ v. Fit w (sum_by (λ c. get_or takes c 0) ins) v times) out_sum fit));
+  }
+    where
+      place_in : a < length r.works.items
+      place_in = omega (arith, sw.stands.nodes, known)
 
 -- a sweep that fires leaves less, and one that does not is the last
 goes_less : (a b : Bool) (all x y : ℕ) → IsTrue a → x ≤ y → y ≤ all → (IsTrue b → x < y) →

@@ -5,16 +5,14 @@ use Rattle.std.specs.List.{sum_by}
 use Rattle.std.proofs.Math.Nat.{mod-eq_of_lt, mod-add-mod, mul-mod_left, suc-mul, zero-mul}
 use Rattle.std.proofs.lemmas.Bool.{cases_lt}
 use Rattle.std.proofs.lemmas.List.Sums.{sum_by-cons}
-use Rattle.sdf_actor.specs.declared.node.Node.TheVariants as node
-use Rattle.sdf_actor.specs.Steps.{Steps, total_in, total_out, sum_in, sum_out}
+use Rattle.sdf_actor.specs.Steps.{total_in, total_out, sum_in, sum_out}
 use Rattle.sdf_actor.specs.Nets as nets
-use Rattle.sdf_actor.specs.Nets.{Netlist, wiring}
+use Rattle.sdf_actor.specs.Nets.{wiring}
 use Rattle.sdf_answer.specs.Moves.{FitsPorts}
-use Rattle.sdf_answer.specs.Sizes.{Rows, IsPlan, AreSizes, at_phase, in_all, out_all}
+use Rattle.sdf_answer.specs.Sizes.{IsPlan, at_phase, in_all, out_all}
 use Rattle.sdf_answer.proofs.Theorems.{plans_fit}
-use Rattle.sdf_one.specs.Cycles.{AreCycles, AreRowsAt, IsInTurn}
-use Rattle.sdf_one.specs.declared.cycles.Cycles.{Cycles}
-use Rattle.sdf_one.proofs.Known.{Known}
+use Rattle.sdf_one.specs.Cycles.{AreRowsAt, IsInTurn}
+use Rattle.sdf_one.proofs.Holding.{Turning}
 
 -- one phase more serves the ports in turn
 pub turn_more : (ports : List ℕ) (rows : List (List ℕ)) (i last next : ℕ) (row : List ℕ) → row ≡ at_phase rows i →
@@ -111,9 +109,9 @@ cycles_move moved turns one none is ahead (suc t) =
     ap moved (let v : suc t * turns ≡ t * turns + turns = omega (arith, suc-mul t turns) in v) in
     omega (arith, more, is, ahead t, cycles_move moved turns one none is ahead t, suc-mul t one)
 
-module _ {A S T : Type 0} (s : Steps A S T) (n : Netlist A T) (net : Known s n) (z : Rows) (sizes : AreSizes s n z)
-    (y : Cycles) (cycles : AreCycles s n y) (a : ℕ) (known : a < length n.nodes) (x : A)
-    (is : nets.node n a ≡ node.Inner x) where
+module _ {A S T : Type 0} (its : Turning A S T) where
+  open its use {s, n, net, z, sizes, y, cycles, a, known, x, is}
+
   abbrev ins : List ℕ
   ins = (wiring s n).ins a
 

@@ -104,10 +104,10 @@ module _ {A S T : Type 0} {s : Steps A S T} {n : Netlist A T} {a : ℕ}
     {ps : List (Option (Producer T Global AnyItems))} {xs : List (Option (Consumer T Global AnyItems))}
     (x : AtNode s n a ps xs) where
   ins_all : length ((wiring s n).ins a) ≡ inputs_of s (node n a)
-  ins_all = ins_long s n x.good x.wired a x.known
+  ins_all = ins_long x.good x.known
 
   outs_all : length ((wiring s n).outs a) ≡ outputs_of s (node n a)
-  outs_all = outs_long s n x.good x.wired a x.known
+  outs_all = outs_long x.good x.known
 
   -- the end at each of its ports is there
   pub ins_there : (i : ℕ) → i < length ((wiring s n).ins a) → IsSome (end_at xs (get_or ((wiring s n).ins a) i 0))
@@ -131,8 +131,8 @@ module _ {A S T : Type 0} {s : Steps A S T} {n : Netlist A T} {a : ℕ}
   pub ins_once : (i k : ℕ) → i < length ((wiring s n).ins a) → k < length ((wiring s n).ins a) →
       get_or ((wiring s n).ins a) i 0 ≡ get_or ((wiring s n).ins a) k 0 → i ≡ k
   ins_once i k hi hk e =
-      let at_i = port_at s n x.good a i x.known (omega (arith, ins_all)) in
-      let at_k = port_at s n x.good a k x.known (omega (arith, ins_all)) in
+      let at_i = port_at x.good a i x.known (omega (arith, ins_all)) in
+      let at_k = port_at x.good a k x.known (omega (arith, ins_all)) in
       sym at_i.2 ∙ (ap (λ c. (wire n c).to.1) e ∙ at_k.2)
 
   module _ (ins : List (Consumer T Global AnyItems)) (taken : TakenOut xs ((wiring s n).ins a) ins) where
@@ -150,7 +150,7 @@ module _ {A S T : Type 0} {s : Steps A S T} {n : Netlist A T} {a : ℕ}
         end_at xs c ≡ Some (get_or ins (wire n c).to.1 d)
     ins_at c d l e =
         let at : get_or ((wiring s n).ins a) (wire n c).to.1 0 ≡ c =
-        ap (λ b. get_or ((wiring s n).ins b) (wire n c).to.1 0) (sym e) ∙ in_channel s n x.good c l in
+        ap (λ b. get_or ((wiring s n).ins b) (wire n c).to.1 0) (sym e) ∙ in_channel x.good c l in
         let long : (wire n c).to.1 < inputs_of s (node n a) =
         subst (λ b. (wire n c).to.1 < inputs_of s (node n b)) e (x.good.to_in c l).1 in
         subst (λ k. end_at xs k ≡ Some (get_or ins (wire n c).to.1 d)) at
@@ -171,7 +171,7 @@ module _ {A S T : Type 0} {s : Steps A S T} {n : Netlist A T} {a : ℕ}
         end_at ps c ≡ Some (get_or outs (wire n c).from.1 d)
     outs_at c d l e =
         let at : get_or ((wiring s n).outs a) (wire n c).from.1 0 ≡ c =
-        ap (λ b. get_or ((wiring s n).outs b) (wire n c).from.1 0) (sym e) ∙ out_channel s n x.good c l in
+        ap (λ b. get_or ((wiring s n).outs b) (wire n c).from.1 0) (sym e) ∙ out_channel x.good c l in
         let long : (wire n c).from.1 < outputs_of s (node n a) =
         subst (λ b. (wire n c).from.1 < outputs_of s (node n b)) e (x.good.from_in c l).1 in
         subst (λ k. end_at ps k ≡ Some (get_or outs (wire n c).from.1 d)) at

@@ -14,7 +14,7 @@ use Rattle.sdf_graph.specs.Sequences.{times, IsEnabled, tokens}
 use Rattle.sdf_prec.specs.Next.{HasRoom}
 use Rattle.sdf_prec.proofs.Theorems.{next_may_fire}
 use Rattle.sdf_actor.specs.Steps.{Steps}
-use Rattle.sdf_actor.specs.Nets.{Netlist, wire, node, wiring, inputs_of, outputs_of, consumed_at, produced_at, to_port}
+use Rattle.sdf_actor.specs.Nets.{wire, node, wiring, inputs_of, outputs_of, consumed_at, produced_at, to_port}
 use Rattle.sdf_actor.specs.Nets.{from_port}
 use Rattle.sdf_actor.specs.declared.sides.Side.TheVariants.{Input, Output}
 use Rattle.sdf_actor.proofs.Theorems.{nets_are_wired, ports_have_channels}
@@ -23,7 +23,7 @@ use Rattle.sdf_rings.specs.declared.stand.Stand.{Stand}
 use Rattle.sdf_rings.specs.declared.seat.Seat.{Seat}
 use Rattle.sdf_rings.specs.Stands.{CanFire}
 use Rattle.sdf_rings.specs.Seats.{HasFirst, times_between}
-use Rattle.sdf_rings.specs.Rests.{stand_of, producer_of, consumer_of, AreRings, HaveMet, AreAtRest}
+use Rattle.sdf_rings.specs.Rests.{stand_of, producer_of, consumer_of, InHand, AreRings, HaveMet, AreAtRest}
 use Rattle.sdf_rings.specs.Asks.{IsPlanned, SomeFirst}
 use Rattle.sdf_rings.specs.Totals.{total_left}
 use Rattle.sdf_rings.proofs.Dealt.{part, done, IsFirst, first_left, part_times, part_all, times_map}
@@ -33,11 +33,12 @@ use Rattle.sdf_rings.proofs.Looking.{vec_in}
 use Rattle.sdf_rings.proofs.Tells.{some}
 use Rattle.sdf_rings.proofs.Placed.{outs_of, ins_of, one_node}
 
-module _ {A S T : Type 0} (s : Steps A S T) (n : Netlist A T) (inputs : List (List T)) (seats : List (Seat A T S))
-    (places : List (ℕ × ℕ))
-    (r : AreRings s (record { net = n; inputs = inputs; seats = seats; places = places }))
-    (met : HaveMet n seats places) (at_rest : AreAtRest s n inputs seats places)
-    (order : List ℕ) (cap : ℕ → ℕ) (plan : IsPlanned s n seats places order cap) where
+module _ {A S T : Type 0} {s : Steps A S T} {hand : InHand A S T} (r : AreRings s hand)
+    (met : HaveMet hand.net hand.seats hand.places)
+    (at_rest : AreAtRest s hand.net hand.inputs hand.seats hand.places)
+    {order : List ℕ} {cap : ℕ → ℕ} (plan : IsPlanned s hand.net hand.seats hand.places order cap) where
+  open hand use {net as n, inputs, seats, places}
+
   abbrev home : ℕ → ℕ
   home a = (get_or places a (0, 0)).0
 
@@ -56,7 +57,7 @@ module _ {A S T : Type 0} (s : Steps A S T) (n : Netlist A T) (inputs : List (Li
         stand (get_or (part home order (home b)) j 0) ≡ stand b → get_or (part home order (home b)) j 0 ≡ b
     part_apart b d l j h e =
         let is = part_all home order (home b) (λ a. a < length n.nodes) (λ i m. (plan.admissible i m).0) j h in
-        one_node n seats places r.placed (get_or (part home order (home b)) j 0) b e0 d is.0 l is.1 e
+        one_node r.placed e0 d is.0 l is.1 e
 
     -- so many of the firings of b stand in the first m of its seat's list
     counted : (b : ℕ) → Stand A T S → b < length n.nodes → (m : ℕ) → m ≤ length (part home order (home b)) →
@@ -128,7 +129,7 @@ module _ {A S T : Type 0} (s : Steps A S T) (n : Netlist A T) (inputs : List (Li
             let from = r.is_net.from_in c l in
             let to = r.is_net.to_in c l in
             let outs = stand_of n seats places e0 d0 (wire n c).from.0 in
-            let all = outs_of s n inputs seats places r (wire n c).from.0 e0 d0 from.0 in
+            let all = outs_of r e0 d0 from.0 in
             let y = some outs.outs.items (wire n c).from.1
             (vec_in outs.outs (wire n c).from.1 (omega (arith, from.1))) in
             let there = held c x y l in
@@ -157,7 +158,7 @@ module _ {A S T : Type 0} (s : Steps A S T) (n : Netlist A T) (inputs : List (Li
             x : Consumer T Global AnyItems
             x =
                 let ins = (stand_of n seats places e0 d0 (wire n c).to.0).ins in
-                let all = ins_of s n inputs seats places r (wire n c).to.0 e0 d0 to in
+                let all = ins_of r e0 d0 to in
                 some ins.items (wire n c).to.1 (vec_in ins (wire n c).to.1 (omega (arith, (r.is_net.to_in c l).1)))
 
             go : ((wire n c).from.0 ≡ (wire n c).to.0) ⊎ ((wire n c).from.0 ≡ (wire n c).to.0 → ⊥) →
@@ -206,7 +207,7 @@ module _ {A S T : Type 0} (s : Steps A S T) (n : Netlist A T) (inputs : List (Li
             record {
               holds = λ p x h.
                   let l : p < inputs_of s (node n first) = let all =
-                  ins_of s n inputs seats places r first e0 d0 known in omega arith in
+                  ins_of r e0 d0 known in omega arith in
                   let c : ℕ = to_port n first p in
                   let at = (ports_have_channels s n first p r.is_net known).0 l in
                   let h' = hold_at c x (r.is_net.to_all first p known l) at.0 in
@@ -220,7 +221,7 @@ module _ {A S T : Type 0} (s : Steps A S T) (n : Netlist A T) (inputs : List (Li
                   (sym is) moved;
               has_room = λ p y h.
                   let l : p < outputs_of s (node n first) = let all =
-                  outs_of s n inputs seats places r first e0 d0 known in omega arith in
+                  outs_of r e0 d0 known in omega arith in
                   let c : ℕ = from_port n first p in
                   let at = (ports_have_channels s n first p r.is_net known).1 l in
                   let h' = room_at c y (r.is_net.from_all first p known l) at.0 in

@@ -15,9 +15,8 @@ use Rattle.sdf_rings.specs.Rests.{stand_of, IsPlaced, AreGiven}
 use Rattle.sdf_rings.proofs.Tells.{some_stand}
 use Rattle.sdf_rings.proofs.Placed.{one_node}
 
-module _ {A S T : Type 0} (n : Netlist A T) (sinks : HasSinks n) (seats : List (Seat A T S)) (places : List (ℕ × ℕ))
-    (placed : IsPlaced n seats places)
-    (cur new : List (Seat A T S)) (a : ℕ) (known : a < length n.nodes)
+module _ {A S T : Type 0} {n : Netlist A T} (sinks : HasSinks n) {seats : List (Seat A T S)} {places : List (ℕ × ℕ)}
+    (placed : IsPlaced n seats places) {cur new : List (Seat A T S)} {a : ℕ} (known : a < length n.nodes)
     (stands : (j : ℕ) (e : Seat A T S) → vec_len (get_or cur j e).stands ≡ vec_len (get_or seats j e).stands)
     (rest : (b : ℕ) (e : Seat A T S) (d : Stand A T S) → a ≤ b → b < length n.nodes →
     stand_of n cur places e d b ≡ stand_of n seats places e d b)
@@ -32,14 +31,14 @@ module _ {A S T : Type 0} (n : Netlist A T) (sinks : HasSinks n) (seats : List (
       stand_of n new places e d b ≡ stand_of n seats places e d b
   rest_more b e d h l =
       (u e d).others (get_or places b (0, 0)).0 (get_or places b (0, 0)).1 e d
-      (λ z. let same = one_node n seats places placed b a e d l known z.0 z.1 in omega arith) ∙
+      (λ z. let same = one_node placed e d l known z.0 z.1 in omega arith) ∙
       rest b e d (omega arith) l
 
-  pub given_more : (outputs outputs' : List (Vec T Global)) →
+  pub given_more : {outputs outputs' : List (Vec T Global)} →
       ((e : Seat A T S) (d : Stand A T S) → IsCollected (node n a) (stand_of n cur places e d a).state
       outputs outputs') →
       AreGiven n seats places a outputs → AreGiven n seats places (a + 1) outputs'
-  given_more outputs outputs' one before b ext block made e d h is at = go (cases_lt b a)
+  given_more {outputs} {outputs'} one before b ext block made e d h is at = go (cases_lt b a)
     where
       go : (b < a) ⊎ (a ≤ b) → get_or (lists outputs') ext [] ≡ made.items
       go (inl less) = (one e d).others ext (λ other here. absurd

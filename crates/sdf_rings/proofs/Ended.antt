@@ -11,7 +11,7 @@ use Rattle.sdf_actor.specs.Histories.{taken_before}
 use Rattle.sdf_actor.specs.Laws.{AreCountsOf}
 use Rattle.sdf_actor.specs.NetFaults.{IsAccepted}
 use Rattle.sdf_actor.specs.declared.rest.Rest.{Rest}
-use Rattle.sdf_actor.specs.Nets.{Netlist, node, wire, wiring, arrived}
+use Rattle.sdf_actor.specs.Nets.{node, wiring, arrived}
 use Rattle.sdf_actor.specs.Sides.{list_count}
 use Rattle.sdf_actor.specs.Steps.{Steps}
 use Rattle.sdf_actor.specs.Wires.{lists}
@@ -23,17 +23,18 @@ use Rattle.sdf_answer.proofs.Theorems.{sinks_take_all}
 use Rattle.sdf_rings.specs.declared.stand.Stand.{Stand}
 use Rattle.sdf_rings.specs.declared.seat.Seat.{Seat}
 use Rattle.sdf_rings.specs.Seats.{times_between}
-use Rattle.sdf_rings.specs.Rests.{stand_of, AreRings, StandAtRest, AreAtRest, HoldRest, AreGiven}
+use Rattle.sdf_rings.specs.Rests.{stand_of, InHand, AreRings, StandAtRest, AreAtRest, HoldRest, AreGiven}
 use Rattle.sdf_rings.specs.Asks.{IsPlanned}
 use Rattle.sdf_rings.specs.Totals.{total_left}
 use Rattle.sdf_rings.proofs.Reading.{a_seat, a_stand, taker, rest_at}
 use Rattle.sdf_rings.proofs.Times.{times_none}
 use Rattle.sdf_rings.proofs.Totals.{total_some}
 
-module _ {A S T : Type 0} (s : Steps A S T) (n : Netlist A T) (inputs : List (List T)) (seats : List (Seat A T S))
-    (places : List (ℕ × ℕ))
-    (r : AreRings s (record { net = n; inputs = inputs; seats = seats; places = places }))
-    (order : List ℕ) (cap : ℕ → ℕ) (plan : IsPlanned s n seats places order cap) (none : total_left seats ≡ 0) where
+module _ {A S T : Type 0} {s : Steps A S T} {hand : InHand A S T} (r : AreRings s hand)
+    {order : List ℕ} {cap : ℕ → ℕ} (plan : IsPlanned s hand.net hand.seats hand.places order cap)
+    (none : total_left hand.seats ≡ 0) where
+  open hand use {net as n, inputs, seats, places}
+
   ended : (a : ℕ) (e : Seat A T S) (d : Stand A T S) → a < length n.nodes →
       (stand_of n seats places e d a).done ≡ times order a
   ended a e d l =
@@ -52,11 +53,11 @@ module _ {A S T : Type 0} (s : Steps A S T) (n : Netlist A T) (inputs : List (Li
       let asked = plan.asks.asked a e d l in
       omega arith
 
-  module _ (at_rest : AreAtRest s n inputs seats places) (q : List ℕ) (accepted : IsAccepted s n q) (k : ℕ → ℕ)
+  module _ (at_rest : AreAtRest s n inputs seats places) {q : List ℕ} (accepted : IsAccepted s n q) {k : ℕ → ℕ}
       (counts : AreCountsOf n order k) where
     -- all that was asked is done
     at_end : StandAtRest s n inputs seats places k
-    at_end = rest_at s n inputs seats places r at_rest q accepted k (λ a e d l. ended a e d l ∙ sym (counts a l))
+    at_end = rest_at r at_rest accepted (λ a e d l. ended a e d l ∙ sym (counts a l))
 
     module _ (outputs : List (Vec T Global))
         (count : length outputs ≡ list_count Outputs n.nodes)
@@ -64,8 +65,8 @@ module _ {A S T : Type 0} (s : Steps A S T) (n : Netlist A T) (inputs : List (Li
       sink_given : (a ext block : ℕ) → a < length n.nodes → node n a ≡ kind.Sink ext block →
           get_or (lists outputs) ext [] ≡ arrived s n k at_end.history a
       sink_given a ext block l is =
-          let e = a_seat s n inputs seats places r a l in
-          let d = a_stand s n inputs seats places r a l in
+          let e = a_seat r l in
+          let d = a_stand r l in
           let z = stand_of n seats places e d a in
           let at : IsAt s inputs z.asked (kind.Sink ext block)
           (taken_before (wiring s n) at_end.history a (k a)) z.state =
@@ -85,8 +86,8 @@ module _ {A S T : Type 0} (s : Steps A S T) (n : Netlist A T) (inputs : List (Li
       }
 
       -- and what the seats hold is left
-      pub run_given : (rest : Rest T S) → HoldRest n seats places rest → HasRun s n inputs k (lists outputs) rest
-      run_given rest held = record {
+      pub run_given : {rest : Rest T S} → HoldRest n seats places rest → HasRun s n inputs k (lists outputs) rest
+      run_given {rest} held = record {
         history = at_end.history;
         is = at_end.is;
         count = length-map outputs (λ v. v.items) ∙ count;
@@ -94,8 +95,8 @@ module _ {A S T : Type 0} (s : Steps A S T) (n : Netlist A T) (inputs : List (Li
         left = record {
           nodes = held.nodes;
           states = λ a l.
-              let e = a_seat s n inputs seats places r a l in
-              let d = a_stand s n inputs seats places r a l in
+              let e = a_seat r l in
+              let d = a_stand r l in
               let z = stand_of n seats places e d a in
               held.states_held a e d l ∙
               nodes_keep_states s inputs z.asked (node n a) (taken_before (wiring s n) at_end.history a (k a)) z.state
@@ -103,9 +104,9 @@ module _ {A S T : Type 0} (s : Steps A S T) (n : Netlist A T) (inputs : List (Li
           channels = held.channels;
           held = λ c l.
               let to = r.is_net.to_in c l in
-              let e = a_seat s n inputs seats places r (wire n c).to.0 to.0 in
-              let d = a_stand s n inputs seats places r (wire n c).to.0 to.0 in
-              held.items_held c e d (taker s n inputs seats places r c l e d) l
-              ∙ at_end.left c e d (taker s n inputs seats places r c l e d) l;
+              let e = a_seat r to.0 in
+              let d = a_stand r to.0 in
+              held.items_held c e d (taker r l e d) l
+              ∙ at_end.left c e d (taker r l e d) l;
         };
       }

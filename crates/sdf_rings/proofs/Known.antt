@@ -14,7 +14,7 @@ use Rattle.sdf_actor.proofs.Theorems.{ports_have_channels}
 use Rattle.sdf_rings.specs.declared.stand.Stand.{Stand}
 use Rattle.sdf_rings.specs.Stands.{IsStand}
 
-module _ {A S T : Type 0} (s : Steps A S T) (n : Netlist A T) (good : IsNet s n) where
+module _ {A S T : Type 0} {s : Steps A S T} {n : Netlist A T} (good : IsNet s n) where
   -- the channel at its own port
   pub out_channel : (c : ℕ) → c < length n.wires → get_or ((wiring s n).outs (wire n c).from.0) (wire n c).from.1 0 ≡ c
   out_channel c l =
@@ -36,9 +36,9 @@ module _ {A S T : Type 0} (s : Steps A S T) (n : Netlist A T) (good : IsNet s n)
       get_or-map-range_with_len (to_port n a) 0 (inputs_of s (node n a)) p p 0 in_range.1 (omega arith)
       ∙ good.to_once (to_port n a p) c (good.to_all a p in_range.0 in_range.1) l same
 
-  pub port_below : (a : ℕ) (channels : List ℕ) (i m : ℕ) → channels ≡ (wiring s n).ins a → i < length channels →
+  pub port_below : (a : ℕ) {channels : List ℕ} {i m : ℕ} → channels ≡ (wiring s n).ins a → i < length channels →
       m ≡ inputs_of s (node n a) → i < m
-  port_below a channels i m is h all =
+  port_below a {channels} {i} {m} is h all =
       let long : length channels ≡ inputs_of s (node n a) =
       ap length is ∙ length-map-range_with_len (to_port n a) 0 (inputs_of s (node n a)) in
       omega arith
@@ -53,23 +53,23 @@ module _ {A S T : Type 0} (s : Steps A S T) (n : Netlist A T) (good : IsNet s n)
       (good.to_all a p known h, is.0, is.1)
 
   -- the channel of a link into node a, and from it too
-  pub from_below : (a : ℕ) (channels : List ℕ) (i : ℕ) (w : Wire T) → a < length n.nodes →
+  pub from_below : (a : ℕ) {channels : List ℕ} {i : ℕ} {w : Wire T} → a < length n.nodes →
       channels ≡ (wiring s n).ins a → i < length channels → w ≡ wire n (get_or channels i 0) → w.from.0 ≡ a →
       w.from.1 < outputs_of s (node n a)
-  from_below a channels i w known is h w_is own =
+  from_below a {channels} {i} {w} known is h w_is own =
       let c : ℕ = get_or ((wiring s n).ins a) i 0 in
       let here : w ≡ wire n c = w_is ∙ ap (λ cs. wire n (get_or cs i 0)) is in
-      let at = port_at a i known (port_below a channels i (inputs_of s (node n a)) is h refl) in
+      let at = port_at a i known (port_below a is h refl) in
       subst (λ v. v.from.1 < outputs_of s (node n a)) (sym here)
       (subst (λ b. (wire n c).from.1 < outputs_of s (node n b)) (ap (λ v. v.from.0) (sym here) ∙ own)
       (good.from_in c at.0).1)
 
-  pub at_port : (a p c : ℕ) → c < length n.wires → (wire n c).to.0 ≡ a → (wire n c).to.1 ≡ p →
+  pub at_port : {a p c : ℕ} → c < length n.wires → (wire n c).to.0 ≡ a → (wire n c).to.1 ≡ p →
       get_or ((wiring s n).ins a) p 0 ≡ c
-  at_port a p c l t e = (λ i. get_or ((wiring s n).ins (sym t i)) (sym e i) 0) ∙ in_channel c l
+  at_port {a} {p} {c} l t e = (λ i. get_or ((wiring s n).ins (sym t i)) (sym e i) 0) ∙ in_channel c l
 
   -- what the ends of a stand that is node a have moved
-  module _ (inputs : List (List T)) (z : Stand A T S) (st : IsStand s n inputs z) (a : ℕ) (is : z.actor ≡ a) where
+  module _ {inputs : List (List T)} {z : Stand A T S} (st : IsStand s n inputs z) {a : ℕ} (is : z.actor ≡ a) where
     pub as_local : IsLocal (wiring s n) (answers s n inputs) a z.done st.own
     as_local = subst (λ b. IsLocal (wiring s n) (answers s n inputs) b z.done st.own) is st.local
 

@@ -12,7 +12,7 @@ use Rattle.sdf_rings.specs.declared.seat.Seat.{Seat}
 use Rattle.sdf_rings.specs.declared.meet.Spot.{Spot}
 use Rattle.sdf_rings.specs.Places.{stand_at, consumer_at, HoldsOfStand, OnlyIns, TakesAt, SameStand, SameButEnds}
 use Rattle.sdf_rings.specs.Places.{IsEmptied}
-use Rattle.sdf_rings.specs.Rests.{consumer_of, IsPlaced, AreRings, spot_of, AreGiven}
+use Rattle.sdf_rings.specs.Rests.{consumer_of, IsPlaced, InHand, AreRings, spot_of, AreGiven}
 use Rattle.sdf_rings.proofs.Placed.{one_node, ins_of}
 use Rattle.sdf_rings.proofs.Swaps.{ins_changed, ends_join, seat_join_same, same_place, ButEnds, same_stand_of}
 use Rattle.sdf_rings.proofs.Tells.{some, some_stand}
@@ -97,7 +97,7 @@ module _ {A T S : Type 0} where
     };
   }
 
-  module _ (n : Netlist A T) (seats new : List (Seat A T S)) (places : List (ℕ × ℕ)) (placed : IsPlaced n seats places)
+  module _ {n : Netlist A T} {seats new : List (Seat A T S)} {places : List (ℕ × ℕ)} (placed : IsPlaced n seats places)
       (same : SameButEnds seats new) where
     pub placed_kept : IsPlaced n new places
     placed_kept = record {
@@ -115,10 +115,10 @@ module _ {A T S : Type 0} where
         given a ext block made e d l is ((same.each_stand (get_or places a (0, 0)).0 (get_or places a (0, 0)).1 e
         d).state_same ∙ at)
 
-  module _ (s : Steps A S T) (n : Netlist A T) (inputs : List (List T)) (seats : List (Seat A T S))
-      (places : List (ℕ × ℕ))
-      (r : AreRings s (record { net = n; inputs = inputs; seats = seats; places = places })) (cur : List (Seat A T S))
-      (same : SameButEnds seats cur) (m : ℕ) (known : m < length n.wires) where
+  module _ {s : Steps A S T} {hand : InHand A S T} (r : AreRings s hand) {cur : List (Seat A T S)}
+      (same : SameButEnds hand.seats cur) {m : ℕ} (known : m < length hand.net.wires) where
+    open hand use {net as n, inputs, seats, places}
+
     -- the ring of a channel has a place for its consumer
     pub takes_at : TakesAt cur (spot_of places (wire n m).to)
     takes_at =
@@ -126,20 +126,20 @@ module _ {A T S : Type 0} where
         let b : ℕ = (wire n m).to.0 in
         let i : ℕ = (get_or places b (0, 0)).0 in
         let k : ℕ = (get_or places b (0, 0)).1 in
-        let placed = placed_kept n seats cur places r.placed same in
+        let placed = placed_kept r.placed same in
         record {
           seat_in = placed.seat_in b to.0;
           stand_in = λ e. placed.stand_in b e to.0;
-          port_in = λ e d. let h = ins_of s n inputs seats places r b e d to.0 in let j =
+          port_in = λ e d. let h = ins_of r e d to.0 in let j =
               (same.each_stand i k e d).ins_len_same in omega (arith, h, j, to.1);
         }
 
     -- the rings of other channels stay as they are
-    pub others_kept : (new : List (Seat A T S)) → IsEmptied cur new (spot_of places (wire n m).to) →
-        (c : ℕ) (e : Seat A T S) (d : Stand A T S) (x : Consumer T Global AnyItems) → m < c → c < length n.wires →
+    pub others_kept : {new : List (Seat A T S)} → IsEmptied cur new (spot_of places (wire n m).to) →
+        {c : ℕ} (e : Seat A T S) (d : Stand A T S) (x : Consumer T Global AnyItems) → m < c → c < length n.wires →
         consumer_of n new places e d x c ≡ consumer_of n cur places e d x c
-    others_kept new gone c e d x more l =
+    others_kept {new} gone {c} e d x more l =
         gone.others_kept (spot_of places (wire n c).to) e d x (λ z.
-        let node = one_node n seats places r.placed (wire n c).to.0 (wire n m).to.0 e d (r.is_net.to_in c l).0
+        let node = one_node r.placed e d (r.is_net.to_in c l).0
         (r.is_net.to_in m known).0 z.0 z.1 in
         let one = r.is_net.to_once c m l known (λ i. (node i, z.2 i)) in omega (arith, one, more))

@@ -8,12 +8,11 @@ use Rattle.rtrb.specs.declared.producer.Producer.{Producer}
 use Rattle.rtrb.specs.declared.consumer.Consumer.{Consumer}
 use Rattle.rtrb.specs.declared.AnyItems.{AnyItems}
 use Rattle.sdf_actor.specs.Steps.{Steps}
-use Rattle.sdf_actor.specs.Histories.{IsWired, taken_before}
+use Rattle.sdf_actor.specs.Histories.{taken_before}
 use Rattle.sdf_actor.specs.Locals.{IsLocal}
 use Rattle.sdf_actor.specs.Nets.{Netlist, wire, node, wiring, answers, inputs_of, outputs_of, IsNet}
 use Rattle.sdf_actor.specs.Sides.{moved_at}
 use Rattle.sdf_actor.specs.declared.sides.Side.TheVariants.{Input, Output}
-use Rattle.sdf_actor.proofs.Theorems.{nets_are_wired}
 use Rattle.sdf_node.specs.Nodes.{IsAt}
 use Rattle.sdf_node.specs.declared.node.NodeState.{NodeState}
 use Rattle.sdf_rings.specs.declared.stand.Stand.{Stand}
@@ -23,74 +22,83 @@ use Rattle.sdf_rings.proofs.Known.{received_at, in_in, port_at}
 use Rattle.sdf_rings.proofs.OwnEnds.{own_pairs_kept}
 use Rattle.sdf_rings.proofs.Looking.{vec_in, items_long}
 
--- the stand behind its next so many firings, with a new state, its ends and its working blocks as they are then
-abbrev pub stand_after : {A S T : Type 0} → Stand A T S → ℕ → NodeState T S → Vec (Consumer T Global AnyItems) Global →
-    Vec (Producer T Global AnyItems) Global → Vec T Global → Vec T Global → Stand A T S
-stand_after x more w ins outs tv pv = record x {
+-- the ends and the working blocks of a stand that took and put these at its ports
+pub record HoldsThen {A S T : Type 0} (x : Stand A T S) (taken_at put_at : ℕ → List T) : Type 0 where
+  pub ins : Vec (Consumer T Global AnyItems) Global
+  pub outs : Vec (Producer T Global AnyItems) Global
+  pub taken : Vec T Global
+  pub put : Vec T Global
+  pub drew : DrewEach x.ins.items ins.items taken_at
+  pub gave : GaveEach x.outs.items outs.items put_at
+  pub ins_is : vec_len ins ≡ vec_len x.ins
+  pub outs_is : vec_len outs ≡ vec_len x.outs
+  pub taken_is : length taken.items ≡ length x.taken.items
+  pub put_is : length put.items ≡ length x.put.items
+
+-- the stand behind its next so many firings, with its state and what it holds then
+abbrev pub stand_after : {A S T : Type 0} (x : Stand A T S) {taken_at put_at : ℕ → List T} → ℕ → NodeState T S →
+    HoldsThen x taken_at put_at → Stand A T S
+stand_after x more w held = record x {
   state = w;
-  ins = ins;
-  outs = outs;
-  taken = tv;
-  put = pv;
+  ins = held.ins;
+  outs = held.outs;
+  taken = held.taken;
+  put = held.put;
   done = x.done + more;
 }
 
--- from own to W the node has fired more times: at each port it took and put so much more
-pub record HasGoneOn {A S T : Type 0} (s : Steps A S T) (n : Netlist A T) (inputs : List (List T)) (x : Stand A T S)
-    (own W : ℕ → List T) (more : ℕ) (taken put : ℕ → List T) : Type 0 where
-  pub local : IsLocal (wiring s n) (answers s n inputs) x.actor (x.done + more) W
-  pub into : (c : ℕ) → c < length n.wires → (wire n c).to.0 ≡ x.actor →
-      take ((wiring s n).rates.consumed c (x.done + more)) (W c) ≡
-      take ((wiring s n).rates.consumed c x.done) (own c) ++ taken (wire n c).to.1
-  pub out : (i : ℕ) → i < outputs_of s (node n x.actor) →
-      W (get_or ((wiring s n).outs x.actor) i 0) ≡ own (get_or ((wiring s n).outs x.actor) i 0) ++ put i
-  pub taken_count : (i : ℕ) → i < inputs_of s (node n x.actor) →
-      length (taken i) + moved_at s Input (node n x.actor) i x.done ≡
-      moved_at s Input (node n x.actor) i (x.done + more)
-  pub put_count : (i : ℕ) → i < outputs_of s (node n x.actor) →
-      length (put i) + moved_at s Output (node n x.actor) i x.done ≡
-      moved_at s Output (node n x.actor) i (x.done + more)
+module _ {A S T : Type 0} {s : Steps A S T} {n : Netlist A T} {inputs : List (List T)} {x : Stand A T S}
+    (st : IsStand s n inputs x) where
+  -- it has fired more times and knows W of its channels: its state, and what it took and put at each port
+  pub record HasGoneOn (more : ℕ) (taken put : ℕ → List T) (w : NodeState T S) : Type 0 where
+    pub left : x.done + more ≤ x.asked
+    pub W : ℕ → List T
+    pub local : IsLocal (wiring s n) (answers s n inputs) x.actor (x.done + more) W
+    pub at : IsAt s inputs x.asked (node n x.actor) (taken_before (wiring s n) W x.actor (x.done + more)) w
+    pub into : (c : ℕ) → c < length n.wires → (wire n c).to.0 ≡ x.actor →
+        take ((wiring s n).rates.consumed c (x.done + more)) (W c) ≡
+        take ((wiring s n).rates.consumed c x.done) (st.own c) ++ taken (wire n c).to.1
+    pub out : (i : ℕ) → i < outputs_of s (node n x.actor) →
+        W (get_or ((wiring s n).outs x.actor) i 0) ≡ st.own (get_or ((wiring s n).outs x.actor) i 0) ++ put i
+    pub taken_count : (i : ℕ) → i < inputs_of s (node n x.actor) →
+        length (taken i) + moved_at s Input (node n x.actor) i x.done ≡
+        moved_at s Input (node n x.actor) i (x.done + more)
+    pub put_count : (i : ℕ) → i < outputs_of s (node n x.actor) →
+        length (put i) + moved_at s Output (node n x.actor) i x.done ≡
+        moved_at s Output (node n x.actor) i (x.done + more)
 
-module _ {A S T : Type 0} (s : Steps A S T) (n : Netlist A T) (good : IsNet s n)
-    (inputs : List (List T)) (x : Stand A T S) (st : IsStand s n inputs x)
-    (more : ℕ) (left : x.done + more ≤ x.asked) (W : ℕ → List T) (taken put : ℕ → List T)
-    (on : HasGoneOn s n inputs x st.own W more taken put)
-    (w : NodeState T S) (at : IsAt s inputs x.asked (node n x.actor)
-    (taken_before (wiring s n) W x.actor (x.done + more)) w)
-    (ins : Vec (Consumer T Global AnyItems) Global) (outs : Vec (Producer T Global AnyItems) Global)
-    (tv pv : Vec T Global)
-    (drew : DrewEach x.ins.items ins.items taken) (gave : GaveEach x.outs.items outs.items put)
-    (ins_is : vec_len ins ≡ vec_len x.ins) (outs_is : vec_len outs ≡ vec_len x.outs)
-    (tv_is : length tv.items ≡ length x.taken.items) (pv_is : length pv.items ≡ length x.put.items) where
-  wired : IsWired (wiring s n)
-  wired = nets_are_wired s n good
+module _ {A S T : Type 0} {s : Steps A S T} {n : Netlist A T} (good : IsNet s n) {inputs : List (List T)}
+    {x : Stand A T S} (st : IsStand s n inputs x) {more : ℕ} {taken put : ℕ → List T} {w : NodeState T S}
+    (on : HasGoneOn st more taken put w) (held : HoldsThen x taken put) where
+  open on use {W}
+  open held use {ins, outs, drew, gave, ins_is, outs_is, taken_is, put_is}
 
   took_then : (c : ℕ) (d : Consumer T Global AnyItems) → c < length n.wires → (wire n c).to.0 ≡ x.actor →
       received (get_or ins.items (wire n c).to.1 d) ≡ take ((wiring s n).rates.consumed c (x.done + more)) (W c)
   took_then c d l e =
       let h : (wire n c).to.1 < length x.ins.items =
-      vec_in x.ins (wire n c).to.1 (in_in s n good inputs x st x.actor refl c l e) in
+      vec_in x.ins (wire n c).to.1 (in_in good st refl c l e) in
       (drew (wire n c).to.1 d h).received_then ∙ (ap (λ r. r ++ taken (wire n c).to.1)
-      (received_at s n good inputs x st x.actor refl c d l e) ∙ sym (on.into c l e))
+      (received_at good st refl c d l e) ∙ sym (on.into c l e))
 
   abbrev y : Stand A T S
-  y = stand_after x more w ins outs tv pv
+  y = stand_after x more w held
 
   on_stand : IsStand s n inputs y
   on_stand = record {
     known = st.known;
     own_pairs = own_pairs_kept n x.actor x.ins.items ins.items x.outs.items outs.items taken put
         (items_long ins x.ins ins_is) (items_long outs x.outs outs_is) drew gave st.own_pairs;
-    within = left;
+    within = on.left;
     own = W;
     local = on.local;
-    at = at;
+    at = on.at;
     ins_all = ins_is ∙ st.ins_all;
     outs_all = outs_is ∙ st.outs_all;
     took = λ i d h.
         let l : i < inputs_of s (node n x.actor) = omega (arith, st.ins_all) in
         let c : ℕ = get_or ((wiring s n).ins x.actor) i 0 in
-        let is = port_at s n good x.actor i st.known l in
+        let is = port_at good x.actor i st.known l in
         ap (λ j. received (get_or ins.items j d)) (sym is.2) ∙ took_then c d is.0 is.1;
     gave = λ i d h.
         let l : i < vec_len x.outs = omega arith in
@@ -99,8 +107,8 @@ module _ {A S T : Type 0} (s : Steps A S T) (n : Netlist A T) (good : IsNet s n)
     phases = st.phases;
     takes = st.takes;
     puts = st.puts;
-    taken_long = λ few k. let long = st.taken_long (omega arith) k in omega arith;
-    put_long = λ few k. let long = st.put_long (omega arith) k in omega arith;
+    taken_long = λ few k. let long = st.taken_long (omega arith) k in omega (arith, taken_is);
+    put_long = λ few k. let long = st.put_long (omega arith) k in omega (arith, put_is);
   }
 
   on_moved : HasMoved s n x y

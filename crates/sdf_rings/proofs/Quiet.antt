@@ -9,22 +9,20 @@ use Rattle.rtrb.specs.Ring.{known_items, producer_capacity}
 use Rattle.rtrb.specs.declared.producer.Producer.{Producer}
 use Rattle.rtrb.specs.declared.consumer.Consumer.{Consumer}
 use Rattle.rtrb.specs.declared.AnyItems.{AnyItems}
-use Rattle.sdf_graph.specs.Sequences.{times, repeated}
+use Rattle.sdf_graph.specs.Sequences.{times}
 use Rattle.sdf_actor.specs.declared.node.Node.{Node}
 use Rattle.sdf_actor.specs.declared.node.Node.TheVariants as kind
 use Rattle.sdf_actor.specs.Histories.{taken_before}
 use Rattle.sdf_actor.specs.NetFaults.{IsAccepted}
-use Rattle.sdf_actor.specs.Nets.{Netlist, node, wire, wiring}
+use Rattle.sdf_actor.specs.Nets.{node, wire, wiring}
 use Rattle.sdf_actor.specs.Steps.{Steps, state_after}
 use Rattle.sdf_node.specs.declared.node.NodeState.{NodeState}
 use Rattle.sdf_node.specs.Nodes.{IsAt}
-use Rattle.sdf_rings.specs.declared.seat.Seat.{Seat}
 use Rattle.sdf_rings.specs.Asks.{IsPlanned}
 use Rattle.sdf_rings.specs.Ends.{IsMet}
 use Rattle.sdf_rings.specs.MachineLaws.{Idle, resting, state_on, taken_on, IsStateOf, IsWithin, IsQuiescent, HasGrown}
-use Rattle.sdf_rings.specs.MachineLaws.{capacity}
 use Rattle.sdf_rings.specs.Quiescence.{IsMadeOf, AreQuiescent}
-use Rattle.sdf_rings.specs.Rests.{stand_of, state_in, producer_of, consumer_of, AreRings, HaveMet, StandAtRest}
+use Rattle.sdf_rings.specs.Rests.{stand_of, state_in, producer_of, consumer_of, InHand, AreRings, HaveMet, StandAtRest}
 use Rattle.sdf_rings.specs.Rests.{AreAtRest}
 use Rattle.sdf_rings.proofs.Dealt.{bit, times_cons}
 use Rattle.sdf_rings.proofs.Plans.{plan_sequence}
@@ -76,20 +74,22 @@ state_made s inputs many (kind.Sink ext size) past w state at is = tt
 state_made s inputs many (kind.Inner z) past w state at is =
     same_Some state (state_after s z past) (sym (is z refl) ∙ state_is s inputs many z past w at)
 
-module _ {A S T : Type 0} (s : Steps A S T) (n : Netlist A T) (inputs : List (List T))
-    (seats : List (Seat A T S)) (places : List (ℕ × ℕ))
-    (r : AreRings s (record { net = n; inputs = inputs; seats = seats; places = places }))
-    (met : HaveMet n seats places) (at_rest : AreAtRest s n inputs seats places)
-    (q : List ℕ) (accepted : IsAccepted s n q) (order : List ℕ) (cap : ℕ → ℕ)
-    (plan : IsPlanned s n seats places order cap) (x : Idle S T) (made : IsMadeOf n seats places x) where
+module _ {A S T : Type 0} {s : Steps A S T} {hand : InHand A S T} (r : AreRings s hand)
+    (met : HaveMet hand.net hand.seats hand.places)
+    (at_rest : AreAtRest s hand.net hand.inputs hand.seats hand.places)
+    {q : List ℕ} (accepted : IsAccepted s hand.net q) {order : List ℕ} {cap : ℕ → ℕ}
+    (plan : IsPlanned s hand.net hand.seats hand.places order cap) {x : Idle S T}
+    (made : IsMadeOf hand.net hand.seats hand.places x) where
+  open hand use {net as n, inputs, seats, places}
+
   at : StandAtRest s n inputs seats places x.done
-  at = rest_at s n inputs seats places r at_rest q accepted x.done (λ a e d l. sym (made.dones a e d l))
+  at = rest_at r at_rest accepted (λ a e d l. sym (made.dones a e d l))
 
   -- no more is done than is asked
   pub done_few : (a : ℕ) → a < length n.nodes → x.done a ≤ times order a
   done_few a l =
-      let e = a_seat s n inputs seats places r a l in
-      let d = a_stand s n inputs seats places r a l in
+      let e = a_seat r l in
+      let d = a_stand r l in
       let stand = (r.each (get_or places a (0, 0)).0 e (r.placed.seat_in a l)).each (get_or places a (0, 0)).1 d
       (r.placed.stand_in a e l) in
       omega (arith, stand.within, made.dones a e d l, plan.asks.asked a e d l)
@@ -104,9 +104,9 @@ module _ {A S T : Type 0} (s : Steps A S T) (n : Netlist A T) (inputs : List (Li
     list_is : x.lists c ≡ at.history c
     list_is =
         let from = r.is_net.from_in c l in
-        let e = a_seat s n inputs seats places r a from.0 in
-        let d = a_stand s n inputs seats places r a from.0 in
-        let y = putter s n inputs seats places r c l e d in
+        let e = a_seat r from.0 in
+        let d = a_stand r from.0 in
+        let y = putter r l e d in
         made.lists c e d y l ∙ at.put c e d y l
 
     long : length (x.lists c) ≡ (wiring s n).rates.initial c + (wiring s n).rates.produced c (x.done a)
@@ -130,10 +130,10 @@ module _ {A S T : Type 0} (s : Steps A S T) (n : Netlist A T) (inputs : List (Li
     other_within apart =
         let to = r.is_net.to_in c l in
         let from = r.is_net.from_in c l in
-        let eb = a_seat s n inputs seats places r b to.0 in
-        let db = a_stand s n inputs seats places r b to.0 in
-        let w = taker s n inputs seats places r c l eb db in
-        let y = putter s n inputs seats places r c l eb db in
+        let eb = a_seat r to.0 in
+        let db = a_stand r to.0 in
+        let w = taker r l eb db in
+        let y = putter r l eb db in
         let few = held_few (producer_of n seats places eb db y c) (consumer_of n seats places eb db w c)
         (met c eb db w y l) in
         let room = (plan.capacities c eb db y l).between_two apart in
@@ -157,8 +157,8 @@ module _ {A S T : Type 0} (s : Steps A S T) (n : Netlist A T) (inputs : List (Li
   past_quiet = record {
     history = at.is;
     states = λ a l.
-        let e = a_seat s n inputs seats places r a l in
-        let d = a_stand s n inputs seats places r a l in
+        let e = a_seat r l in
+        let d = a_stand r l in
         let z = stand_of n seats places e d a in
         state_made s inputs z.asked (node n a) (taken_before (wiring s n) at.history a (x.done a)) z.state (x.states a)
         (at.states a e d l) (λ y is. made.states a y e d l is);
@@ -184,16 +184,11 @@ module _ {A S T : Type 0} (s : Steps A S T) (n : Netlist A T) (inputs : List (Li
   quiet = quiescent_later s n r.is_net inputs cap past x past_quiet grown within
 
 -- where all ends have met, the machine's state that is made of the stands is quiescent, and a run leads to it
-pub are_quiescent : {A S T : Type 0} (s : Steps A S T) (n : Netlist A T) (inputs : List (List T))
-    (seats : List (Seat A T S)) (places : List (ℕ × ℕ)) →
-    AreRings s (record { net = n; inputs = inputs; seats = seats; places = places }) → HaveMet n seats places →
-    (q : List ℕ) → IsAccepted s n q →
-    AreQuiescent s (record { net = n; inputs = inputs; seats = seats; places = places })
-are_quiescent s n inputs seats places rings met q accepted p b x plan planned made =
-    let rest = are_at_rest s n inputs seats places rings met in
-    let order = repeated b p.table.order in
-    let cap = capacity p in
-    let is = quiet s n inputs seats places rings met rest q accepted order cap planned x made in
-    let few = done_few s n inputs seats places rings met rest q accepted order cap planned x made in
-    let seq = plan_sequence s n p b plan in
-    (is, quiescent_is_reached s n inputs p b x plan is (λ a l. omega (arith, few a l, seq.counts a l)))
+pub are_quiescent : {A S T : Type 0} {s : Steps A S T} {hand : InHand A S T} → AreRings s hand →
+    HaveMet hand.net hand.seats hand.places → {q : List ℕ} → IsAccepted s hand.net q → AreQuiescent s hand
+are_quiescent {s} {hand} rings met accepted p b x plan planned made =
+    let rest = are_at_rest rings met in
+    let is = quiet rings met rest accepted planned made in
+    let few = done_few rings met rest accepted planned made in
+    let seq = plan_sequence s hand.net p b plan in
+    (is, quiescent_is_reached s hand.net hand.inputs p b x plan is (λ a l. omega (arith, few a l, seq.counts a l)))

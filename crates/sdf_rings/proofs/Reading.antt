@@ -17,7 +17,7 @@ use Rattle.sdf_node.specs.declared.node.NodeState.TheVariants.{Source, Sink, Inn
 use Rattle.sdf_node.specs.Nodes.{IsAt}
 use Rattle.sdf_rings.specs.declared.stand.Stand.{Stand}
 use Rattle.sdf_rings.specs.declared.seat.Seat.{Seat}
-use Rattle.sdf_rings.specs.Rests.{stand_of, state_in, AreRings, StandAtRest, AreAtRest}
+use Rattle.sdf_rings.specs.Rests.{stand_of, state_in, InHand, AreRings, StandAtRest, AreAtRest}
 use Rattle.sdf_rings.proofs.Looking.{vec_in}
 use Rattle.sdf_rings.proofs.Placed.{outs_of, ins_of}
 use Rattle.sdf_rings.proofs.Tells.{some}
@@ -43,39 +43,39 @@ some_wire s n q accepted good =
     let l = good.to_all found.0 0 found.1 (takes_one s (node n found.0) 0 found.2) in
     omega arith
 
-module _ {A S T : Type 0} (s : Steps A S T) (n : Netlist A T) (inputs : List (List T)) (seats : List (Seat A T S))
-    (places : List (ℕ × ℕ))
-    (r : AreRings s (record { net = n; inputs = inputs; seats = seats; places = places })) where
+module _ {A S T : Type 0} {s : Steps A S T} {hand : InHand A S T} (r : AreRings s hand) where
+  open hand use {net as n, inputs, seats, places}
+
   -- a seat, a stand and an end to read lists with
-  pub a_seat : (a : ℕ) → a < length n.nodes → Seat A T S
-  a_seat a l = some seats (get_or places a (0, 0)).0 (r.placed.seat_in a l)
+  pub a_seat : {a : ℕ} → a < length n.nodes → Seat A T S
+  a_seat {a} l = some seats (get_or places a (0, 0)).0 (r.placed.seat_in a l)
 
-  pub a_stand : (a : ℕ) → a < length n.nodes → Stand A T S
-  a_stand a l = some (get_or seats (get_or places a (0, 0)).0 (a_seat a l)).stands.items (get_or places a (0, 0)).1
-      (vec_in (get_or seats (get_or places a (0, 0)).0 (a_seat a l)).stands (get_or places a (0, 0)).1
-      (r.placed.stand_in a (a_seat a l) l))
+  pub a_stand : {a : ℕ} → a < length n.nodes → Stand A T S
+  a_stand {a} l = some (get_or seats (get_or places a (0, 0)).0 (a_seat l)).stands.items (get_or places a (0, 0)).1
+      (vec_in (get_or seats (get_or places a (0, 0)).0 (a_seat l)).stands (get_or places a (0, 0)).1
+      (r.placed.stand_in a (a_seat l) l))
 
-  pub taker : (c : ℕ) → c < length n.wires → Seat A T S → Stand A T S → Consumer T Global AnyItems
-  taker c l e d =
+  pub taker : {c : ℕ} → c < length n.wires → Seat A T S → Stand A T S → Consumer T Global AnyItems
+  taker {c} l e d =
       let to = r.is_net.to_in c l in
-      let ins_all = ins_of s n inputs seats places r (wire n c).to.0 e d to.0 in
+      let ins_all = ins_of r e d to.0 in
       some (stand_of n seats places e d (wire n c).to.0).ins.items (wire n c).to.1
       (vec_in (stand_of n seats places e d (wire n c).to.0).ins (wire n c).to.1 (omega (arith, to.1, ins_all)))
 
-  pub putter : (c : ℕ) → c < length n.wires → Seat A T S → Stand A T S → Producer T Global AnyItems
-  putter c l e d =
+  pub putter : {c : ℕ} → c < length n.wires → Seat A T S → Stand A T S → Producer T Global AnyItems
+  putter {c} l e d =
       let from = r.is_net.from_in c l in
-      let outs_all = outs_of s n inputs seats places r (wire n c).from.0 e d from.0 in
+      let outs_all = outs_of r e d from.0 in
       some (stand_of n seats places e d (wire n c).from.0).outs.items (wire n c).from.1
       (vec_in (stand_of n seats places e d (wire n c).from.0).outs (wire n c).from.1
       (omega (arith, from.1, outs_all)))
 
-  pub rest_at : AreAtRest s n inputs seats places → (q : List ℕ) → IsAccepted s n q → (k : ℕ → ℕ) →
+  pub rest_at : AreAtRest s n inputs seats places → {q : List ℕ} → IsAccepted s n q → {k : ℕ → ℕ} →
       ((a : ℕ) (e : Seat A T S) (d : Stand A T S) → a < length n.nodes → (stand_of n seats places e d a).done ≡ k a) →
       StandAtRest s n inputs seats places k
-  rest_at at_rest q accepted k counts =
+  rest_at at_rest {q} accepted {k} counts =
       let wires : 0 < length n.wires = some_wire s n q accepted r.is_net in
       let from = r.is_net.from_in 0 wires in
-      let e = a_seat (wire n 0).from.0 from.0 in
-      let d = a_stand (wire n 0).from.0 from.0 in
-      at_rest e d (taker 0 wires e d) (putter 0 wires e d) k (λ a l. counts a e d l)
+      let e = a_seat from.0 in
+      let d = a_stand from.0 in
+      at_rest e d (taker wires e d) (putter wires e d) k (λ a l. counts a e d l)

@@ -8,16 +8,13 @@ use Rattle.sdf_rings.specs.Laws.{SomeSeatGoesOn, RoundsFire}
 use Rattle.sdf_rings.specs.Seats.{HasIdled}
 use Rattle.sdf_rings.specs.Totals.{total_left}
 use Rattle.sdf_rings.proofs.CanGo.{can_go_on}
-use Rattle.sdf_rings.proofs.Rests.{is_rest}
+use Rattle.sdf_rings.proofs.Rests.{are_at_rest}
 use Rattle.sdf_rings.proofs.Totals.{total_le, total_lt}
 
 module _ {A S T : Type 0} (s : Steps A S T) where
   pub some_seat_goes_on : SomeSeatGoesOn s
   some_seat_goes_on r order cap left =
-      can_go_on s r.net r.inputs r.seats r.places left.rings left.met
-      (λ e d x y k counts. is_rest s r.net left.rings.is_net r.inputs r.seats r.places
-      left.rings.each left.rings.placed left.met e d x y k counts)
-      order cap left.planned left.some
+      can_go_on left.rings left.met (are_at_rest left.rings left.met) left.planned left.some
 
   pub rounds_fire : RoundsFire s
   rounds_fire r order cap seats left len worked =

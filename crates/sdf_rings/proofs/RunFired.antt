@@ -1,9 +1,8 @@
 -- A run of firings of a node at its ends of rings.
 use Rattle.std.proofs.Common.{◌≡◌, ℕ, zero, suc, ◌+◌, ◌*◌, ◌%◌, ◌≤◌, ◌<◌, ◌⊎◌, inl, inr, List, [], ◌∷◌, ◌++◌, length}
-use Rattle.std.proofs.Common.{get_or, sym, ap, ◌∙◌, subst, arith, vec_len, length-append}
+use Rattle.std.proofs.Common.{get_or, sym, ap, ◌∙◌, subst, arith, length-append}
 use Rattle.std.specs.Global.{Global}
 use Rattle.std.specs.List.{between}
-use Rattle.std.specs.declared.vec.Vec.{Vec}
 use Rattle.std.proofs.Math.Nat.{mod-one, mul_comm, mul-le-mul_left}
 use Rattle.std.proofs.lemmas.Bool.{cases_lt}
 use Rattle.std.proofs.lemmas.List.{get_or_append_left, get_or_push, length_push}
@@ -13,7 +12,7 @@ use Rattle.rtrb.specs.declared.producer.Producer.{Producer}
 use Rattle.rtrb.specs.declared.consumer.Consumer.{Consumer}
 use Rattle.rtrb.specs.declared.AnyItems.{AnyItems}
 use Rattle.sdf_actor.specs.Steps.{Steps}
-use Rattle.sdf_actor.specs.Histories.{IsWired, taken, taken_before}
+use Rattle.sdf_actor.specs.Histories.{Wiring, IsWired, taken, taken_before}
 use Rattle.sdf_actor.specs.Nets.{Netlist, node, wiring, answer_of, inputs_of, outputs_of, IsNet}
 use Rattle.sdf_actor.specs.Sides.{ports_of, moved_at}
 use Rattle.sdf_actor.specs.Wires.{lists}
@@ -36,7 +35,7 @@ use Rattle.sdf_rings.specs.Together.{GoesInRuns, CanRun}
 use Rattle.sdf_rings.proofs.Blocks.{block_in}
 use Rattle.sdf_rings.proofs.Spreads.{start_at_same, start_at_all}
 use Rattle.sdf_rings.proofs.Knowing.{length_taken_before}
-use Rattle.sdf_rings.proofs.Onward.{stand_after, HasGoneOn, gone_on}
+use Rattle.sdf_rings.proofs.Onward.{stand_after, HasGoneOn, HoldsThen, gone_on}
 use Rattle.sdf_rings.proofs.RunEnds.{same_joined, few_kept}
 use Rattle.sdf_rings.proofs.Standing.{phase_is, row_all, row_size, row_sum, row_part}
 use Rattle.sdf_rings.proofs.PortBlocks.{sizes_taken, sizes_put, ins_long, consumed_in, produced_out}
@@ -64,281 +63,280 @@ count_on moved size from f (suc many) rise long =
     omega (arith, before, next, rise (from + many), length-append (joined f many) (f many), long many (omega arith))
 
 -- a node of one phase moves the same in each firing
-module _ {A S T : Type 0} (s : Steps A S T) (n : Netlist A T) (inputs : List (List T)) (x : Stand A T S)
+module _ {A S T : Type 0} {s : Steps A S T} {n : Netlist A T} {inputs : List (List T)} {x : Stand A T S}
     (st : IsStand s n inputs x) (one : phase_of s (node n x.actor) ≡ λ i. 0) where
-  pub sizes_same : (side : Side) (rows : List (List ℕ)) → AreRows s side (node n x.actor) rows → (k p : ℕ) →
+  pub sizes_same : {side : Side} {rows : List (List ℕ)} → AreRows s side (node n x.actor) rows → (k p : ℕ) →
       p < ports_of s side (node n x.actor) → sizes s side (node n x.actor) k p ≡ sizes s side (node n x.actor) x.done p
-  sizes_same side rows are k p l = sym (are.each k p l)
+  sizes_same {side} {rows} are k p l = sym (are.each k p l)
       ∙ ((λ i. get_or (at_phase rows (one i k)) p 0)
       ∙ ((λ i. get_or (at_phase rows (sym one i x.done)) p 0) ∙ are.each x.done p l))
 
-module _ {A S T : Type 0} (s : Steps A S T) (n : Netlist A T)
-    (good : IsNet s n) (inputs : List (List T)) (x : Stand A T S) (st : IsStand s n inputs x)
-    (many : ℕ) (can : CanRun s n x many) where
-  wired : IsWired (wiring s n)
+-- what so many of its firings take or put at each port, where each moves the same
+module _ {A S T : Type 0} (s : Steps A S T) (n : Netlist A T) (x : Stand A T S) (many : ℕ) where
+  abbrev pub run_in : List T → ℕ → List T
+  run_in t p = joined (λ i. block_of (sizes s Input (node n x.actor) x.done) p
+      (nth_block (takes_of s (node n x.actor) 0) t i)) many
+
+  abbrev pub run_out : List T → ℕ → List T
+  run_out b p = joined (λ i. block_of (sizes s Output (node n x.actor) x.done) p
+      (nth_block (puts_of s (node n x.actor) 0) b i)) many
+
+-- so many firings: the blocks that were taken and put, and the state and what the stand holds then
+pub record ManyFirings {A S T : Type 0} (s : Steps A S T) (n : Netlist A T) (inputs : List (List T))
+    (x : Stand A T S) (many : ℕ) : Type 0 where
+  pub t : List T
+  pub b : List T
+  pub w : NodeState T S
+  pub t_long : length t ≡ takes_of s (node n x.actor) 0 * many
+  pub b_long : length b ≡ puts_of s (node n x.actor) 0 * many
+  pub moved : (all : ℕ) (past : List (List T)) → IsAt s inputs all (node n x.actor) past x.state →
+      IsAt s inputs all (node n x.actor) (past ++ listed (nth_block (takes_of s (node n x.actor) 0) t) many) w
+  pub puts : (all : ℕ) (past : List (List T)) → IsAt s inputs all (node n x.actor) past x.state →
+      AreFullBlocks s (node n x.actor) past → (i : ℕ) → i < many → nth_block (puts_of s (node n x.actor) 0) b i ≡
+      answer_of s inputs (node n x.actor) (past ++ listed (nth_block (takes_of s (node n x.actor) 0) t) i)
+      (nth_block (takes_of s (node n x.actor) 0) t i)
+  pub held : HoldsThen x (run_in s n x many t) (run_out s n x many b)
+
+module _ {A S T : Type 0} {s : Steps A S T} {n : Netlist A T} (good : IsNet s n) {inputs : List (List T)}
+    {x : Stand A T S} (st : IsStand s n inputs x) {many : ℕ} (can : CanRun s n x many) where
+  abbrev f : Wiring T
+  f = wiring s n
+
+  -- its node, and how much that takes and puts in each firing
+  abbrev v : Node A
+  v = node n x.actor
+
+  abbrev in_size : ℕ
+  in_size = takes_of s v 0
+
+  abbrev out_size : ℕ
+  out_size = puts_of s v 0
+
+  wired : IsWired f
   wired = nets_are_wired s n good
 
-  one : phase_of s (node n x.actor) ≡ λ i. 0
+  one : phase_of s v ≡ λ i. 0
   one = λ k i. (ap (λ c. i % c) can.goes.one_phase ∙ mod-one i) k
 
   abbrev pub g : ℕ → ℕ
-  g = sizes s Input (node n x.actor) x.done
+  g = sizes s Input v x.done
 
   abbrev pub h : ℕ → ℕ
-  h = sizes s Output (node n x.actor) x.done
+  h = sizes s Output v x.done
 
-  pub in_all : takes_of s (node n x.actor) 0 ≡ start_at g (inputs_of s (node n x.actor))
-  in_all = sym (sizes_taken s (node n x.actor) x.done ∙ ap (takes_of s (node n x.actor)) (λ k. one k x.done))
+  pub in_all : in_size ≡ start_at g (inputs_of s v)
+  in_all = sym (sizes_taken s v x.done ∙ ap (takes_of s v) (λ k. one k x.done))
 
-  pub out_all : puts_of s (node n x.actor) 0 ≡ start_at h (outputs_of s (node n x.actor))
-  out_all = sym (sizes_put s (node n x.actor) x.done ∙ ap (puts_of s (node n x.actor)) (λ k. one k x.done))
+  pub out_all : out_size ≡ start_at h (outputs_of s v)
+  out_all = sym (sizes_put s v x.done ∙ ap (puts_of s v) (λ k. one k x.done))
 
   abbrev pub past : List (List T)
-  past = taken_before (wiring s n) st.own x.actor x.done
+  past = taken_before f st.own x.actor x.done
 
-  taken_long : (i : ℕ) → i < x.done → length (taken (wiring s n) st.own x.actor i) ≡ takes_of s (node n x.actor) 0
+  taken_long : (i : ℕ) → i < x.done → length (taken f st.own x.actor i) ≡ in_size
   taken_long i l =
-      let ins : List ℕ = (wiring s n).ins x.actor in
-      let part : ℕ → List T = λ c. between ((wiring s n).rates.consumed c i)
-      ((wiring s n).rates.consumed c (i + 1)) (st.own c) in
-      let all = ins_long s n good wired x.actor st.known in
+      let ins : List ℕ = f.ins x.actor in
+      let part : ℕ → List T = λ c. between (f.rates.consumed c i) (f.rates.consumed c (i + 1)) (st.own c) in
+      let all = ins_long good st.known in
       length-flat_map part ins ∙ (sym (start_at_all (λ c. length (part c)) ins) ∙
       (start_at_same (λ p. length (part (get_or ins p 0))) g (length ins) (λ p m.
       let c : ℕ = get_or ins p 0 in
-      let q : p < inputs_of s (node n x.actor) = omega (arith, all) in
+      let q : p < inputs_of s v = omega (arith, all) in
       let is = wired.ins_are x.actor p st.known m in
-      let before = consumed_in s n good wired x.actor st.known p i q in
-      let after = consumed_in s n good wired x.actor st.known p (i + 1) q in
-      let within : (wiring s n).rates.consumed c (i + 1) ≤ (wiring s n).rates.consumed c x.done =
+      let before = consumed_in good st.known p i q in
+      let after = consumed_in good st.known p (i + 1) q in
+      let within : f.rates.consumed c (i + 1) ≤ f.rates.consumed c x.done =
       wired.sound.consumed_rises c (i + 1) x.done (omega arith) in
       let got = st.local.got c is.0 is.1 in
-      let same = sizes_same s n inputs x st one Input _ st.takes i p q in
-      length-between (st.own c) ((wiring s n).rates.consumed c i) ((wiring s n).rates.consumed c (i + 1))
-      (omega (arith, within, got)) ∙ omega (arith, before, after, same)) ∙
-      (ap (start_at g) all ∙ sym in_all)))
+      let same = sizes_same st one st.takes i p q in
+      length-between (st.own c) (f.rates.consumed c i) (f.rates.consumed c (i + 1))
+      (omega (arith, within, got)) ∙ omega (arith, before, after, same)) ∙ (ap (start_at g) all ∙ sym in_all)))
 
-  whole_to : (k : ℕ) → k ≤ x.done → (i : ℕ) → i < length (taken_before (wiring s n) st.own x.actor k) →
-      length (get_or (taken_before (wiring s n) st.own x.actor k) i []) ≡ takes_of s (node n x.actor) 0
+  whole_to : (k : ℕ) → k ≤ x.done → (i : ℕ) → i < length (taken_before f st.own x.actor k) →
+      length (get_or (taken_before f st.own x.actor k) i []) ≡ in_size
   whole_to zero le i l = absurd (omega arith)
   whole_to (suc k) le i l = go (λ less. whole_to k (omega arith) i less) (taken_long k (omega arith))
-      (cases_lt i (length (taken_before (wiring s n) st.own x.actor k)))
+      (cases_lt i (length (taken_before f st.own x.actor k)))
     where
-      go : (i < length (taken_before (wiring s n) st.own x.actor k) →
-          length (get_or (taken_before (wiring s n) st.own x.actor k) i []) ≡ takes_of s (node n x.actor) 0) →
-          length (taken (wiring s n) st.own x.actor k) ≡ takes_of s (node n x.actor) 0 →
-          (i < length (taken_before (wiring s n) st.own x.actor k))
-          ⊎ (length (taken_before (wiring s n) st.own x.actor k) ≤ i) →
-          length (get_or (taken_before (wiring s n) st.own x.actor (suc k)) i []) ≡ takes_of s (node n x.actor) 0
-      go before last (inl less) = ap length (get_or_append_left (taken_before (wiring s n) st.own x.actor k)
-          (taken (wiring s n) st.own x.actor k ∷ []) [] i less) ∙ before less
+      go : (i < length (taken_before f st.own x.actor k) →
+          length (get_or (taken_before f st.own x.actor k) i []) ≡ in_size) →
+          length (taken f st.own x.actor k) ≡ in_size → (i < length (taken_before f st.own x.actor k))
+          ⊎ (length (taken_before f st.own x.actor k) ≤ i) →
+          length (get_or (taken_before f st.own x.actor (suc k)) i []) ≡ in_size
+      go before last (inl less) = ap length (get_or_append_left (taken_before f st.own x.actor k)
+          (taken f st.own x.actor k ∷ []) [] i less) ∙ before less
       go before last (inr above) =
-          let count = length_push (taken_before (wiring s n) st.own x.actor k) (taken (wiring s n) st.own x.actor k) in
-          ap length (get_or_push (taken_before (wiring s n) st.own x.actor k) (taken (wiring s n) st.own x.actor k) [] i
+          let count = length_push (taken_before f st.own x.actor k) (taken f st.own x.actor k) in
+          ap length (get_or_push (taken_before f st.own x.actor k) (taken f st.own x.actor k) [] i
           (omega (arith, count))) ∙ last
 
-  pub whole : AreFullBlocks s (node n x.actor) past
+  pub whole : AreFullBlocks s v past
   whole = whole_to x.done (omega arith)
 
   pub past_long : length past ≡ x.done
-  past_long = length_taken_before (wiring s n) st.own x.actor x.done
+  past_long = length_taken_before f st.own x.actor x.done
 
-  rise_in : (p : ℕ) → p < inputs_of s (node n x.actor) → (k : ℕ) →
-      moved_at s Input (node n x.actor) p (k + 1) ≡ moved_at s Input (node n x.actor) p k + g p
+  rise_in : (p : ℕ) → p < inputs_of s v → (k : ℕ) → moved_at s Input v p (k + 1) ≡ moved_at s Input v p k + g p
   rise_in p l k =
-      let c : ℕ = get_or ((wiring s n).ins x.actor) p 0 in
+      let c : ℕ = get_or (f.ins x.actor) p 0 in
       let up = wired.sound.consumed_rises c k (k + 1) (omega arith) in
-      let before = consumed_in s n good wired x.actor st.known p k l in
-      let after = consumed_in s n good wired x.actor st.known p (k + 1) l in
-      let same = sizes_same s n inputs x st one Input _ st.takes k p l in
+      let before = consumed_in good st.known p k l in
+      let after = consumed_in good st.known p (k + 1) l in
+      let same = sizes_same st one st.takes k p l in
       omega (arith, up, before, after, same)
 
-  rise_out : (p : ℕ) → p < outputs_of s (node n x.actor) → (k : ℕ) →
-      moved_at s Output (node n x.actor) p (k + 1) ≡ moved_at s Output (node n x.actor) p k + h p
+  rise_out : (p : ℕ) → p < outputs_of s v → (k : ℕ) → moved_at s Output v p (k + 1) ≡ moved_at s Output v p k + h p
   rise_out p l k =
-      let c : ℕ = get_or ((wiring s n).outs x.actor) p 0 in
+      let c : ℕ = get_or (f.outs x.actor) p 0 in
       let up = wired.sound.produced_rises c k (k + 1) (omega arith) in
-      let before = produced_out s n good wired x.actor st.known p k l in
-      let after = produced_out s n good wired x.actor st.known p (k + 1) l in
-      let same = sizes_same s n inputs x st one Output _ st.puts k p l in
+      let before = produced_out good st.known p k l in
+      let after = produced_out good st.known p (k + 1) l in
+      let same = sizes_same st one st.puts k p l in
       omega (arith, up, before, after, same)
 
   -- by the rows of its one phase
   pub zero_phase : 0 ≡ phase_at x.state
-  zero_phase = sym (phase_is s n inputs x st ∙ (λ k. one k x.done))
+  zero_phase = sym (phase_is st ∙ (λ k. one k x.done))
 
-  module _ (z : Node A) (z_is : z ≡ node n x.actor) (r : RunBlocks) where
-    pub in_ports : r.size ≡ takes_of s z 0 → r.sizes.now ≡ at_phase (lists x.takes.items) 0 → (ports : ℕ) →
-        ports ≡ inputs_of s (node n x.actor) → HasPorts r ports
-    in_ports size_is row_is ports all = record {
-      all = all
-          ∙ sym (row_all s n inputs x st Input (lists x.takes.items) st.takes 0 zero_phase r.sizes.now row_is);
-      size_is = size_is ∙ (ap (λ v. takes_of s v 0) z_is ∙ (in_all
-          ∙ (sym (row_sum s n inputs x st Input (lists x.takes.items) st.takes 0 zero_phase r.sizes.now row_is)
+  module _ {z : Node A} (z_is : z ≡ node n x.actor) {r : RunBlocks} where
+    pub in_ports : r.size ≡ takes_of s z 0 → r.sizes.now ≡ at_phase (lists x.takes.items) 0 → {ports : ℕ} →
+        ports ≡ inputs_of s v → HasPorts r ports
+    in_ports size_is row_is all = record {
+      all = all ∙ sym (row_all st st.takes zero_phase row_is);
+      size_is = size_is ∙ (ap (λ v. takes_of s v 0) z_is ∙ (in_all ∙ (sym (row_sum st st.takes zero_phase row_is)
           ∙ ap (start_at (λ p. get_or r.sizes.now p 0)) (sym all))));
     }
 
-    pub out_ports : r.size ≡ puts_of s z 0 → r.sizes.now ≡ at_phase (lists x.puts.items) 0 → (ports : ℕ) →
-        ports ≡ outputs_of s (node n x.actor) → HasPorts r ports
-    out_ports size_is row_is ports all = record {
-      all = all
-          ∙ sym (row_all s n inputs x st Output (lists x.puts.items) st.puts 0 zero_phase r.sizes.now row_is);
-      size_is = size_is ∙ (ap (λ v. puts_of s v 0) z_is ∙ (out_all
-          ∙ (sym (row_sum s n inputs x st Output (lists x.puts.items) st.puts 0 zero_phase r.sizes.now row_is)
+    pub out_ports : r.size ≡ puts_of s z 0 → r.sizes.now ≡ at_phase (lists x.puts.items) 0 → {ports : ℕ} →
+        ports ≡ outputs_of s v → HasPorts r ports
+    out_ports size_is row_is all = record {
+      all = all ∙ sym (row_all st st.puts zero_phase row_is);
+      size_is = size_is ∙ (ap (λ v. puts_of s v 0) z_is ∙ (out_all ∙ (sym (row_sum st st.puts zero_phase row_is)
           ∙ ap (start_at (λ p. get_or r.sizes.now p 0)) (sym all))));
     }
 
-  pub holds_run : (row : List ℕ) → row ≡ at_phase (lists x.takes.items) 0 →
-      (ends : List (Consumer T Global AnyItems)) → ends ≡ x.ins.items → HoldsEach (λ i. many * get_or row i 0) ends
-  holds_run row row_is ends ends_is = subst (HoldsEach (λ i. many * get_or row i 0)) (sym ends_is) (λ i d h.
-      let size = ap (λ v. many * v) (row_size s n inputs x st Input (lists x.takes.items) st.takes 0 zero_phase
-      row row_is i (omega (arith, st.ins_all))) in
+  pub holds_run : {row : List ℕ} → row ≡ at_phase (lists x.takes.items) 0 →
+      {ends : List (Consumer T Global AnyItems)} → ends ≡ x.ins.items → HoldsEach (λ i. many * get_or row i 0) ends
+  holds_run {row} row_is ends_is = subst (HoldsEach (λ i. many * get_or row i 0)) (sym ends_is) (λ i d h.
+      let size = ap (λ v. many * v) (row_size st st.takes zero_phase row_is i (omega (arith, st.ins_all))) in
       let l = can.holds i d h in
       omega (arith, size, l))
 
-  pub room_run : (row : List ℕ) → row ≡ at_phase (lists x.puts.items) 0 → (ends : List (Producer T Global AnyItems)) →
-      ends ≡ x.outs.items → HasRoomEach (λ i. many * get_or row i 0) ends
-  room_run row row_is ends ends_is = subst (HasRoomEach (λ i. many * get_or row i 0)) (sym ends_is) (λ i d h.
-      let size = ap (λ v. many * v) (row_size s n inputs x st Output (lists x.puts.items) st.puts 0 zero_phase
-      row row_is i (omega (arith, st.outs_all))) in
+  pub room_run : {row : List ℕ} → row ≡ at_phase (lists x.puts.items) 0 →
+      {ends : List (Producer T Global AnyItems)} → ends ≡ x.outs.items → HasRoomEach (λ i. many * get_or row i 0) ends
+  room_run {row} row_is ends_is = subst (HasRoomEach (λ i. many * get_or row i 0)) (sym ends_is) (λ i d h.
+      let size = ap (λ v. many * v) (row_size st st.puts zero_phase row_is i (omega (arith, st.outs_all))) in
       let l = can.has_room i d h in
       omega (arith, size, l))
 
   -- what moved by the rows is what the firings move
-  pub drew_run : (row : List ℕ) → row ≡ at_phase (lists x.takes.items) 0 → (size : ℕ) →
-      size ≡ takes_of s (node n x.actor) 0 → (ends after : List (Consumer T Global AnyItems)) → ends ≡ x.ins.items →
-      (t : List T) →
+  pub drew_run : {row : List ℕ} → row ≡ at_phase (lists x.takes.items) 0 → {size : ℕ} →
+      size ≡ in_size → {ends : List (Consumer T Global AnyItems)} → ends ≡ x.ins.items →
+      (after : List (Consumer T Global AnyItems)) (t : List T) →
       DrewEach ends after (λ p. joined (λ i. block_of (λ q. get_or row q 0) p (nth_block size t i)) many) →
-      DrewEach x.ins.items after (λ p. joined (λ i. block_of g p
-      (nth_block (takes_of s (node n x.actor) 0) t i)) many)
-  drew_run row row_is size size_is ends after ends_is t all = λ p d h.
+      DrewEach x.ins.items after (run_in s n x many t)
+  drew_run {row} row_is {size} size_is ends_is after t all = λ p d h.
       subst (Drew (get_or x.ins.items p d) (get_or after p d))
       (same_joined (λ i. block_of (λ q. get_or row q 0) p (nth_block size t i))
-      (λ i. block_of g p (nth_block (takes_of s (node n x.actor) 0) t i)) many (λ i l.
-      row_part s n inputs x st Input (lists x.takes.items) st.takes 0 zero_phase row row_is p
+      (λ i. block_of g p (nth_block in_size t i)) many (λ i l.
+      row_part st st.takes zero_phase row_is p
       (nth_block size t i) (omega (arith, st.ins_all)) ∙ ap (λ m. block_of g p (nth_block m t i)) size_is))
       (subst (λ es. DrewEach es after (λ r. joined (λ i. block_of (λ q. get_or row q 0) r (nth_block size t i)) many))
       ends_is all p d h)
 
-  pub gave_run : (row : List ℕ) → row ≡ at_phase (lists x.puts.items) 0 → (size : ℕ) →
-      size ≡ puts_of s (node n x.actor) 0 → (ends after : List (Producer T Global AnyItems)) → ends ≡ x.outs.items →
-      (b : List T) →
+  pub gave_run : {row : List ℕ} → row ≡ at_phase (lists x.puts.items) 0 → {size : ℕ} →
+      size ≡ out_size → {ends : List (Producer T Global AnyItems)} → ends ≡ x.outs.items →
+      (after : List (Producer T Global AnyItems)) (b : List T) →
       GaveEach ends after (λ p. joined (λ i. block_of (λ q. get_or row q 0) p (nth_block size b i)) many) →
-      GaveEach x.outs.items after (λ p. joined (λ i. block_of h p
-      (nth_block (puts_of s (node n x.actor) 0) b i)) many)
-  gave_run row row_is size size_is ends after ends_is b all = λ p d l.
+      GaveEach x.outs.items after (run_out s n x many b)
+  gave_run {row} row_is {size} size_is ends_is after b all = λ p d l.
       subst (Gave (get_or x.outs.items p d) (get_or after p d))
       (same_joined (λ i. block_of (λ q. get_or row q 0) p (nth_block size b i))
-      (λ i. block_of h p (nth_block (puts_of s (node n x.actor) 0) b i)) many (λ i m.
-      row_part s n inputs x st Output (lists x.puts.items) st.puts 0 zero_phase row row_is p (nth_block size b i)
+      (λ i. block_of h p (nth_block out_size b i)) many (λ i m.
+      row_part st st.puts zero_phase row_is p (nth_block size b i)
       (omega (arith, st.outs_all)) ∙ ap (λ k. block_of h p (nth_block k b i)) size_is))
       (subst (λ es. GaveEach es after (λ r. joined (λ i. block_of (λ q. get_or row q 0) r (nth_block size b i)) many))
       ends_is all p d l)
 
-  pub can_step_run : (z : Node A) → z ≡ node n x.actor → (size made all put : ℕ) →
+  pub can_step_run : {z : Node A} → z ≡ node n x.actor → {size made all put : ℕ} →
       size ≡ takes_of s z 0 → made ≡ puts_of s z 0 → all ≡ size * many → put ≡ made * many →
       CanStepMany s inputs z x.state many all put
-  can_step_run z z_is size made all put size_is made_is all_is put_is =
+  can_step_run {z} z_is {size} {made} {all} {put} size_is made_is all_is put_is =
       subst (λ m. CanStepMany s inputs z x.state many m put) (ap (λ m. m * many) (sym size_is) ∙ sym all_is)
       (subst (λ m. CanStepMany s inputs z x.state many (takes_of s z 0 * many) m)
       (ap (λ m. m * many) (sym made_is) ∙ sym put_is)
       (subst (λ v. CanStepMany s inputs v x.state many (takes_of s v 0 * many) (puts_of s v 0 * many)) (sym z_is)
-      (nodes_can_step_many s inputs (node n x.actor) x.asked many past x.state st.at can.goes.one_phase
+      (nodes_can_step_many s inputs v x.asked many past x.state st.at can.goes.one_phase
       (omega (arith, past_long, can.left)))))
 
-  pub taken_within : (z : Node A) → z ≡ node n x.actor → (size : ℕ) → size ≡ takes_of s z 0 →
+  pub taken_within : {z : Node A} → z ≡ node n x.actor → {size : ℕ} → size ≡ takes_of s z 0 →
       size * many ≤ length x.taken.items
-  taken_within z z_is size size_is = let e : size * many ≡ takes_of s (node n x.actor) 0 * many =
+  taken_within z_is {size} size_is = let e : size * many ≡ in_size * many =
       ap (λ m. m * many) (size_is ∙ ap (λ v. takes_of s v 0) z_is) in omega (arith, e, can.taken_fits)
 
-  pub put_within : (z : Node A) → z ≡ node n x.actor → (size : ℕ) → size ≡ puts_of s z 0 →
+  pub put_within : {z : Node A} → z ≡ node n x.actor → {size : ℕ} → size ≡ puts_of s z 0 →
       size * many ≤ length x.put.items
-  put_within z z_is size size_is = let e : size * many ≡ puts_of s (node n x.actor) 0 * many =
+  put_within z_is {size} size_is = let e : size * many ≡ out_size * many =
       ap (λ m. m * many) (size_is ∙ ap (λ v. puts_of s v 0) z_is) in omega (arith, e, can.put_fits)
 
-  module _ (t b : List T) (t_long : length t ≡ takes_of s (node n x.actor) 0 * many)
-      (b_long : length b ≡ puts_of s (node n x.actor) 0 * many)
-      (w : NodeState T S)
-      (moved : (all : ℕ) (past : List (List T)) → IsAt s inputs all (node n x.actor) past x.state →
-      IsAt s inputs all (node n x.actor) (past ++ listed (nth_block (takes_of s (node n x.actor) 0) t) many) w)
-      (puts : (all : ℕ) (past : List (List T)) → IsAt s inputs all (node n x.actor) past x.state →
-      AreFullBlocks s (node n x.actor) past → (i : ℕ) → i < many →
-      nth_block (puts_of s (node n x.actor) 0) b i ≡
-      answer_of s inputs (node n x.actor) (past ++ listed (nth_block (takes_of s (node n x.actor) 0) t) i)
-      (nth_block (takes_of s (node n x.actor) 0) t i)) where
-    more : (W : ℕ → List T) × IsManyMore s n inputs x.actor x.done g h st.own W
-        (nth_block (takes_of s (node n x.actor) 0) t) (nth_block (puts_of s (node n x.actor) 0) b) many
-    more =
-        many_more s n good inputs x.actor st.known can.goes.apart g h
-        (sizes_same s n inputs x st one Input _ st.takes) (sizes_same s n inputs x st one Output _ st.puts)
-        x.done st.own st.local (nth_block (takes_of s (node n x.actor) 0) t)
-        (nth_block (puts_of s (node n x.actor) 0) b) many
-        (λ i l. (blocks_join (takes_of s (node n x.actor) 0) many t t_long).0 i l ∙ in_all)
-        (λ i l. (blocks_join (puts_of s (node n x.actor) 0) many b b_long).0 i l ∙ out_all)
-        (puts x.asked past st.at whole)
+  module _ (r : ManyFirings s n inputs x many) where
+    open r use {t, b, t_long, b_long}
 
-    on : HasGoneOn s n inputs x st.own more.0 many
-        (λ p. joined (λ i. block_of g p (nth_block (takes_of s (node n x.actor) 0) t i)) many)
-        (λ p. joined (λ i. block_of h p (nth_block (puts_of s (node n x.actor) 0) b i)) many)
+    more : (W : ℕ → List T) × IsManyMore s n inputs x.actor x.done g h st.own W
+        (nth_block in_size t) (nth_block out_size b) many
+    more =
+        many_more good st.known can.goes.apart (sizes_same st one st.takes) (sizes_same st one st.puts) st.local
+        (nth_block in_size t) (nth_block out_size b) many (λ i l. (blocks_join in_size many t t_long).0 i l ∙ in_all)
+        (λ i l. (blocks_join out_size many b b_long).0 i l ∙ out_all) (r.puts x.asked past st.at whole)
+
+    on : HasGoneOn st many (run_in s n x many t) (run_out s n x many b) r.w
     on = record {
+      left = can.left;
+      W = more.0;
       local = more.1.local;
+      at = subst (λ p. IsAt s inputs x.asked v p r.w) (sym more.1.past) (r.moved x.asked past st.at);
       into = more.1.into;
       out = more.1.out;
-      taken_count = λ p l. count_on (moved_at s Input (node n x.actor) p) (g p) x.done
-          (λ i. block_of g p (nth_block (takes_of s (node n x.actor) 0) t i)) many (rise_in p l)
-          (part_long g p (inputs_of s (node n x.actor)) (takes_of s (node n x.actor) 0) many t l in_all t_long);
-      put_count = λ p l. count_on (moved_at s Output (node n x.actor) p) (h p) x.done
-          (λ i. block_of h p (nth_block (puts_of s (node n x.actor) 0) b i)) many (rise_out p l)
-          (part_long h p (outputs_of s (node n x.actor)) (puts_of s (node n x.actor) 0) many b l out_all b_long);
+      taken_count = λ p l. count_on (moved_at s Input v p) (g p) x.done
+          (λ i. block_of g p (nth_block in_size t i)) many (rise_in p l)
+          (part_long g p (inputs_of s v) in_size many t l in_all t_long);
+      put_count = λ p l. count_on (moved_at s Output v p) (h p) x.done
+          (λ i. block_of h p (nth_block out_size b i)) many (rise_out p l)
+          (part_long h p (outputs_of s v) out_size many b l out_all b_long);
     }
 
-    pub run_fired : (ins : Vec (Consumer T Global AnyItems) Global) (outs : Vec (Producer T Global AnyItems) Global)
-        (tv pv : Vec T Global) →
-        DrewEach x.ins.items ins.items (λ p. joined (λ i. block_of g p
-        (nth_block (takes_of s (node n x.actor) 0) t i)) many) →
-        GaveEach x.outs.items outs.items (λ p. joined
-        (λ i. block_of h p (nth_block (puts_of s (node n x.actor) 0) b i)) many) →
-        vec_len ins ≡ vec_len x.ins → vec_len outs ≡ vec_len x.outs → length tv.items ≡ length x.taken.items →
-        length pv.items ≡ length x.put.items →
-        IsStand s n inputs (stand_after x many w ins outs tv pv) × HasMoved s n x (stand_after x many w ins outs tv pv)
-    run_fired ins outs tv pv drew gave ins_is outs_is tv_is pv_is =
-        gone_on s n good inputs x st many can.left more.0
-        (λ p. joined (λ i. block_of g p (nth_block (takes_of s (node n x.actor) 0) t i)) many)
-        (λ p. joined (λ i. block_of h p (nth_block (puts_of s (node n x.actor) 0) b i)) many) on
-        w (subst (λ p. IsAt s inputs x.asked (node n x.actor) p w) (sym more.1.past) (moved x.asked past st.at)) ins
-        outs tv pv drew gave ins_is outs_is tv_is pv_is
+    pub run_fired : IsStand s n inputs (stand_after x many r.w r.held) × HasMoved s n x (stand_after x many r.w r.held)
+    run_fired = gone_on good st on r.held
 
 -- as many firings can run as each of the tests leaves
-module _ {A S T : Type 0} (s : Steps A S T) (n : Netlist A T) (inputs : List (List T))
-    (x : Stand A T S) (st : IsStand s n inputs x) (goes : GoesInRuns s n x.actor)
-    (z : Node A) (z_is : z ≡ node n x.actor) (takes puts : List ℕ) (takes_is : takes ≡ at_phase (lists x.takes.items) 0)
+module _ {A S T : Type 0} {s : Steps A S T} {n : Netlist A T} {inputs : List (List T)} {x : Stand A T S}
+    (st : IsStand s n inputs x) (goes : GoesInRuns s n x.actor) {z : Node A} (z_is : z ≡ node n x.actor)
+    {takes puts : List ℕ} (takes_is : takes ≡ at_phase (lists x.takes.items) 0)
     (puts_is : puts ≡ at_phase (lists x.puts.items) 0) where
   at_zero : (i : ℕ) → phase_of s (node n x.actor) i ≡ 0
   at_zero i = ap (λ c. i % c) goes.one_phase ∙ mod-one i
 
   first : 0 ≡ phase_at x.state
-  first = sym (phase_is s n inputs x st ∙ at_zero x.done)
+  first = sym (phase_is st ∙ at_zero x.done)
 
-  pub can_run : (size made by_taken by_put held free most : ℕ) → size ≡ takes_of s z 0 → made ≡ puts_of s z 0 →
+  pub can_run : {size made by_taken by_put held free most : ℕ} → size ≡ takes_of s z 0 → made ≡ puts_of s z 0 →
       x.done + most ≤ x.asked → by_taken ≤ most → by_taken * size ≤ length x.taken.items → by_put ≤ by_taken →
       by_put * made ≤ length x.put.items →
-      held ≤ by_put → free ≤ held → (ins : List (Consumer T Global AnyItems)) → ins ≡ x.ins.items →
-      HoldsEach (λ i. held * get_or takes i 0) ins → (outs : List (Producer T Global AnyItems)) → outs ≡ x.outs.items →
-      HasRoomEach (λ i. free * get_or puts i 0) outs →
-      CanRun s n x free
-  can_run size made by_taken by_put held free most size_is made_is left a taken b put c d ins ins_is holds outs outs_is
+      held ≤ by_put → free ≤ held → {ins : List (Consumer T Global AnyItems)} → ins ≡ x.ins.items →
+      HoldsEach (λ i. held * get_or takes i 0) ins → {outs : List (Producer T Global AnyItems)} → outs ≡ x.outs.items →
+      HasRoomEach (λ i. free * get_or puts i 0) outs → CanRun s n x free
+  can_run {size} {made} {by_taken} {by_put} {held} {free} size_is made_is left a taken b put c d ins_is holds outs_is
       room = record {
         goes = goes;
         left = omega arith;
         holds = λ i e h.
-            let row = row_size s n inputs x st Input (lists x.takes.items) st.takes 0 first takes takes_is i
-            (omega (arith, st.ins_all)) in
+            let row = row_size st st.takes first takes_is i (omega (arith, st.ins_all)) in
             let there = subst (HoldsEach (λ i. held * get_or takes i 0)) ins_is holds i e h in
             let few = few_kept free held (get_or takes i 0) _ d there in
             let same = ap (λ v. free * v) row in
             omega (arith, same, few);
         has_room = λ i e h.
-            let row = row_size s n inputs x st Output (lists x.puts.items) st.puts 0 first puts puts_is i
-            (omega (arith, st.outs_all)) in
+            let row = row_size st st.puts first puts_is i (omega (arith, st.outs_all)) in
             let there = subst (HasRoomEach (λ i. free * get_or puts i 0)) outs_is room i e h in
             let same = ap (λ v. free * v) row in
             omega (arith, same, there);

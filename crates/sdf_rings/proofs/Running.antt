@@ -2,7 +2,7 @@
 use Rattle.std.proofs.Common.{◌≡◌, ℕ, zero, suc, ◌+◌, ◌<◌, List, [], ◌∷◌, ◌++◌, length, take, get_or, sym, ap, ◌∙◌}
 use Rattle.std.proofs.Common.{subst, arith, append_assoc, append-nil, add-zero}
 use Rattle.sdf_actor.specs.Steps.{Steps}
-use Rattle.sdf_actor.specs.Histories.{IsWired, taken_before}
+use Rattle.sdf_actor.specs.Histories.{taken_before}
 use Rattle.sdf_actor.specs.Locals.{IsLocal}
 use Rattle.sdf_actor.specs.Nets.{Netlist, wire, node, wiring, answers, answer_of, inputs_of, outputs_of, IsNet}
 use Rattle.sdf_actor.specs.declared.sides.Side.TheVariants.{Input, Output}
@@ -26,16 +26,13 @@ pub record IsManyMore {A S T : Type 0} (s : Steps A S T) (n : Netlist A T) (inpu
       take ((wiring s n).rates.consumed c (k + many)) (W c) ≡
       take ((wiring s n).rates.consumed c k) (V c) ++ joined (λ j. block_of g (wire n c).to.1 (t j)) many
 
-module _ {A S T : Type 0} (s : Steps A S T) (n : Netlist A T) (good : IsNet s n)
-    (inputs : List (List T)) (a : ℕ) (known : a < length n.nodes)
+module _ {A S T : Type 0} {s : Steps A S T} {n : Netlist A T} (good : IsNet s n) {inputs : List (List T)} {a : ℕ}
+    (known : a < length n.nodes)
     (apart : (c : ℕ) → c < length n.wires → (wire n c).from.0 ≡ a → (wire n c).to.0 ≡ a → ⊥)
     -- each firing moves the same
-    (g h : ℕ → ℕ) (ins_same : (k p : ℕ) → p < inputs_of s (node n a) → sizes s Input (node n a) k p ≡ g p)
+    {g h : ℕ → ℕ} (ins_same : (k p : ℕ) → p < inputs_of s (node n a) → sizes s Input (node n a) k p ≡ g p)
     (outs_same : (k p : ℕ) → p < outputs_of s (node n a) → sizes s Output (node n a) k p ≡ h p)
-    (k : ℕ) (V : ℕ → List T) (local : IsLocal (wiring s n) (answers s n inputs) a k V) (t b : ℕ → List T) where
-  wired : IsWired (wiring s n)
-  wired = nets_are_wired s n good
-
+    {k : ℕ} {V : ℕ → List T} (local : IsLocal (wiring s n) (answers s n inputs) a k V) (t b : ℕ → List T) where
   pub many_more : (many : ℕ) → ((i : ℕ) → i < many → length (t i) ≡ start_at g (inputs_of s (node n a))) →
       ((i : ℕ) → i < many → length (b i) ≡ start_at h (outputs_of s (node n a))) →
       ((i : ℕ) → i < many → b i ≡ answer_of s inputs (node n a) (taken_before (wiring s n) V a k ++ listed t i) (t i)) →
@@ -60,13 +57,15 @@ module _ {A S T : Type 0} (s : Steps A S T) (n : Netlist A T) (good : IsNet s n)
           (X : ℕ → List T) × IsManyMore s n inputs a k g h V X t b (suc many)
       next (W, m) =
           let one : (X : ℕ → List T) × IsOneMore s n inputs a (k + many) W X (t many) (b many) =
-          one_more s n good inputs a (k + many) known W m.local (t many) (b many)
-          (t_long many (omega arith) ∙ start_at_same g (sizes s Input (node n a) (k + many)) (inputs_of s (node n a))
-          (λ p l. sym (ins_same (k + many) p l)))
-          (b_long many (omega arith) ∙ start_at_same h (sizes s Output (node n a) (k + many)) (outputs_of s (node n a))
-          (λ p l. sym (outs_same (k + many) p l)))
-          (answered many (omega arith) ∙ ap (λ past. answer_of s inputs (node n a) past (t many)) (sym m.past))
-          (λ c l f e. absurd (apart c l f e)) in (
+          one_more good known m.local (record {
+            t_long = t_long many (omega arith) ∙ start_at_same g (sizes s Input (node n a) (k + many))
+                (inputs_of s (node n a)) (λ p l. sym (ins_same (k + many) p l));
+            b_long = b_long many (omega arith) ∙ start_at_same h (sizes s Output (node n a) (k + many))
+                (outputs_of s (node n a)) (λ p l. sym (outs_same (k + many) p l));
+            answered = answered many (omega arith)
+                ∙ ap (λ past. answer_of s inputs (node n a) past (t many)) (sym m.past);
+            own = λ c l f e. absurd (apart c l f e);
+          }) in (
             one.0,
             record {
               local = subst (λ i. IsLocal (wiring s n) (answers s n inputs) a i one.0) (sym further) one.1.local;
@@ -77,15 +76,15 @@ module _ {A S T : Type 0} (s : Steps A S T) (n : Netlist A T) (good : IsNet s n)
               out = λ i p.
                   let c : ℕ = get_or ((wiring s n).outs a) i 0 in
                   let q : i < length ((wiring s n).outs a) =
-                  omega (arith, outs_long s n good wired a known) in
-                  let is = wired.outs_are a i known q in
+                  omega (arith, outs_long good known) in
+                  let is = (nets_are_wired s n good).outs_are a i known q in
                   one.1.out c is.1 ∙
-                  ((λ j. m.out i p j ++ (out_block s n good wired a known (k + many) i (b many) p ∙
+                  ((λ j. m.out i p j ++ (out_block good known (k + many) i (b many) p ∙
                   block_same (sizes s Output (node n a) (k + many)) h i (b many)
                   (λ r l. outs_same (k + many) r (omega arith))) j) ∙
                   append_assoc (V c) (joined (λ j. block_of h i (b j)) many) (block_of h i (b many)));
               into = λ c l e.
-                  let port = port_of s n good wired a known c l e in
+                  let port = port_of good known c l e in
                   let was : List T = take ((wiring s n).rates.consumed c k) (V c) in
                   ap (λ i. take ((wiring s n).rates.consumed c i) (one.0 c)) further ∙ (one.1.into c l e ∙
                   ((λ j. m.into c l e j ++ block_same (sizes s Input (node n a) (k + many)) g (wire n c).to.1 (t many)

@@ -23,8 +23,8 @@ use Rattle.sdf_rings.proofs.Spreads.{start_at_same, block_same}
 use Rattle.sdf_rings.proofs.PortBlocks.{sizes_taken, sizes_put}
 use Rattle.sdf_rings.proofs.Knowing.{length_taken_before}
 
-module _ {A S T : Type 0} (s : Steps A S T) (n : Netlist A T) (inputs : List (List T))
-    (x : Stand A T S) (st : IsStand s n inputs x) where
+module _ {A S T : Type 0} {s : Steps A S T} {n : Netlist A T} {inputs : List (List T)} {x : Stand A T S}
+    (st : IsStand s n inputs x) where
   pub phase_is : phase_at x.state ≡ x.done % cycle_of s (node n x.actor)
   phase_is =
       nodes_keep_phase s inputs (node n x.actor) x.asked (taken_before (wiring s n) st.own x.actor x.done) x.state
@@ -32,10 +32,10 @@ module _ {A S T : Type 0} (s : Steps A S T) (n : Netlist A T) (inputs : List (Li
       ap (λ k. k % cycle_of s (node n x.actor)) (length_taken_before (wiring s n) st.own x.actor x.done)
 
   -- the node has a next firing
-  pub can_step : x.done < x.asked → (y : Node A) (j many more : ℕ) → y ≡ node n x.actor →
+  pub can_step : x.done < x.asked → {y : Node A} {j many more : ℕ} → y ≡ node n x.actor →
       j ≡ phase_at x.state → many ≡ takes_of s y j → more ≡ puts_of s y j →
       CanStep s inputs y x.state many more
-  can_step left y j many more y_is j_is many_is more_is =
+  can_step left {y} {j} {many} {more} y_is j_is many_is more_is =
       let past = taken_before (wiring s n) st.own x.actor x.done in
       let long = length_taken_before (wiring s n) st.own x.actor x.done in
       let all : CanStep s inputs (node n x.actor) x.state (takes_of s (node n x.actor) (phase_at x.state))
@@ -50,12 +50,12 @@ module _ {A S T : Type 0} (s : Steps A S T) (n : Netlist A T) (inputs : List (Li
       (subst (λ m. CanStep s inputs (node n x.actor) x.state m
       (puts_of s (node n x.actor) (phase_at x.state))) many_as all))
 
-  module _ (side : Side) (rows : List (List ℕ)) (are : AreRows s side (node n x.actor) rows) (j : ℕ)
+  module _ {side : Side} {rows : List (List ℕ)} (are : AreRows s side (node n x.actor) rows) {j : ℕ}
       (j_is : j ≡ phase_at x.state) where
     pub row_known : j < length rows
     row_known = let k = are.known x.done in omega (arith, j_is, phase_is)
 
-    module _ (row : List ℕ) (row_is : row ≡ at_phase rows j) where
+    module _ {row : List ℕ} (row_is : row ≡ at_phase rows j) where
       row_as : row ≡ at_phase rows (x.done % cycle_of s (node n x.actor))
       row_as = row_is ∙ ap (at_phase rows) (j_is ∙ phase_is)
 
@@ -77,7 +77,7 @@ module _ {A S T : Type 0} (s : Steps A S T) (n : Netlist A T) (inputs : List (Li
           (λ p l. row_size p (omega arith))
 
   -- the length of the blocks of its next firing, over all ports
-  module _ (y : Node A) (y_is : y ≡ node n x.actor) (j : ℕ) (j_is : j ≡ phase_at x.state) (many : ℕ) where
+  module _ {y : Node A} (y_is : y ≡ node n x.actor) {j : ℕ} (j_is : j ≡ phase_at x.state) {many : ℕ} where
     pub taken_is : many ≡ takes_of s y j → many ≡ start_at (sizes s Input (node n x.actor) x.done)
         (ports_of s Input (node n x.actor))
     taken_is e = e ∙ ((λ i. takes_of s (y_is i) ((j_is ∙ phase_is) i)) ∙ sym (sizes_taken s (node n x.actor) x.done))
@@ -101,20 +101,20 @@ module _ {A S T : Type 0} (s : Steps A S T) (n : Netlist A T) (inputs : List (Li
         omega arith
 
   -- by the row or by the firing: whether the ports hold a block or have room, and what moved
-  module _ (j : ℕ) (j_is : j ≡ phase_at x.state) (row : List ℕ) (row_is : row ≡ at_phase (lists x.takes.items) j)
+  module _ {j : ℕ} (j_is : j ≡ phase_at x.state) {row : List ℕ} (row_is : row ≡ at_phase (lists x.takes.items) j)
       (ends : List (Consumer T Global AnyItems)) (long : length ends ≡ ports_of s Input (node n x.actor)) where
     pub ins_row : length ends ≡ length row
-    ins_row = long ∙ sym (row_all Input (lists x.takes.items) st.takes j j_is row row_is)
+    ins_row = long ∙ sym (row_all st.takes j_is row_is)
 
     pub holds_by_row : HoldsEach (sizes s Input (node n x.actor) x.done) ends → HoldsEach (λ p. get_or row p 0) ends
     holds_by_row all = λ i d h.
-        let size = row_size Input (lists x.takes.items) st.takes j j_is row row_is i (omega arith) in
+        let size = row_size st.takes j_is row_is i (omega arith) in
         let l = all i d h in
         omega arith
 
     pub holds_by_firing : HoldsEach (λ p. get_or row p 0) ends → HoldsEach (sizes s Input (node n x.actor) x.done) ends
     holds_by_firing all = λ i d h.
-        let size = row_size Input (lists x.takes.items) st.takes j j_is row row_is i (omega arith) in
+        let size = row_size st.takes j_is row_is i (omega arith) in
         let l = all i d h in
         omega arith
 
@@ -123,23 +123,23 @@ module _ {A S T : Type 0} (s : Steps A S T) (n : Netlist A T) (inputs : List (Li
         DrewEach ends after (λ i. block_of (sizes s Input (node n x.actor) x.done) i t)
     drew_by_firing after t all = λ i d h.
         subst (λ b. Drew (get_or ends i d) (get_or after i d) b)
-        (row_part Input (lists x.takes.items) st.takes j j_is row row_is i t (omega arith)) (all i d h)
+        (row_part st.takes j_is row_is i t (omega arith)) (all i d h)
 
-  module _ (j : ℕ) (j_is : j ≡ phase_at x.state) (row : List ℕ) (row_is : row ≡ at_phase (lists x.puts.items) j)
+  module _ {j : ℕ} (j_is : j ≡ phase_at x.state) {row : List ℕ} (row_is : row ≡ at_phase (lists x.puts.items) j)
       (ends : List (Producer T Global AnyItems)) (long : length ends ≡ ports_of s Output (node n x.actor)) where
     pub outs_row : length ends ≡ length row
-    outs_row = long ∙ sym (row_all Output (lists x.puts.items) st.puts j j_is row row_is)
+    outs_row = long ∙ sym (row_all st.puts j_is row_is)
 
     pub room_by_row : HasRoomEach (sizes s Output (node n x.actor) x.done) ends → HasRoomEach (λ p. get_or row p 0) ends
     room_by_row all = λ i d h.
-        let size = row_size Output (lists x.puts.items) st.puts j j_is row row_is i (omega arith) in
+        let size = row_size st.puts j_is row_is i (omega arith) in
         let l = all i d h in
         omega arith
 
     pub room_by_firing : HasRoomEach (λ p. get_or row p 0) ends →
         HasRoomEach (sizes s Output (node n x.actor) x.done) ends
     room_by_firing all = λ i d h.
-        let size = row_size Output (lists x.puts.items) st.puts j j_is row row_is i (omega arith) in
+        let size = row_size st.puts j_is row_is i (omega arith) in
         let l = all i d h in
         omega arith
 
@@ -148,4 +148,4 @@ module _ {A S T : Type 0} (s : Steps A S T) (n : Netlist A T) (inputs : List (Li
         GaveEach ends after (λ i. block_of (sizes s Output (node n x.actor) x.done) i b)
     gave_by_firing after b all = λ i d h.
         subst (λ y. Gave (get_or ends i d) (get_or after i d) y)
-        (row_part Output (lists x.puts.items) st.puts j j_is row row_is i b (omega arith)) (all i d h)
+        (row_part st.puts j_is row_is i b (omega arith)) (all i d h)

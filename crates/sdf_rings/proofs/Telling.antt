@@ -18,7 +18,7 @@ use Rattle.sdf_rings.specs.Seats.{IsSeat, HasWorked, times_between}
 use Rattle.sdf_rings.proofs.Looks.{drew_looked, gave_looked, drew_none, gave_none}
 use Rattle.sdf_rings.proofs.Looking.{looked_stand, looked_moved}
 use Rattle.sdf_rings.proofs.Times.{times_none}
-use Rattle.sdf_rings.specs.Rests.{producer_of, consumer_of, AreRings, spot_of}
+use Rattle.sdf_rings.specs.Rests.{producer_of, consumer_of, InHand, AreRings, spot_of}
 use Rattle.sdf_rings.proofs.Placed.{one_node, rings_all}
 use Rattle.sdf_rings.proofs.Swaps.{same_place}
 use Rattle.std.proofs.Math.Nat.{eq-or-lt_of_le}
@@ -47,7 +47,7 @@ module _ {A S T : Type 0} where
     asked = (sym t.asked_same) i;
   }
 
-  module _ (s : Steps A S T) (n : Netlist A T) (old new : List (Seat A T S)) (from to : Spot)
+  module _ (s : Steps A S T) (n : Netlist A T) {old new : List (Seat A T S)} {from to : Spot}
       (t : IsTold old new from to) where
     drew : (j k : ℕ) (e : Seat A T S) (d : Stand A T S) →
         DrewEach (stand_at old j k e d).ins.items (stand_at new j k e d).ins.items (λ _. [])
@@ -121,17 +121,14 @@ module _ {A S T : Type 0} where
           ) (ok.counts k d (let z = same.stands_same in omega arith));
         }
 
-  module _ (s : Steps A S T) (n : Netlist A T) (inputs : List (List T)) (seats new : List (Seat A T S))
-      (places : List (ℕ × ℕ))
-      (r : AreRings s (record { net = n; inputs = inputs; seats = seats; places = places })) (m : ℕ)
-      (known : m < length n.wires)
-      (t : IsTold seats new (spot_of places (wire n m).from) (spot_of places (wire n m).to)) where
-    pub rings_told : AreRings s (record { net = n; inputs = inputs; seats = new; places = places })
-    rings_told = rings_all s n inputs seats new places r t.told_len
-        (λ j e h. told_seat s n seats new (spot_of places (wire n m).from) (spot_of places (wire n m).to) t inputs j e
-        (r.each j e h))
-        (λ j e h. told_worked s n seats new (spot_of places (wire n m).from) (spot_of places (wire n m).to) t j e
-        (r.each j e h).next_fits)
+  module _ {s : Steps A S T} {hand : InHand A S T} (r : AreRings s hand) {m : ℕ} (known : m < length hand.net.wires)
+      {new : List (Seat A T S)} (t : IsTold hand.seats new (spot_of hand.places (wire hand.net m).from)
+      (spot_of hand.places (wire hand.net m).to)) where
+    open hand use {net as n, inputs, seats, places}
+
+    pub rings_told : AreRings s (record hand { seats = new })
+    rings_told = rings_all r new t.told_len (λ j e h. told_seat s n t inputs j e (r.each j e h))
+        (λ j e h. told_worked s n t j e (r.each j e h).next_fits)
 
     -- the ring is met, and those before it stay so
     pub met_told : (k : ℕ) (e : Seat A T S) (d : Stand A T S) (x : Consumer T Global AnyItems)
@@ -144,12 +141,12 @@ module _ {A S T : Type 0} where
           | inr less ↦
               let lk : k < length n.wires = omega arith in
               let puts = t.other_producers (spot_of places (wire n k).from) e d y (λ z.
-              let node = one_node n seats places r.placed (wire n k).from.0 (wire n m).from.0 e d
+              let node = one_node r.placed e d
               (r.is_net.from_in k lk).0
               (r.is_net.from_in m known).0 z.0 z.1 in
               let one = r.is_net.from_once k m lk known (λ i. (node i, z.2 i)) in omega arith) in
               let takes = t.other_consumers (spot_of places (wire n k).to) e d x (λ z.
-              let node = one_node n seats places r.placed (wire n k).to.0 (wire n m).to.0 e d (r.is_net.to_in k lk).0
+              let node = one_node r.placed e d (r.is_net.to_in k lk).0
               (r.is_net.to_in m known).0 z.0 z.1 in
               let one = r.is_net.to_once k m lk known (λ i. (node i, z.2 i)) in omega arith) in
               rw (puts, takes) (before less)

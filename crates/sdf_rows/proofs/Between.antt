@@ -50,12 +50,12 @@ cells_known s n k high row is j f l cell =
     subst (λ (x : Firing). x.actor < length n.nodes) at.2
     (subst (λ a. a < length n.nodes) (actor_at (firings row) at.0 at.1) known)
 
-module _ {A S T : Type 0} (s : Steps A S T) (n : Netlist A T) (inputs : List (List T)) (many low high k : ℕ → ℕ)
-    (states states' : List (NodeState T S)) (ls : List (Held T))
-    (jobs jobs' : List (Job A T S))
-    (row : List (Option Firing)) (st : IsBetween s n inputs many low high k states ls)
+-- between two rows, with the jobs at the front loaded for the next row
+module _ {A S T : Type 0} {s : Steps A S T} {n : Netlist A T} {inputs : List (List T)} {many low high k : ℕ → ℕ}
+    {states states' : List (NodeState T S)} {ls : List (Held T)} {jobs jobs' : List (Job A T S)}
+    {row : List (Option Firing)} {done : List ℕ} (st : IsBetween s n inputs many low high k states ls)
     (is : IsRow s n k high (row_actors row)) (blocks : HaveBlocks s n jobs) (few : length (firings row) ≤ length jobs)
-    (done : List ℕ) (loaded : AreLoaded row done (firings row) states states' jobs jobs') (front : List (Job A T S))
+    (loaded : AreLoaded row done (firings row) states states' jobs jobs') (front : List (Job A T S))
     (all : length front ≡ length (firings row))
     (same : (i : ℕ) (d : Job A T S) → i < length (firings row) → get_or front i d ≡ get_or jobs' i d) where
   abbrev fs : List Firing

@@ -37,9 +37,9 @@ pub block_counts : (r : Rates) (n : ℕ → ℕ) (rows : List (List (Option Firi
 block_counts r n rows i a valid h l = ap (λ xs. times (sequence xs) a) (take_all i rows h)
     ∙ (orders_are_admissible r n rows valid).1 a l
 
-module _ {A S T : Type 0} (s : Steps A S T) (n : Netlist A T) (r : Rates) (alike : IsAlike r (wiring s n).rates)
-    (sound : IsSound r) (many : ℕ → ℕ) (rows : List (List (Option Firing)))
-    (valid : IsValid r many rows) (start : ℕ → ℕ) (round : IsRound s n start) (i : ℕ) (l : i < length rows) (k : ℕ → ℕ)
+module _ {A S T : Type 0} {s : Steps A S T} {n : Netlist A T} {r : Rates} (alike : IsAlike r (wiring s n).rates)
+    (sound : IsSound r) {many : ℕ → ℕ} {rows : List (List (Option Firing))} (valid : IsValid r many rows)
+    {start : ℕ → ℕ} (round : IsRound s n start) (i : ℕ) (l : i < length rows) {k : ℕ → ℕ}
     (k_is : (a : ℕ) → k a ≡ start a + times (sequence (take i rows)) a) where
   abbrev fs : List Firing
   fs = firings (row rows i)

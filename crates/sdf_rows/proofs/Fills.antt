@@ -25,10 +25,10 @@ pub all_from : {X : Type 0} (P : X → Type 0) (xs : List X) → ((i : ℕ) (d :
 all_from P [] each = All-nil P
 all_from P (x ∷ xs) each = All-from_get_or P (x ∷ xs) x (λ i h. each i x h)
 
-module _ {A S T : Type 0} (s : Steps A S T) (n : Netlist A T) (good : IsNet s n) (z : Rows) (sizes : AreSizes s n z)
-    (inputs : List (List T))
-    (many low high : ℕ → ℕ) (acts : List ℕ) (k : ℕ → ℕ) (states : List (NodeState T S)) (ls : List (Held T))
-    (jobs : List (Job A T S)) (st : IsFilling s n inputs many low high acts 0 k states ls jobs)
+-- one of a row's jobs, which are filled
+module _ {A S T : Type 0} {s : Steps A S T} {n : Netlist A T} (good : IsNet s n) {z : Rows} (sizes : AreSizes s n z)
+    {inputs : List (List T)} {many low high k : ℕ → ℕ} {acts : List ℕ} {states : List (NodeState T S)}
+    {ls : List (Held T)} {jobs : List (Job A T S)} (st : IsFilling s n inputs many low high acts 0 k states ls jobs)
     (i : ℕ) (h : i < length acts) (d : Job A T S) where
   abbrev pub who : ℕ
   who = get_or acts i 0
@@ -118,17 +118,15 @@ module _ {A S T : Type 0} (s : Steps A S T) (n : Netlist A T) (good : IsNet s n)
             (at.put (many who) past has.state ∙ ap (answer_of s inputs (node n who) past) block_is);
       }
 
-module _ {A S T : Type 0} (s : Steps A S T) (n : Netlist A T) (good : IsNet s n) (z : Rows) (sizes : AreSizes s n z)
-    (inputs : List (List T))
-    (many low high : ℕ → ℕ) (k : ℕ → ℕ) (states : List (NodeState T S)) (ls : List (Held T)) (jobs : List (Job A T S))
-    (st : IsFilling s n inputs many low high (actors_of jobs) 0 k states ls jobs) where
+-- all of them
+module _ {A S T : Type 0} {s : Steps A S T} {n : Netlist A T} (good : IsNet s n) {z : Rows} (sizes : AreSizes s n z)
+    {inputs : List (List T)} {many low high k : ℕ → ℕ} {states : List (NodeState T S)} {ls : List (Held T)}
+    {jobs : List (Job A T S)} (st : IsFilling s n inputs many low high (actors_of jobs) 0 k states ls jobs) where
   acts_long : length (actors_of jobs) ≡ length jobs
   acts_long = length-map jobs (λ j. j.actor)
 
   pub all_fit : All (JobFits s n inputs z ls) jobs
-  all_fit = all_from (JobFits s n inputs z ls) jobs
-      (λ i d h. job_fits s n good z sizes inputs many low high (actors_of jobs) k states ls jobs st i
-      (omega (arith, acts_long)) d)
+  all_fit = all_from (JobFits s n inputs z ls) jobs (λ i d h. job_fits good sizes st i (omega (arith, acts_long)) d)
 
   module _ (jobs' : List (Job A T S)) (all : length jobs' ≡ length jobs)
       (fired : HaveFired s n inputs z ls jobs jobs') where
@@ -163,8 +161,7 @@ module _ {A S T : Type 0} (s : Steps A S T) (n : Netlist A T) (good : IsNet s n)
       apart = st.apart;
       idle = st.idle;
       jobs_are = λ i j from h.
-          is_back s n good z sizes inputs many low high (actors_of jobs) k states ls jobs st i h j
-          (get_or jobs' i j) (fired i j (omega (arith, acts_long)));
+          is_back good sizes st i h j (get_or jobs' i j) (fired i j (omega (arith, acts_long)));
       able = st.able;
       within = st.within;
     }
@@ -181,12 +178,11 @@ module _ {A S T : Type 0} (s : Steps A S T) (n : Netlist A T) (good : IsNet s n)
     }
 
 -- when all are settled, the row is over
-pub row_over : {A S T : Type 0} (s : Steps A S T) (n : Netlist A T) (inputs : List (List T)) (many low high : ℕ → ℕ)
-    (acts : List ℕ) (from : ℕ) (k : ℕ → ℕ) (states : List (NodeState T S)) (ls : List (Held T))
-    (jobs : List (Job A T S)) →
-    length acts ≤ from → IsSettling s n inputs many low high acts from k states ls jobs →
+pub row_over : {A S T : Type 0} {s : Steps A S T} {n : Netlist A T} {inputs : List (List T)} {many low high : ℕ → ℕ}
+    {acts : List ℕ} {from : ℕ} {k : ℕ → ℕ} {states : List (NodeState T S)} {ls : List (Held T)}
+    {jobs : List (Job A T S)} → IsSettling s n inputs many low high acts from k states ls jobs → length acts ≤ from →
     IsBetween s n inputs many low high k states ls
-row_over s n inputs many low high acts from k states ls jobs over st = record {
+row_over st over = record {
   small = st.small;
   reach = st.reach;
   top = st.top;

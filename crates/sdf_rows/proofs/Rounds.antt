@@ -34,7 +34,7 @@ block_at j [] a = omega arith
 block_at j (x ∷ xs) zero = refl
 block_at j (x ∷ xs) (suc a) = block_at j xs a
 
-module _ {A S T : Type 0} (s : Steps A S T) (n : Netlist A T) (r : Rates) (alike : IsAlike r (wiring s n).rates)
+module _ {A S T : Type 0} (s : Steps A S T) (n : Netlist A T) {r : Rates} (alike : IsAlike r (wiring s n).rates)
     (sound : IsSound r) (q : List ℕ) (period : IsPeriod r (λ a. get_or q a 0)) where
   module _ (c : ℕ) (h : c < length n.wires) where
     known : c < r.channels
@@ -137,7 +137,7 @@ module _ {A S T : Type 0} (s : Steps A S T) (n : Netlist A T) (r : Rates) (alike
         (sym taken ∙ ap ((wiring s n).rates.consumed c) (sym (k_is ((wiring s n).rates.target c) (tgt_known c h))))));
   }
 
-  module _ (inputs : List (List T)) (j blocks b : ℕ) (k : ℕ → ℕ) (states : List (NodeState T S)) (ls : List (Held T))
+  module _ {inputs : List (List T)} {j blocks b : ℕ} {k : ℕ → ℕ} {states : List (NodeState T S)} {ls : List (Held T)}
       (rest : IsResting s n inputs q j blocks b k states ls) where
     pub round_here : IsRound s n k
     round_here = round_of k (b * j) (λ a l. rest.counts a l ∙
@@ -181,11 +181,11 @@ module _ {A S T : Type 0} (s : Steps A S T) (n : Netlist A T) (r : Rates) (alike
     }
 
     -- and when it is over, so it stands again
-    pub block_ends : (k' : ℕ → ℕ) (states' : List (NodeState T S)) (ls' : List (Held T)) →
+    pub block_ends : {k' : ℕ → ℕ} {states' : List (NodeState T S)} {ls' : List (Held T)} →
         ((a : ℕ) → a < length n.nodes → k' a ≡ block_after q j k a) →
         IsBetween s n inputs (λ a. blocks * (j * get_or q a 0)) k (block_after q j k) k' states' ls' →
         IsResting s n inputs q j blocks (b + 1) k' states' ls'
-    block_ends k' states' ls' k_is st = record {
+    block_ends {k' = k'} k_is st = record {
       counts = λ a l.
           let m : ℕ = j * get_or q a 0 in
           let split : (b + 1) * m ≡ b * m + m = omega arith in

@@ -4,13 +4,13 @@ use Rattle.std.specs.Prelude.{option_and_then, is_some, nat_le, bytes_eq, if◌t
 use Rattle.std.specs.Option.{option_map_or}
 use Rattle.std.specs.List.{range_with_len}
 use Rattle.toml.specs.Data.{Data, Items, get, at, as_integer, as_array}
-use Rattle.sdf_document.specs.declared.row.KindWord.{KindWord}
-use Rattle.sdf_document.specs.declared.row.Width.{Width}
-use Rattle.sdf_document.specs.declared.row.Width.TheVariants.{Bits16, Bits32}
-use Rattle.sdf_document.specs.declared.row.Form.{Form}
-use Rattle.sdf_document.specs.declared.row.Form.TheVariants.{Natural, Optional, Integer, FromLeast}
-use Rattle.sdf_document.specs.declared.row.Form.TheVariants.{List as ListForm}
-use Rattle.sdf_document.specs.Rows.{KeyRow, row_of}
+use Rattle.sdf_kinds.specs.declared.row.Kind.{Kind}
+use Rattle.sdf_kinds.specs.declared.row.Width.{Width}
+use Rattle.sdf_kinds.specs.declared.row.Width.TheVariants.{Bits16, Bits32}
+use Rattle.sdf_kinds.specs.declared.row.Form.{Form}
+use Rattle.sdf_kinds.specs.declared.row.Form.TheVariants.{Natural, Optional, Integer, FromLeast}
+use Rattle.sdf_kinds.specs.declared.row.Form.TheVariants.{List as ListForm}
+use Rattle.sdf_kinds.specs.Rows.{KeyRow, row_of}
 use Rattle.sdf_document.specs.Kinds.{kind_named}
 use Rattle.sdf_document.specs.Fault.{Place, actor}
 use Rattle.sdf_document.specs.Lists.{Files, file_named, fits}
@@ -37,7 +37,7 @@ keys_limits ks = option_and_then (λ (k : KeyRow). list_limits k.form) (find has
 
 -- those of a kind, in any format
 unfoldable pub kind_limits : List ℕ → Option Limits
-kind_limits word = option_and_then (λ (k : KindWord). keys_limits (row_of k).keys) (kind_named 4294967295 word)
+kind_limits word = option_and_then (λ (k : Kind). keys_limits (row_of k).keys) (kind_named 4294967295 word)
 
 -- ---- one value
 

@@ -6,7 +6,7 @@ use Rattle.sdf_limits.specs.declared.TheConstants.{MOST_ACTORS, MOST_LINKS}
 use Rattle.sdf_document.specs.Fault.{Place, top, actor, link, file, Fault, actor_count, channel_count, kit_value}
 use Rattle.sdf_document.specs.Fault.{not_toml, bad_format, unknown_key, missing_key, wrong_type, bad_name, name_twice}
 use Rattle.sdf_document.specs.Fault.{unknown_kind, bad_port, no_file}
-use Rattle.sdf_document.specs.Listing.{kinds_text}
+use Rattle.sdf_kinds.specs.Listing.{kinds_text}
 use Rattle.sdf_document.specs.Lists.{Files, file_named}
 use Rattle.sdf_why.specs.Limits.{row_of}
 use Rattle.sdf_why.specs.Words.{end, key_line}

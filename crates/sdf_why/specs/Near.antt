@@ -5,12 +5,12 @@ use Rattle.std.specs.List.{flat_map, range_with_len}
 use Rattle.toml.specs.Data.{Data}
 use Rattle.sdf_limits.specs.declared.TheConstants.{MOST_ACTORS}
 use Rattle.sdf_similar.specs.Similar.{nearest}
-use Rattle.sdf_document.specs.declared.row.KindWord.{KindWord}
-use Rattle.sdf_document.specs.declared.row.Form.{Form}
-use Rattle.sdf_document.specs.declared.row.Form.TheVariants.{Natural, Optional, Integer, FromLeast}
-use Rattle.sdf_document.specs.declared.row.Form.TheVariants.{List as ListForm}
+use Rattle.sdf_kinds.specs.declared.row.Kind.{Kind}
+use Rattle.sdf_kinds.specs.declared.row.Form.{Form}
+use Rattle.sdf_kinds.specs.declared.row.Form.TheVariants.{Natural, Optional, Integer, FromLeast}
+use Rattle.sdf_kinds.specs.declared.row.Form.TheVariants.{List as ListForm}
 use Rattle.sdf_document.specs.Fault.{Place, top, actor, link, file}
-use Rattle.sdf_document.specs.Rows.{KeyRow, row_of, kinds, shared_keys}
+use Rattle.sdf_kinds.specs.Rows.{KeyRow, row_of, kinds, shared_keys}
 use Rattle.sdf_document.specs.Kinds.{kind_named}
 use Rattle.sdf_document.specs.Document.{top_keys}
 use Rattle.sdf_document.specs.Links.{link_keys}
@@ -33,7 +33,7 @@ near_told names word = other_told word (nearest word names)
 -- ---- kinds
 
 abbrev pub kind_words : List (List ℕ)
-kind_words = map (λ (k : KindWord). (row_of k).word) kinds
+kind_words = map (λ (k : Kind). (row_of k).word) kinds
 
 -- the kind that may have been meant by that of actor a
 unfoldable pub near_kind : ℕ → Data → List ℕ
@@ -54,7 +54,7 @@ key_names k = k.name ∷ file_beside k.form
 
 -- those of a kind, in any format
 abbrev pub kind_keys : List ℕ → List (List ℕ)
-kind_keys word = option_map_or (λ (k : KindWord). flat_map key_names (row_of k).keys) (kind_named 4294967295 word) []
+kind_keys word = option_map_or (λ (k : Kind). flat_map key_names (row_of k).keys) (kind_named 4294967295 word) []
 
 -- the keys that an actor of a kind may have
 unfoldable pub actor_keys : List ℕ → List (List ℕ)

@@ -5,7 +5,7 @@ ghost use Rattle.std.specs.Prelude.{◌≡◌, ◌++◌, OnOk, codes, option_map
 ghost use Rattle.toml.specs.Data.{at, get, as_integer};
 ghost use Rattle.toml.specs.View.{view};
 ghost use Rattle.sdf_document.specs.Fault.{place_view};
-ghost use Rattle.sdf_document.specs.Rows.{keys_view};
+ghost use Rattle.sdf_kinds.specs.Rows.{keys_view};
 ghost use Rattle.sdf_document.specs.Lists.{files_view, file_named, fits};
 ghost use Rattle.sdf_why.specs.Tables.{text_at};
 ghost use Rattle.sdf_why.specs.Actors.{lines_of};
@@ -17,7 +17,8 @@ ghost use Rattle.sdf_why.specs.Coefficients.{table_told, values_told};
 
 use crate::tables::{Source, entry, root, text_at, value_at};
 use crate::words::{push_key, push_quoted, push_value};
-use sdf_document::{Form, Key, Place, Width, kind_named, row_of};
+use sdf_document::{Place, kind_named};
+use sdf_kinds::{Form, KeyForm, Width, row_of};
 use std::alloc::{AllocError, Global};
 use toml::Value;
 
@@ -76,7 +77,7 @@ fn list_limits(form: Form) -> Option<Limits>
 
 /// Returns the limits of the first list among `keys`.
 #[tactic(auto, unfolding(crate::specs::Coefficients::keys_limits))]
-fn keys_limits(keys: &[Key]) -> Option<Limits>
+fn keys_limits(keys: &[KeyForm]) -> Option<Limits>
     ensures { result ≡ keys_limits (keys_view keys.now) }
 {
     for key in keys {

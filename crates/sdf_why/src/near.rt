@@ -4,7 +4,7 @@ ghost use Rattle.std.specs.Prelude.{◌≡◌, ◌++◌, IfOk, OnOk, map, string
 ghost use Rattle.std.specs.List.{flat_map};
 ghost use Rattle.toml.specs.View.{view};
 ghost use Rattle.sdf_document.specs.Fault.{place_view};
-ghost use Rattle.sdf_document.specs.Rows.{key_view, keys_view};
+ghost use Rattle.sdf_kinds.specs.Rows.{key_view, keys_view};
 ghost use Rattle.sdf_why.specs.Near.{near_told, kind_words, key_names, kind_keys, actor_keys, near_kind, near_key};
 ghost use Rattle.sdf_why.specs.Near.{near_actor_key, name_in, actor_names, near_end};
 
@@ -12,9 +12,8 @@ use crate::links::end_at;
 use crate::marks::before;
 use crate::tables::actor_text;
 use crate::words::push_hint;
-use sdf_document::{
-    Form, Key, Place, file_keys, kind_named, kinds, link_keys, row_of, shared_keys, top_keys,
-};
+use sdf_document::{Place, file_keys, kind_named, link_keys, top_keys};
+use sdf_kinds::{Form, KeyForm, kinds, row_of, shared_keys};
 use sdf_limits::MOST_ACTORS;
 use sdf_similar::nearest;
 use std::alloc::{AllocError, Global};
@@ -39,7 +38,7 @@ fn kind_words(alloc: Global) -> Result<Vec<&'static str>, AllocError>
     let mut words = Vec::new(alloc);
     let all = kinds();
     for kind in all {
-        words.push(row_of(*kind).word)?;
+        words.push(kind.word())?;
     }
     Ok(words)
 }
@@ -62,11 +61,11 @@ pub(crate) fn push_near_kind(
 }
 
 /// Adds the name of a key, and `file` behind a list's, in whose place it may stand.
-fn push_key_names<'a>(names: &mut Vec<&'a str>, key: &'a Key) -> Result<(), AllocError>
+fn push_key_names(names: &mut Vec<&str>, key: &KeyForm) -> Result<(), AllocError>
     ensures { OnOk result (map (λ name. name.now) names.new.items ≡
         map (λ name. name.now) names.old.items ++ key_names (key_view key.now)) }
 {
-    names.push(key.0)?;
+    names.push(key.0.name())?;
     if let Form::List(_, _) = key.1 {
         names.push("file")?;
     }
@@ -74,7 +73,7 @@ fn push_key_names<'a>(names: &mut Vec<&'a str>, key: &'a Key) -> Result<(), Allo
 }
 
 #[tactic(auto, using(std::proofs::lemmas::List::map_more, std::proofs::lemmas::List::flat_map_more))]
-fn push_keys<'a>(names: &mut Vec<&'a str>, keys: &'a [Key]) -> Result<(), AllocError>
+fn push_keys(names: &mut Vec<&str>, keys: &[KeyForm]) -> Result<(), AllocError>
     ensures { OnOk result (map (λ name. name.now) names.new.items ≡
         map (λ name. name.now) names.old.items ++ flat_map key_names (keys_view keys.now)) }
 {

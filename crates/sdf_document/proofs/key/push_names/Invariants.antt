@@ -1,7 +1,7 @@
 use Rattle.std.proofs.Common.{◌≡◌, ◌++◌, take}
 use Rattle.toml.specs.View.{table_view}
 use Rattle.sdf_document.specs.Tables.{texts_of}
-use Rattle.sdf_document.specs.Rows.{keys_view}
+use Rattle.sdf_kinds.specs.Rows.{keys_view}
 use Rattle.sdf_document.specs.Kinds.{names_of_keys}
 use Rattle.sdf_document.proofs.key.push_names.Given as goal
 

@@ -2,7 +2,7 @@ use Rattle.std.proofs.Common.{◌≡◌, ◌++◌, drop, List}
 use Rattle.toml.specs.View.{table_view}
 use Rattle.sdf_document.specs.declared.key.KeyValue.{KeyValue}
 use Rattle.sdf_document.specs.Lists.{lookup_of, are_read}
-use Rattle.sdf_document.specs.Rows.{keys_view}
+use Rattle.sdf_kinds.specs.Rows.{keys_view}
 use Rattle.sdf_document.specs.Kinds.{values_at, HaveForms}
 use Rattle.sdf_document.proofs.Keys.{values_after}
 use Rattle.sdf_document.proofs.key.values_at.Given as goal

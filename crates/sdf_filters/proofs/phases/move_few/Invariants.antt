@@ -1,7 +1,5 @@
-use Rattle.std.proofs.Common.{◌*◌}
-use Rattle.sdf_filters.specs.Phases.{AreMoved, weight}
+use Rattle.sdf_filters.specs.Phases.{AreMovedBy}
 use Rattle.sdf_filters.proofs.phases.move_few.Given as goal
 
 abbrev pub invariant-loop : goal.invariant-loop
-invariant-loop l =
-    AreMoved l.way.up l.way.phase l.way.rise (weight l.way.up l.way.phase * l.counter) l.initial.taps l.taps
+invariant-loop l = AreMovedBy l.way l.counter l.initial.taps l.taps

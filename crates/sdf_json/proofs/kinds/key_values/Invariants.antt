@@ -1,6 +1,6 @@
 use Rattle.std.proofs.Common.{◌≡◌, map, take}
 use Rattle.serde_json.specs.View.{view}
-use Rattle.sdf_document.specs.Rows.{keys_view}
+use Rattle.sdf_kinds.specs.Rows.{keys_view}
 use Rattle.sdf_json.specs.Kinds.{key_value}
 use Rattle.sdf_json.proofs.kinds.key_values.Given as goal
 

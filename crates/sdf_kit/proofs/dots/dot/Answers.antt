@@ -1,21 +1,8 @@
 use Rattle.std.proofs.Common.{◌≡◌, ◌∙◌, ap, get_or, map, of_z, to_z, pos, w32}
 use Rattle.std.proofs.lemmas.Int.{to_z-of_z, SFits-int_wrap}
 use Rattle.sdf_kit.specs.Dots.{wrap, dot}
-use Rattle.sdf_kit.proofs.LaneTotals.{passed}
 use Rattle.sdf_kit.proofs.LaneSums.{sums_passed}
 use Rattle.sdf_kit.proofs.dots.dot.Goals as goal
-
-pub totals-requires-clause-a : goal.totals-requires-clause-a
-totals-requires-clause-a c = passed w32 8 c.sums-a.result c.sums-a.ensures.lanes
-
-pub totals-requires-clause-b : goal.totals-requires-clause-b
-totals-requires-clause-b c = passed w32 8 c.sums-a.result c.sums-a.ensures.lanes
-
-pub totals-requires-clause-c : goal.totals-requires-clause-c
-totals-requires-clause-c c = passed w32 8 c.sums-a.result c.sums-a.ensures.lanes
-
-pub totals-requires-clause-d : goal.totals-requires-clause-d
-totals-requires-clause-d c = passed w32 8 c.sums-a.result c.sums-a.ensures.lanes
 
 pub returns : goal.returns
 returns c =

@@ -1,6 +1,4 @@
 use Rattle.std.proofs.Common.{map, to_z, w32, arith}
-use Rattle.std.specs.Int.{w16}
-use Rattle.sdf_kit.proofs.LaneTotals.{passed}
 use Rattle.sdf_kit.proofs.LaneSums.{so_far_nothing, so_far_on, so_far_all}
 use Rattle.sdf_kit.proofs.dots.four_sums.Goals as goal
 
@@ -43,38 +41,14 @@ chunks-preserved c = record {
 pub more-a-requires-clause-sums : goal.more-a-requires-clause-sums
 more-a-requires-clause-sums c = c.chunks.invariant.a.some.lanes
 
-pub more-a-requires-clause-h : goal.more-a-requires-clause-h
-more-a-requires-clause-h c = passed w16 16 c.load-taps.result c.load-taps.ensures.lanes
-
-pub more-a-requires-clause-x : goal.more-a-requires-clause-x
-more-a-requires-clause-x c = passed w16 16 c.load.result c.load.ensures.lanes
-
 pub more-b-requires-clause-sums : goal.more-b-requires-clause-sums
 more-b-requires-clause-sums c = c.chunks.invariant.b.some.lanes
-
-pub more-b-requires-clause-h : goal.more-b-requires-clause-h
-more-b-requires-clause-h c = passed w16 16 c.load-taps.result c.load-taps.ensures.lanes
-
-pub more-b-requires-clause-x : goal.more-b-requires-clause-x
-more-b-requires-clause-x c = passed w16 16 c.load-in-chunks.result c.load-in-chunks.ensures.lanes
 
 pub more-c-requires-clause-sums : goal.more-c-requires-clause-sums
 more-c-requires-clause-sums c = c.chunks.invariant.c.some.lanes
 
-pub more-c-requires-clause-h : goal.more-c-requires-clause-h
-more-c-requires-clause-h c = passed w16 16 c.load-taps.result c.load-taps.ensures.lanes
-
-pub more-c-requires-clause-x : goal.more-c-requires-clause-x
-more-c-requires-clause-x c = passed w16 16 c.load-in-chunks-2.result c.load-in-chunks-2.ensures.lanes
-
 pub more-d-requires-clause-sums : goal.more-d-requires-clause-sums
 more-d-requires-clause-sums c = c.chunks.invariant.d.some.lanes
-
-pub more-d-requires-clause-h : goal.more-d-requires-clause-h
-more-d-requires-clause-h c = passed w16 16 c.load-taps.result c.load-taps.ensures.lanes
-
-pub more-d-requires-clause-x : goal.more-d-requires-clause-x
-more-d-requires-clause-x c = passed w16 16 c.load-in-chunks-3.result c.load-in-chunks-3.ensures.lanes
 
 pub returns-clause-a : goal.returns-clause-a
 returns-clause-a c =

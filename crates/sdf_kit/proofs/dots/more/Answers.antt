@@ -1,18 +1,8 @@
 use Rattle.std.proofs.Common.{w32, ap, ◌∙◌}
-use Rattle.std.specs.Int.{w16}
 use Rattle.sdf_kit.specs.Dots.{wrap, total, dot}
 use Rattle.sdf_kit.proofs.LaneTotals.{passed, same_lanes, made, joined}
 use Rattle.sdf_kit.proofs.LaneSums.{more_exact}
 use Rattle.sdf_kit.proofs.dots.more.Goals as goal
-
-pub products-requires-clause-x : goal.products-requires-clause-x
-products-requires-clause-x c = passed w16 16 c.args.h c.requires.h
-
-pub products-requires-clause-h : goal.products-requires-clause-h
-products-requires-clause-h c = passed w16 16 c.args.x c.requires.x
-
-pub plus-requires-clause-a : goal.plus-requires-clause-a
-plus-requires-clause-a c = passed w32 8 c.args.sums c.requires.sums
 
 pub plus-requires-clause-b : goal.plus-requires-clause-b
 plus-requires-clause-b c = passed w32 8 c.products.result

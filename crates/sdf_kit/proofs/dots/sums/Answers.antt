@@ -1,6 +1,4 @@
 use Rattle.std.proofs.Common.{map, to_z, w32, arith}
-use Rattle.std.specs.Int.{w16}
-use Rattle.sdf_kit.proofs.LaneTotals.{passed}
 use Rattle.sdf_kit.proofs.LaneSums.{so_far_nothing, so_far_on, so_far_all}
 use Rattle.sdf_kit.proofs.dots.sums.Goals as goal
 
@@ -23,12 +21,6 @@ chunks-preserved c = record {
 
 pub more-a-requires-clause-sums : goal.more-a-requires-clause-sums
 more-a-requires-clause-sums c = c.chunks.invariant.a.some.lanes
-
-pub more-a-requires-clause-h : goal.more-a-requires-clause-h
-more-a-requires-clause-h c = passed w16 16 c.load.result c.load.ensures.lanes
-
-pub more-a-requires-clause-x : goal.more-a-requires-clause-x
-more-a-requires-clause-x c = passed w16 16 c.load-in-chunks.result c.load-in-chunks.ensures.lanes
 
 pub returns : goal.returns
 returns c =

@@ -2,18 +2,6 @@ use Rattle.std.proofs.Common.{w32, refl, ◌∙◌}
 use Rattle.sdf_kit.proofs.LaneTotals.{passed, folded, paired, four_totals}
 use Rattle.sdf_kit.proofs.dots.totals.Goals as goal
 
-pub folded-requires : goal.folded-requires
-folded-requires c = passed w32 8 c.args.a c.requires.a
-
-pub folded-requires-2 : goal.folded-requires-2
-folded-requires-2 c = passed w32 8 c.args.b c.requires.b
-
-pub folded-requires-3 : goal.folded-requires-3
-folded-requires-3 c = passed w32 8 c.args.c c.requires.c
-
-pub folded-requires-4 : goal.folded-requires-4
-folded-requires-4 c = passed w32 8 c.args.d c.requires.d
-
 pub pairs-requires-clause-a : goal.pairs-requires-clause-a
 pairs-requires-clause-a c =
     passed w32 4 c.folded.result (folded c.args.a c.folded.result c.requires.a c.folded.ensures).0

@@ -1,11 +1,11 @@
-use Rattle.std.proofs.Common.{◌≡◌, ℕ, ◌++◌, ◌∷◌, [], ◌-◌, ◌≤◌, ◌<◌, List, length, map, take, replicate, Vec, Global}
-use Rattle.std.proofs.Common.{Option, None, sym, ap, ◌∙◌, subst, arith}
+use Rattle.std.proofs.Common.{◌≡◌, ℕ, ◌++◌, ◌∷◌, [], ◌-◌, ◌≤◌, ◌<◌, List, length, map, take, replicate}
+use Rattle.std.proofs.Common.{Option, None, refl, sym, ap, ◌∙◌, subst, arith}
 use Rattle.std.specs.Prelude.{IsTrue, vec_len}
-use Rattle.std.proofs.lemmas.List.{length-map, take_all}
+use Rattle.std.proofs.lemmas.List.{take_all}
 use Rattle.sdf_prec.specs.declared.firing.Firing.{Firing}
 use Rattle.sdf_prec.specs.Tables.{firings, row}
 use Rattle.sdf_prec.specs.Tidied.{filled}
-use Rattle.sdf_prec.proofs.RowMarks.{row_read}
+use Rattle.sdf_prec.proofs.RowMarks.{cells_read}
 use Rattle.sdf_prec.proofs.RowsIn.{some_cells}
 use Rattle.sdf_prec.proofs.Keeping.{tidied_some, tidied_none, not_some}
 use Rattle.sdf_prec.proofs.tidy.tidied.Goals.{then-has_firing+in_ok-extend_from_slice+in_ok-resize+in_ok-push}
@@ -17,8 +17,8 @@ push-requires-clause-some c =
     let rs : List (List (Option Firing)) = map (λ r. r.items) c.args.rows.now in
     let i : ℕ = c.loop-row.row-index in
     let l : i < length c.args.rows.now = omega (arith, c.loop-row-test.true) in
-    let cells : c.deref.result.now ≡ row rs i =
-    c.deref.ensures.value ∙ sym (row_read c.args.rows.now i c.row-item.result l c.row-item.is) in
+    let cells = (cells_read c.args.rows.now i c.row-item.result c.deref.result.now l c.row-item.is
+    c.deref.ensures.value).0 in
     let some : 0 < length (row rs i) = some_cells (row rs i)
     (subst (λ r. 0 < length (firings r)) cells (c.has_firing.ensures.0 c.if-has_firing.true)) in
     omega (
@@ -34,19 +34,13 @@ loop-row-preserved c =
     let rs : List (List (Option Firing)) = map (λ r. r.items) c.args.rows.now in
     let i : ℕ = c.loop-row.row-index in
     let l : i < length c.args.rows.now = omega (arith, c.loop-row-test.true) in
-    let k : i < length rs = omega (
-      arith,
-      l,
-      length-map c.args.rows.now
-          (λ (r : Vec (Option Firing) Global). r.items),
-    ) in
-    let here : row rs i ≡ c.row-item.result.items = row_read c.args.rows.now i c.row-item.result l c.row-item.is in
-    let cells : c.deref.result.now ≡ row rs i = c.deref.ensures.value ∙ sym here in
+    let here = cells_read c.args.rows.now i c.row-item.result c.row-item.result.items l c.row-item.is refl in
+    let cells : c.deref.result.now ≡ row rs i = c.deref.ensures.value ∙ here.0 in
     elim c.if-has_firing.branch [
       | then-has_firing+in_ok-extend_from_slice+in_ok-resize+in_ok-push w ↦
           let some : 0 < length (firings (row rs i)) =
           subst (λ r. 0 < length (firings r)) cells (c.has_firing.ensures.0 w.if-has_firing.true) in
-          let read : w.deref-then-has_firing.result.now ≡ row rs i = w.deref-then-has_firing.ensures.value ∙ sym here in
+          let read : w.deref-then-has_firing.result.now ≡ row rs i = w.deref-then-has_firing.ensures.value ∙ here.0 in
           let copied : w.extend_from_slice.new.self.items ≡ row rs i =
           w.in_ok-extend_from_slice.ensures.items ∙ (λ n. w.clear.ensures.items n ++ read n) in
           let long : vec_len w.extend_from_slice.new.self ≡ length (row rs i) = omega (
@@ -64,7 +58,7 @@ loop-row-preserved c =
           rw w.kept-is (record {
             wide = w.push.ensures.width ∙ c.loop-row.invariant.wide;
             rows = w.in_ok-push.ensures.rows ∙ ((λ n. c.loop-row.invariant.rows n ++ full n ∷ [])
-                ∙ sym (tidied_some c.args.width rs i k some));
+                ∙ sym (tidied_some c.args.width rs i here.1 some));
           })
       | else-has_firing w ↦
           let none : length (firings (row rs i)) ≤ 0 =
@@ -72,6 +66,6 @@ loop-row-preserved c =
           (subst (λ r. 0 < length (firings r) → IsTrue c.has_firing.result) cells c.has_firing.ensures.1) in
           rw (w.kept-is) (record {
             wide = c.loop-row.invariant.wide;
-            rows = c.loop-row.invariant.rows ∙ sym (tidied_none c.args.width rs i k none);
+            rows = c.loop-row.invariant.rows ∙ sym (tidied_none c.args.width rs i here.1 none);
           })
     ]

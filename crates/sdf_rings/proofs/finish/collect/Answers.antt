@@ -11,16 +11,12 @@ loop-a-preserved g c =
     let known : a < length n.nodes = omega arith in
     let was = c.loop-a.invariant in
     let sinks = c.net_facts.ensures.sinks in
-    let new = c.collect_from.new.seats in
     let outputs = c.collect_from.new.outputs in
     record {
       all = c.collect_from.auto.outputs ∙ was.all;
-      stands = stands_more n sinks c.args.seats.now c.args.places.now c.requires.placed c.loop-a.seats new a known
-          was.stands was.rest c.collect_from.ensures.seats;
-      rest = rest_more n sinks c.args.seats.now c.args.places.now c.requires.placed c.loop-a.seats new a known
-          was.stands was.rest c.collect_from.ensures.seats;
-      given = given_more n sinks c.args.seats.now c.args.places.now c.requires.placed c.loop-a.seats new a known
-          was.stands was.rest c.collect_from.ensures.seats c.loop-a.outputs outputs
+      stands = stands_more sinks c.requires.placed known was.stands was.rest c.collect_from.ensures.seats;
+      rest = rest_more sinks c.requires.placed known was.stands was.rest c.collect_from.ensures.seats;
+      given = given_more sinks c.requires.placed known was.stands was.rest c.collect_from.ensures.seats
           (λ e d. subst (λ x. IsCollected x (stand_of n c.loop-a.seats c.args.places.now e d a).state c.loop-a.outputs
           outputs) c.node.ensures (c.collect_from.ensures.list e d)) was.given;
     }

@@ -24,12 +24,10 @@ empty_at-requires-clause-there g c κs within =
     let known : c.loop-c.c < length n.wires = omega (arith, c.loop-c-test.true, c.channels-c-end.ensures) in
     let at = c.end_at-at.ensures ∙ ap (λ w. spot_of places w.to) c.link.ensures in
     subst (λ q. TakesAt c.loop-c.seats q) (sym at)
-    (takes_at g.A.Actor.steps n c.requires.rings.0 c.args.seats.now places c.requires.rings.1 c.loop-c.seats
-    c.loop-c.invariant.kept c.loop-c.c known)
+    (takes_at c.requires.rings.1 c.loop-c.invariant.kept known)
 
 pub loop-c-preserved : goal.loop-c-preserved
 loop-c-preserved g c =
-    let s = g.A.Actor.steps in
     let n = c.args.net.now in
     let seats = c.args.seats.now in
     let places = c.args.places.now in
@@ -50,7 +48,7 @@ loop-c-preserved g c =
           (length-map c.loop-c.held.items (λ v. v.items) ∙ was.all) (λ j w l. was.each j w e d x l)
           (c.in_ok-empty_at.ensures.items e d x ∙ ap (λ q. known_items (consumer_at c.loop-c.seats q e d x)) at
           ∙ ap known_items (was.ahead m e d x (omega arith) known)) k z h;
-      ahead = λ k e d x h l. others_kept s n c.requires.rings.0 seats places c.requires.rings.1 c.loop-c.seats was.kept
-          m known new gone k e d x (omega (arith, h)) l ∙ was.ahead k e d x (omega (arith, h)) l;
+      ahead = λ k e d x h l. others_kept c.requires.rings.1 was.kept known gone e d x (omega (arith, h)) l
+          ∙ was.ahead k e d x (omega (arith, h)) l;
       kept = same_join seats c.loop-c.seats new was.kept gone.but_ends;
     }

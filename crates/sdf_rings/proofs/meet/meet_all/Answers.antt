@@ -1,6 +1,5 @@
 use Rattle.std.proofs.Common.{◌<◌, refl, ap, ◌∙◌, subst, arith, length, slice_index_or}
 use Rattle.sdf_actor.specs.Nets.{wire}
-use Rattle.sdf_actor.specs.Wires.{lists}
 use Rattle.sdf_rings.specs.Places.{IsTold}
 use Rattle.sdf_rings.specs.Rests.{spot_of}
 use Rattle.sdf_rings.proofs.Rounds.{worked_none, worked_join}
@@ -32,15 +31,15 @@ loop-c-preserved g c =
     subst (λ f. IsTold old new f (spot_of places (wire n m).to)) from
     (subst (λ f. IsTold old new c.end_at-from.result f) to c.tell_at.ensures) in
     record {
-      rings = rings_told g.A.Actor.steps n (lists c.args.inputs.now) old new places c.loop-c.invariant.rings m known t;
-      met = λ k e d x y h. met_told g.A.Actor.steps n (lists c.args.inputs.now) old new places c.loop-c.invariant.rings
-          m known t k e d x y (omega arith) (c.loop-c.invariant.met k e d x y);
+      rings = rings_told c.loop-c.invariant.rings known t;
+      met = λ k e d x y h. met_told c.loop-c.invariant.rings known t k e d x y (omega arith)
+          (c.loop-c.invariant.met k e d x y);
       idle = λ i e h.
           let was = c.loop-c.invariant.idle i e h in
           let inside : i < length old = let l = c.loop-c.auto.seats in omega arith in (
             worked_join g.A.Actor.steps n (slice_index_or c.args.seats.now i e) (slice_index_or old i e)
                 (slice_index_or new i e) was.0
-                (told_worked g.A.Actor.steps n old new (spot_of places (wire n m).from) (spot_of places (wire n m).to) t
+                (told_worked g.A.Actor.steps n t
                 i e (c.loop-c.invariant.rings.each i e inside).next_fits),
             (t.told_seats i e).next_same ∙ was.1,
           );

@@ -1,7 +1,6 @@
 use Rattle.std.proofs.Common.{rules, ◌≡◌, ◌<◌, ℕ, [], length, get_or, refl, sym, ap, ◌∙◌, subst, arith}
 use Rattle.rtrb.specs.Ring.{IsPair, sent, known_items}
-use Rattle.sdf_actor.specs.Nets.{wire, wiring, node, inputs_of}
-use Rattle.sdf_actor.specs.Wires.{wire_of}
+use Rattle.sdf_actor.specs.Nets.{wire, wiring}
 use Rattle.sdf_actor.proofs.Theorems.{nets_are_wired}
 use Rattle.sdf_rings.specs.Ends.{Drew, Gave}
 use Rattle.sdf_rings.proofs.Each.{each_then}
@@ -14,14 +13,12 @@ use Rattle.sdf_rings.proofs.own_rings.tell_own.Goals as goal
 
 pub bounds-ins-i : goal.bounds-ins-i
 bounds-ins-i g c =
-    port_below g.A.Actor.steps c.args.net.now c.requires.net c.args.actor
-    c.channels_in-channels.result.now c.loop-i.i (length c.loop-i.ins)
+    port_below c.requires.net c.args.actor
     c.channels_in-channels.ensures c.loop-i-test.true (c.loop-i.auto.ins ∙ c.requires.ins)
 
 pub offset_bounds-ins-i : goal.offset_bounds-ins-i
 offset_bounds-ins-i g c =
-    let h = port_below g.A.Actor.steps c.args.net.now c.requires.net c.args.actor
-    c.channels_in-channels.result.now c.loop-i.i (length c.loop-i.ins)
+    let h = port_below c.requires.net c.args.actor
     c.channels_in-channels.ensures c.loop-i-test.true (c.loop-i.auto.ins ∙ c.requires.ins) in
     search rules
 
@@ -36,8 +33,7 @@ link-link-requires-after_bounds g c κs within =
 
 pub bounds-outs-link : goal.bounds-outs-link
 bounds-outs-link g c =
-    let from = from_below g.A.Actor.steps c.args.net.now c.requires.net c.args.actor c.channels_in-channels.result.now
-    c.loop-i.i (wire_of c.link-link.result.now) c.requires.known c.channels_in-channels.ensures c.loop-i-test.true
+    let from = from_below c.requires.net c.args.actor c.requires.known c.channels_in-channels.ensures c.loop-i-test.true
     c.link-link.ensures c.if-link-actor.true in
     omega (arith, from, c.loop-i.auto.outs, c.requires.outs)
 
@@ -48,9 +44,8 @@ tell-requires g c =
     let a = c.args.actor in
     let i = c.loop-i.i in
     let ch : ℕ = get_or ((wiring s n).ins a) i 0 in
-    let at = port_at s n c.requires.net a i c.requires.known
-    (port_below s n c.requires.net a c.channels_in-channels.result.now i
-    (inputs_of s (node n a)) c.channels_in-channels.ensures c.loop-i-test.true refl) in
+    let at = port_at c.requires.net a i c.requires.known
+    (port_below c.requires.net a c.channels_in-channels.ensures c.loop-i-test.true refl) in
     let link = c.link-link.ensures ∙ ap (λ cs. wire n (get_or cs i 0)) c.channels_in-channels.ensures in
     let pairs = own_pairs_kept n a c.args.ins.now c.loop-i.ins c.args.outs.now c.loop-i.outs (λ _. []) (λ _. [])
     c.loop-i.auto.ins c.loop-i.auto.outs c.loop-i.invariant.ins c.loop-i.invariant.outs c.requires.pairs in
@@ -69,18 +64,16 @@ loop-i-preserved g c =
     let i = c.loop-i.i in
     let link : (k : ℕ) → k < length n.wires → (wire n k).to.0 ≡ a → (wire n k).to.1 ≡ i →
     wire n k ≡ wire n (get_or c.channels_in-channels.result.now i 0) = λ k l t e.
-    ap (wire n) (sym (at_port s n c.requires.net a i k l t e))
+    ap (wire n) (sym (at_port c.requires.net l t e))
     ∙ ap (λ cs. wire n (get_or cs i 0)) (sym c.channels_in-channels.ensures) in
-    let inside : i < length c.loop-i.ins = port_below s n c.requires.net a
-    c.channels_in-channels.result.now i (length c.loop-i.ins) c.channels_in-channels.ensures c.loop-i-test.true
+    let inside : i < length c.loop-i.ins = port_below c.requires.net a c.channels_in-channels.ensures c.loop-i-test.true
     (c.loop-i.auto.ins ∙ c.requires.ins) in
     elim c.if-link-actor.branch [
       | then-link-actor w ↦
           let x = w.tell.new.consumer in
           let y = w.tell.new.producer in
           let q = c.link-link.result.now.from.1 in
-          let from = from_below s n c.requires.net a c.channels_in-channels.result.now i
-          (wire_of c.link-link.result.now) c.requires.known c.channels_in-channels.ensures c.loop-i-test.true
+          let from = from_below c.requires.net a c.requires.known c.channels_in-channels.ensures c.loop-i-test.true
           c.link-link.ensures w.if-link-actor.true in
           let there : q < length c.loop-i.outs = omega (arith, from, c.loop-i.auto.outs, c.requires.outs) in
           let ins = each_then (λ p r. Drew p r []) (λ p r t. drew_join p r t [] []) c.args.ins.now c.loop-i.ins i x
@@ -112,9 +105,8 @@ pub returns-clause-begin : goal.returns-clause-begin
 returns-clause-begin g c = λ k d e l f t.
     let s = g.A.Actor.steps in
     let n = c.args.net.now in
-    let wired = nets_are_wired g.A.Actor.steps n c.requires.net in
-    let long = ins_long s n c.requires.net wired c.args.actor c.requires.known in
-    let inside = port_of s n c.requires.net wired c.args.actor c.requires.known k l t in
+    let long = ins_long c.requires.net c.requires.known in
+    let inside = port_of c.requires.net c.requires.known k l t in
     let all : length c.channels_in-channels.result.now ≡ length ((wiring s n).ins c.args.actor) =
     ap length c.channels_in-channels.ensures in
     c.loop-i.invariant.begin k d e l f t (omega arith)

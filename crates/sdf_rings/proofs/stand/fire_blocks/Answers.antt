@@ -21,10 +21,8 @@ take_front-requires-clause-many g c =
     let x = c.args.stand.now in
     let st = c.requires.stand in
     let inputs = lists c.args.inputs.now in
-    taken_is s n inputs x st c.node-node.result.now c.node-node.ensures c.phase-phase.result c.phase-phase.ensures
-    c.takes-many.result c.takes-many.ensures ∙
-    (sym (row_sum s n inputs x st Input (lists x.takes.items) st.takes c.phase-phase.result c.phase-phase.ensures
-    c.row.result.now c.row.ensures) ∙
+    taken_is st c.node-node.ensures c.phase-phase.ensures c.takes-many.ensures ∙
+    (sym (row_sum st st.takes c.phase-phase.ensures c.row.ensures) ∙
     ap (start_at (slice_index c.row.result.now)) (sym (c.as_mut_slice.ensures.len ∙ st.ins_all)))
 
 pub take_front-requires-clause-known : goal.take_front-requires-clause-known
@@ -33,44 +31,33 @@ take_front-requires-clause-known g c =
     let n = c.args.net.now in
     let x = c.args.stand.now in
     let st = c.requires.stand in
-    holds_by_row s n (lists c.args.inputs.now) x st c.phase-phase.result
-    c.phase-phase.ensures c.row.result.now c.row.ensures c.as_mut_slice.result.now
+    holds_by_row st c.phase-phase.ensures c.row.ensures c.as_mut_slice.result.now
     (c.as_mut_slice.ensures.len ∙ st.ins_all)
     (subst (HoldsEach (sizes s Input (node n x.actor) x.done)) (sym c.as_mut_slice.ensures.value) c.requires.can.holds)
 
 pub slice_bounds-step_front-end : goal.slice_bounds-step_front-end
 slice_bounds-step_front-end g c =
     let x = c.args.stand.now in
-    let fits = taken_fits g.A.Actor.steps c.args.net.now (lists c.args.inputs.now) x
-    c.requires.stand c.node-node.result.now c.node-node.ensures c.phase-phase.result c.phase-phase.ensures
-    c.takes-many.result c.requires.left c.takes-many.ensures in
+    let fits = taken_fits c.requires.stand c.node-node.ensures c.phase-phase.ensures c.requires.left c.takes-many.ensures in
     sym (length-take-le c.takes-many.result c.deref.result.now (omega arith))
 
 pub step_front-requires-clause-can : goal.step_front-requires-clause-can
 step_front-requires-clause-can g c = λ κs within.
     let x = c.args.stand.now in
-    let fits = taken_fits g.A.Actor.steps c.args.net.now (lists c.args.inputs.now) x
-    c.requires.stand c.node-node.result.now c.node-node.ensures c.phase-phase.result c.phase-phase.ensures
-    c.takes-many.result c.requires.left c.takes-many.ensures in
-    can_step g.A.Actor.steps c.args.net.now (lists c.args.inputs.now) x c.requires.stand
-    c.requires.left
-    c.node-node.result.now c.phase-phase.result (length (take c.takes-many.result c.deref.result.now))
-    c.puts-more.result c.node-node.ensures c.phase-phase.ensures
+    let fits = taken_fits c.requires.stand c.node-node.ensures c.phase-phase.ensures c.requires.left c.takes-many.ensures in
+    can_step c.requires.stand c.requires.left c.node-node.ensures c.phase-phase.ensures
     (length-take-le c.takes-many.result c.deref.result.now (omega arith) ∙ c.takes-many.ensures) c.puts-more.ensures
 
 pub slice_bounds-put_told-end : goal.slice_bounds-put_told-end
 slice_bounds-put_told-end g c =
     let x = c.args.stand.now in
-    let fits = put_fits g.A.Actor.steps c.args.net.now (lists c.args.inputs.now) x
-    c.requires.stand c.node-node.result.now c.node-node.ensures c.phase-phase.result c.phase-phase.ensures
-    c.puts-more.result c.requires.left c.puts-more.ensures in
+    let fits = put_fits c.requires.stand c.node-node.ensures c.phase-phase.ensures c.requires.left c.puts-more.ensures in
     sym (length-take-le c.puts-more.result c.deref-2.result.now (omega arith))
 
 pub put_told-requires-clause-ports : goal.put_told-requires-clause-ports
 put_told-requires-clause-ports g c = λ κs within.
     let x = c.args.stand.now in
-    outs_row g.A.Actor.steps c.args.net.now (lists c.args.inputs.now) x c.requires.stand
-    c.phase-phase.result c.phase-phase.ensures c.row-2.result.now c.row-2.ensures c.as_mut_slice-5.result.now
+    outs_row c.requires.stand c.phase-phase.ensures c.row-2.ensures c.as_mut_slice-5.result.now
     (c.as_mut_slice-5.ensures.len ∙ c.requires.stand.outs_all)
 
 pub put_told-requires-clause-length : goal.put_told-requires-clause-length
@@ -80,13 +67,10 @@ put_told-requires-clause-length g c = λ κs within.
     let x = c.args.stand.now in
     let st = c.requires.stand in
     let inputs = lists c.args.inputs.now in
-    let fits = put_fits s n inputs x st c.node-node.result.now c.node-node.ensures c.phase-phase.result
-    c.phase-phase.ensures c.puts-more.result c.requires.left c.puts-more.ensures in
+    let fits = put_fits st c.node-node.ensures c.phase-phase.ensures c.requires.left c.puts-more.ensures in
     length-take-le c.puts-more.result c.deref-2.result.now (omega arith) ∙
-    (put_is s n inputs x st c.node-node.result.now c.node-node.ensures c.phase-phase.result c.phase-phase.ensures
-    c.puts-more.result c.puts-more.ensures ∙
-    (sym (row_sum s n inputs x st Output (lists x.puts.items) st.puts c.phase-phase.result c.phase-phase.ensures
-    c.row-2.result.now c.row-2.ensures) ∙
+    (put_is st c.node-node.ensures c.phase-phase.ensures c.puts-more.ensures ∙
+    (sym (row_sum st st.puts c.phase-phase.ensures c.row-2.ensures) ∙
     ap (start_at (slice_index c.row-2.result.now)) (sym (c.as_mut_slice-5.ensures.len ∙ st.outs_all))))
 
 pub put_told-requires-clause-room : goal.put_told-requires-clause-room
@@ -95,8 +79,7 @@ put_told-requires-clause-room g c = λ κs within.
     let n = c.args.net.now in
     let x = c.args.stand.now in
     let st = c.requires.stand in
-    room_by_row s n (lists c.args.inputs.now) x st c.phase-phase.result
-    c.phase-phase.ensures c.row-2.result.now c.row-2.ensures c.as_mut_slice-5.result.now
+    room_by_row st c.phase-phase.ensures c.row-2.ensures c.as_mut_slice-5.result.now
     (c.as_mut_slice-5.ensures.len ∙ st.outs_all)
     (subst (HasRoomEach (sizes s Output (node n x.actor) x.done)) (sym c.as_mut_slice-5.ensures.value)
     c.requires.can.has_room)
@@ -114,8 +97,8 @@ returns-clause-fired g c =
     let j_is = c.phase-phase.ensures in
     let many = c.takes-many.result in
     let more = c.puts-more.result in
-    let fits = taken_fits s n inputs x st y y_is j j_is many c.requires.left c.takes-many.ensures in
-    let holds = put_fits s n inputs x st y y_is j j_is more c.requires.left c.puts-more.ensures in
+    let fits = taken_fits st y_is j_is c.requires.left c.takes-many.ensures in
+    let holds = put_fits st y_is j_is c.requires.left c.puts-more.ensures in
     let taken = with_items_is x.taken c.take_front.new.taken (omega arith) in
     let put = with_items_is x.put c.step_front.new.put (omega arith) in
     let mid = with_items x.ins c.take_front.new.ends in
@@ -124,31 +107,39 @@ returns-clause-fired g c =
     let outs = with_items_is x.outs c.put_told.new.outs (omega arith) in
     let seen = ap (take many) (c.deref.ensures.value ∙ taken) in
     let out = ap (take more) (c.deref-2.ensures.value ∙ put) in
-    let took = drew_by_firing s n inputs x st j j_is c.row.result.now c.row.ensures c.as_mut_slice.result.now
+    let took = drew_by_firing st j_is c.row.ensures c.as_mut_slice.result.now
     (c.as_mut_slice.ensures.len ∙ st.ins_all) c.take_front.new.ends (take many c.take_front.new.taken)
     c.take_front.ensures in
     let drew = drew_then x.ins.items c.take_front.new.ends c.put_told.new.ins
     (λ i. block_of (sizes s Input (node n x.actor) x.done) i (take many c.take_front.new.taken)) (omega arith)
     (rw c.as_mut_slice.ensures.value at took) (rw (c.as_mut_slice-4.ensures.value ∙ ins) at
     c.put_told.ensures.looked) in
-    let gave = gave_by_firing s n inputs x st j j_is c.row-2.result.now c.row-2.ensures c.as_mut_slice-5.result.now
+    let gave = gave_by_firing st j_is c.row-2.ensures c.as_mut_slice-5.result.now
     (c.as_mut_slice-5.ensures.len ∙ st.outs_all) c.put_told.new.outs (take more c.step_front.new.put)
     (rw out at c.put_told.ensures.gave) in
-    fired s n c.requires.net inputs x st
-    c.requires.left
-    (take many c.take_front.new.taken) (take more c.step_front.new.put) c.step_front.new.state
-    (with_items mid c.put_told.new.ins) (with_items x.outs c.put_told.new.outs)
-    (with_items x.taken c.take_front.new.taken) (with_items x.put c.step_front.new.put)
-    (rw told drew)
-    (rw outs (rw c.as_mut_slice-5.ensures.value at gave))
-    (length-take-le many c.take_front.new.taken (omega arith)
-    ∙ taken_is s n inputs x st y y_is j j_is many c.takes-many.ensures)
-    (length-take-le more c.step_front.new.put (omega arith)
-    ∙ put_is s n inputs x st y y_is j j_is more c.puts-more.ensures)
-    (rw (seen, y_is) at c.step_front.ensures.state)
-    (rw (seen, y_is) at c.step_front.ensures.put)
-    (omega arith) (omega arith) (rw told (rw c.as_mut_slice-5.ensures.value at c.put_told.ensures.begin))
-    (ap length taken ∙ omega arith) (ap length put ∙ omega arith)
+    fired c.requires.net st (record {
+      left = c.requires.left;
+      t = take many c.take_front.new.taken;
+      b = take more c.step_front.new.put;
+      w = c.step_front.new.state;
+      t_long = length-take-le many c.take_front.new.taken (omega arith) ∙ taken_is st y_is j_is c.takes-many.ensures;
+      b_long = length-take-le more c.step_front.new.put (omega arith) ∙ put_is st y_is j_is c.puts-more.ensures;
+      moved = rw (seen, y_is) at c.step_front.ensures.state;
+      puts = rw (seen, y_is) at c.step_front.ensures.put;
+      held = record {
+        ins = with_items mid c.put_told.new.ins;
+        outs = with_items x.outs c.put_told.new.outs;
+        taken = with_items x.taken c.take_front.new.taken;
+        put = with_items x.put c.step_front.new.put;
+        drew = rw told drew;
+        gave = rw outs (rw c.as_mut_slice-5.ensures.value at gave);
+        ins_is = omega arith;
+        outs_is = omega arith;
+        taken_is = ap length taken ∙ omega arith;
+        put_is = ap length put ∙ omega arith;
+      };
+      begin = rw told (rw c.as_mut_slice-5.ensures.value at c.put_told.ensures.begin);
+    })
 
 pub put_told-requires-clause-pairs : goal.put_told-requires-clause-pairs
 put_told-requires-clause-pairs g c = λ κs within.
@@ -163,12 +154,8 @@ put_told-requires-clause-pairs g c = λ κs within.
 
 pub row-requires : goal.row-requires
 row-requires g c =
-    row_known g.A.Actor.steps c.args.net.now (lists c.args.inputs.now) c.args.stand.now
-    c.requires.stand Input (lists c.args.stand.now.takes.items) c.requires.stand.takes c.phase-phase.result
-    c.phase-phase.ensures
+    row_known c.requires.stand c.requires.stand.takes c.phase-phase.ensures
 
 pub row-requires-2 : goal.row-requires-2
 row-requires-2 g c =
-    row_known g.A.Actor.steps c.args.net.now (lists c.args.inputs.now) c.args.stand.now
-    c.requires.stand Output (lists c.args.stand.now.puts.items) c.requires.stand.puts c.phase-phase.result
-    c.phase-phase.ensures
+    row_known c.requires.stand c.requires.stand.puts c.phase-phase.ensures

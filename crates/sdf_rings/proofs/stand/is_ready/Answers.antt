@@ -50,15 +50,13 @@ returns-clause-moved g c =
 pub hold_each-requires : goal.hold_each-requires
 hold_each-requires g c =
     let x = c.args.stand.now in
-    ins_row g.A.Actor.steps c.args.net.now (lists c.args.inputs.now) x c.requires
-    c.phase-phase.result c.phase-phase.ensures c.row.result.now c.row.ensures c.as_mut_slice.result.now
+    ins_row c.requires c.phase-phase.ensures c.row.ensures c.as_mut_slice.result.now
     (c.as_mut_slice.ensures.len ∙ c.requires.ins_all)
 
 pub have_room_each-requires : goal.have_room_each-requires
 have_room_each-requires g c =
     let x = c.args.stand.now in
-    outs_row g.A.Actor.steps c.args.net.now (lists c.args.inputs.now) x c.requires
-    c.phase-phase.result c.phase-phase.ensures c.row-2.result.now c.row-2.ensures c.as_mut_slice-2.result.now
+    outs_row c.requires c.phase-phase.ensures c.row-2.ensures c.as_mut_slice-2.result.now
     (c.as_mut_slice-2.ensures.len ∙ c.requires.outs_all)
 
 pub returns-then-not-hold_each-clause-no : goal.returns-then-not-hold_each-clause-no
@@ -68,8 +66,7 @@ returns-then-not-hold_each-clause-no g c = λ f can.
     let st = c.requires in
     let ins = with_items_is x.ins c.hold_each.new.ends (omega arith) in
     let no = c.hold_each.ensures.no (search rules) in
-    no (holds_by_row s c.args.net.now (lists c.args.inputs.now) x st
-    c.phase-phase.result c.phase-phase.ensures c.row.result.now c.row.ensures c.hold_each.new.ends
+    no (holds_by_row st c.phase-phase.ensures c.row.ensures c.hold_each.new.ends
     (omega (arith, st.ins_all, c.as_mut_slice.ensures.len))
     (subst (HoldsEach (sizes s Input (node c.args.net.now x.actor) x.done)) ins can.holds))
 
@@ -84,12 +81,10 @@ returns-clause-yes g c = λ t.
     let outs = with_items_is x.outs c.have_room_each.new.ends (omega arith) in
     record {
       holds = subst (HoldsEach (sizes s Input (node n x.actor) x.done)) (sym ins)
-          (holds_by_firing s n inputs x st c.phase-phase.result c.phase-phase.ensures c.row.result.now
-          c.row.ensures c.hold_each.new.ends (omega (arith, st.ins_all, c.as_mut_slice.ensures.len))
+          (holds_by_firing st c.phase-phase.ensures c.row.ensures c.hold_each.new.ends (omega (arith, st.ins_all, c.as_mut_slice.ensures.len))
           (c.hold_each.ensures.yes (search rules)));
       has_room = subst (HasRoomEach (sizes s Output (node n x.actor) x.done)) (sym outs)
-          (room_by_firing s n inputs x st c.phase-phase.result c.phase-phase.ensures c.row-2.result.now
-          c.row-2.ensures c.have_room_each.new.ends (omega (arith, st.outs_all, c.as_mut_slice-2.ensures.len))
+          (room_by_firing st c.phase-phase.ensures c.row-2.ensures c.have_room_each.new.ends (omega (arith, st.outs_all, c.as_mut_slice-2.ensures.len))
           (c.have_room_each.ensures.yes t));
     }
 
@@ -100,7 +95,6 @@ returns-clause-no g c = λ f can.
     let st = c.requires in
     let outs = with_items_is x.outs c.have_room_each.new.ends (omega arith) in
     c.have_room_each.ensures.no f
-    (room_by_row s c.args.net.now (lists c.args.inputs.now) x st c.phase-phase.result
-    c.phase-phase.ensures c.row-2.result.now c.row-2.ensures c.have_room_each.new.ends
+    (room_by_row st c.phase-phase.ensures c.row-2.ensures c.have_room_each.new.ends
     (omega (arith, st.outs_all, c.as_mut_slice-2.ensures.len))
     (subst (HasRoomEach (sizes s Output (node c.args.net.now x.actor) x.done)) outs can.has_room))

@@ -19,12 +19,11 @@ returns g c = λ t k l from to.
     let s = g.A.Actor.steps in
     let n = c.args.net.now in
     let a = c.args.actor in
-    let wired = nets_are_wired g.A.Actor.steps n c.requires.net in
-    let long = ins_long s n c.requires.net wired a c.requires.known in
-    let inside = port_of s n c.requires.net wired a c.requires.known k l to in
+    let long = ins_long c.requires.net c.requires.known in
+    let inside = port_of c.requires.net c.requires.known k l to in
     let all : length c.channels_in-channels.result.now ≡ length ((wiring s n).ins a) =
     ap length c.channels_in-channels.ensures in
     let here : get_or c.channels_in-channels.result.now (wire n k).to.1 0 ≡ k =
     ap (λ cs. get_or cs (wire n k).to.1 0) c.channels_in-channels.ensures
-    ∙ at_port s n c.requires.net a (wire n k).to.1 k l to refl in
+    ∙ at_port c.requires.net l to refl in
     c.loop-i.invariant.apart (wire n k).to.1 (omega arith) (ap (λ j. (wire n j).from.0) here ∙ from)

@@ -1,16 +1,11 @@
-use Rattle.sdf_actor.specs.Wires.{lists}
 use Rattle.std.proofs.Common.{arith}
 use Rattle.sdf_rings.proofs.RunFired.{can_run}
 use Rattle.sdf_rings.proofs.together.possible.Goals as goal
 
 pub returns-clause-can : goal.returns-clause-can
 returns-clause-can g c =
-    can_run g.A.Actor.steps c.args.net.now (lists c.args.inputs.now) c.args.stand.now
-    c.requires.stand c.requires.goes
-    c.node-node.result.now c.node-node.ensures c.row.result.now c.row-2.result.now c.row.ensures c.row-2.ensures
-    c.takes.result c.puts.result c.whole_blocks-many.result c.whole_blocks-many-2.result c.blocks_held-many.result
-    c.blocks_free.result c.args.most c.takes.ensures c.puts.ensures c.requires.left
+    can_run c.requires.stand c.requires.goes c.node-node.ensures c.row.ensures c.row-2.ensures c.takes.ensures c.puts.ensures c.requires.left
     c.whole_blocks-many.ensures.within (let h = c.whole_blocks-many.ensures.held in omega arith)
     c.whole_blocks-many-2.ensures.within (let h = c.whole_blocks-many-2.ensures.held in omega arith)
-    c.blocks_held-many.ensures.within c.blocks_free.ensures.within c.as_slice.result.now c.as_slice.ensures.value
-    c.blocks_held-many.ensures.held c.as_slice-2.result.now c.as_slice-2.ensures.value c.blocks_free.ensures.free
+    c.blocks_held-many.ensures.within c.blocks_free.ensures.within c.as_slice.ensures.value
+    c.blocks_held-many.ensures.held c.as_slice-2.ensures.value c.blocks_free.ensures.free

@@ -19,14 +19,9 @@ next : (g : Rattle.sdf_rows.proofs.runs.run_block.Given.Over) (c : In-loop-i g) 
     (λ a. get_or c.args.stage.now.done.items a 0))
     (row_actors (row c.args.timetable.now.table.now.rows c.loop-i.i))
 next g c =
-    row_is g.A.Actor.steps c.args.scene.now.net.now (rates (graph_of g.A.Actor.steps c.args.scene.now.net.now))
-    c.net_facts.ensures.alike (graphs_are_sound (graph_of g.A.Actor.steps c.args.scene.now.net.now)
-    c.net_facts.ensures.graph)
-    (λ a. get_or (block c.args.timetable.now.j c.args.timetable.now.repetitions.now) a 0)
-    c.args.timetable.now.table.now.rows c.requires.table.table.valid (λ a. get_or c.args.stage.now.done.items a 0)
-    c.requires.round c.loop-i.i
-    (omega (arith, c.loop-i-test.true, c.rows-i-end.ensures)) (λ a. get_or c.loop-i.stage.done.items a 0)
-    c.loop-i.invariant.done
+    row_is c.net_facts.ensures.alike (graphs_are_sound (graph_of g.A.Actor.steps c.args.scene.now.net.now)
+    c.net_facts.ensures.graph) c.requires.table.table.valid c.requires.round c.loop-i.i
+    (omega (arith, c.loop-i-test.true, c.rows-i-end.ensures)) c.loop-i.invariant.done
 
 pub run_row-requires-clause-between : goal.run_row-requires-clause-between
 run_row-requires-clause-between g c = λ κs within.

@@ -1,5 +1,4 @@
 use Rattle.std.proofs.Common.{◌≡◌, ◌*◌, get_or, subst, ◌∙◌, arith}
-use Rattle.sdf_graph.specs.Rates.{rates}
 use Rattle.sdf_graph.proofs.Theorems.{graphs_are_sound, graphs_have_periods}
 use Rattle.sdf_actor.specs.Graphs.{graph_of}
 use Rattle.sdf_actor.specs.Wires.{lists}
@@ -12,28 +11,21 @@ pub run_block-requires-clause-start : goal.run_block-requires-clause-start
 run_block-requires-clause-start g c = λ κs within.
     let s = g.A.Actor.steps in
     let n = c.args.scene.now.net.now in
-    let q = c.args.timetable.now.repetitions.now in
-    let j = c.args.timetable.now.j in (
-      (λ a. c.args.blocks * (j * get_or q a 0)),
-      block_begins s n (rates (graph_of s n)) c.net_facts.ensures.alike
-          (graphs_are_sound (graph_of s n) c.net_facts.ensures.graph) q
-          (graphs_have_periods (graph_of s n) q c.net_facts.ensures.graph c.requires.period.is)
-          (lists c.args.scene.now.inputs.now) j c.args.blocks c.loop.counter (λ a. get_or c.loop.stage.done.items a 0)
-          c.loop.stage.states.items
-          c.loop.stage.queues.items c.loop.invariant.rests c.loop-test.true,
+    let graph = c.net_facts.ensures.graph in
+    let q = c.args.timetable.now.repetitions.now in (
+      (λ a. c.args.blocks * (c.args.timetable.now.j * get_or q a 0)),
+      block_begins s n c.net_facts.ensures.alike (graphs_are_sound (graph_of s n) graph) q
+          (graphs_have_periods (graph_of s n) q graph c.requires.period.is) c.loop.invariant.rests c.loop-test.true,
     )
 
 pub run_block-requires-clause-round : goal.run_block-requires-clause-round
 run_block-requires-clause-round g c = λ κs within.
     let s = g.A.Actor.steps in
     let n = c.args.scene.now.net.now in
+    let graph = c.net_facts.ensures.graph in
     let q = c.args.timetable.now.repetitions.now in
-    round_here s n (rates (graph_of s n)) c.net_facts.ensures.alike
-    (graphs_are_sound (graph_of s n) c.net_facts.ensures.graph)
-    q (graphs_have_periods (graph_of s n) q c.net_facts.ensures.graph c.requires.period.is)
-    (lists c.args.scene.now.inputs.now) c.args.timetable.now.j c.args.blocks c.loop.counter
-    (λ a. get_or c.loop.stage.done.items a 0)
-    c.loop.stage.states.items c.loop.stage.queues.items c.loop.invariant.rests
+    round_here s n c.net_facts.ensures.alike (graphs_are_sound (graph_of s n) graph) q
+    (graphs_have_periods (graph_of s n) q graph c.requires.period.is) c.loop.invariant.rests
 
 pub run_block-requires-clause-blocks : goal.run_block-requires-clause-blocks
 run_block-requires-clause-blocks g c = λ κs within.
@@ -44,25 +36,14 @@ pub loop-preserved : goal.loop-preserved
 loop-preserved g c =
     let s = g.A.Actor.steps in
     let n = c.args.scene.now.net.now in
+    let alike = c.net_facts.ensures.alike in
+    let sound = graphs_are_sound (graph_of s n) c.net_facts.ensures.graph in
     let q = c.args.timetable.now.repetitions.now in
-    let j = c.args.timetable.now.j in
-    let begins =
-    block_begins s n (rates (graph_of s n)) c.net_facts.ensures.alike
-    (graphs_are_sound (graph_of s n) c.net_facts.ensures.graph) q
-    (graphs_have_periods (graph_of s n) q c.net_facts.ensures.graph c.requires.period.is)
-    (lists c.args.scene.now.inputs.now) j c.args.blocks c.loop.counter (λ a. get_or c.loop.stage.done.items a 0)
-    c.loop.stage.states.items
-    c.loop.stage.queues.items c.loop.invariant.rests c.loop-test.true in
+    let period = graphs_have_periods (graph_of s n) q c.net_facts.ensures.graph c.requires.period.is in
     record {
-      rests = block_ends s n (rates (graph_of s n)) c.net_facts.ensures.alike
-          (graphs_are_sound (graph_of s n) c.net_facts.ensures.graph) q
-          (graphs_have_periods (graph_of s n) q c.net_facts.ensures.graph c.requires.period.is)
-          (lists c.args.scene.now.inputs.now) j c.args.blocks c.loop.counter (λ a. get_or c.loop.stage.done.items a 0)
-          c.loop.stage.states.items
-          c.loop.stage.queues.items c.loop.invariant.rests
-          (λ a. get_or c.run_block.new.stage.done.items a 0) c.run_block.new.stage.states.items
-          c.run_block.new.stage.queues.items c.run_block.ensures.done
-          (c.run_block.ensures.over (λ a. c.args.blocks * (j * get_or q a 0)) begins);
+      rests = block_ends s n alike sound q period c.loop.invariant.rests c.run_block.ensures.done
+          (c.run_block.ensures.over (λ a. c.args.blocks * (c.args.timetable.now.j * get_or q a 0))
+          (block_begins s n alike sound q period c.loop.invariant.rests c.loop-test.true));
       counts = c.run_block.ensures.counts ∙ c.loop.invariant.counts;
       blocks = keep_twice c.args.jobs.now c.loop.jobs c.run_block.new.jobs c.loop.invariant.blocks
           c.run_block.ensures.blocks;

@@ -1,4 +1,4 @@
-use Rattle.std.proofs.Common.{◌≡◌, ◌+◌, ◌++◌, length, get_or, take, drop, sym, ap, ◌∙◌, subst, arith}
+use Rattle.std.proofs.Common.{◌≡◌, ◌+◌, ◌<◌, ℕ, List, ◌++◌, length, get_or, take, drop, sym, ap, ◌∙◌, subst, arith}
 use Rattle.std.proofs.Math.Seq.{take-append_seam}
 use Rattle.std.proofs.lemmas.List.{get_or-take}
 use Rattle.sdf_graph.specs.Sequences.{times}
@@ -30,6 +30,12 @@ states g c =
     ap (λ m. take m (made ++ more)) (sym ((loaded g c).states_all ∙ vec_long c.args.stage.now.states))
     ∙ take-append_seam made more
 
+-- the jobs at the front are those that were loaded
+front_same : {X : Type 0} {many count : ℕ} {front : List X} (jobs : List X) → front ≡ take many jobs → many ≡ count →
+    (i : ℕ) (d : X) → i < count → get_or front i d ≡ get_or jobs i d
+front_same {many = many} jobs is all i d h = ap (λ xs. get_or xs i d) is
+    ∙ get_or-take many jobs i d (omega (arith, all, h))
+
 pub load_row-many-requires-clause-counted : goal.load_row-many-requires-clause-counted
 load_row-many-requires-clause-counted g c = λ κs within j f h is.
     let b = c.requires.between in
@@ -40,81 +46,51 @@ load_row-many-requires-clause-counted g c = λ κs within j f h is.
 pub fire_row-requires-clause-filled : goal.fire_row-requires-clause-filled
 fire_row-requires-clause-filled g c = λ κs within.
     let b = c.requires.between in
-    let s = g.A.Actor.steps in
-    let n = c.args.scene.now.net.now in
-    let front = c.split_at_mut-front.result.0.now in (
+    let at = (goal.at.fire_row-requires-clause-filled g c).After-load_row-many in
+    let front = c.split_at_mut-front.result.0.now in
+    let split = c.split_at_mut-front.ensures in
+    let count = c.load_row-many.ensures.many in (
       b.0,
       b.1,
       b.2,
-      subst (λ v. IsFilling s n (lists c.args.scene.now.inputs.now) b.0 b.1 b.2 (actors_of front) 0
-          (λ a. get_or c.args.stage.now.done.items a 0) v c.args.stage.now.queues.items front)
-          (sym (states g (goal.at.fire_row-requires-clause-filled g c).After-load_row-many))
-          (filling_front s n (lists c.args.scene.now.inputs.now)
-          b.0 b.1
-          b.2 (λ a. get_or c.args.stage.now.done.items a 0) c.args.stage.now.states.items c.load_row-many.new.states
-          c.args.stage.now.queues.items
-          c.args.jobs.now c.load_row-many.new.jobs
-          c.args.row.now b.3 b.4 c.requires.blocks c.requires.few c.args.stage.now.done.items
-          (loaded g (goal.at.fire_row-requires-clause-filled g c).After-load_row-many)
-          c.split_at_mut-front.result.0.now (c.split_at_mut-front.ensures.front_len ∙ c.load_row-many.ensures.many)
-          (λ i d h. ap (λ xs. get_or xs i d) c.split_at_mut-front.ensures.front
-          ∙ get_or-take c.load_row-many.result c.load_row-many.new.jobs i d
-          (omega (arith, c.load_row-many.ensures.many, h)))),
+      subst (λ v. IsFilling g.A.Actor.steps c.args.scene.now.net.now (lists c.args.scene.now.inputs.now) b.0 b.1 b.2
+          (actors_of front) 0 (λ a. get_or c.args.stage.now.done.items a 0) v c.args.stage.now.queues.items front)
+          (sym (states g at))
+          (filling_front b.3 b.4 c.requires.blocks c.requires.few (loaded g at) front (split.front_len ∙ count)
+          (front_same c.load_row-many.new.jobs split.front count)),
     )
 
 pub returns-clause-between : goal.returns-clause-between
 returns-clause-between g c = λ many low high st is.
-    let s = g.A.Actor.steps in
-    let n = c.args.scene.now.net.now in
+    let at = (goal.at.returns-clause-between g c).After-load_row-many in
     let front = c.split_at_mut-front.result.0.now in
+    let split = c.split_at_mut-front.ensures in
+    let count = c.load_row-many.ensures.many in
     c.fire_row.ensures.settled many low high
-    (subst (λ v. IsFilling s n (lists c.args.scene.now.inputs.now) many low high (actors_of front) 0
-    (λ a. get_or c.args.stage.now.done.items a 0) v c.args.stage.now.queues.items front)
-    (sym (states g (goal.at.returns-clause-between g c).After-load_row-many))
-    (filling_front s n (lists c.args.scene.now.inputs.now)
-    many low
-    high (λ a. get_or c.args.stage.now.done.items a 0) c.args.stage.now.states.items c.load_row-many.new.states
-    c.args.stage.now.queues.items
-    c.args.jobs.now c.load_row-many.new.jobs
-    c.args.row.now st is c.requires.blocks c.requires.few c.args.stage.now.done.items
-    (loaded g (goal.at.returns-clause-between g c).After-load_row-many)
-    c.split_at_mut-front.result.0.now (c.split_at_mut-front.ensures.front_len ∙ c.load_row-many.ensures.many)
-    (λ i d h. ap (λ xs. get_or xs i d) c.split_at_mut-front.ensures.front
-    ∙ get_or-take c.load_row-many.result c.load_row-many.new.jobs i d
-    (omega (arith, c.load_row-many.ensures.many, h)))))
+    (subst (λ v. IsFilling g.A.Actor.steps c.args.scene.now.net.now (lists c.args.scene.now.inputs.now) many low high
+    (actors_of front) 0 (λ a. get_or c.args.stage.now.done.items a 0) v c.args.stage.now.queues.items front)
+    (sym (states g at))
+    (filling_front st is c.requires.blocks c.requires.few (loaded g at) front (split.front_len ∙ count)
+    (front_same c.load_row-many.new.jobs split.front count)))
 
 pub returns-clause-done : goal.returns-clause-done
 returns-clause-done g c = λ a.
     let b = c.requires.between in
-    let s = g.A.Actor.steps in
-    let n = c.args.scene.now.net.now in
+    let split = c.split_at_mut-front.ensures in
+    let count = c.load_row-many.ensures.many in
     c.fire_row.ensures.done a ∙ ap (λ w. get_or c.args.stage.now.done.items a 0 + times w a)
-    (front_actors s n (lists c.args.scene.now.inputs.now) b.0 b.1
-    b.2 (λ a. get_or c.args.stage.now.done.items a 0) c.args.stage.now.states.items c.load_row-many.new.states
-    c.args.stage.now.queues.items
-    c.args.jobs.now c.load_row-many.new.jobs
-    c.args.row.now b.3 b.4 c.requires.blocks c.requires.few c.args.stage.now.done.items
-    (loaded g (goal.at.returns-clause-done g c).After-load_row-many)
-    c.split_at_mut-front.result.0.now (c.split_at_mut-front.ensures.front_len ∙ c.load_row-many.ensures.many)
-    (λ i d h. ap (λ xs. get_or xs i d) c.split_at_mut-front.ensures.front
-    ∙ get_or-take c.load_row-many.result c.load_row-many.new.jobs i d
-    (omega (arith, c.load_row-many.ensures.many, h))))
+    (front_actors b.3 b.4 c.requires.blocks c.requires.few
+    (loaded g (goal.at.returns-clause-done g c).After-load_row-many) c.split_at_mut-front.result.0.now
+    (split.front_len ∙ count) (front_same c.load_row-many.new.jobs split.front count))
 
 pub returns-clause-blocks : goal.returns-clause-blocks
 returns-clause-blocks g c =
     let b = c.requires.between in
-    let s = g.A.Actor.steps in
-    let n = c.args.scene.now.net.now in
-    row_keeps s n (lists c.args.scene.now.inputs.now) b.0 b.1 b.2
-    (λ a. get_or c.args.stage.now.done.items a 0) c.args.stage.now.states.items c.load_row-many.new.states
-    c.args.stage.now.queues.items c.args.jobs.now
-    c.load_row-many.new.jobs
-    c.args.row.now b.3 b.4 c.requires.blocks c.requires.few c.args.stage.now.done.items
-    (loaded g (goal.at.returns-clause-blocks g c).After-load_row-many)
-    c.split_at_mut-front.result.0.now (c.split_at_mut-front.ensures.front_len ∙ c.load_row-many.ensures.many)
-    (λ i d h. ap (λ xs. get_or xs i d) c.split_at_mut-front.ensures.front
-    ∙ get_or-take c.load_row-many.result c.load_row-many.new.jobs i d
-    (omega (arith, c.load_row-many.ensures.many, h)))
+    let split = c.split_at_mut-front.ensures in
+    let count = c.load_row-many.ensures.many in
+    row_keeps b.3 b.4 c.requires.blocks c.requires.few
+    (loaded g (goal.at.returns-clause-blocks g c).After-load_row-many) c.split_at_mut-front.result.0.now
+    (split.front_len ∙ count) (front_same c.load_row-many.new.jobs split.front count)
     c.fire_row.new.jobs c.split_at_mut-front.result.1.now
-    (c.split_at_mut-front.ensures.back ∙ ap (λ m. drop m c.load_row-many.new.jobs) c.load_row-many.ensures.many)
+    (split.back ∙ ap (λ m. drop m c.load_row-many.new.jobs) count)
     c.fire_row.ensures.blocks

@@ -1,5 +1,5 @@
 use Rattle.std.proofs.Common.{◌≡◌, drop}
-use Rattle.sdf_document.specs.Rows.{keys_view}
+use Rattle.sdf_kinds.specs.Rows.{keys_view}
 use Rattle.sdf_why.specs.Coefficients.{keys_limits}
 use Rattle.sdf_why.proofs.coefficients.keys_limits.Given as goal
 

@@ -1,6 +1,6 @@
 use Rattle.std.proofs.Common.{◌≡◌, ◌++◌, map, take}
 use Rattle.std.specs.List.{flat_map}
-use Rattle.sdf_document.specs.Rows.{keys_view}
+use Rattle.sdf_kinds.specs.Rows.{keys_view}
 use Rattle.sdf_why.specs.Near.{key_names}
 use Rattle.sdf_why.proofs.near.push_keys.Given as goal
 

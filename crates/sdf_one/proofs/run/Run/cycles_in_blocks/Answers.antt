@@ -3,7 +3,7 @@ use Rattle.std.specs.List.{sum_by}
 use Rattle.std.proofs.Math.Nat.{mul-le-mul_right}
 use Rattle.std.proofs.lemmas.List.{get_or_default}
 use Rattle.sdf_one.specs.Many.{Fit}
-use Rattle.sdf_one.proofs.Sweeping.{net_known, rows_at, blocks_at, ins_at, outs_at, go_at}
+use Rattle.sdf_one.proofs.Sweeping.{swept_node, rows_at, blocks_at, ins_at, outs_at, go_at}
 use Rattle.sdf_one.proofs.run.Run.cycles_in_blocks.Goals as goal
 
 -- what holds of many holds of fewer
@@ -12,53 +12,35 @@ fewer few many size held up all = let less : few * size ≤ many * size = mul-le
 
 pub goes_by_many-requires-after_bounds : goal.goes_by_many-requires-after_bounds
 goes_by_many-requires-after_bounds g c =
-    let r = c.args.self.now in
-    let ports = c.ports_of-ports.result in
+    let p = swept_node g.A.Actor.steps c.args.self.now c.requires.swept c.args.a c.requires.known in
     let are = c.ports_of-ports.ensures in λ κs within.
-    rows_at g.A.Actor.steps r c.requires.swept
-    (net_known g.A.Actor.steps c.args.self.now c.requires.swept) c.args.a
-    c.requires.known c.index.result.now c.index.ensures ports.ins.channels.now ports.outs.channels.now
-    ports.ins.sizes.now ports.outs.sizes.now r.queues.items are.ins are.outs are.takes are.puts refl
+    rows_at p c.index.ensures are.ins are.outs are.takes are.puts refl
 
 pub blocks_held-most-requires : goal.blocks_held-most-requires
 blocks_held-most-requires g c =
-    let r = c.args.self.now in
-    let ports = c.ports_of-ports.result in
+    let p = swept_node g.A.Actor.steps c.args.self.now c.requires.swept c.args.a c.requires.known in
     let are = c.ports_of-ports.ensures in
-    ins_at g.A.Actor.steps r c.requires.swept (net_known g.A.Actor.steps c.args.self.now c.requires.swept) c.args.a
-    c.requires.known c.index.result.now c.index.ensures ports.ins.channels.now ports.outs.channels.now
-    ports.ins.sizes.now ports.outs.sizes.now c.deref.result.now are.ins are.outs are.takes are.puts
-    c.deref.ensures.value
+    ins_at p c.index.ensures are.ins are.outs are.takes are.puts c.deref.ensures.value
 
 pub fits-requires-clause-ins : goal.fits-requires-clause-ins
 fits-requires-clause-ins g c = λ κs within.
-    let ports = c.ports_of-ports.result in
+    let p = swept_node g.A.Actor.steps c.args.self.now c.requires.swept c.args.a c.requires.known in
     let are = c.ports_of-ports.ensures in
-    let at = ins_at g.A.Actor.steps c.args.self.now c.requires.swept
-    (net_known g.A.Actor.steps c.args.self.now c.requires.swept) c.args.a
-    c.requires.known c.index.result.now c.index.ensures ports.ins.channels.now ports.outs.channels.now
-    ports.ins.sizes.now ports.outs.sizes.now c.args.self.now.queues.items are.ins are.outs are.takes are.puts refl in
+    let at = ins_at p c.index.ensures are.ins are.outs are.takes are.puts refl in
     record { known = λ n l. omega (arith, at.known n l, at.sized); sized = refl; once = at.once }
 
 pub fits-requires-clause-outs : goal.fits-requires-clause-outs
 fits-requires-clause-outs g c = λ κs within.
-    let ports = c.ports_of-ports.result in
+    let p = swept_node g.A.Actor.steps c.args.self.now c.requires.swept c.args.a c.requires.known in
     let are = c.ports_of-ports.ensures in
-    let at = outs_at g.A.Actor.steps c.args.self.now c.requires.swept
-    (net_known g.A.Actor.steps c.args.self.now c.requires.swept) c.args.a
-    c.requires.known c.index.result.now c.index.ensures ports.ins.channels.now ports.outs.channels.now
-    ports.ins.sizes.now ports.outs.sizes.now c.args.self.now.queues.items are.ins are.outs are.takes are.puts refl in
+    let at = outs_at p c.index.ensures are.ins are.outs are.takes are.puts refl in
     record { known = λ n l. omega (arith, at.known n l, at.sized); sized = refl; once = at.once }
 
 pub fits-requires-clause-blocks : goal.fits-requires-clause-blocks
 fits-requires-clause-blocks g c = λ κs within.
-    let r = c.args.self.now in
-    let ports = c.ports_of-ports.result in
+    let p = swept_node g.A.Actor.steps c.args.self.now c.requires.swept c.args.a c.requires.known in
     let are = c.ports_of-ports.ensures in
-    blocks_at g.A.Actor.steps r c.requires.swept
-    (net_known g.A.Actor.steps c.args.self.now c.requires.swept) c.args.a
-    c.requires.known c.index-2.result.now c.index-2.ensures ports.ins.channels.now ports.outs.channels.now
-    ports.ins.sizes.now ports.outs.sizes.now r.queues.items are.ins are.outs are.takes are.puts refl
+    blocks_at p c.index-2.ensures are.ins are.outs are.takes are.puts refl
 
 pub returns-clause-go : goal.returns-clause-go
 returns-clause-go g c = λ some.
@@ -69,10 +51,8 @@ returns-clause-go g c = λ some.
     let same : c.index-2.result.now ≡ c.index.result.now = c.index-2.ensures
     ∙ (get_or_default r.works.items c.args.a c.index-2.result.now c.index.result.now
     (omega (arith, sw.stands.nodes, c.requires.known)) ∙ sym c.index.ensures) in
-    go_at g.A.Actor.steps r sw (net_known g.A.Actor.steps c.args.self.now c.requires.swept) c.args.a
-    c.requires.known c.index.result.now c.index.ensures ports.ins.channels.now ports.outs.channels.now
-    ports.ins.sizes.now ports.outs.sizes.now c.deref.result.now are.ins are.outs are.takes are.puts
-    c.deref.ensures.value c.fits.result (c.goes_by_many.ensures c.if-not-goes_by_many.false)
+    go_at (swept_node g.A.Actor.steps r sw c.args.a c.requires.known) c.index.ensures are.ins are.outs are.takes
+    are.puts c.deref.ensures.value c.fits.result (c.goes_by_many.ensures c.if-not-goes_by_many.false)
     (λ n l. fewer c.fits.result c.blocks_held-most.result
     (get_or ports.ins.sizes.now (get_or ports.ins.channels.now n 0) 0) _
     c.fits.ensures.within (c.blocks_held-most.ensures.held n l))

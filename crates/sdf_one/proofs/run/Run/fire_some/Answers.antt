@@ -2,7 +2,7 @@ use Rattle.std.proofs.Common.{ℕ, ◌*◌, ◌≤◌, ◌<◌, arith}
 use Rattle.std.proofs.Math.Nat.{mul-le-mul}
 use Rattle.sdf_actor.specs.Nets.{node, cycle_of}
 use Rattle.sdf_one.specs.Many.{firings_in}
-use Rattle.sdf_one.proofs.Sweeping.{net_known, can_fire, swept, moved, goes_at, actor_at, can_fire_at_once}
+use Rattle.sdf_one.proofs.Sweeping.{swept_node, can_fire, swept, moved, goes_at, actor_at, can_fire_at_once}
 use Rattle.sdf_one.proofs.Sweeping.{swept_at_once, moved_at_once, can_fire_many_at, swept_many, moved_many}
 use Rattle.sdf_one.proofs.Sweeping.{further}
 use Rattle.sdf_one.proofs.run.Run.fire_some.Goals as goal
@@ -20,8 +20,7 @@ fire_at_once-requires-after_bounds g c κs inside =
     let r = c.args.self.now in
     let sw = c.requires.swept in
     let may = c.requires.may in
-    can_fire_at_once s r sw (net_known g.A.Actor.steps c.args.self.now c.requires.swept) c.args.a may.0
-    c.times-times.result c.times-times.ensures.left
+    can_fire_at_once (swept_node s r sw c.args.a may.0) c.times-times.result c.times-times.ensures.left
     (goes_at s r c.args.a (omega (arith, sw.stands.nodes, may.0)) c.index.result.now c.channels_in-ins.result.now
     c.channels_out-outs.result.now c.index.ensures c.channels_in-ins.ensures c.channels_out-outs.ensures
     (c.goes_at_once.ensures.goes c.if-goes_at_once.true))
@@ -29,10 +28,9 @@ fire_at_once-requires-after_bounds g c κs inside =
 
 pub fire_many-requires-after_bounds : goal.fire_many-requires-after_bounds
 fire_many-requires-after_bounds g c κs inside =
-    can_fire_many_at g.A.Actor.steps
+    can_fire_many_at
+    (swept_node g.A.Actor.steps c.args.self.now c.requires.swept c.args.a c.requires.may.0)
     (g.met.A.Actor g.world.𝓛 g.world.𝓜 g.world.𝓡 ((λ s x. x), (λ x. x), (λ x. x), (λ x. x))).puts_fit
-    c.args.self.now c.requires.swept
-    (net_known g.A.Actor.steps c.args.self.now c.requires.swept) c.args.a c.requires.may.0
     c.cycles_in_blocks-cycles.result c.cycles_in_blocks-cycles.ensures.left
     (c.cycles_in_blocks-cycles.ensures.go (omega (arith, c.if-cycles-eq0.false)))
 
@@ -40,8 +38,7 @@ pub fire-requires-after_bounds : goal.fire-requires-after_bounds
 fire-requires-after_bounds g c κs inside =
     let r = c.args.self.now in
     let sw = c.requires.swept in
-    can_fire g.A.Actor.steps r sw (net_known g.A.Actor.steps c.args.self.now c.requires.swept)
-    c.args.a c.requires.may
+    can_fire (swept_node g.A.Actor.steps r sw c.args.a c.requires.may.0) c.requires.may
     (actor_at r.works.items c.args.a (omega (arith, sw.stands.nodes, c.requires.may.0)) c.index.result.now
     c.index.ensures (c.goes_at_once.ensures.others c.if-goes_at_once.false))
 
@@ -51,7 +48,7 @@ returns-then-goes_at_once g c =
     let r = c.args.self.now in
     let sw = c.requires.swept in
     let may = c.requires.may in
-    let net = net_known s r sw in
+    let node = swept_node s r sw c.args.a may.0 in
     let times = c.times-times.ensures in
     let goes = goes_at s r c.args.a (omega (arith, sw.stands.nodes, may.0)) c.index.result.now
     c.channels_in-ins.result.now c.channels_out-outs.result.now c.index.ensures c.channels_in-ins.ensures
@@ -59,9 +56,9 @@ returns-then-goes_at_once g c =
     let r' = c.fire_at_once.new.self in
     let fired = c.fire_at_once.ensures in
     record {
-      swept = swept_at_once s r sw net c.args.a may.0 c.times-times.result times.left goes times.held
+      swept = swept_at_once node c.times-times.result times.left goes times.held
           c.history_grows_by_firing.ensures r' fired;
-      moved = moved_at_once s r sw net c.args.a may.0 c.times-times.result times.left goes times.held
+      moved = moved_at_once node c.times-times.result times.left goes times.held
           c.history_grows_by_firing.ensures r' fired times.some;
       further = further s r r' c.args.a c.times-times.result sw may.0 fired.alone times.some;
     }
@@ -72,13 +69,13 @@ returns-then-cycles-eq0 g c =
     let r = c.args.self.now in
     let sw = c.requires.swept in
     let may = c.requires.may in
-    let net = net_known s r sw in
+    let node = swept_node s r sw c.args.a may.0 in
     let actor = actor_at r.works.items c.args.a (omega (arith, sw.stands.nodes, may.0)) c.index.result.now
     c.index.ensures (c.goes_at_once.ensures.others c.if-goes_at_once.false) in
     let r' = c.fire.new.self in
     record {
-      swept = swept s r sw net c.args.a may actor c.history_grows_by_firing.ensures r' c.fire.ensures;
-      moved = moved s r sw net c.args.a may actor c.history_grows_by_firing.ensures r' c.fire.ensures;
+      swept = swept node may actor c.history_grows_by_firing.ensures r' c.fire.ensures;
+      moved = moved node may actor c.history_grows_by_firing.ensures r' c.fire.ensures;
       further = further s r r' c.args.a 1 sw may.0 c.fire.ensures.alone (omega arith);
     }
 
@@ -90,7 +87,7 @@ returns-else-cycles-eq0 g c =
     let r = c.args.self.now in
     let sw = c.requires.swept in
     let known_a = c.requires.may.0 in
-    let net = net_known s r sw in
+    let at = swept_node s r sw c.args.a known_a in
     let many = c.cycles_in_blocks-cycles.result in
     let left = c.cycles_in_blocks-cycles.ensures.left in
     let positive : 0 < many = omega (arith, c.if-cycles-eq0.false) in
@@ -100,7 +97,7 @@ returns-else-cycles-eq0 g c =
     let r' = c.fire_many.new.self in
     let fired = c.fire_many.ensures in
     record {
-      swept = swept_many s fits r sw net c.args.a known_a many left go c.history_grows_by_firing.ensures r' fired;
-      moved = moved_many s fits r sw net c.args.a known_a many left go c.history_grows_by_firing.ensures r' fired some;
+      swept = swept_many at fits many left go c.history_grows_by_firing.ensures r' fired;
+      moved = moved_many at fits many left go c.history_grows_by_firing.ensures r' fired some;
       further = further s r r' c.args.a (firings_in s r c.args.a many) sw known_a fired.alone some;
     }

@@ -4,7 +4,7 @@ use Rattle.sdf_actor.specs.Nets.{wiring}
 use Rattle.sdf_answer.specs.Blocks.{ArePorts}
 use Rattle.sdf_answer.specs.Sizes.{at_phase}
 use Rattle.sdf_one.specs.Firings.{phase_at}
-use Rattle.sdf_one.proofs.Sweeping.{net_known, phase_in, ports_in, may_from, may_holds, holds_along}
+use Rattle.sdf_one.proofs.Sweeping.{swept_node, phase_in, ports_in, may_from, may_holds, holds_along}
 use Rattle.sdf_one.proofs.run.Run.may_fire.Goals as goal
 use Rattle.sdf_one.proofs.run.Run.may_fire.Goals.{After-phase}
 
@@ -18,8 +18,7 @@ at g c = ap phase_at (sym c.index.ensures) ∙ sym c.phase.ensures
 
 pub on-sizes-requires : goal.on-sizes-requires
 on-sizes-requires g c =
-    let k = phase_in g.A.Actor.steps c.args.self.now c.requires.swept
-    (net_known g.A.Actor.steps c.args.self.now c.requires.swept) c.args.a c.requires.known
+    let k = phase_in (swept_node g.A.Actor.steps c.args.self.now c.requires.swept c.args.a c.requires.known)
     c.index.result.now in
     subst (λ j. j < length c.args.self.now.sizes.takes) (at g c) k
 
@@ -34,8 +33,7 @@ hold_blocks-requires g c =
     (subst (λ x. ArePorts ((wiring g.A.Actor.steps r.net.now).ins c.args.a)
     (at_phase r.sizes.takes (phase_at (get_or r.works.items c.args.a c.index.result.now))) x)
     (ap length (sym c.deref.ensures.value))
-    (ports_in g.A.Actor.steps r c.requires.swept (net_known g.A.Actor.steps c.args.self.now c.requires.swept) c.args.a
-    c.requires.known c.index.result.now)))
+    (ports_in (swept_node g.A.Actor.steps r c.requires.swept c.args.a c.requires.known) c.index.result.now)))
 
 pub returns : goal.returns
 returns g c =
@@ -44,12 +42,12 @@ returns g c =
     let r = c.args.self.now in
     let w = c.index.result.now in
     let a : ℕ = c.args.a in
+    let node = swept_node s r c.requires.swept a c.requires.known in
     let sizes : at_phase r.sizes.takes (phase_at (get_or r.works.items c.args.a c.index.result.now)) ≡
     c.on-sizes.result.now = ap (at_phase r.sizes.takes) (at g p) ∙ sym c.on-sizes.ensures in
     let left : get_or r.done.items a 0 < r.high * get_or r.repetitions.now a 0 =
     omega (arith, c.left.ensures, c.if-left-eq0.false) in (
-      λ t. may_from s r c.requires.swept (net_known g.A.Actor.steps c.args.self.now c.requires.swept) a
-          c.requires.known w left
+      λ t. may_from node w left
           (holds_along c.channels_in.result.now ((wiring s r.net.now).ins a) c.on-sizes.result.now
           (at_phase r.sizes.takes (phase_at (get_or r.works.items a w))) c.deref.result.now r.queues.items
           c.channels_in.ensures (sym sizes) c.deref.ensures.value (c.hold_blocks.ensures.held t)),
@@ -58,6 +56,5 @@ returns g c =
           (at_phase r.sizes.takes (phase_at (get_or r.works.items a w))) c.on-sizes.result.now r.queues.items
           c.deref.result.now
           (sym c.channels_in.ensures) sizes (sym c.deref.ensures.value)
-          (may_holds s r c.requires.swept (net_known g.A.Actor.steps c.args.self.now c.requires.swept) a
-          c.requires.known w may))),
+          (may_holds node w may))),
     )

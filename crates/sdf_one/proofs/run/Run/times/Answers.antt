@@ -3,7 +3,7 @@ use Rattle.sdf_actor.specs.Nets.{wiring}
 use Rattle.sdf_answer.specs.Blocks.{ArePorts}
 use Rattle.sdf_answer.specs.Sizes.{at_phase}
 use Rattle.sdf_one.specs.Firings.{phase_at}
-use Rattle.sdf_one.proofs.Sweeping.{net_known, phase_in, ports_in, may_holds, holds_along}
+use Rattle.sdf_one.proofs.Sweeping.{swept_node, phase_in, ports_in, may_holds, holds_along}
 use Rattle.sdf_one.proofs.run.Run.times.Goals as goal
 use Rattle.sdf_one.proofs.run.Run.times.Goals.{After-phase}
 
@@ -13,8 +13,7 @@ at g c = ap phase_at (sym c.index.ensures) ∙ sym c.phase.ensures
 
 pub on-sizes-requires : goal.on-sizes-requires
 on-sizes-requires g c =
-    let k = phase_in g.A.Actor.steps c.args.self.now c.requires.swept
-    (net_known g.A.Actor.steps c.args.self.now c.requires.swept) c.args.a c.requires.may.0
+    let k = phase_in (swept_node g.A.Actor.steps c.args.self.now c.requires.swept c.args.a c.requires.may.0)
     c.index.result.now in
     subst (λ j. j < length c.args.self.now.sizes.takes) (at g c) k
 
@@ -29,8 +28,7 @@ blocks_held-requires g c =
     (subst (λ x. ArePorts ((wiring g.A.Actor.steps r.net.now).ins c.args.a)
     (at_phase r.sizes.takes (phase_at (get_or r.works.items c.args.a c.index.result.now))) x)
     (ap length (sym c.deref.ensures.value))
-    (ports_in g.A.Actor.steps r c.requires.swept (net_known g.A.Actor.steps c.args.self.now c.requires.swept) c.args.a
-    c.requires.may.0 c.index.result.now)))
+    (ports_in (swept_node g.A.Actor.steps r c.requires.swept c.args.a c.requires.may.0) c.index.result.now)))
 
 pub returns-clause-some : goal.returns-clause-some
 returns-clause-some g c =
@@ -45,6 +43,5 @@ returns-clause-some g c =
     (at_phase r.sizes.takes (phase_at (get_or r.works.items c.args.a w))) c.on-sizes.result.now r.queues.items
     c.deref.result.now
     (sym c.channels_in.ensures) sizes (sym c.deref.ensures.value)
-    (may_holds s r c.requires.swept (net_known g.A.Actor.steps c.args.self.now c.requires.swept) c.args.a
-    c.requires.may.0 w c.requires.may))
+    (may_holds (swept_node s r c.requires.swept c.args.a c.requires.may.0) w c.requires.may))
     (omega (arith, c.left-left.ensures, c.requires.may.1))

@@ -1,5 +1,4 @@
 use Rattle.std.proofs.Common.{sym, subst}
-use Rattle.sdf_actor.specs.Wires.{lists}
 use Rattle.sdf_rings.specs.Quiescence.{AreQuiescent}
 use Rattle.sdf_rings.specs.Rests.{InHand, HaveMet, AreAtRest}
 use Rattle.sdf_rings.proofs.Quiet.{are_quiescent}
@@ -12,7 +11,7 @@ returns-clause-rest g c =
     let s = g.A.Actor.steps in
     let met = subst (λ (v : InHand _ _ _). HaveMet v.net v.seats v.places) (sym c.self.view_is) c.requires.met in
     subst (λ (v : InHand _ _ _). AreAtRest s v.net v.inputs v.seats v.places) c.self.view_is
-    (are_at_rest s x.net.now (lists x.inputs.now) x.seats.items x.places.items c.self.invariant.0 met)
+    (are_at_rest c.self.invariant.0 met)
 
 pub returns-clause-quiescent : goal.returns-clause-quiescent
 returns-clause-quiescent g c =
@@ -21,5 +20,4 @@ returns-clause-quiescent g c =
     let met = subst (λ (v : InHand _ _ _). HaveMet v.net v.seats v.places) (sym c.self.view_is) c.requires.met in
     let accepted = c.net_facts.ensures.accepted in
     subst (λ (v : InHand _ _ _). AreQuiescent s v) c.self.view_is
-    (are_quiescent s x.net.now (lists x.inputs.now) x.seats.items x.places.items c.self.invariant.0 met accepted.0
-    accepted.1)
+    (are_quiescent c.self.invariant.0 met accepted.1)

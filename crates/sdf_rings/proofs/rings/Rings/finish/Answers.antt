@@ -32,15 +32,14 @@ returns g c = λ order cap k plan counts.
       places = x.places.items;
     }) = rw (← c.deref.ensures.value) c.meet_all.ensures.rings in
     let asked = subst (λ (v : InHand _ _ _). IsPlanned s v.net v.seats v.places order cap) (sym c.self.view_is) plan in
-    let mine = planned_kept s n (lists x.inputs.now) x.seats.items c.meet_all.new.seats x.places.items
-    c.self.invariant.0 len (λ j e h. (idle j e h).0) order cap asked in
+    let mine = planned_kept c.self.invariant.0 c.meet_all.new.seats len (λ j e h. (idle j e h).0) asked in
     let some = subst (λ (v : InHand _ _ _). total_left v.seats ≡ 0) (sym c.self.view_is) c.requires.left in
     let few : total_left c.meet_all.new.seats ≤ total_left x.seats.items =
     idle_leaves s n x.seats.items c.meet_all.new.seats len idle in
     let left : total_left c.meet_all.new.seats ≡ 0 = omega arith in
     let times = subst (λ (v : InHand _ _ _). AreCountsOf v.net order k) (sym c.self.view_is) counts in
     let met : HaveMet n c.meet_all.new.seats x.places.items = rw (← c.deref.ensures.value) c.meet_all.ensures.met in
-    let rest = are_at_rest s n (lists x.inputs.now) c.meet_all.new.seats x.places.items rings met in
+    let rest = are_at_rest rings met in
     let given : AreGiven n c.meet_all.new.seats x.places.items (length n.nodes) c.collect.new.outputs =
     rw (← same, ← c.deref_mut-2.ensures.value, ← c.deref-2.ensures.value) c.collect.ensures.each in
     let made = c.collect.ensures.count in
@@ -49,6 +48,4 @@ returns g c = λ order cap k plan counts.
     let count = made ∙ (ap length c.deref_mut-3.ensures.value ∙ c.self.invariant.1) in
     let accepted = c.net_facts.ensures.accepted in
     rw outputs (subst (λ (v : InHand _ _ _). AreOutputs s v.net v.inputs k (lists c.collect.new.outputs)) c.self.view_is
-    (outputs_given s n (lists x.inputs.now) c.meet_all.new.seats x.places.items rings order cap mine left rest
-    accepted.0 accepted.1 k times
-    c.collect.new.outputs count given))
+    (outputs_given rings mine left rest accepted.1 times c.collect.new.outputs count given))

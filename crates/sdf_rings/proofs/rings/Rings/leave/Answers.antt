@@ -21,7 +21,7 @@ collect-requires-clause-placed g c κs within =
     let same = with_items_is x.seats c.leave.new.seats (omega arith) in
     let kept : SameButEnds x.seats.items c.leave.new.seats =
     subst (λ ss. SameButEnds ss c.leave.new.seats) c.deref_mut.ensures.value c.in_ok-rest.ensures.kept in
-    let placed = placed_kept n x.seats.items c.leave.new.seats x.places.items c.self.invariant.0.placed kept in
+    let placed = placed_kept c.self.invariant.0.placed kept in
     subst (λ ps. IsPlaced n c.deref_mut-2.result.now ps) (sym c.deref-2.ensures.value)
     (subst (λ ss. IsPlaced n ss x.places.items) (sym (c.deref_mut-2.ensures.value ∙ same)) placed)
 
@@ -47,16 +47,14 @@ returns g c = λ order cap k plan counts.
     let left = subst (λ (v : InHand _ _ _). total_left v.seats ≡ 0) (sym c.self.view_is) c.requires.left in
     let asked = subst (λ (v : InHand _ _ _). AreCountsOf v.net order k) (sym c.self.view_is) counts in
     let met = subst (λ (v : InHand _ _ _). HaveMet v.net v.seats v.places) (sym c.self.view_is) c.requires.met in
-    let rest = are_at_rest s n (lists x.inputs.now) x.seats.items x.places.items c.self.invariant.0 met in
+    let rest = are_at_rest c.self.invariant.0 met in
     let collected : AreGiven n c.leave.new.seats x.places.items (length n.nodes) c.collect.new.outputs =
     subst (λ ps. AreGiven n c.leave.new.seats ps (length n.nodes) c.collect.new.outputs) c.deref-2.ensures.value
     (subst (λ ss. AreGiven n ss c.deref-2.result.now (length n.nodes) c.collect.new.outputs)
     (c.deref_mut-2.ensures.value ∙ moved) c.collect.ensures.each) in
-    let given = given_kept n x.seats.items c.leave.new.seats x.places.items c.self.invariant.0.placed kept
+    let given = given_kept c.self.invariant.0.placed kept
     (length n.nodes) c.collect.new.outputs collected in
     let accepted = c.net_facts.ensures.accepted in
     rw same (subst (λ (v : InHand _ _ _). HasRun s v.net v.inputs k (lists c.collect.new.outputs)
     c.in_ok-rest.rest) c.self.view_is
-    (run_given s n (lists x.inputs.now) x.seats.items x.places.items c.self.invariant.0 order cap mine left rest
-    accepted.0 accepted.1 k asked
-    c.collect.new.outputs count given c.in_ok-rest.rest held))
+    (run_given c.self.invariant.0 mine left rest accepted.1 asked c.collect.new.outputs count given held))

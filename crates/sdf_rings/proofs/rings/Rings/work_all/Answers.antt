@@ -19,8 +19,8 @@ invariant_of-self g c =
     let same = with_items_is x.seats c.run_round.new.seats (omega arith) in
     let len : length c.run_round.new.seats ≡ length x.seats.items = l ∙ ap length v in
     let rounded = rw v at c.run_round.ensures in
-    let rings = rings_all g.A.Actor.steps x.net.now (lists x.inputs.now) x.seats.items c.run_round.new.seats
-    x.places.items c.self.invariant.0 len (λ j e h. (rounded j e h).seat) (λ j e h. (rounded j e h).worked) in
+    let rings = rings_all c.self.invariant.0 c.run_round.new.seats len (λ j e h. (rounded j e h).seat)
+    (λ j e h. (rounded j e h).worked) in
     (rw same rings, c.self.invariant.1)
 
 pub returns-clause-rounded : goal.returns-clause-rounded
@@ -41,8 +41,7 @@ returns-clause-planned g c = λ order cap plan.
     let len : length c.run_round.new.seats ≡ length x.seats.items = l ∙ ap length v in
     let mine = subst (λ (v : InHand _ _ _). IsPlanned s v.net v.seats v.places order cap) (sym c.self.view_is) plan in
     let rounded = rw v at c.run_round.ensures in
-    rw same (planned_kept s x.net.now (lists x.inputs.now) x.seats.items c.run_round.new.seats x.places.items
-    c.self.invariant.0 len (λ j e h. (rounded j e h).worked) order cap mine)
+    rw same (planned_kept c.self.invariant.0 c.run_round.new.seats len (λ j e h. (rounded j e h).worked) mine)
 
 pub returns-clause-fires : goal.returns-clause-fires
 returns-clause-fires g c = λ met order cap plan some.

@@ -2,7 +2,6 @@ use Rattle.std.proofs.Common.{◌≡◌, ◌<◌, ◌⊎◌, length, get_or-set_
 use Rattle.std.proofs.Common.{arith}
 use Rattle.std.specs.List.{HoldsAt}
 use Rattle.std.proofs.lemmas.List.{get_or_default}
-use Rattle.sdf_actor.specs.Wires.{lists}
 use Rattle.sdf_rings.specs.declared.seat.Seat.{Seat}
 use Rattle.sdf_rings.specs.Seats.{HasFirst}
 use Rattle.sdf_rings.specs.Rests.{InHand}
@@ -14,10 +13,9 @@ use Rattle.sdf_rings.proofs.rings.Rings.work_one.Goals as goal
 
 pub invariant_of-self : goal.invariant_of-self
 invariant_of-self g c =
-    let l = ap (λ (v : InHand _ _ _). length v.seats) c.self.view_is in (
-      rings_worked g.A.Actor.steps c.self.inside.net.now (lists c.self.inside.inputs.now) c.self.inside.seats.items
-          c.self.inside.places.items c.self.invariant.0 c.args.seat c.index_mut.result.now c.work.new.seat
-          (omega (arith, l, c.requires)) c.index_mut.ensures.value c.work.ensures.worked c.work.ensures.seat,
+    let l = ap (λ (v : InHand _ _ _). length v.seats) c.self.view_is in
+    let inside : c.args.seat < length c.self.inside.seats.items = omega (arith, l, c.requires) in (
+      rings_worked c.self.invariant.0 inside c.index_mut.ensures.value c.work.ensures.worked c.work.ensures.seat,
       c.self.invariant.1,
     )
 
@@ -48,7 +46,6 @@ returns-clause-planned g c = λ order cap plan.
     let s = g.A.Actor.steps in
     let inside : c.args.seat < length x.seats.items = omega (arith, l, c.requires) in
     let mine = subst (λ (v : InHand _ _ _). IsPlanned s v.net v.seats v.places order cap) (sym c.self.view_is) plan in
-    planned_kept s x.net.now (lists x.inputs.now) x.seats.items _ x.places.items c.self.invariant.0
+    planned_kept c.self.invariant.0 _
     (length-set x.seats.items c.args.seat c.work.new.seat)
-    (one_worked s x.net.now (lists x.inputs.now) x.seats.items x.places.items c.self.invariant.0 c.args.seat
-    c.index_mut.result.now c.work.new.seat inside c.index_mut.ensures.value c.work.ensures.worked) order cap mine
+    (one_worked c.self.invariant.0 inside c.index_mut.ensures.value c.work.ensures.worked) mine

@@ -1,11 +1,11 @@
 //! The table of kinds as a text.
 
 ghost use Rattle.std.specs.Prelude.{◌≡◌, ◌++◌, IfOk, OnOk, string_bytes};
-ghost use Rattle.sdf_document.specs.Rows.{key_view, keys_view};
-ghost use Rattle.sdf_document.specs.Listing.{integers, from_least, absent_text, width_text, values_text, form_text};
-ghost use Rattle.sdf_document.specs.Listing.{key_text, keys_text, since_text, line_of, kinds_text};
+ghost use Rattle.sdf_kinds.specs.Rows.{key_view, keys_view};
+ghost use Rattle.sdf_kinds.specs.Listing.{integers, from_least, absent_text, width_text, values_text, form_text};
+ghost use Rattle.sdf_kinds.specs.Listing.{key_text, keys_text, since_text, line_of, kinds_text};
 
-use crate::row::{Form, Key, KindWord, Width, kinds, row_of, shared_keys};
+use crate::row::{Form, KeyForm, Kind, Width, kinds, row_of, shared_keys};
 use std::alloc::{AllocError, Global};
 
 /// Adds the numbers of either sign from one to another.
@@ -94,16 +94,16 @@ fn push_form(text: &mut String, form: Form) -> Result<(), AllocError>
     }
 }
 
-fn push_key(text: &mut String, key: &Key) -> Result<(), AllocError>
+fn push_key(text: &mut String, key: &KeyForm) -> Result<(), AllocError>
     ensures { OnOk result (string_bytes text.new ≡ string_bytes text.old ++ key_text (key_view key.now)) }
 {
-    text.push_str(key.0)?;
+    text.push_str(key.0.name())?;
     push_form(text, key.1)
 }
 
 /// Adds keys, in their order.
 #[tactic(auto, using(std::proofs::lemmas::List::map_more, std::proofs::lemmas::List::flat_map_more))]
-fn push_keys(text: &mut String, keys: &[Key]) -> Result<(), AllocError>
+fn push_keys(text: &mut String, keys: &[KeyForm]) -> Result<(), AllocError>
     ensures { OnOk result (string_bytes text.new ≡ string_bytes text.old ++ keys_text (keys_view keys.now)) }
 {
     let [first, rest @ ..] = keys else {
@@ -128,7 +128,7 @@ fn push_since(text: &mut String, since: u32) -> Result<(), AllocError>
 }
 
 /// Adds the line of a kind.
-fn push_line(text: &mut String, kind: KindWord) -> Result<(), AllocError>
+fn push_line(text: &mut String, kind: Kind) -> Result<(), AllocError>
     ensures { OnOk result (string_bytes text.new ≡ string_bytes text.old ++ line_of kind) }
 {
     let row = row_of(kind);

@@ -4,13 +4,13 @@ use Rattle.std.specs.Prelude.{if◌then◌else◌}
 use Rattle.std.specs.Fmt.{signed_decimal}
 use Rattle.std.specs.Ordering.{int_eq}
 use Rattle.std.specs.List.{flat_map}
-use Rattle.sdf_document.specs.declared.row.Form.{Form}
-use Rattle.sdf_document.specs.declared.row.Form.TheVariants.{Natural, Optional, Integer, FromLeast}
-use Rattle.sdf_document.specs.declared.row.Form.TheVariants.{List as ListForm}
-use Rattle.sdf_document.specs.declared.row.KindWord.{KindWord}
-use Rattle.sdf_document.specs.declared.row.Width.{Width}
-use Rattle.sdf_document.specs.declared.row.Width.TheVariants.{Bits16, Bits32}
-use Rattle.sdf_document.specs.Rows.{KeyRow, KindRow, row_of, kinds, shared_keys}
+use Rattle.sdf_kinds.specs.declared.row.Form.{Form}
+use Rattle.sdf_kinds.specs.declared.row.Form.TheVariants.{Natural, Optional, Integer, FromLeast}
+use Rattle.sdf_kinds.specs.declared.row.Form.TheVariants.{List as ListForm}
+use Rattle.sdf_kinds.specs.declared.row.Kind.{Kind}
+use Rattle.sdf_kinds.specs.declared.row.Width.{Width}
+use Rattle.sdf_kinds.specs.declared.row.Width.TheVariants.{Bits16, Bits32}
+use Rattle.sdf_kinds.specs.Rows.{KeyRow, KindRow, row_of, kinds, shared_keys}
 
 -- a line feed
 abbrev pub end : List ℕ
@@ -70,11 +70,11 @@ abbrev pub line : KindRow → List ℕ
 line row = row.word ++ since_text row.since ++ codes ": " ++ keys_text row.keys ++ end
 
 -- the line of a kind's row
-abbrev pub line_of : KindWord → List ℕ
+abbrev pub line_of : Kind → List ℕ
 line_of k = line (row_of k)
 
 -- the lines of these kinds, and one of these keys, which every actor may have
-abbrev pub listing_of : List KindWord → List KeyRow → List ℕ
+abbrev pub listing_of : List Kind → List KeyRow → List ℕ
 listing_of ks shared = flat_map line_of ks ++ codes "every kind: " ++ keys_text shared ++ end
 
 -- all kinds and their keys

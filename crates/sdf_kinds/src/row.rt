@@ -1,0 +1,185 @@
+//! The table of kinds: a row each, which one reader reads.
+//!
+//! A new kind is:
+//! 1. its word in `Kind` and `KINDS`, its new keys in `key.rt` and `specs/Keys.antt`, and its row: its keys and an arm
+//!   of `row_of`, here and in `specs/Rows.antt`;
+//! 2. its line in the table of `docs/FORMATS.md`, as `kinds_text` in `listing.rt` lists it;
+//! 3. in `sdf_document`, its values as a variant of `KindEntry`, with an arm of `entry_of` in `kind.rt` that takes them
+//!   in the order of the row; an equation of `entry_of` and one of `kind_values` in `specs/Kinds.antt`;
+//! 4. where it has a list, an arm of `file_of` in `document.rt` there, and an equation of `kind_file` in
+//!   `specs/Document.antt`;
+//! 5. in `sdf_kit`, what it computes: see `kit.rt` there.
+ghost use Rattle.std.specs.Prelude.{◌≡◌};
+ghost use Rattle.sdf_kinds.specs.Rows.{keys_view, row_view, shared_keys, row_of, kinds};
+
+use crate::key::Key;
+use sdf_limits::{
+    LEAST_WAYS, MOST_CHANNEL, MOST_COST, MOST_DELAY, MOST_FACTOR, MOST_PROCESSOR, MOST_RATE,
+    MOST_RUN, MOST_SHIFT, MOST_TAPS, MOST_VALUES, MOST_WAYS,
+};
+
+/// The kinds of actors.
+#[derive(Clone, Copy, Debug, PartialEq, Eq)]
+pub enum Kind {
+    Input,
+    Output,
+    Fir,
+    Decimate,
+    Interpolate,
+    Add,
+    Fork,
+    Gain,
+    Delay,
+    Table,
+    Deal,
+    Gather,
+    Clip,
+    Offset,
+}
+
+/// What the values of a list fit into.
+#[derive(Clone, Copy, Debug, PartialEq, Eq)]
+pub enum Width {
+    Bits16,
+    Bits32,
+}
+
+/// How the value of a key is written, and its limits.
+#[derive(Clone, Copy, Debug)]
+pub enum Form {
+    /// A whole number from the first to the second, and what it is where the key is absent, if it may be.
+    Natural(u32, u32, Option<u32>),
+    /// The same, or nothing where the key is absent.
+    Optional(u32, u32),
+    /// As `Natural`, and of either sign.
+    Integer(i32, i32, Option<i32>),
+    /// The same, and no less than the value of the key `least`, which stands before it.
+    FromLeast(i32, i32, Option<i32>),
+    /// An array of 1 to so many whole numbers, or the key `file` in its place.
+    List(usize, Width),
+}
+
+/// A key of a row, and the form of its value.
+#[derive(Clone, Copy, Debug)]
+pub struct KeyForm(pub Key, pub Form);
+
+/// A kind: its word, the first format that has it, and its keys in the order of their tests.
+#[derive(Clone, Copy, Debug)]
+pub struct Row {
+    pub word: &'static str,
+    pub since: u32,
+    pub keys: &'static [KeyForm],
+}
+
+static CHANNEL_KEYS: [KeyForm; 2] = [
+    KeyForm(Key::Channel, Form::Natural(0, MOST_CHANNEL, None)),
+    KeyForm(Key::Block, Form::Natural(1, MOST_RATE, Some(1))),
+];
+
+static FIR_KEYS: [KeyForm; 4] = [
+    KeyForm(Key::Up, Form::Natural(1, MOST_FACTOR, Some(1))),
+    KeyForm(Key::Down, Form::Natural(1, MOST_FACTOR, Some(1))),
+    KeyForm(Key::Shift, Form::Natural(0, MOST_SHIFT, None)),
+    KeyForm(Key::Taps, Form::List(MOST_TAPS, Width::Bits16)),
+];
+
+static FACTOR_KEYS: [KeyForm; 1] = [KeyForm(Key::Factor, Form::Natural(1, MOST_FACTOR, None))];
+
+static WAYS_KEYS: [KeyForm; 1] = [KeyForm(Key::Ways, Form::Natural(LEAST_WAYS, MOST_WAYS, None))];
+
+static GAIN_KEYS: [KeyForm; 2] = [
+    KeyForm(Key::Gain, Form::Integer(-32768, 32767, None)),
+    KeyForm(Key::Shift, Form::Natural(0, MOST_SHIFT, None)),
+];
+
+static DELAY_KEYS: [KeyForm; 1] = [KeyForm(Key::Length, Form::Natural(0, MOST_DELAY, None))];
+
+static TABLE_KEYS: [KeyForm; 2] = [
+    KeyForm(Key::Offset, Form::Integer(i32::MIN, i32::MAX, None)),
+    KeyForm(Key::Values, Form::List(MOST_VALUES, Width::Bits32)),
+];
+
+static TURN_KEYS: [KeyForm; 2] = [
+    KeyForm(Key::Ways, Form::Natural(LEAST_WAYS, MOST_WAYS, None)),
+    KeyForm(Key::Run, Form::Natural(1, MOST_RUN, Some(1))),
+];
+
+static CLIP_KEYS: [KeyForm; 2] = [
+    KeyForm(Key::Least, Form::Integer(-32768, 32767, Some(-32768))),
+    KeyForm(Key::Greatest, Form::FromLeast(-32768, 32767, Some(32767))),
+];
+
+static OFFSET_KEYS: [KeyForm; 1] = [KeyForm(Key::Value, Form::Integer(-32768, 32767, None))];
+
+static SHARED_KEYS: [KeyForm; 2] = [
+    KeyForm(Key::Processor, Form::Optional(0, MOST_PROCESSOR)),
+    KeyForm(Key::Cost, Form::Natural(1, MOST_COST, Some(1))),
+];
+
+static KINDS: [Kind; 14] = [
+    Kind::Input,
+    Kind::Output,
+    Kind::Fir,
+    Kind::Decimate,
+    Kind::Interpolate,
+    Kind::Add,
+    Kind::Fork,
+    Kind::Gain,
+    Kind::Delay,
+    Kind::Table,
+    Kind::Deal,
+    Kind::Gather,
+    Kind::Clip,
+    Kind::Offset,
+];
+
+/// The keys that every actor may have, tested after those of its kind.
+pub fn shared_keys() -> &'static [KeyForm]
+    ensures { keys_view result.now ≡ shared_keys }
+{
+    SHARED_KEYS.as_slice()
+}
+
+/// All kinds.
+pub fn kinds() -> &'static [Kind]
+    ensures { result.now ≡ kinds }
+{
+    KINDS.as_slice()
+}
+
+fn row_with(word: &'static str, since: u32, keys: &'static [KeyForm]) -> Row
+    ensures { row_view result ≡ record { word = word.now; since = since; keys = keys_view keys.now } }
+{
+    Row { word, since, keys }
+}
+
+/// The row of a kind.
+pub fn row_of(kind: Kind) -> Row
+    ensures { row_view result ≡ row_of kind }
+{
+    match kind {
+        Kind::Input => row_with("input", 1, CHANNEL_KEYS.as_slice()),
+        Kind::Output => row_with("output", 1, CHANNEL_KEYS.as_slice()),
+        Kind::Fir => row_with("fir", 1, FIR_KEYS.as_slice()),
+        Kind::Decimate => row_with("decimate", 1, FACTOR_KEYS.as_slice()),
+        Kind::Interpolate => row_with("interpolate", 1, FACTOR_KEYS.as_slice()),
+        Kind::Add => row_with("add", 1, WAYS_KEYS.as_slice()),
+        Kind::Fork => row_with("fork", 1, WAYS_KEYS.as_slice()),
+        Kind::Gain => row_with("gain", 1, GAIN_KEYS.as_slice()),
+        Kind::Delay => row_with("delay", 1, DELAY_KEYS.as_slice()),
+        Kind::Table => row_with("table", 1, TABLE_KEYS.as_slice()),
+        Kind::Deal => row_with("deal", 2, TURN_KEYS.as_slice()),
+        Kind::Gather => row_with("gather", 2, TURN_KEYS.as_slice()),
+        Kind::Clip => row_with("clip", 2, CLIP_KEYS.as_slice()),
+        Kind::Offset => row_with("offset", 2, OFFSET_KEYS.as_slice()),
+    }
+}
+
+impl Kind {
+    /// Its word in design files.
+    pub fn word(self) -> &'static str
+        ensures { result.now ≡ (row_of self).word }
+    {
+        row_of(self).word
+    }
+}
