@@ -117,4 +117,4 @@ module _ {A S T : Type 0} {s : Steps A S T} {n : Netlist A T} (good : IsNet s n)
   }
 
   pub fired : IsStand s n inputs (stand_after x 1 w held) × HasMoved s n x (stand_after x 1 w held)
-  fired = gone_on good st on held
+  fired = gone_on st good on held

@@ -32,9 +32,9 @@ nil : {X : Type 0} (xs : List X) (m : ℕ) → length xs + m ≡ m → xs ≡ []
 nil [] m e = refl
 nil (x ∷ xs) m e = absurd (omega arith)
 
-module _ {A S T : Type 0} (s : Steps A S T) (n : Netlist A T) where
-  pub moved_none : (x : Stand A T S) → HasMoved s n x x
-  moved_none x = record {
+module _ {A S T : Type 0} {s : Steps A S T} {n : Netlist A T} where
+  pub moved_none : {x : Stand A T S} → HasMoved s n x x
+  moved_none {x} = record {
     actor_kept = refl;
     asked_kept = refl;
     more = omega arith;
@@ -48,8 +48,8 @@ module _ {A S T : Type 0} (s : Steps A S T) (n : Netlist A T) where
     put_count = λ i h. omega arith;
   }
 
-  pub moved_join : (x y z : Stand A T S) → HasMoved s n x y → HasMoved s n y z → HasMoved s n x z
-  moved_join x y z p q =
+  pub moved_join : {x y z : Stand A T S} → HasMoved s n x y → HasMoved s n y z → HasMoved s n x z
+  moved_join {x} {y} {z} p q =
       let same_node = ap (node n) p.actor_kept in
       record {
         actor_kept = q.actor_kept ∙ p.actor_kept;
@@ -85,9 +85,9 @@ module _ {A S T : Type 0} (s : Steps A S T) (n : Netlist A T) where
       (outs : Vec (Producer T Global AnyItems) Global)
       (drew : DrewEach x.ins.items ins.items (λ _. [])) (gave : GaveEach x.outs.items outs.items (λ _. []))
       (ins_is : vec_len ins ≡ vec_len x.ins) (outs_is : vec_len outs ≡ vec_len x.outs) where
-    pub looked_stand : (inputs : List (List T)) → IsStand s n inputs x →
+    pub looked_stand : {inputs : List (List T)} → IsStand s n inputs x →
         IsStand s n inputs (record x { ins = ins; outs = outs })
-    looked_stand inputs st = record {
+    looked_stand {inputs} st = record {
       known = st.known;
       own_pairs = own_pairs_kept n x.actor x.ins.items ins.items x.outs.items outs.items (λ _. []) (λ _. [])
           (items_long ins x.ins ins_is) (items_long outs x.outs outs_is) drew gave st.own_pairs;
@@ -125,8 +125,8 @@ module _ {A S T : Type 0} (s : Steps A S T) (n : Netlist A T) where
     }
 
   -- what was possible stays so while nothing fires
-  pub can_kept : (x y : Stand A T S) → HasMoved s n x y → y.done ≡ x.done → CanFire s n x → CanFire s n y
-  can_kept x y m same can = record {
+  pub can_kept : {x y : Stand A T S} → HasMoved s n x y → y.done ≡ x.done → CanFire s n x → CanFire s n y
+  can_kept {x} {y} m same can = record {
     holds = λ i d h.
         let l : i < vec_len x.ins = (let k = vec_out y.ins i h in let e = m.ins_kept in omega arith) in
         let o = can.holds i d (vec_in x.ins i l) in

@@ -64,58 +64,59 @@ size_at f k c = f.rates.produced c (k + 1) - f.rates.produced c k
 
 module _ {A S T : Type 0} {s : Steps A S T} {n : Netlist A T} (good : IsNet s n) {a : ℕ} (known : a < length n.nodes)
   where
-    pub ins_long : length ((wiring s n).ins a) ≡ inputs_of s (node n a)
+    abbrev f : Wiring T
+    f = wiring s n
+
+    pub ins_long : length (f.ins a) ≡ inputs_of s (node n a)
     ins_long = length-map-range_with_len (to_port n a) 0 (inputs_of s (node n a))
 
-    pub outs_long : length ((wiring s n).outs a) ≡ outputs_of s (node n a)
+    pub outs_long : length (f.outs a) ≡ outputs_of s (node n a)
     outs_long = length-map-range_with_len (from_port n a) 0 (outputs_of s (node n a))
 
-    pub at_in : (p : ℕ) → p < inputs_of s (node n a) → get_or ((wiring s n).ins a) p 0 ≡ to_port n a p
+    pub at_in : (p : ℕ) → p < inputs_of s (node n a) → get_or (f.ins a) p 0 ≡ to_port n a p
     at_in p h = get_or-map-range_with_len (to_port n a) 0 (inputs_of s (node n a)) p p 0 h (omega arith)
 
-    at_out : (p : ℕ) → p < outputs_of s (node n a) → get_or ((wiring s n).outs a) p 0 ≡ from_port n a p
+    at_out : (p : ℕ) → p < outputs_of s (node n a) → get_or (f.outs a) p 0 ≡ from_port n a p
     at_out p h = get_or-map-range_with_len (from_port n a) 0 (outputs_of s (node n a)) p p 0 h (omega arith)
 
     -- a channel into the node is the one at its port
-    pub port_of : (c : ℕ) → c < length n.wires → (wiring s n).rates.target c ≡ a →
-        (wire n c).to.1 < inputs_of s (node n a)
+    pub port_of : (c : ℕ) → c < length n.wires → f.rates.target c ≡ a → (wire n c).to.1 < inputs_of s (node n a)
     port_of c l e = subst (λ b. (wire n c).to.1 < inputs_of s (node n b)) e (good.to_in c l).1
 
     -- the counts of a channel by its port
     pub consumed_in : (p k : ℕ) → p < inputs_of s (node n a) →
-        (wiring s n).rates.consumed (get_or ((wiring s n).ins a) p 0) k ≡ consumed_at s (node n a) p k
+        f.rates.consumed (get_or (f.ins a) p 0) k ≡ consumed_at s (node n a) p k
     consumed_in p k h =
         let is = (ports_have_channels s n a p good known).0 h in
-        ap (λ c. (wiring s n).rates.consumed c k) (at_in p h) ∙ (λ j. consumed_at s (node n (is.0 j)) (is.1 j) k)
+        ap (λ c. f.rates.consumed c k) (at_in p h) ∙ (λ j. consumed_at s (node n (is.0 j)) (is.1 j) k)
 
     pub produced_out : (p k : ℕ) → p < outputs_of s (node n a) →
-        (wiring s n).rates.produced (get_or ((wiring s n).outs a) p 0) k ≡ produced_at s (node n a) p k
+        f.rates.produced (get_or (f.outs a) p 0) k ≡ produced_at s (node n a) p k
     produced_out p k h =
         let is = (ports_have_channels s n a p good known).1 h in
-        ap (λ c. (wiring s n).rates.produced c k) (at_out p h) ∙ (λ j. produced_at s (node n (is.0 j)) (is.1 j) k)
+        ap (λ c. f.rates.produced c k) (at_out p h) ∙ (λ j. produced_at s (node n (is.0 j)) (is.1 j) k)
 
-    pub consumed_is : (c k : ℕ) → (wiring s n).rates.target c ≡ a →
-        (wiring s n).rates.consumed c k ≡ consumed_at s (node n a) (wire n c).to.1 k
+    pub consumed_is : (c k : ℕ) → f.rates.target c ≡ a →
+        f.rates.consumed c k ≡ consumed_at s (node n a) (wire n c).to.1 k
     consumed_is c k e = ap (λ b. consumed_at s (node n b) (wire n c).to.1 k) e
 
     size_out_port : (k p : ℕ) → p < outputs_of s (node n a) →
-        size_at (wiring s n) k (get_or ((wiring s n).outs a) p 0) ≡ sizes s Output (node n a) k p
+        size_at f k (get_or (f.outs a) p 0) ≡ sizes s Output (node n a) k p
     size_out_port k p h = let x = produced_out p k h in let y = produced_out p (k + 1) h in omega arith
 
     pub all_out : (k : ℕ) → start_at (sizes s Output (node n a) k) (outputs_of s (node n a)) ≡
-        sum_by (size_at (wiring s n) k) ((wiring s n).outs a)
+        sum_by (size_at f k) (f.outs a)
     all_out k =
-        start_at_same (sizes s Output (node n a) k) (λ p. size_at (wiring s n) k (get_or ((wiring s n).outs a) p 0))
+        start_at_same (sizes s Output (node n a) k) (λ p. size_at f k (get_or (f.outs a) p 0))
         (outputs_of s (node n a)) (λ p h. sym (size_out_port k p h)) ∙
-        (ap (start_at (λ p. size_at (wiring s n) k (get_or ((wiring s n).outs a) p 0))) (sym outs_long)
-        ∙ start_at_all (size_at (wiring s n) k) ((wiring s n).outs a))
+        (ap (start_at (λ p. size_at f k (get_or (f.outs a) p 0))) (sym outs_long)
+        ∙ start_at_all (size_at f k) (f.outs a))
 
     -- a port's part of a block is its channel's
     pub out_block : {X : Type 0} (k i : ℕ) (b : List X) → i < outputs_of s (node n a) →
-        spread (size_at (wiring s n) k) ((wiring s n).outs a) b (get_or ((wiring s n).outs a) i 0) ≡
-        block_of (sizes s Output (node n a) k) i b
+        spread (size_at f k) (f.outs a) b (get_or (f.outs a) i 0) ≡ block_of (sizes s Output (node n a) k) i b
     out_block k i b h =
-        spread_is_block (size_at (wiring s n) k) ((wiring s n).outs a) b i (omega (arith, outs_long))
+        spread_is_block (size_at f k) (f.outs a) b i (omega (arith, outs_long))
         (λ p q. (nets_are_wired s n good).outs_once a p q known) ∙
-        block_same (λ p. size_at (wiring s n) k (get_or ((wiring s n).outs a) p 0)) (sizes s Output (node n a) k) i b
+        block_same (λ p. size_at f k (get_or (f.outs a) p 0)) (sizes s Output (node n a) k) i b
         (λ p l. size_out_port k p (omega arith))

@@ -306,7 +306,7 @@ module _ {A S T : Type 0} {s : Steps A S T} {n : Netlist A T} (good : IsNet s n)
     }
 
     pub run_fired : IsStand s n inputs (stand_after x many r.w r.held) × HasMoved s n x (stand_after x many r.w r.held)
-    run_fired = gone_on good st on r.held
+    run_fired = gone_on st good on r.held
 
 -- as many firings can run as each of the tests leaves
 module _ {A S T : Type 0} {s : Steps A S T} {n : Netlist A T} {inputs : List (List T)} {x : Stand A T S}

@@ -25,94 +25,85 @@ use Rattle.sdf_rings.proofs.Knowing.{length_taken_before}
 
 module _ {A S T : Type 0} {s : Steps A S T} {n : Netlist A T} {inputs : List (List T)} {x : Stand A T S}
     (st : IsStand s n inputs x) where
-  pub phase_is : phase_at x.state ≡ x.done % cycle_of s (node n x.actor)
+  abbrev v : Node A
+  v = node n x.actor
+
+  pub phase_is : phase_at x.state ≡ x.done % cycle_of s v
   phase_is =
-      nodes_keep_phase s inputs (node n x.actor) x.asked (taken_before (wiring s n) st.own x.actor x.done) x.state
-      st.at ∙
-      ap (λ k. k % cycle_of s (node n x.actor)) (length_taken_before (wiring s n) st.own x.actor x.done)
+      nodes_keep_phase s inputs v x.asked (taken_before (wiring s n) st.own x.actor x.done) x.state
+      st.at ∙ ap (λ k. k % cycle_of s v) (length_taken_before (wiring s n) st.own x.actor x.done)
 
   -- the node has a next firing
-  pub can_step : x.done < x.asked → {y : Node A} {j many more : ℕ} → y ≡ node n x.actor →
-      j ≡ phase_at x.state → many ≡ takes_of s y j → more ≡ puts_of s y j →
-      CanStep s inputs y x.state many more
+  pub can_step : x.done < x.asked → {y : Node A} {j many more : ℕ} → y ≡ v →
+      j ≡ phase_at x.state → many ≡ takes_of s y j → more ≡ puts_of s y j → CanStep s inputs y x.state many more
   can_step left {y} {j} {many} {more} y_is j_is many_is more_is =
       let past = taken_before (wiring s n) st.own x.actor x.done in
       let long = length_taken_before (wiring s n) st.own x.actor x.done in
-      let all : CanStep s inputs (node n x.actor) x.state (takes_of s (node n x.actor) (phase_at x.state))
-      (puts_of s (node n x.actor) (phase_at x.state)) =
-      nodes_can_step s inputs (node n x.actor) x.asked past x.state st.at st.phases (omega arith) in
-      let many_as : takes_of s (node n x.actor) (phase_at x.state) ≡ many =
-      sym (many_is ∙ (λ i. takes_of s (y_is i) (j_is i))) in
-      let more_as : puts_of s (node n x.actor) (phase_at x.state) ≡ more =
-      sym (more_is ∙ (λ i. puts_of s (y_is i) (j_is i))) in
+      let all : CanStep s inputs v x.state (takes_of s v (phase_at x.state)) (puts_of s v (phase_at x.state)) =
+      nodes_can_step s inputs v x.asked past x.state st.at st.phases (omega arith) in
+      let many_as : takes_of s v (phase_at x.state) ≡ many = sym (many_is ∙ (λ i. takes_of s (y_is i) (j_is i))) in
+      let more_as : puts_of s v (phase_at x.state) ≡ more = sym (more_is ∙ (λ i. puts_of s (y_is i) (j_is i))) in
       subst (λ z. CanStep s inputs z x.state many more) (sym y_is)
-      (subst (λ m. CanStep s inputs (node n x.actor) x.state many m) more_as
-      (subst (λ m. CanStep s inputs (node n x.actor) x.state m
-      (puts_of s (node n x.actor) (phase_at x.state))) many_as all))
+      (subst (λ m. CanStep s inputs v x.state many m) more_as (subst (λ m. CanStep s inputs v x.state m
+      (puts_of s v (phase_at x.state))) many_as all))
 
-  module _ {side : Side} {rows : List (List ℕ)} (are : AreRows s side (node n x.actor) rows) {j : ℕ}
+  module _ {side : Side} {rows : List (List ℕ)} (are : AreRows s side v rows) {j : ℕ}
       (j_is : j ≡ phase_at x.state) where
     pub row_known : j < length rows
     row_known = let k = are.known x.done in omega (arith, j_is, phase_is)
 
     module _ {row : List ℕ} (row_is : row ≡ at_phase rows j) where
-      row_as : row ≡ at_phase rows (x.done % cycle_of s (node n x.actor))
+      row_as : row ≡ at_phase rows (x.done % cycle_of s v)
       row_as = row_is ∙ ap (at_phase rows) (j_is ∙ phase_is)
 
-      pub row_all : length row ≡ ports_of s side (node n x.actor)
+      pub row_all : length row ≡ ports_of s side v
       row_all = ap length row_as ∙ are.long x.done
 
-      pub row_size : (p : ℕ) → p < ports_of s side (node n x.actor) →
-          get_or row p 0 ≡ sizes s side (node n x.actor) x.done p
+      pub row_size : (p : ℕ) → p < ports_of s side v → get_or row p 0 ≡ sizes s side v x.done p
       row_size p h = ap (λ r. get_or r p 0) row_as ∙ are.each x.done p h
 
-      pub row_sum : start_at (λ p. get_or row p 0) (ports_of s side (node n x.actor)) ≡
-          start_at (sizes s side (node n x.actor) x.done) (ports_of s side (node n x.actor))
-      row_sum = start_at_same (λ p. get_or row p 0) (sizes s side (node n x.actor) x.done)
-          (ports_of s side (node n x.actor)) row_size
+      pub row_sum : start_at (λ p. get_or row p 0) (ports_of s side v) ≡
+          start_at (sizes s side v x.done) (ports_of s side v)
+      row_sum = start_at_same (λ p. get_or row p 0) (sizes s side v x.done) (ports_of s side v) row_size
 
-      pub row_part : {X : Type 0} (i : ℕ) (b : List X) → i < ports_of s side (node n x.actor) →
-          block_of (λ p. get_or row p 0) i b ≡ block_of (sizes s side (node n x.actor) x.done) i b
-      row_part i b h = block_same (λ p. get_or row p 0) (sizes s side (node n x.actor) x.done) i b
-          (λ p l. row_size p (omega arith))
+      pub row_part : {X : Type 0} (i : ℕ) (b : List X) → i < ports_of s side v →
+          block_of (λ p. get_or row p 0) i b ≡ block_of (sizes s side v x.done) i b
+      row_part i b h = block_same (λ p. get_or row p 0) (sizes s side v x.done) i b (λ p l. row_size p (omega arith))
 
   -- the length of the blocks of its next firing, over all ports
-  module _ {y : Node A} (y_is : y ≡ node n x.actor) {j : ℕ} (j_is : j ≡ phase_at x.state) {many : ℕ} where
-    pub taken_is : many ≡ takes_of s y j → many ≡ start_at (sizes s Input (node n x.actor) x.done)
-        (ports_of s Input (node n x.actor))
-    taken_is e = e ∙ ((λ i. takes_of s (y_is i) ((j_is ∙ phase_is) i)) ∙ sym (sizes_taken s (node n x.actor) x.done))
+  module _ {y : Node A} (y_is : y ≡ v) {j : ℕ} (j_is : j ≡ phase_at x.state) {many : ℕ} where
+    pub taken_is : many ≡ takes_of s y j → many ≡ start_at (sizes s Input v x.done) (ports_of s Input v)
+    taken_is e = e ∙ ((λ i. takes_of s (y_is i) ((j_is ∙ phase_is) i)) ∙ sym (sizes_taken s v x.done))
 
-    pub put_is : many ≡ puts_of s y j → many ≡ start_at (sizes s Output (node n x.actor) x.done)
-        (ports_of s Output (node n x.actor))
-    put_is e = e ∙ ((λ i. puts_of s (y_is i) ((j_is ∙ phase_is) i)) ∙ sym (sizes_put s (node n x.actor) x.done))
+    pub put_is : many ≡ puts_of s y j → many ≡ start_at (sizes s Output v x.done) (ports_of s Output v)
+    put_is e = e ∙ ((λ i. puts_of s (y_is i) ((j_is ∙ phase_is) i)) ∙ sym (sizes_put s v x.done))
 
     pub taken_fits : x.done < x.asked → many ≡ takes_of s y j → many ≤ length x.taken.items
     taken_fits left e =
-        let same : many ≡ takes_of s (node n x.actor) (x.done % cycle_of s (node n x.actor)) =
+        let same : many ≡ takes_of s v (x.done % cycle_of s v) =
         e ∙ (λ i. takes_of s (y_is i) ((j_is ∙ phase_is) i)) in
         let long = st.taken_long left x.done in
         omega arith
 
     pub put_fits : x.done < x.asked → many ≡ puts_of s y j → many ≤ length x.put.items
     put_fits left e =
-        let same : many ≡ puts_of s (node n x.actor) (x.done % cycle_of s (node n x.actor)) =
-        e ∙ (λ i. puts_of s (y_is i) ((j_is ∙ phase_is) i)) in
+        let same : many ≡ puts_of s v (x.done % cycle_of s v) = e ∙ (λ i. puts_of s (y_is i) ((j_is ∙ phase_is) i)) in
         let long = st.put_long left x.done in
         omega arith
 
   -- by the row or by the firing: whether the ports hold a block or have room, and what moved
   module _ {j : ℕ} (j_is : j ≡ phase_at x.state) {row : List ℕ} (row_is : row ≡ at_phase (lists x.takes.items) j)
-      (ends : List (Consumer T Global AnyItems)) (long : length ends ≡ ports_of s Input (node n x.actor)) where
+      (ends : List (Consumer T Global AnyItems)) (long : length ends ≡ ports_of s Input v) where
     pub ins_row : length ends ≡ length row
     ins_row = long ∙ sym (row_all st.takes j_is row_is)
 
-    pub holds_by_row : HoldsEach (sizes s Input (node n x.actor) x.done) ends → HoldsEach (λ p. get_or row p 0) ends
+    pub holds_by_row : HoldsEach (sizes s Input v x.done) ends → HoldsEach (λ p. get_or row p 0) ends
     holds_by_row all = λ i d h.
         let size = row_size st.takes j_is row_is i (omega arith) in
         let l = all i d h in
         omega arith
 
-    pub holds_by_firing : HoldsEach (λ p. get_or row p 0) ends → HoldsEach (sizes s Input (node n x.actor) x.done) ends
+    pub holds_by_firing : HoldsEach (λ p. get_or row p 0) ends → HoldsEach (sizes s Input v x.done) ends
     holds_by_firing all = λ i d h.
         let size = row_size st.takes j_is row_is i (omega arith) in
         let l = all i d h in
@@ -120,24 +111,23 @@ module _ {A S T : Type 0} {s : Steps A S T} {n : Netlist A T} {inputs : List (Li
 
     pub drew_by_firing : (after : List (Consumer T Global AnyItems)) (t : List T) →
         DrewEach ends after (λ i. block_of (λ p. get_or row p 0) i t) →
-        DrewEach ends after (λ i. block_of (sizes s Input (node n x.actor) x.done) i t)
+        DrewEach ends after (λ i. block_of (sizes s Input v x.done) i t)
     drew_by_firing after t all = λ i d h.
         subst (λ b. Drew (get_or ends i d) (get_or after i d) b)
         (row_part st.takes j_is row_is i t (omega arith)) (all i d h)
 
   module _ {j : ℕ} (j_is : j ≡ phase_at x.state) {row : List ℕ} (row_is : row ≡ at_phase (lists x.puts.items) j)
-      (ends : List (Producer T Global AnyItems)) (long : length ends ≡ ports_of s Output (node n x.actor)) where
+      (ends : List (Producer T Global AnyItems)) (long : length ends ≡ ports_of s Output v) where
     pub outs_row : length ends ≡ length row
     outs_row = long ∙ sym (row_all st.puts j_is row_is)
 
-    pub room_by_row : HasRoomEach (sizes s Output (node n x.actor) x.done) ends → HasRoomEach (λ p. get_or row p 0) ends
+    pub room_by_row : HasRoomEach (sizes s Output v x.done) ends → HasRoomEach (λ p. get_or row p 0) ends
     room_by_row all = λ i d h.
         let size = row_size st.puts j_is row_is i (omega arith) in
         let l = all i d h in
         omega arith
 
-    pub room_by_firing : HasRoomEach (λ p. get_or row p 0) ends →
-        HasRoomEach (sizes s Output (node n x.actor) x.done) ends
+    pub room_by_firing : HasRoomEach (λ p. get_or row p 0) ends → HasRoomEach (sizes s Output v x.done) ends
     room_by_firing all = λ i d h.
         let size = row_size st.puts j_is row_is i (omega arith) in
         let l = all i d h in
@@ -145,7 +135,7 @@ module _ {A S T : Type 0} {s : Steps A S T} {n : Netlist A T} {inputs : List (Li
 
     pub gave_by_firing : (after : List (Producer T Global AnyItems)) (b : List T) →
         GaveEach ends after (λ i. block_of (λ p. get_or row p 0) i b) →
-        GaveEach ends after (λ i. block_of (sizes s Output (node n x.actor) x.done) i b)
+        GaveEach ends after (λ i. block_of (sizes s Output v x.done) i b)
     gave_by_firing after b all = λ i d h.
         subst (λ y. Gave (get_or ends i d) (get_or after i d) y)
         (row_part st.puts j_is row_is i b (omega arith)) (all i d h)

@@ -74,8 +74,8 @@ module _ {A S T : Type 0} where
         let y = stand_at new j k e d in
         let same = t.told_stands j k e d in
         subst (IsStand s n inputs) (stand_with x y same)
-        (looked_stand s n x y.ins y.outs (drew j k e d) (gave j k e d) same.ins_len_same
-        same.outs_len_same inputs st)
+        (looked_stand x y.ins y.outs (drew j k e d) (gave j k e d) same.ins_len_same
+        same.outs_len_same st)
 
     told_moved : (j k : ℕ) (e : Seat A T S) (d : Stand A T S) →
         HasMoved s n (stand_at old j k e d) (stand_at new j k e d)
@@ -84,7 +84,7 @@ module _ {A S T : Type 0} where
         let y = stand_at new j k e d in
         let same = t.told_stands j k e d in
         subst (HasMoved s n x) (stand_with x y same)
-        (looked_moved s n x y.ins y.outs (drew j k e d) (gave j k e d) same.ins_len_same same.outs_len_same)
+        (looked_moved x y.ins y.outs (drew j k e d) (gave j k e d) same.ins_len_same same.outs_len_same)
 
     pub told_worked : (j : ℕ) (e : Seat A T S) → (get_or old j e).next ≤ length (get_or old j e).left →
         HasWorked s n (get_or old j e) (get_or new j e)

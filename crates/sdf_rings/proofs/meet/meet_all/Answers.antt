@@ -1,4 +1,4 @@
-use Rattle.std.proofs.Common.{◌<◌, refl, ap, ◌∙◌, subst, arith, length, slice_index_or}
+use Rattle.std.proofs.Common.{◌<◌, refl, ap, ◌∙◌, subst, arith, length}
 use Rattle.sdf_actor.specs.Nets.{wire}
 use Rattle.sdf_rings.specs.Places.{IsTold}
 use Rattle.sdf_rings.specs.Rests.{spot_of}
@@ -11,8 +11,7 @@ loop-c-init g c = record {
   rings = c.requires.rings;
   met = λ k e d x y h. absurd (omega arith);
   idle = λ i e h. (
-    worked_none g.A.Actor.steps c.args.net.now (slice_index_or c.args.seats.now i e)
-        (c.requires.rings.each i e h).next_fits,
+    worked_none (c.requires.rings.each i e h).next_fits,
     refl,
   );
 }
@@ -37,8 +36,7 @@ loop-c-preserved g c =
       idle = λ i e h.
           let was = c.loop-c.invariant.idle i e h in
           let inside : i < length old = let l = c.loop-c.auto.seats in omega arith in (
-            worked_join g.A.Actor.steps n (slice_index_or c.args.seats.now i e) (slice_index_or old i e)
-                (slice_index_or new i e) was.0
+            worked_join was.0
                 (told_worked g.A.Actor.steps n t
                 i e (c.loop-c.invariant.rings.each i e inside).next_fits),
             (t.told_seats i e).next_same ∙ was.1,

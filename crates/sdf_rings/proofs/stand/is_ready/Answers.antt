@@ -15,15 +15,14 @@ pub returns-then-not-hold_each-clause-stand : goal.returns-then-not-hold_each-cl
 returns-then-not-hold_each-clause-stand g c =
     let x = c.args.stand.now in
     let ins = with_items_is x.ins c.hold_each.new.ends (omega arith) in
-    looked_stand g.A.Actor.steps c.args.net.now x (with_items x.ins c.hold_each.new.ends) x.outs
-    (rw ins (rw c.as_mut_slice.ensures.value at c.hold_each.ensures.looked)) (λ i d h. gave_none _) refl refl
-    (lists c.args.inputs.now) c.requires
+    looked_stand x (with_items x.ins c.hold_each.new.ends) x.outs
+    (rw ins (rw c.as_mut_slice.ensures.value at c.hold_each.ensures.looked)) (λ i d h. gave_none _) refl refl c.requires
 
 pub returns-then-not-hold_each-clause-moved : goal.returns-then-not-hold_each-clause-moved
 returns-then-not-hold_each-clause-moved g c =
     let x = c.args.stand.now in
     let ins = with_items_is x.ins c.hold_each.new.ends (omega arith) in
-    looked_moved g.A.Actor.steps c.args.net.now x (with_items x.ins c.hold_each.new.ends) x.outs
+    looked_moved x (with_items x.ins c.hold_each.new.ends) x.outs
     (rw ins (rw c.as_mut_slice.ensures.value at c.hold_each.ensures.looked)) (λ i d h. gave_none _) refl refl
 
 pub returns-clause-stand : goal.returns-clause-stand
@@ -31,18 +30,17 @@ returns-clause-stand g c =
     let x = c.args.stand.now in
     let ins = with_items_is x.ins c.hold_each.new.ends (omega arith) in
     let outs = with_items_is x.outs c.have_room_each.new.ends (omega arith) in
-    looked_stand g.A.Actor.steps c.args.net.now x (with_items x.ins c.hold_each.new.ends)
+    looked_stand x (with_items x.ins c.hold_each.new.ends)
     (with_items x.outs c.have_room_each.new.ends)
     (rw ins (rw c.as_mut_slice.ensures.value at c.hold_each.ensures.looked))
-    (rw outs (rw c.as_mut_slice-2.ensures.value at c.have_room_each.ensures.looked)) refl refl
-    (lists c.args.inputs.now) c.requires
+    (rw outs (rw c.as_mut_slice-2.ensures.value at c.have_room_each.ensures.looked)) refl refl c.requires
 
 pub returns-clause-moved : goal.returns-clause-moved
 returns-clause-moved g c =
     let x = c.args.stand.now in
     let ins = with_items_is x.ins c.hold_each.new.ends (omega arith) in
     let outs = with_items_is x.outs c.have_room_each.new.ends (omega arith) in
-    looked_moved g.A.Actor.steps c.args.net.now x (with_items x.ins c.hold_each.new.ends)
+    looked_moved x (with_items x.ins c.hold_each.new.ends)
     (with_items x.outs c.have_room_each.new.ends)
     (rw ins (rw c.as_mut_slice.ensures.value at c.hold_each.ensures.looked))
     (rw outs (rw c.as_mut_slice-2.ensures.value at c.have_room_each.ensures.looked)) refl refl
