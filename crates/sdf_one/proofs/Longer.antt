@@ -100,7 +100,10 @@ module _ {A S T Z : Type 0} (g : Holding A S T Z) where
       go (W, is, more) = (
         after_firing s n inputs mid W a,
         grows n inputs mid m a W net.good known on one apart (reaches n inputs many m reach below) is,
-        λ c. ((more c).0 ++ last c, ap (λ ys. ys ++ last c) (more c).1 ∙ append_assoc (st.history c) (more c).0 (last c)),
+        λ c. (
+          (more c).0 ++ last c,
+          ap (λ ys. ys ++ last c) (more c).1 ∙ append_assoc (st.history c) (more c).0 (last c),
+        ),
       )
         where
           last : ℕ → List T

@@ -403,7 +403,8 @@ module _ {A S T : Type 0} (p : Swept A S T) (times : ℕ)
   pub can_fire_at_once : CanFireAtOnceAt s r a times
   can_fire_at_once = record {
     inside = in_run p times inside;
-    can = λ d. at_once.can_fire (holding p) d (goes d) (ahead p times inside) (held d 0) sw.reach (rooms p times inside);
+    can = λ d. at_once.can_fire (holding p) d (goes d) (ahead p times inside) (held d 0) sw.reach
+        (rooms p times inside);
   }
 
   module _ (grows : HistoryGrowsByFiring s) (r' : Run A T S) (fired : AreFiredAt s r r' a times) where

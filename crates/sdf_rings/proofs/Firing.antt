@@ -70,7 +70,8 @@ module _ {A S T : Type 0} {s : Steps A S T} {n : Netlist A T} (good : IsNet s n)
       IsPrefix (take ((wiring s n).rates.consumed c x.done) (st.own c) ++ block_of g (wire n c).to.1 t) (st.own c)
   own_taken c l f e =
       let at : (wire n c).to.1 < vec_len x.ins = in_in good st refl c l e in
-      let after : (wire n c).to.1 < length held.ins.items = vec_in held.ins (wire n c).to.1 (omega (arith, held.ins_is)) in
+      let after : (wire n c).to.1 < length held.ins.items =
+      vec_in held.ins (wire n c).to.1 (omega (arith, held.ins_is)) in
       let from : (wire n c).from.1 < length x.outs.items =
       vec_in x.outs (wire n c).from.1 (out_in good st refl c l f) in
       let d = some held.ins.items (wire n c).to.1 after in

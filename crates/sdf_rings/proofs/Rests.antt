@@ -64,8 +64,8 @@ module _ {A S T : Type 0} {s : Steps A S T} {hand : InHand A S T} (r : AreRings 
       (c : ℕ) (x : Consumer T Global AnyItems) → c < length n.wires → (wire n c).to.0 ≡ a →
       received (get_or (stand_of n seats places e0 d0 a).ins.items (wire n c).to.1 x) ≡
       take ((wiring s n).rates.consumed c (done a)) (pick a t c)
-  own_received a l (inl h) c x m e = received_at r.is_net (stand a h) (r.placed.is a e0 d0 h) c x m e ∙ ap (λ i. take ((wiring s n).rates.consumed c i)
-      ((stand a h).own c)) (counts a l)
+  own_received a l (inl h) c x m e = received_at r.is_net (stand a h) (r.placed.is a e0 d0 h) c x m e
+      ∙ ap (λ i. take ((wiring s n).rates.consumed c i) ((stand a h).own c)) (counts a l)
   own_received a l (inr h) c x m e = absurd (omega arith)
 
   own_at : (a : ℕ) → a < length n.nodes → (t : (a < length n.nodes) ⊎ (length n.nodes ≤ a)) →

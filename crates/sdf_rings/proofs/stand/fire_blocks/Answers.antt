@@ -38,20 +38,23 @@ take_front-requires-clause-known g c =
 pub slice_bounds-step_front-end : goal.slice_bounds-step_front-end
 slice_bounds-step_front-end g c =
     let x = c.args.stand.now in
-    let fits = taken_fits c.requires.stand c.node-node.ensures c.phase-phase.ensures c.requires.left c.takes-many.ensures in
+    let fits = taken_fits c.requires.stand c.node-node.ensures c.phase-phase.ensures c.requires.left
+    c.takes-many.ensures in
     sym (length-take-le c.takes-many.result c.deref.result.now (omega arith))
 
 pub step_front-requires-clause-can : goal.step_front-requires-clause-can
 step_front-requires-clause-can g c = λ κs within.
     let x = c.args.stand.now in
-    let fits = taken_fits c.requires.stand c.node-node.ensures c.phase-phase.ensures c.requires.left c.takes-many.ensures in
+    let fits = taken_fits c.requires.stand c.node-node.ensures c.phase-phase.ensures c.requires.left
+    c.takes-many.ensures in
     can_step c.requires.stand c.requires.left c.node-node.ensures c.phase-phase.ensures
     (length-take-le c.takes-many.result c.deref.result.now (omega arith) ∙ c.takes-many.ensures) c.puts-more.ensures
 
 pub slice_bounds-put_told-end : goal.slice_bounds-put_told-end
 slice_bounds-put_told-end g c =
     let x = c.args.stand.now in
-    let fits = put_fits c.requires.stand c.node-node.ensures c.phase-phase.ensures c.requires.left c.puts-more.ensures in
+    let fits = put_fits c.requires.stand c.node-node.ensures c.phase-phase.ensures c.requires.left
+    c.puts-more.ensures in
     sym (length-take-le c.puts-more.result c.deref-2.result.now (omega arith))
 
 pub put_told-requires-clause-ports : goal.put_told-requires-clause-ports

@@ -79,10 +79,12 @@ returns-clause-yes g c = λ t.
     let outs = with_items_is x.outs c.have_room_each.new.ends (omega arith) in
     record {
       holds = subst (HoldsEach (sizes s Input (node n x.actor) x.done)) (sym ins)
-          (holds_by_firing st c.phase-phase.ensures c.row.ensures c.hold_each.new.ends (omega (arith, st.ins_all, c.as_mut_slice.ensures.len))
+          (holds_by_firing st c.phase-phase.ensures c.row.ensures c.hold_each.new.ends
+          (omega (arith, st.ins_all, c.as_mut_slice.ensures.len))
           (c.hold_each.ensures.yes (search rules)));
       has_room = subst (HasRoomEach (sizes s Output (node n x.actor) x.done)) (sym outs)
-          (room_by_firing st c.phase-phase.ensures c.row-2.ensures c.have_room_each.new.ends (omega (arith, st.outs_all, c.as_mut_slice-2.ensures.len))
+          (room_by_firing st c.phase-phase.ensures c.row-2.ensures c.have_room_each.new.ends
+          (omega (arith, st.outs_all, c.as_mut_slice-2.ensures.len))
           (c.have_room_each.ensures.yes t));
     }
 

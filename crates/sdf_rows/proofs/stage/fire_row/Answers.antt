@@ -41,13 +41,13 @@ returns-clause-settled g c = λ many low high was.
 
 pub returns-clause-done : goal.returns-clause-done
 returns-clause-done g c = λ a.
-    let same = same_actors c.requires.scene.good c.requires.scene.sizes c.requires.filled.3 c.fire_jobs.new.jobs c.fire_jobs.auto.jobs
-    (fired g (goal.at.returns-clause-done g c).After-fire_jobs) in
+    let same = same_actors c.requires.scene.good c.requires.scene.sizes c.requires.filled.3 c.fire_jobs.new.jobs
+    c.fire_jobs.auto.jobs (fired g (goal.at.returns-clause-done g c).After-fire_jobs) in
     c.settle_row.ensures.done a ∙ ap (λ w. get_or c.args.stage.now.done.items a 0 + times w a) same
 
 pub returns-clause-blocks : goal.returns-clause-blocks
 returns-clause-blocks g c =
     keep_twice c.args.jobs.now c.fire_jobs.new.jobs c.settle_row.new.jobs
-    (fired_keep c.requires.scene.good c.requires.scene.sizes c.requires.filled.3 c.fire_jobs.new.jobs c.fire_jobs.auto.jobs
-    (fired g (goal.at.returns-clause-blocks g c).After-fire_jobs))
+    (fired_keep c.requires.scene.good c.requires.scene.sizes c.requires.filled.3 c.fire_jobs.new.jobs
+    c.fire_jobs.auto.jobs (fired g (goal.at.returns-clause-blocks g c).After-fire_jobs))
     c.settle_row.ensures.blocks
