@@ -7,7 +7,6 @@ ghost use Rattle.sdf_prec.specs.declared.firing.Firing.{Firing};
 ghost use Rattle.sdf_prec.specs.Tables.{row};
 ghost use Rattle.sdf_times.specs.Times.{IsInTable};
 ghost use Rattle.sdf_draw.specs.Bars.{IsDrawable, AreDrawable, scaled};
-ghost use Rattle.sdf_draw.specs.Texts.{number_text};
 ghost use Rattle.sdf_draw.specs.Charts.{rect_text, title_text, bar_text, lane_text, frame_text, rows_text};
 ghost use Rattle.sdf_draw.specs.Charts.{lanes_text, worker_text, workers_text, mark_text, label_text, bound_text};
 ghost use Rattle.sdf_draw.specs.Charts.{rules_text, makespan_text, axis_text, chart_text};
@@ -202,22 +201,12 @@ fn push_workers(text: &mut String, workers: usize) -> Result<(), AllocError>
     Ok(())
 }
 
-/// Adds a text and a place.
-fn push_place(text: &mut String, word: &str, place: u128) -> Result<(), AllocError>
-    ensures { OnOk result (string_bytes text.new ≡ string_bytes text.old ++ number_text word.now place) }
-{
-    write!(text, "{word}{place}")?;
-    Ok(())
-}
-
 /// Adds a line down to the end at so far from the left.
 #[tactic(auto, unfolding(crate::specs::Charts::mark_text))]
 fn push_mark(text: &mut String, place: u128, end: u64) -> Result<(), AllocError>
     ensures { OnOk result (string_bytes text.new ≡ string_bytes text.old ++ mark_text place end) }
 {
-    push_place(text, "<path class='bound' d='M", place)?;
-    push_number(text, " -8 V", end)?;
-    text.push_str("'/>")
+    write!(text, "<path class='bound' d='M{place} -8 V{end}'/>")
 }
 
 /// Adds the number of the bound above it.
@@ -225,7 +214,7 @@ fn push_mark(text: &mut String, place: u128, end: u64) -> Result<(), AllocError>
 fn push_label(text: &mut String, place: u128, bound: u64) -> Result<(), AllocError>
     ensures { OnOk result (string_bytes text.new ≡ string_bytes text.old ++ label_text place bound) }
 {
-    push_place(text, "<text class='end' x='", place)?;
+    write!(text, "<text class='end' x='{place}")?;
     push_number(text, "' y='-12'>bound ", bound)?;
     text.push_str("</text>\n")
 }
@@ -244,10 +233,10 @@ fn push_bound(text: &mut String, figures: &Figures, end: u64) -> Result<(), Allo
 fn push_rules(text: &mut String, end: u64) -> Result<(), AllocError>
     ensures { OnOk result (string_bytes text.new ≡ string_bytes text.old ++ rules_text end) }
 {
-    push_number(text, "<path class='rule' d='M0 0 V", end)?;
-    push_number(text, " M", CHART)?;
-    push_number(text, " 0 V", end)?;
-    text.push_str("'/>")
+    write!(
+        text,
+        "<path class='rule' d='M0 0 V{end} M{CHART} 0 V{end}'/>"
+    )
 }
 
 /// Adds the time at the right end.
@@ -255,10 +244,10 @@ fn push_rules(text: &mut String, end: u64) -> Result<(), AllocError>
 fn push_makespan(text: &mut String, makespan: u64, y: u64) -> Result<(), AllocError>
     ensures { OnOk result (string_bytes text.new ≡ string_bytes text.old ++ makespan_text makespan y) }
 {
-    push_number(text, "<text class='end' x='", CHART)?;
-    push_number(text, "' y='", y)?;
-    push_number(text, "'>makespan ", makespan)?;
-    text.push_str("</text>\n")
+    write!(
+        text,
+        "<text class='end' x='{CHART}' y='{y}'>makespan {makespan}</text>\n"
+    )
 }
 
 /// Adds the times at the ends.
@@ -267,9 +256,9 @@ fn push_axis(text: &mut String, makespan: u64, end: u64) -> Result<(), AllocErro
     ensures { OnOk result (string_bytes text.new ≡ string_bytes text.old ++ axis_text makespan end) }
 {
     push_rules(text, end)?;
-    push_number(text, "<text y='", end + 16)?;
-    text.push_str("'>0</text>")?;
-    push_makespan(text, makespan, end + 16)
+    let below = end + 16;
+    write!(text, "<text y='{below}'>0</text>")?;
+    push_makespan(text, makespan, below)
 }
 
 /// Adds a table against time.
