@@ -30,33 +30,33 @@ stalled_flat actors =
 same : (d e : Data) → d ≡ e → IsFlat 3 e → IsFlat 3 d
 same d e is flat = subst (IsFlat 3) (sym is) flat
 
-is_plain : (number : ℕ) (name : List ℕ) (d : Data) → d ≡ plain number name → IsFlat 3 d
-is_plain number name d is = same d (plain number name) is (plain_flat number name)
+is_plain : {number : ℕ} {name : List ℕ} {d : Data} → d ≡ plain number name → IsFlat 3 d
+is_plain {number} {name} {d} is = same d (plain number name) is (plain_flat number name)
 
 words_flat : (f : WordFault) (d : Data) → IsWordsValue f d → IsFlat 3 d
-words_flat words.OutOfMemory d is = is_plain 1 (codes "OutOfMemory") d is
+words_flat words.OutOfMemory d is = is_plain is
 words_flat (words.Usage e) d is =
     same d (usage_value is.0) is.1 (told_flat 0 (codes "Usage")
     ((codes "text", string is.0) ∷ []) (omega arith, tt))
 
 value_flat : (f : Fault) (d : Data) → IsFaultValue f d → IsFlat 3 d
-value_flat fault.OutOfMemory d is = is_plain 1 (codes "OutOfMemory") d is
+value_flat fault.OutOfMemory d is = is_plain is
 value_flat (fault.Words f) d is = words_flat f d is
 value_flat (fault.File f) d is = same d _ is (file_flat f)
 value_flat (fault.Deadlock s) d is = same d (stalled_value s.actors.items) is (stalled_flat s.actors.items)
-value_flat fault.BlockingFactor d is = is_plain 11 (codes "BlockingFactor") d is
-value_flat fault.WorkerCount d is = is_plain 12 (codes "WorkerCount") d is
+value_flat fault.BlockingFactor d is = is_plain is
+value_flat fault.WorkerCount d is = is_plain is
 value_flat (fault.Table f) d is = same d _ is (prec_flat f)
-value_flat fault.InputLength d is = is_plain 29 (codes "InputLength") d is
-value_flat fault.NotHomed d is = is_plain 30 (codes "NotHomed") d is
-value_flat fault.Patience d is = is_plain 31 (codes "Patience") d is
-value_flat fault.NoWorker d is = is_plain 32 (codes "NoWorker") d is
-value_flat fault.SessionFailed d is = is_plain 33 (codes "SessionFailed") d is
+value_flat fault.InputLength d is = is_plain is
+value_flat fault.NotHomed d is = is_plain is
+value_flat fault.Patience d is = is_plain is
+value_flat fault.NoWorker d is = is_plain is
+value_flat fault.SessionFailed d is = is_plain is
 value_flat (fault.Wav f) d is = same d _ is (format_flat f)
-value_flat fault.Read d is = is_plain 47 (codes "Read") d is
-value_flat fault.Write d is = is_plain 48 (codes "Write") d is
-value_flat fault.ChannelsMissing d is = is_plain 59 (codes "ChannelsMissing") d is
-value_flat fault.RateNotWhole d is = is_plain 60 (codes "RateNotWhole") d is
+value_flat fault.Read d is = is_plain is
+value_flat fault.Write d is = is_plain is
+value_flat fault.ChannelsMissing d is = is_plain is
+value_flat fault.RateNotWhole d is = is_plain is
 
 pub fault_flat : (f : Fault) (d : Data) → IsFaultValue f d → depth d ≤ max_depth
 fault_flat f d is = let flat = value_flat f d is in omega (arith, flat)

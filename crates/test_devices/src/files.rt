@@ -6,17 +6,14 @@ use sdf_wav::FormatFault;
 pub type Answer = Result<&'static [i16], FormatFault>;
 
 /// What a file is where so many of its bytes are kept, or fewer, but more than the row before says.
-#[derive(Clone, Copy)]
-pub struct Kept {
-    pub last: usize,
-    pub answer: Answer,
-}
+type Kept = (usize, Answer);
 
-/// A file of one channel, 44,100 frames a second, and what each front of it is.
+/// A file of one channel, 44,100 frames a second, and what each front of it is: first those without data, then the rest.
 #[derive(Clone, Copy)]
 pub struct Whole {
     pub bytes: &'static [u8],
-    pub fronts: &'static [Kept],
+    heads: &'static [Kept],
+    fronts: &'static [Kept],
 }
 
 const TRUNCATED: Answer = Err(FormatFault::Truncated);
@@ -31,33 +28,24 @@ const PARTIAL: Answer = Err(FormatFault::PartialFrame);
 pub const CANONICAL: Whole = Whole {
     bytes: b"RIFF\x28\0\0\0WAVEfmt \x10\0\0\0\x01\0\x01\0\x44\xAC\0\0\x88\x58\x01\0\x02\0\x10\0\
         data\x04\0\0\0\x05\0\xFB\xFF",
-    fronts: &[
-        Kept {
-            last: 11,
-            answer: TRUNCATED,
-        },
-        Kept {
-            last: 12,
-            answer: NO_FORMAT,
-        },
-        Kept {
-            last: 35,
-            answer: TRUNCATED,
-        },
-        Kept {
-            last: 36,
-            answer: NO_DATA,
-        },
-        Kept {
-            last: 47,
-            answer: TRUNCATED,
-        },
-        Kept {
-            last: 48,
-            answer: Ok(&[5, -5]),
-        },
+    heads: &[
+        (11, TRUNCATED),
+        (12, NO_FORMAT),
+        (35, TRUNCATED),
+        (36, NO_DATA),
     ],
+    fronts: &[(47, TRUNCATED), (48, Ok(&[5, -5]))],
 };
+
+/// What a front without data is, of a file with a list and the extensible format.
+const LISTED: &[Kept] = &[
+    (11, TRUNCATED),
+    (12, NO_FORMAT),
+    (24, TRUNCATED),
+    (26, NO_FORMAT),
+    (73, TRUNCATED),
+    (74, NO_DATA),
+];
 
 /// A list of odd size with its pad byte, the extensible format, and data of a size that is filled in.
 pub const SIZED: Whole = Whole {
@@ -65,40 +53,8 @@ pub const SIZED: Whole = Whole {
         fmt \x28\0\0\0\xFE\xFF\x01\0\x44\xAC\0\0\x88\x58\x01\0\x02\0\x10\0\x16\0\x10\0\x04\0\0\0\
         \x01\0\0\0\0\0\x10\0\x80\0\0\xAA\0\x38\x9B\x71\
         data\x04\0\0\0\x01\0\xFE\xFF",
-    fronts: &[
-        Kept {
-            last: 11,
-            answer: TRUNCATED,
-        },
-        Kept {
-            last: 12,
-            answer: NO_FORMAT,
-        },
-        Kept {
-            last: 24,
-            answer: TRUNCATED,
-        },
-        Kept {
-            last: 26,
-            answer: NO_FORMAT,
-        },
-        Kept {
-            last: 73,
-            answer: TRUNCATED,
-        },
-        Kept {
-            last: 74,
-            answer: NO_DATA,
-        },
-        Kept {
-            last: 85,
-            answer: TRUNCATED,
-        },
-        Kept {
-            last: 86,
-            answer: Ok(&[1, -2]),
-        },
-    ],
+    heads: LISTED,
+    fronts: &[(85, TRUNCATED), (86, Ok(&[1, -2]))],
 };
 
 /// The same with a size that was never filled in.
@@ -107,55 +63,14 @@ pub const OPEN: Whole = Whole {
         fmt \x28\0\0\0\xFE\xFF\x01\0\x44\xAC\0\0\x88\x58\x01\0\x02\0\x10\0\x16\0\x10\0\x04\0\0\0\
         \x01\0\0\0\0\0\x10\0\x80\0\0\xAA\0\x38\x9B\x71\
         data\xFF\xFF\xFF\xFF\x01\0\xFE\xFF",
+    heads: LISTED,
     fronts: &[
-        Kept {
-            last: 11,
-            answer: TRUNCATED,
-        },
-        Kept {
-            last: 12,
-            answer: NO_FORMAT,
-        },
-        Kept {
-            last: 24,
-            answer: TRUNCATED,
-        },
-        Kept {
-            last: 26,
-            answer: NO_FORMAT,
-        },
-        Kept {
-            last: 73,
-            answer: TRUNCATED,
-        },
-        Kept {
-            last: 74,
-            answer: NO_DATA,
-        },
-        Kept {
-            last: 81,
-            answer: TRUNCATED,
-        },
-        Kept {
-            last: 82,
-            answer: Ok(&[]),
-        },
-        Kept {
-            last: 83,
-            answer: PARTIAL,
-        },
-        Kept {
-            last: 84,
-            answer: Ok(&[1]),
-        },
-        Kept {
-            last: 85,
-            answer: PARTIAL,
-        },
-        Kept {
-            last: 86,
-            answer: Ok(&[1, -2]),
-        },
+        (81, TRUNCATED),
+        (82, Ok(&[])),
+        (83, PARTIAL),
+        (84, Ok(&[1])),
+        (85, PARTIAL),
+        (86, Ok(&[1, -2])),
     ],
 };
 
@@ -203,7 +118,8 @@ impl Whole {
 
     /// What the file is where so many bytes of it are kept.
     pub fn answer(&self, kept: usize) -> Option<Answer> {
-        let row = self.fronts.iter().find(|row| kept <= row.last)?;
-        Some(row.answer)
+        let mut rows = self.heads.iter().chain(self.fronts);
+        let (_, answer) = rows.find(|(last, _)| kept <= *last)?;
+        Some(*answer)
     }
 }

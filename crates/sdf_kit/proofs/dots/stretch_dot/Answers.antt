@@ -1,4 +1,4 @@
-use Rattle.std.proofs.Common.{◌∙◌, ap, of_z, to_z, w32, w64}
+use Rattle.std.proofs.Common.{◌∙◌, ap, of_z, to_z, w64}
 use Rattle.std.proofs.lemmas.Int.{to_z-of_z}
 use Rattle.sdf_kit.specs.Dots.{dot}
 use Rattle.sdf_kit.proofs.LaneSums.{stretch_total, stretch_fits}
