@@ -286,7 +286,7 @@ module _ {k x : Kit} (is : k ≡ x) (j many : ℕ) where
         ∙ run_puts kit_steps x size kept after all run j taken many
         (long ∙ ap (λ y. sum_in kit_steps y j many) is))
 
--- as many as there are firings, or as these put
+-- the values at the first n numbers are those at the first m, if n is m
 pub counts : (f : ℕ → ℤ) {n m : ℕ} {xs : List ℤ} → xs ≡ map f (range_with_len 0 n) → n ≡ m →
     xs ≡ map f (range_with_len 0 m)
 counts f are same = are ∙ ap (λ n. map f (range_with_len 0 n)) same

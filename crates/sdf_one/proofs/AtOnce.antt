@@ -14,7 +14,7 @@ use Rattle.sdf_actor.specs.declared.node.Node.TheVariants as node
 use Rattle.sdf_actor.specs.Steps.{phase, total_in, state_at, puts_to, state_after}
 use Rattle.sdf_actor.specs.Histories.{taken_before, spread}
 use Rattle.sdf_actor.specs.Nets as nets
-use Rattle.sdf_actor.specs.Nets.{Netlist, wiring, to_port, from_port, inputs_of, outputs_of, cycle_of, InputsReach}
+use Rattle.sdf_actor.specs.Nets.{wiring, to_port, from_port, inputs_of, outputs_of, cycle_of, InputsReach}
 use Rattle.sdf_actor.specs.Nets.{IsHistoryOf}
 use Rattle.sdf_actor.specs.Laws.{HistoryGrowsByFiring}
 use Rattle.sdf_one.specs.declared.work.Work.{Work}

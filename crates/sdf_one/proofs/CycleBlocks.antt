@@ -17,12 +17,12 @@ use Rattle.sdf_answer.specs.Blocks.{front_at, dealt}
 use Rattle.sdf_one.proofs.ManyWorks.{place}
 use Rattle.sdf_one.proofs.WholeCycles as cycle
 use Rattle.sdf_one.proofs.Joined.{joined_none, joined_part}
-use Rattle.sdf_one.proofs.Holding.{Turning}
+use Rattle.sdf_one.proofs.Holding.{ActorOf}
 use Rattle.sdf_one.proofs.Parts.{flat_map_same, none_of, spread_none}
 use Rattle.sdf_one.proofs.Turns.{turned, joined_same, grouped, joined_reach, consecutive, spread_whole}
 use Rattle.sdf_one.proofs.Turns.{spread_long, spread_parts}
 
-module _ {A S T : Type 0} (its : Turning A S T) (times : ℕ) where
+module _ {A S T : Type 0} (its : ActorOf A S T) (times : ℕ) where
   open its use {s, n, net, z, y, a, known, x}
 
   abbrev ins : List ℕ

@@ -26,7 +26,7 @@ pub record Sized (A S T : Type 0) : Type 0 where
   pub cycles : AreCycles s n y
 
 -- one of its actors
-pub record Turning (A S T : Type 0) : Type 0 where
+pub record ActorOf (A S T : Type 0) : Type 0 where
   pub base : Sized A S T
   pub open base use *
   pub a : ℕ
@@ -49,13 +49,13 @@ pub record Holding (A S T Z : Type 0) : Type 0 where
   pub st : Stands s n inputs many k works qs outputs
 
 -- node b there has this work
-abbrev pub Does : {A S T Z : Type 0} → Holding A S T Z → ℕ → Work A T S → Type 0
-Does g b = IsWork g.s g.inputs g.outputs (g.many b) (node g.n b)
+abbrev pub HasWork : {A S T Z : Type 0} → Holding A S T Z → ℕ → Work A T S → Type 0
+HasWork g b = IsWork g.s g.inputs g.outputs (g.many b) (node g.n b)
     (taken_before (wiring g.s g.n) g.st.history b (g.k b))
 
 -- the node, where it is an actor
-abbrev pub turning : {A S T Z : Type 0} (g : Holding A S T Z) (x : A) → node g.n g.a ≡ Inner x → Turning A S T
-turning g x is = record { base = g.base; a = g.a; known = g.known; x = x; is = is }
+abbrev pub actor_of : {A S T Z : Type 0} (g : Holding A S T Z) (x : A) → node g.n g.a ≡ Inner x → ActorOf A S T
+actor_of g x is = record { base = g.base; a = g.a; known = g.known; x = x; is = is }
 
 -- the counts m after so many firings of the node
 pub record Ahead {A S T Z : Type 0} (g : Holding A S T Z) (times : ℕ) : Type 0 where

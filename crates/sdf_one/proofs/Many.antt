@@ -18,7 +18,7 @@ use Rattle.sdf_actor.specs.Steps.{Steps, phase, total_in, total_out, sum_in, blo
 use Rattle.sdf_actor.specs.Steps.{state_after}
 use Rattle.sdf_actor.specs.Histories.{taken, taken_before, spread}
 use Rattle.sdf_actor.specs.Nets as nets
-use Rattle.sdf_actor.specs.Nets.{Netlist, wiring, cycle_of, InputsReach}
+use Rattle.sdf_actor.specs.Nets.{wiring, cycle_of, InputsReach}
 use Rattle.sdf_actor.specs.Laws.{HistoryGrowsByFiring}
 use Rattle.sdf_one.specs.declared.work.Work.{Work}
 use Rattle.sdf_one.specs.declared.work.Work.TheVariants.{Source, Sink, Inner}
@@ -38,7 +38,7 @@ use Rattle.sdf_one.proofs.AtPorts.{at_one, at_sum, at_zero}
 use Rattle.sdf_one.proofs.WholeCycles as cycle
 use Rattle.sdf_one.proofs.Joined.{joined_none}
 use Rattle.sdf_one.proofs.Known.{ins_all}
-use Rattle.sdf_one.proofs.Holding.{Turning, Holding, Cycling, After, Does, turning}
+use Rattle.sdf_one.proofs.Holding.{ActorOf, Holding, Cycling, After, HasWork, actor_of}
 use Rattle.sdf_one.proofs.Parts.{flat_map_same, spread_none}
 use Rattle.sdf_one.proofs.Standing as standing
 use Rattle.sdf_one.proofs.Turns.{joined_piece}
@@ -121,8 +121,8 @@ module _ {A S T Z : Type 0} (g : Holding A S T Z) (cycling : Cycling g) (d : Wor
   abbrev more : ℕ
   more = sum_by (λ c. get_or puts c 0) outs
 
-  is_work : Does g a w0
-  is_work = subst (Does g a) begins_so.is (st.each a d known)
+  is_work : HasWork g a w0
+  is_work = subst (HasWork g a) begins_so.is (st.each a d known)
 
   inner :
       (nets.node n a ≡ node.Inner actor.now) × (0 ≡
@@ -131,8 +131,8 @@ module _ {A S T Z : Type 0} (g : Holding A S T Z) (cycling : Cycling g) (d : Wor
       × HasBlocks s actor.now taken' put' lengths
   inner = inner_work g actor 0 state taken' put' lengths is_work
 
-  abbrev its_turns : Turning A S T
-  its_turns = turning g actor.now inner.0
+  abbrev its_actor : ActorOf A S T
+  its_actor = actor_of g actor.now inner.0
 
   own : m a ≡ k a + firings
   own = cycling.ahead.own ∙ ap (λ v. k a + times * cycle_of s v) inner.0
@@ -141,13 +141,13 @@ module _ {A S T Z : Type 0} (g : Holding A S T Z) (cycling : Cycling g) (d : Wor
   begins = sym (inner.1 ∙ ap (phase s actor.now) (blocks_are_counted s n st.history a (k a)))
 
   plan : (i : ℕ) → IsPlan s n a i (takes_at i) (puts_at i)
-  plan = cycle.plan its_turns
+  plan = cycle.plan its_actor
 
   in_is : (i : ℕ) → total_in s actor.now (i % turns) ≡ sum_by (λ c. get_or (takes_at i) c 0) ins
-  in_is = cycle.in_is its_turns
+  in_is = cycle.in_is its_actor
 
   out_is : (i : ℕ) → total_out s actor.now (i % turns) ≡ sum_by (λ c. get_or (puts_at i) c 0) outs
-  out_is = cycle.out_is its_turns
+  out_is = cycle.out_is its_actor
 
   none_taken : (c : ℕ) → taken_by c 0 ≡ 0
   none_taken = net.wired.sound.consumed_none
@@ -162,11 +162,11 @@ module _ {A S T Z : Type 0} (g : Holding A S T Z) (cycling : Cycling g) (d : Wor
 
   cycles_taken : (c : ℕ) → c < length n.wires → (wiring s n).rates.target c ≡ a → (t : ℕ) →
       taken_by c (t * turns) ≡ t * get_or takes c 0
-  cycles_taken = cycle.taken_by its_turns
+  cycles_taken = cycle.taken_by its_actor
 
   cycles_put : (c : ℕ) → c < length n.wires → (wiring s n).rates.source c ≡ a → (t : ℕ) →
       put_by c (t * turns) ≡ t * get_or puts c 0
-  cycles_put = cycle.put_by its_turns
+  cycles_put = cycle.put_by its_actor
 
   -- in a channel into it stands what all of them take
   all_held : (p : ℕ) → p < length ins → taken_by (get_or ins p 0) firings ≤ length (samples qs (get_or ins p 0))
@@ -191,7 +191,7 @@ module _ {A S T Z : Type 0} (g : Holding A S T Z) (cycling : Cycling g) (d : Wor
       omega (
         arith,
         stood c l,
-        cycle.ahead_in its_turns (k a) begins c l e firings,
+        cycle.ahead_in its_actor (k a) begins c l e firings,
       )
 
   can_fire : Fit w0 size more times → firings < 2 ^ 63 →
@@ -201,19 +201,19 @@ module _ {A S T Z : Type 0} (g : Holding A S T Z) (cycling : Cycling g) (d : Wor
     ins_are = record {
       known = ports_known;
       sized = cycles.takes_all ∙ sym st.channels;
-      once = (cycle.fits_ports its_turns 0).ins_are.once;
+      once = (cycle.fits_ports its_actor 0).ins_are.once;
     };
     outs_are = record {
       known = λ p l. omega (arith, (net.wired.outs_are a p known l).0, st.channels);
       sized = cycles.puts_all ∙ sym st.channels;
-      once = (cycle.fits_ports its_turns 0).outs_are.once;
+      once = (cycle.fits_ports its_actor 0).outs_are.once;
     };
     held = held;
     room = rooms;
     work = (
       inner.3.some,
-      cycle.all_in its_turns times,
-      cycle.all_out its_turns times,
+      cycle.all_in its_actor times,
+      cycle.all_out its_actor times,
       fit.0,
       fit.1,
       omega (arith, one.0),
@@ -238,7 +238,7 @@ module _ {A S T Z : Type 0} (g : Holding A S T Z) (cycling : Cycling g) (d : Wor
             arith,
             roomy c is.0,
             stood c is.0,
-            cycle.ahead_out its_turns (k a) begins c is.0 is.1 firings,
+            cycle.ahead_out its_actor (k a) begins c is.0 is.1 firings,
             cycles_put c is.0 is.1 times,
           )
         where
@@ -326,7 +326,7 @@ module _ {A S T Z : Type 0} (g : Holding A S T Z) (cycling : Cycling g) (d : Wor
 
   -- a cycle's block, channel by channel, is its firings' blocks, one after another
   all_taken : whole ≡ joined f firings
-  all_taken = blocks.all_taken its_turns times qs goes.2
+  all_taken = blocks.all_taken its_actor times qs goes.2
 
   block_is : (i : ℕ) → i < firings → block_at s actor.now 0 whole i ≡ f i
   block_is i l =
@@ -430,7 +430,7 @@ module _ {A S T Z : Type 0} (g : Holding A S T Z) (cycling : Cycling g) (d : Wor
     here : (nets.node n a ≡ node.Inner actor.now) × (i % turns ≡ phase s actor.now (length past))
         × (state_i i ≡ state_after s actor.now past) × HasBlocks s actor.now taken' put' lengths
     here = inner_work (after i at) actor (i % turns) (state_i i) taken' put' lengths
-        (subst (Does (after i at) a) (its i w0) (at.each a w0 known))
+        (subst (HasWork (after i at) a) (its i w0) (at.each a w0 known))
 
     took : (e : ℕ) → e < kk i a → length (taken (wiring s n) at.history a e) ≡ total_in s actor.now (e % turns)
     took e h =
@@ -539,12 +539,13 @@ module _ {A S T Z : Type 0} (g : Holding A S T Z) (cycling : Cycling g) (d : Wor
       none b (inl e) = subst (λ b. kk 0 b ≡ k b) e (kk_own 0 ∙ (let v : k a + 0 ≡ k a = omega arith in v))
       none b (inr ne) = kk_other 0 b ne
 
-      same : (b : ℕ) (d : Work A T S) → Does g b (get_or works b d) → (a ≡ b) ⊎ (a ≡ b → ⊥) →
-          Does g b (get_or (set works a (w 0)) b d)
+      same : (b : ℕ) (d : Work A T S) → HasWork g b (get_or works b d) → (a ≡ b) ⊎ (a ≡ b → ⊥) →
+          HasWork g b (get_or (set works a (w 0)) b d)
       same b d is (inl e) =
-          subst (λ b. Does g b (get_or (set works a (w 0)) b d)) e (subst (Does g a) (sym (its 0 d))
-          (subst (λ v. Does g a (Inner actor v state taken' put' lengths)) (sym (mod-eq_of_lt inner.3.some)) is_work))
-      same b d is (inr ne) = subst (Does g b) (sym (rest 0 b d ne)) is
+          subst (λ b. HasWork g b (get_or (set works a (w 0)) b d)) e (subst (HasWork g a) (sym (its 0 d))
+          (subst (λ v. HasWork g a (Inner actor v state taken' put' lengths)) (sym (mod-eq_of_lt inner.3.some))
+          is_work))
+      same b d is (inr ne) = subst (HasWork g b) (sym (rest 0 b d ne)) is
 
   chain : HistoryGrowsByFiring s → InputsReach n inputs many → (i : ℕ) → i ≤ firings → Stood i
   chain grows reach zero h = begun
@@ -562,7 +563,7 @@ module _ {A S T Z : Type 0} (g : Holding A S T Z) (cycling : Cycling g) (d : Wor
   all_dealt : ((e : ℕ) → e < firings → length (piece e) ≡ total_out s actor.now (e % turns)) → (c : ℕ) →
       made_by firings c ≡ dealt puts outs more all c times
   all_dealt long c =
-      blocks.all_dealt its_turns times goes.3 piece long c ∙
+      blocks.all_dealt its_actor times goes.3 piece long c ∙
       ap (λ b. dealt puts outs more b c times) (sym (puts_chained s actor.now 0 state whole firings))
 
   all_cut : (c : ℕ) → c < length n.wires →
@@ -596,16 +597,16 @@ module _ {A S T Z : Type 0} (g : Holding A S T Z) (cycling : Cycling g) (d : Wor
 
       -- it is at the beginning of a cycle again
       ends : firings % turns ≡ 0
-      ends = cycle.begins its_turns times
+      ends = cycle.begins its_actor times
 
       each : (at : Stands s n inputs many (kk firings) (set works a (w firings)) (q firings) outputs) (b : ℕ)
-          (d : Work A T S) → Does (after firings at) b (get_or (set works a (w firings)) b d) →
-          (a ≡ b) ⊎ (a ≡ b → ⊥) → Does (after firings at) b (get_or p.works b d)
+          (d : Work A T S) → HasWork (after firings at) b (get_or (set works a (w firings)) b d) →
+          (a ≡ b) ⊎ (a ≡ b → ⊥) → HasWork (after firings at) b (get_or p.works b d)
       each at b d x (inl e) =
           let now : Holding A S T Z = after firings at in
-          subst (λ b. Does now b (get_or p.works b d)) e (subst (Does now a) (sym (p.its d))
+          subst (λ b. HasWork now b (get_or p.works b d)) e (subst (HasWork now a) (sym (p.its d))
           (worked_same now times actor 0 state taken' put' lengths whole p.w fired.work
-          (subst (λ v. Does now a (Inner actor v (state_i firings) taken' put' lengths)) ends
-          (subst (Does now a) (its firings d)
-          (subst (λ b. Does now b (get_or (set works a (w firings)) b d)) (sym e) x)))))
-      each at b d x (inr ne) = subst (Does (after firings at) b) (rest firings b d ne ∙ sym (p.rest b d ne)) x
+          (subst (λ v. HasWork now a (Inner actor v (state_i firings) taken' put' lengths)) ends
+          (subst (HasWork now a) (its firings d)
+          (subst (λ b. HasWork now b (get_or (set works a (w firings)) b d)) (sym e) x)))))
+      each at b d x (inr ne) = subst (HasWork (after firings at) b) (rest firings b d ne ∙ sym (p.rest b d ne)) x

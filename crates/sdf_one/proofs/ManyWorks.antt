@@ -24,7 +24,7 @@ use Rattle.sdf_node.specs.Many.{joined}
 use Rattle.sdf_one.specs.Many.{HasRows, Fit, HaveManyWorked}
 use Rattle.sdf_one.specs.Runs.{HasBlocks, IsWork, Stands}
 use Rattle.sdf_one.proofs.WholeCycles as cycle
-use Rattle.sdf_one.proofs.Holding.{Holding, Does, turning}
+use Rattle.sdf_one.proofs.Holding.{Holding, HasWork, actor_of}
 
 -- what an actor's work says of its node
 inner_of : {A S T Z : Type 0} (s : Steps A S T) (inputs : List (List T)) (outputs : List (Vec T Z)) (many : ℕ)
@@ -85,7 +85,7 @@ module _ {A S T Z : Type 0} (g : Holding A S T Z) where
   past = taken_before (wiring s n) st.history a (k a)
 
   pub inner_work : (actor : Bor A) (j : ℕ) (state : S) (taken put : Vec T Global) (lengths : Vec ℕ Global) →
-      Does g a (Inner actor j state taken put lengths) →
+      HasWork g a (Inner actor j state taken put lengths) →
       (nets.node n a ≡ node.Inner actor.now) × (j ≡ phase s actor.now (length past))
       × (state ≡ state_after s actor.now past) × HasBlocks s actor.now taken put lengths
   inner_work = inner_of s inputs outputs (many a) (nets.node n a) past
@@ -93,37 +93,38 @@ module _ {A S T Z : Type 0} (g : Holding A S T Z) where
   pub worked_same : (times : ℕ) (actor : Bor A) (j : ℕ) (state : S) (taken put : Vec T Global)
       (lengths : Vec ℕ Global) (b : List T) (w : Work A T S) →
       HaveManyWorked s times (Inner actor j state taken put lengths) b w →
-      Does g a (Inner actor j (state_at s actor.now j state b (times * s.cycle actor.now)) taken put lengths) →
-      Does g a w
+      HasWork g a (Inner actor j (state_at s actor.now j state b (times * s.cycle actor.now)) taken put lengths) →
+      HasWork g a w
   worked_same times = worked_of s inputs outputs (many a) times (nets.node n a) past
 
   -- an actor's blocks have room for a cycle, and its phases have their rows
-  pub its_blocks : (w : Work A T S) → Does g a w →
+  pub its_blocks : (w : Work A T S) → HasWork g a w →
       Fit w (sum_by (λ c. get_or y.takes.items c 0) ((wiring s n).ins a))
       (sum_by (λ c. get_or y.puts.items c 0) ((wiring s n).outs a)) 1
   its_blocks (Source ext next block) is = tt
   its_blocks (Sink ext) is = tt
   its_blocks (Inner actor j state taken put lengths) is =
       let it = inner_work actor j state taken put lengths is in
-      let its = turning g actor.now it.0 in
+      let its = actor_of g actor.now it.0 in
       let turn : 1 * s.cycle actor.now ≡ s.cycle actor.now = omega arith in (
         omega (arith, it.3.taken_cycle, cycle.all_in its 1, ap (sum_in s actor.now 0) turn),
         omega (arith, it.3.put_cycle, cycle.all_out its 1, ap (sum_out s actor.now 0) turn),
       )
 
-  pub has_rows : (w : Work A T S) → Does g a w → HasRows s z w ((wiring s n).ins a) ((wiring s n).outs a)
+  pub has_rows : (w : Work A T S) → HasWork g a w → HasRows s z w ((wiring s n).ins a) ((wiring s n).outs a)
   has_rows (Source ext next block) is = tt
   has_rows (Sink ext) is = tt
   has_rows (Inner actor j state taken put lengths) is =
       let it = inner_work actor j state taken put lengths is in
-      let its = turning g actor.now it.0 in
+      let its = actor_of g actor.now it.0 in
       (cycle.rows_in its, cycle.rows_out its)
 
   -- a run stands where what it holds is the same
   pub stands_along : {m : ℕ → ℕ} {works' : List (Work A T S)} {qs' : List (Held T)} → k ≡ m →
       length works' ≡ length works → length qs' ≡ length qs →
       ((c : ℕ) → c < length n.wires → samples qs' c ≡ samples qs c) →
-      ((b : ℕ) (d : Work A T S) → b < length n.nodes → Does g b (get_or works b d) → Does g b (get_or works' b d)) →
+      ((b : ℕ) (d : Work A T S) → b < length n.nodes → HasWork g b (get_or works b d) →
+      HasWork g b (get_or works' b d)) →
       Stands s n inputs many m works' qs' outputs
   stands_along {m} {works'} {qs'} same same_works same_queues left each =
       subst (λ j. Stands s n inputs many j works' qs' outputs) same

@@ -9,7 +9,7 @@ use Rattle.sdf_graph.specs.Sequences.{IsEnabled, tokens}
 use Rattle.sdf_actor.specs.declared.node.Node.TheVariants as node
 use Rattle.sdf_actor.specs.Histories.{taken, taken_before, spread}
 use Rattle.sdf_actor.specs.Nets as nets
-use Rattle.sdf_actor.specs.Nets.{Netlist, wire, wiring, to_port, consumed_at, answers, InputsReach, IsHistoryOf}
+use Rattle.sdf_actor.specs.Nets.{wire, wiring, to_port, consumed_at, answers, InputsReach}
 use Rattle.sdf_actor.specs.Laws.{after_firing, HistoryGrowsByFiring}
 use Rattle.sdf_one.specs.declared.work.Work.{Work}
 use Rattle.sdf_answer.specs.Blocks.{samples, room, at_ports, ArePorts, HoldBlocks, front}

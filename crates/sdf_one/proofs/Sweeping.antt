@@ -32,7 +32,7 @@ use Rattle.sdf_one.specs.Sweeps.{Sweeps, IsSwept, MayFire, HasRoom, Keeps, IsMov
 use Rattle.sdf_one.proofs.Readings.{some_of}
 use Rattle.sdf_one.proofs.AtOnce as at_once
 use Rattle.sdf_one.proofs.Known.{Known}
-use Rattle.sdf_one.proofs.Holding.{Holding, Ahead, Cycling, After, Does}
+use Rattle.sdf_one.proofs.Holding.{Holding, Ahead, Cycling, After, HasWork}
 use Rattle.sdf_one.proofs.Many.{can_fire_many, stands_many}
 use Rattle.sdf_one.proofs.ManyWorks.{its_blocks, has_rows}
 use Rattle.sdf_one.proofs.Standing as standing
@@ -129,6 +129,7 @@ pub record Swept (A S T : Type 0) : Type 0 where
   pub a : ℕ
   pub known : a < length r.net.now.nodes
 
+-- a node of a run that is swept
 abbrev pub swept_node : {A S T : Type 0} (s : Steps A S T) (r : Run A T S) (sw : IsSwept s r) (a : ℕ) →
     a < length r.net.now.nodes → Swept A S T
 swept_node s r sw a known = record { s = s; r = r; sw = sw; a = a; known = known }
@@ -473,8 +474,8 @@ module _ {A S T : Type 0} (p : Swept A S T) {w : Work A T S} {ins outs takes put
     (on : puts ≡ p.r.cycles.puts.items) (queues : qs ≡ p.r.queues.items) where
   open p use {s, r, sw, a, known}
 
-  work_is : Does (holding p) a w
-  work_is = subst (Does (holding p) a) (sym is) (sw.stands.each a w known)
+  work_is : HasWork (holding p) a w
+  work_is = subst (HasWork (holding p) a) (sym is) (sw.stands.each a w known)
 
   in_sum : sum_by (λ c. get_or takes c 0) ins ≡
       sum_by (λ c. get_or r.cycles.takes.items c 0) ((wiring s r.net.now).ins a)

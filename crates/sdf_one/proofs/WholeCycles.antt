@@ -12,7 +12,7 @@ use Rattle.sdf_answer.specs.Moves.{FitsPorts}
 use Rattle.sdf_answer.specs.Sizes.{IsPlan, at_phase, in_all, out_all}
 use Rattle.sdf_answer.proofs.Theorems.{plans_fit}
 use Rattle.sdf_one.specs.Cycles.{AreRowsAt, IsInTurn}
-use Rattle.sdf_one.proofs.Holding.{Turning}
+use Rattle.sdf_one.proofs.Holding.{ActorOf}
 
 -- one phase more serves the ports in turn
 pub turn_more : (ports : List ℕ) (rows : List (List ℕ)) (i last next : ℕ) (row : List ℕ) → row ≡ at_phase rows i →
@@ -109,7 +109,7 @@ cycles_move moved turns one none is ahead (suc t) =
     ap moved (let v : suc t * turns ≡ t * turns + turns = omega (arith, suc-mul t turns) in v) in
     omega (arith, more, is, ahead t, cycles_move moved turns one none is ahead t, suc-mul t one)
 
-module _ {A S T : Type 0} (its : Turning A S T) where
+module _ {A S T : Type 0} (its : ActorOf A S T) where
   open its use {s, n, net, z, sizes, y, cycles, a, known, x, is}
 
   abbrev ins : List ℕ

@@ -36,7 +36,7 @@ pub record IsOneMore {A S T : Type 0} (s : Steps A S T) (n : Netlist A T) (input
   pub into : (c : ℕ) → c < length n.wires → (wire n c).to.0 ≡ a → take ((wiring s n).rates.consumed c (k + 1)) (W c) ≡
       take ((wiring s n).rates.consumed c k) (V c) ++ block_of (sizes s Input (node n a) k) (wire n c).to.1 t
 
--- t and b may be the blocks of its firing k
+-- t and b are as long as the blocks of node a's firing k, and b is its answer to t
 pub record AreBlocks {A S T : Type 0} (s : Steps A S T) (n : Netlist A T) (inputs : List (List T)) (a k : ℕ)
     (V : ℕ → List T) (t b : List T) : Type 0 where
   pub t_long : length t ≡ start_at (sizes s Input (node n a) k) (inputs_of s (node n a))

@@ -56,7 +56,7 @@ module _ {A S T : Type 0} {s : Steps A S T} {n : Netlist A T} {inputs : List (Li
   abbrev v : Node A
   v = node n x.actor
 
-  -- it has fired more times and knows W of its channels: its state, and what it took and put at each port
+  -- after so many more firings the node knows W of its channels, has this state, and took and put this at each port
   pub record HasGoneOn (more : ℕ) (taken put : ℕ → List T) (w : NodeState T S) : Type 0 where
     pub left : x.done + more ≤ x.asked
     pub W : ℕ → List T

@@ -2,7 +2,7 @@ use Rattle.std.proofs.Common.{◌≡◌, ℕ, ℤ, List, ap, get_or, map, of_z, 
 use Rattle.sdf_kit.proofs.LaneSums.{wide_total}
 use Rattle.sdf_kit.proofs.dots.wide_totals.Goals as goal
 
--- a lane of an array
+-- lane k of equal arrays is the same
 lane : {xs ys : List ℤ} (k : ℕ) → xs ≡ ys →
     get_or (map (to_z w32) (map (of_z w32) xs)) k (pos 0) ≡ get_or (map (to_z w32) (map (of_z w32) ys)) k (pos 0)
 lane k same = ap (λ xs. get_or (map (to_z w32) (map (of_z w32) xs)) k (pos 0)) same
