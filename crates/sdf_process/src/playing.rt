@@ -2,9 +2,8 @@
 //! left, and their memory, which it uses again.
 
 ghost use Rattle.std.specs.Prelude.{◌≡◌, ◌*◌, ◌≤◌, ◌<◌, [], IfErr, IfOk, IfSome, IfNone, MatchResult, Some, is_some};
-ghost use Rattle.std.specs.Prelude.{false, true};
+ghost use Rattle.std.specs.Prelude.{true};
 ghost use Rattle.sdf_actor.specs.Wires.{lists as items_of};
-ghost use Rattle.sdf_answer.specs.Feeds.{GoesOnBy};
 ghost use Rattle.sdf_answer.specs.declared.fault.RunFault.TheVariants as run;
 ghost use Rattle.sdf_fission.specs.WarmUps.{IsLasting};
 ghost use Rattle.sdf_graph.specs.Rates.{rates};
@@ -14,7 +13,7 @@ ghost use Rattle.sdf_sched.specs.Period.{IsPeriodOf};
 ghost use Rattle.sdf_faults.specs.declared.fault.Fault.TheVariants.{OutOfMemory};
 ghost use Rattle.sdf_wav.specs.Sound.{Sound};
 ghost use Rattle.sdf_process.specs.declared.cut.Cut.{Cut};
-ghost use Rattle.sdf_process.specs.Output.{exchange_of, lists_from, IsExchange};
+ghost use Rattle.sdf_process.specs.Output.{exchange_of, IsExchange};
 ghost use Rattle.sdf_process.specs.Streams.{CanPlay, CanPlayNext, Plays, PlaysNext, StandsAt, StaysPlayer};
 ghost use Rattle.sdf_process.specs.Tasks.{IsCut, IsPlayer, IsScore, cut_by};
 
@@ -191,21 +190,6 @@ impl<'a> Player<'a> {
         piece_periods(exchange, self.cut(), share) as usize * exchange.taken
     }
 
-    /// Runs a portion on one thread, and makes frames of what it makes.
-    fn run_whole(&mut self, alloc: Global, portion: Portion<'_>) -> Result<Vec<Vec<i16>>, RunFault>
-        requires player { IsPlayer self.old }
-        requires whole { is_some (cut_by self.old.manner) ≡ false }
-        requires can { CanPlayNext self.old portion }
-        ensures plays { IfOk result (λ v. PlaysNext self.old self.new portion.entry (items_of v.items)) }
-        ensures refused { IfErr result (λ f. f ≡ run.OutOfMemory) }
-        ensures stays { StaysPlayer self.old self.new }
-    {
-        let Manner::Whole(memory) = &mut self.manner else {
-            unreachable!()
-        };
-        memory.play(alloc, self.net, self.period, &mut self.rest, portion)
-    }
-
     /// Runs a portion in parts at once, each of which makes its own frames, and `meanwhile` beside them.
     pub(crate) fn run_parts<T: Threads + Sync, G: FnMut() -> B, B>(
         &mut self,
@@ -259,12 +243,11 @@ impl<'a> Player<'a> {
         ensures refused { IfErr result (λ f. f ≡ run.OutOfMemory) }
         ensures stays { StaysPlayer self.old self.new }
     {
-        if self.is_cut() {
-            let (ran, _) = self.run_parts(rt, portion, &mut || {});
-            ran
-        } else {
-            self.run_whole(alloc, portion)
+        if let Manner::Whole(memory) = &mut self.manner {
+            return memory.play(alloc, self.net, self.period, &mut self.rest, portion);
         }
+        let (ran, _) = self.run_parts(rt, portion, &mut || {});
+        ran
     }
 
     /// Takes back the memory of frames that were written.
