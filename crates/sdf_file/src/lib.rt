@@ -1,8 +1,8 @@
 //! Designs from files, and the texts that say what a design and its schedule are.
 //!
-//! It stands on `sdf_document`, which reads the files as entries within the limits of `sdf_kinds`, on `sdf_actor` and
-//! `sdf_kit`, whose nets and kinds of actors it makes of them, and on `sdf_graph`; the text of a schedule is of a
-//! period of `sdf_sched` and a table of `sdf_prec`. Begin at `design`; the definitions are in `specs/Designs.antt`,
+//! `sdf_document` reads the files as entries within the limits of `sdf_kinds`. This crate makes a net of them, of the
+//! types of `sdf_actor`, `sdf_kit` and `sdf_graph`. The text of a schedule needs a period of `sdf_sched` and a table of
+//! `sdf_prec`. Begin at `design`; the definitions are in `specs/Designs.antt`,
 //! `specs/Texts.antt` and `specs/Schedules.antt`.
 #![tactic(auto)]
 

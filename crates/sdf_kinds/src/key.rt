@@ -5,7 +5,7 @@ ghost use Rattle.sdf_kinds.specs.Keys.{key_name};
 
 use std::fmt;
 
-/// The name of a value of a kind, as design files write it.
+/// A key of an actor's table in a design file.
 #[derive(Debug, Clone, Copy, PartialEq, Eq)]
 pub enum Key {
     Channel,

@@ -55,7 +55,7 @@ pub enum Form {
     Integer(i32, i32, Option<i32>),
     /// The same, and no less than the value of the key `least`, which stands before it.
     FromLeast(i32, i32, Option<i32>),
-    /// An array of 1 to so many whole numbers, or the key `file` in its place.
+    /// An array of whole numbers, or the key `file` in its place. The first field is its greatest length.
     List(usize, Width),
 }
 

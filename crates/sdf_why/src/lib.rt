@@ -1,8 +1,8 @@
 //! What stands behind a fault, in the words of the user's own files.
 //!
-//! It stands on `sdf_document`, whose faults it tells, on `sdf_kinds` for the table of kinds, on `sdf_file`, which
-//! reads a design again, on `sdf_actor`, `sdf_graph` and `sdf_kit` for nets, on `sdf_options`, which makes a text
-//! printable, and on `sdf_similar` for names that are like a word. Begin at `told`; `document`, `net`, `cycle`, `block`
+//! It explains the faults of `sdf_document`, by the table of `sdf_kinds`. `sdf_file` reads a design again, and its net
+//! needs `sdf_actor`, `sdf_graph` and `sdf_kit`. `sdf_options` makes a text printable, and `sdf_similar` finds names
+//! that are like a word. Begin at `told`; `document`, `net`, `cycle`, `block`
 //! and `sound` have the lines of each fault, `limits` those of a key, `coefficients` those of a coefficient file, and
 //! `near` what may have been meant. `more` has what the tables of a net do not show, of the graph that `channels`
 //! makes, and `ports` the ports of its actors. The definitions are in `specs/Told.antt`, `specs/Documents.antt`,
