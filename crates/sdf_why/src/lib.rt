@@ -1,6 +1,6 @@
 //! What stands behind a fault, in the words of the user's own files.
 //!
-//! It explains the faults of `sdf_document`, by the table of `sdf_kinds`. `sdf_file` reads a design again, and its net
+//! It depends on `sdf_document`, whose faults it explains, and on the table of `sdf_kinds`. `sdf_file` reads a design again, and its net
 //! needs `sdf_actor`, `sdf_graph` and `sdf_kit`. `sdf_options` makes a text printable, and `sdf_similar` finds names
 //! that are like a word. Begin at `told`; `document`, `net`, `cycle`, `block`
 //! and `sound` have the lines of each fault, `limits` those of a key, `coefficients` those of a coefficient file, and
