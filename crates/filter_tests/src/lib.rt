@@ -2,8 +2,8 @@
 //! cheap one, that designs that convert between usual rates are accepted, the texts of designs, and the texts of
 //! faults.
 //!
-//! It stands on `sdf_filters`, on `sdf_document` and `sdf_file`, which read the designs, and on `test_texts`, and has
-//! no functions: tests stand in a crate of their own, since a crate's functions are proved once more with its tests.
+//! It depends on `sdf_filters`, on `sdf_document` and `sdf_file`, which read the designs, and on `test_texts`, and has
+//! no functions: tests are in a crate of their own, since a crate's functions are proved once more with its tests.
 //! Begin at `taps`, then `designs`. `plain_taps` works out in the plainest way what `sdf_filters` does in a quicker
 //! one, and `tap_rows` compares the two on rows of filters and on those of `made`. `plain_levels` and `plain_splits` do
 //! both.

@@ -1,7 +1,7 @@
 //! What runs of nets are given and give, whatever runs them.
 //!
-//! It stands on `sdf_graph`, `sdf_sched`, `sdf_prec`, `sdf_actor` and `sdf_node`, and every runner stands on it. Begin
-//! at `specs/Answer.antt`: which inputs a run is given, and that its outputs are the lists of the histories. Then
+//! It depends on `sdf_graph`, `sdf_sched`, `sdf_prec`, `sdf_actor` and `sdf_node`, and every runner depends on it.
+//! Begin at `specs/Answer.antt`: which inputs a run is given, and that its outputs are the lists of the histories. Then
 //! `inputs` and `outputs`, the tests and the lists of a run, `sizes`, how many samples firings move, `queue`, the
 //! samples that stand on a channel, `blocks`, those that a firing moves at its ports, `many_blocks`, those that many
 //! firings move (`parts`: at one port; `pairs`: at two), `rooms`, how many stand on a channel, `block_table`, what

@@ -1,9 +1,9 @@
 //! Filters made by formula: the whole numbers of a low-pass, high-pass or band-pass, and designs that convert between
 //! two rates.
 //!
-//! It stands on `sdf_limits` alone. Begin at `wanted`, what one asks for in plain numbers, `filter`, the taps that
-//! come, and `texts`, what is printed of them by `sdfw fir`; they stand on `lowpass`, `settling`, which makes each
-//! phase's sum exact by the steps of `phases`, in the `order` of taps, `differences`, high-passes and band-passes, and
+//! It depends on `sdf_limits` alone. Begin at `wanted`, what one asks for in plain numbers, `filter`, the taps that
+//! come, and `texts`, what is printed of them by `sdfw fir`; these use `lowpass`, `settling`, which makes each phase's
+//! sum exact by the steps of `phases`, in the `order` of taps, `differences`, high-passes and band-passes, and
 //! `coefficients`, the text of taps. A conversion is split into stages by `split`, and `converter` makes its design of
 //! them for `sdfw resample`, the graph file by `graph`. `sinc`, `cost` and `measure` compute with floats, of which no
 //! clause says anything. The definitions are in `specs/Wanted.antt`, `specs/Phases.antt` (what the taps of a phase come

@@ -26,17 +26,17 @@ pub record KindRow : Type 0 where
   pub since : ℕ
   pub keys : List KeyRow
 
+abbrev pub key : Key → Form → KeyRow
+key k form = record { name = key_name k; form = form }
+
 abbrev pub key_view : KeyForm → KeyRow
-key_view k = record { name = key_name k.0; form = k.1 }
+key_view k = key k.0 k.1
 
 abbrev pub keys_view : List KeyForm → List KeyRow
 keys_view ks = map key_view ks
 
 abbrev pub row_view : Row → KindRow
 row_view r = record { word = r.word.now; since = r.since; keys = keys_view r.keys.now }
-
-abbrev pub key : Key → Form → KeyRow
-key k form = record { name = key_name k; form = form }
 
 abbrev pub row : List ℕ → ℕ → List KeyRow → KindRow
 row word since keys = record { word = word; since = since; keys = keys }

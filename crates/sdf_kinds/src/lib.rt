@@ -1,8 +1,8 @@
 //! The table of kinds of actors: a row each, with the kind's word, its keys and their limits.
 //!
-//! `kinds` returns all kinds, `row_of` the row of one kind, and `kinds_text` the table as a text. The crate depends
-//! only on `sdf_limits`; the reader of graph files and the kit depend on it. Begin at `row`. The definitions are in
-//! `specs/Keys.antt`, `specs/Rows.antt` and `specs/Listing.antt`.
+//! `kinds` returns all kinds, `row_of` the row of one kind, and `kinds_text` the table as a text. The reader of graph
+//! files and the kit use it. It depends on `sdf_limits`. Begin at `row`. The definitions are in `specs/Keys.antt`,
+//! `specs/Rows.antt` and `specs/Listing.antt`.
 #![tactic(auto)]
 
 mod key;

@@ -1,6 +1,6 @@
 //! The limits of the workspace, each once: code, clauses and documents name them.
 //!
-//! It stands on nothing, and has no functions. Begin at any line: there are constants alone.
+//! It depends on nothing, and has no functions. Begin at any line: there are constants alone.
 #![tactic(auto)]
 
 /// Actors of a graph: 1 to this.

@@ -1,6 +1,6 @@
 //! What the runners with workers share: nodes at work, and the gate that each firing passes.
 //!
-//! It stands on `sdf_graph` and `sdf_actor`. Begin at `node`, then `many`, many firings in one piece of work, then
+//! It depends on `sdf_graph` and `sdf_actor`. Begin at `node`, then `many`, many firings in one piece of work, then
 //! `gate`; the definitions are in `specs/Nodes.antt` and `specs/Many.antt`. What a node knows of its own channels,
 //! whatever the others do, is `IsLocal` in `sdf_actor`, whose laws are in `laws` too.
 #![tactic(auto)]

@@ -1,6 +1,6 @@
 //! What a command line can ask of a schedule or a run, why one was not read, and texts that are safe to print.
 //!
-//! It stands on `clap`, whose mistakes it carries, and on `sdf_limits`; it knows no command. Begin at `options`. The
+//! It depends on `clap`, whose mistakes it carries, and on `sdf_limits`; it knows no command. Begin at `options`. The
 //! definitions are in `specs/Limits.antt` and `specs/Printable.antt`.
 #![tactic(auto)]
 

@@ -1,6 +1,6 @@
 //! Bounded rings between actors that fire when they can: what they do, whatever the order of their moves.
 //!
-//! It stands on `sdf_graph`, `sdf_sched`, `sdf_prec`, `sdf_actor`, `sdf_node`, `sdf_answer` and the rings of `rtrb`.
+//! It depends on `sdf_graph`, `sdf_sched`, `sdf_prec`, `sdf_actor`, `sdf_node`, `sdf_answer` and the rings of `rtrb`.
 //! Begin at `specs/Machine.antt`, the machine; the statements of its laws are in `specs/MachineLaws.antt`, those of
 //! rounds in `specs/Laws.antt`, and a ring at work in `specs/Pair.antt`. The code begins at `seat`, one worker's round
 //! (`work`) through its list (`course`), over `stand`, a node with its ends of rings, and `together`, runs of a node's

@@ -1,8 +1,8 @@
 //! What no clause says of runs of nets: worked nets, run by each runner, by hand and in pieces.
 //!
-//! It stands on the libraries below `sdf_process`, on `test_actors` and on `test_texts`, and has no functions: tests
-//! stand in a crate of their own, since the functions of a crate are proved once more with its tests. Begin at `nets`
-//! and `kits`, the nets of the tests, their tables and their runs.
+//! It depends on the libraries below `sdf_process`, on `test_actors` and on `test_texts`, and has no functions: tests
+//! are in a crate of their own, since the functions of a crate are proved once more with its tests. Begin at `nets` and
+//! `kits`, the nets of the tests, their tables and their runs.
 #![tactic(auto)]
 
 #[cfg(test)]

@@ -1,7 +1,7 @@
 //! When the firings of a table start and end, what its columns do, and how short any table of its block may be.
 //!
-//! It stands on `sdf_graph`, `sdf_sched`, `sdf_prec` and `sdf_limits`. Begin at `times`, then `bounds`; `laws` has what
-//! is true of all tables. The definitions are in `specs/Times.antt`, the statements in `specs/Laws.antt`.
+//! It depends on `sdf_graph`, `sdf_sched`, `sdf_prec` and `sdf_limits`. Begin at `times`, then `bounds`; `laws` has
+//! what is true of all tables. The definitions are in `specs/Times.antt`, the statements in `specs/Laws.antt`.
 #![tactic(auto)]
 
 pub mod bounds;

@@ -1,7 +1,7 @@
 //! What no clause says: worked designs from bytes to bytes, schedules and faults as they are printed, and the words of
 //! the command line.
 //!
-//! It stands on the libraries below the program, and has no functions: tests stand in a crate of their own, since the
+//! It depends on the libraries below the program, and has no functions: tests are in a crate of their own, since the
 //! functions of a crate are proved once more with its tests. Begin at `running`, which runs a design over memory, and
 //! `designs`.
 #![tactic(auto)]

@@ -1,8 +1,8 @@
 //! What no clause says of tables: worked graphs, their levels, their tables by homes and by Hu's rule, and what
 //! `accept` refuses.
 //!
-//! It stands on `sdf_graph`, `sdf_sched`, `sdf_prec`, `sdf_times`, `test_actors` and `test_texts`, and has no
-//! functions: tests stand in a crate of their own, since the functions of a crate are proved once more with its tests.
+//! It depends on `sdf_graph`, `sdf_sched`, `sdf_prec`, `sdf_times`, `test_actors` and `test_texts`, and has no
+//! functions: tests are in a crate of their own, since the functions of a crate are proved once more with its tests.
 //! Begin at `graphs`, the graphs of the tests.
 #![tactic(auto)]
 

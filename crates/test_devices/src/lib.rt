@@ -1,6 +1,6 @@
 //! Devices of the tests, which move little or fail at one call, and damaged WAV files.
 //!
-//! It stands on `sdf_wav`, and has no tests: the crates of tests above it use it, so that the devices are proved once.
+//! It depends on `sdf_wav`, and has no tests: the crates of tests above it use it, so that the devices are proved once.
 //! Begin at `devices`.
 #![tactic(auto)]
 

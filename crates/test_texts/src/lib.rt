@@ -1,6 +1,6 @@
 //! What a test compares: the text that is told of what was made, and the text that is wanted.
 //!
-//! It stands on std alone, and has no tests: the crates of tests use it, so that the comparison is proved once, and a
+//! It depends on std alone, and has no tests: the crates of tests use it, so that the comparison is proved once, and a
 //! test holds no text of its own. Begin at `says`.
 #![tactic(auto)]
 

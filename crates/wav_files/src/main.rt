@@ -1,7 +1,7 @@
 //! Prints what `read_wav` answers for each WAV file that it is given: the rate, the channels, the frames and the
 //! SHA-256 of the samples' bytes, or the fault.
 //!
-//! It stands on `sdf_wav`. Begin at `main`.
+//! It depends on `sdf_wav`. Begin at `main`.
 #![tactic(auto)]
 
 use anyhow::{Context, Result};
