@@ -4,7 +4,7 @@
   what `sdfw kinds` and `sdfw kinds --json` print, which is proved to be the rows that the reader follows.
 - The lines that `sdfw explain` shows before and after a fault, put into a design of examples/, have it and mend it.
 - docs/PROOFS.md: the list of public functions without a must-fail edit is the repository's.
-- The head of each crate's root file names the crates that crates.txt says it stands on, and where to begin; so does
+- The head of each crate's root file names the crates that crates.txt says it depends on, and where to begin; so does
   the list of crates in docs/ARCHITECTURE.md.
 - What an edit of must-fail/ or mutants/ is to replace stands once in its file.
 - Blocks whose first line is a comment with a path, `# examples/..` or `// crates/..`, in each document: the file at
@@ -220,17 +220,17 @@ def is_crate(name):
 
 
 def heads():
-    """What is wrong with what the heads of root files say that their crates stand on; `sdf_limits` may be left out."""
+    """What is wrong with what the heads of root files say that their crates depend on; `sdf_limits` may be left out."""
     wrong = []
     for line in (TOP / "crates.txt").read_text().splitlines():
         name, below = re.sub(r" \w+=\w+", "", line).split(":")
         wanted = {one for one in below.split() if is_crate(one)} - {"sdf_limits"}
         root = next(path for path in (TOP / "crates" / name / "src").glob("*.rt") if path.stem in ("lib", "main"))
         head = " ".join(text[4:] for text in root.read_text().splitlines() if text.startswith("//!"))
-        if "stands on the libraries" in head:
+        if "depends on the libraries" in head:
             continue
         named = set(re.findall(r"`(\w+)(?:::\w+)*`", head))
-        below = re.search(r"(?:stands|depends) on (.*?)(?:Begin|$)", head)
+        below = re.search(r"depends on (.*?)(?:Begin|$)", head)
         extra = {one for one in re.findall(r"`(\w+)`", below[1] if below else "") if is_crate(one)} - wanted
         differ = (wanted - named | extra) - {"sdf_limits"}
         if not below or differ:
@@ -241,7 +241,7 @@ def heads():
 
 
 def stands_on():
-    """What is wrong with what docs/ARCHITECTURE.md says that the crates stand on."""
+    """What is wrong with what docs/ARCHITECTURE.md says that the crates depend on."""
     page = (TOP / "docs" / "ARCHITECTURE.md").read_text()
     items = dict(re.findall(r"^- \*\*`(\w+)`\*\*, on (.*?):", page, re.M | re.S))
     wrong = []
