@@ -1,6 +1,6 @@
-//! The limits of the workspace, each once: code, clauses and documents name them.
+//! The limits of the workspace. Code, contracts and documents name them, and each has its number here only.
 //!
-//! It depends on nothing, and has no functions. Begin at any line: there are constants alone.
+//! It depends on nothing, and has no functions. Begin at any line: there are only constants.
 #![tactic(auto)]
 
 /// Actors of a graph: 1 to this.
@@ -9,34 +9,34 @@ pub const MOST_ACTORS: usize = 64;
 /// Links of a design, which are the channels of its graph.
 pub const MOST_LINKS: usize = 256;
 
-/// Ports of an actor on a side.
+/// Ports of an actor on each side.
 pub const MOST_PORTS: usize = 16;
 
-/// Samples that a firing puts on a channel or takes from it, and samples of a block of an input or an output.
+/// Samples that a firing puts on a channel or takes from it, and samples in a block of an input or an output.
 pub const MOST_RATE: u32 = 1024;
 
 /// Firings of an actor's cycle: 1 to this.
 pub const MOST_CYCLE: u32 = 64;
 
-/// Samples that a channel begins with.
+/// Samples on a channel before the first firing.
 pub const MOST_INITIAL: usize = 65_536;
 
 /// Firings of a period.
 pub const MOST_PERIOD: u64 = 65_536;
 
-/// Factors between rates, `up`, `down` and `factor`: 1 to this.
+/// Factors between rates (`up`, `down` and `factor`): 1 to this.
 pub const MOST_FACTOR: u32 = 64;
 
-/// The ways of an actor with several inputs or outputs: this to `MOST_WAYS`.
+/// Ways of an actor with several inputs or outputs: this to `MOST_WAYS`.
 pub const LEAST_WAYS: u32 = 2;
 
-/// The ways of an actor with several inputs or outputs.
+/// Ways of an actor with several inputs or outputs: `LEAST_WAYS` to this.
 pub const MOST_WAYS: u32 = 16;
 
-/// Samples of a turn of one way: 1 to this.
+/// Consecutive samples of one way (`run` of a `deal` or `gather`): 1 to this.
 pub const MOST_RUN: u32 = 64;
 
-/// The power of two by which a product is divided.
+/// Exponent of the power of two by which a product is divided.
 pub const MOST_SHIFT: u32 = 15;
 
 /// Taps of a filter: 1 to this.
@@ -48,10 +48,10 @@ pub const MOST_VALUES: usize = 65_536;
 /// Samples of a delay.
 pub const MOST_DELAY: u32 = 65_536;
 
-/// The number of a channel of a WAV file, from 0.
+/// Number of a channel of a WAV file, from 0.
 pub const MOST_CHANNEL: u32 = 7;
 
-/// The number of a processor, from 0.
+/// Number of a processor, from 0.
 pub const MOST_PROCESSOR: u32 = 15;
 
 /// Periods of a block: 1 to this.
@@ -60,11 +60,11 @@ pub const MOST_BLOCKING: u32 = 64;
 /// Firings of a block.
 pub const MOST_BLOCK: u64 = 65_536;
 
-/// What a firing costs: 1 to this.
+/// Cost of a firing: 1 to this.
 pub const MOST_COST: u32 = 1_000_000;
 
 /// Workers: 1 to this.
 pub const MOST_WORKERS: usize = 16;
 
-/// Repeated tests of a round.
+/// The spin limit: repeated tests for samples or room in a round of a worker.
 pub const MOST_PATIENCE: u32 = 1_000_000;
