@@ -16,34 +16,34 @@ use Rattle.sdf_kinds.specs.Rows.{KeyRow, KindRow, row_of, kinds, shared_keys}
 abbrev pub end : List ℕ
 end = 10 ∷ []
 
--- the numbers from one to another
+-- the range from one number to another
 abbrev pub between : ℕ → ℕ → List ℕ
 between least most = codes " " ++ decimal least ++ codes ".." ++ decimal most
 
--- the same of either sign, of which all of 32 bits have their own words
+-- the range between numbers of either sign; all numbers of 32 bits have their own words
 unfoldable pub integers : ℤ → ℤ → List ℕ
 integers least most = if int_eq least (negsuc 2147483647) && int_eq most (pos 2147483647)
     then codes " of 32 bits" else codes " " ++ signed_decimal least ++ codes ".." ++ signed_decimal most
 
--- the numbers from the value of the key `least` to another
+-- the range from the value of the key `least` to another number
 unfoldable pub from_least : ℤ → List ℕ
 from_least most = codes " least.." ++ signed_decimal most
 
--- what a number is where its key is absent, if it may be
+-- the default in parentheses, if there is one
 unfoldable pub absent_text : Option ℤ → List ℕ
 absent_text None = []
 absent_text (Some z) = codes " (" ++ signed_decimal z ++ codes ")"
 
--- what the values of a list fit into
+-- the range of the values of a list
 abbrev pub width_text : Width → List ℕ
 width_text Bits16 = codes "of -32768..32767"
 width_text Bits32 = codes "of 32 bits"
 
--- so many values, in an array or in a file
+-- the limit of a list's length, in an array or in a file, and the range of its values
 abbrev pub values_text : ℕ → Width → List ℕ
 values_text most width = codes " or file: 1.." ++ decimal most ++ codes " values " ++ width_text width
 
--- what stands behind the name of a key. A number in parentheses stands where the key is absent
+-- what follows the name of a key; its default is in parentheses
 abbrev pub form_text : Form → List ℕ
 form_text (Natural least most None) = between least most
 form_text (Natural least most (Some absent)) = between least most ++ codes " (" ++ decimal absent ++ codes ")"
@@ -61,7 +61,7 @@ abbrev pub keys_text : List KeyRow → List ℕ
 keys_text [] = []
 keys_text (k ∷ ks) = key_text k ++ flat_map (λ l. codes ", " ++ key_text l) ks
 
--- the first format that has a kind, where it is not the first of all
+-- the first format that has a kind, unless it is format 1
 abbrev pub since_text : ℕ → List ℕ
 since_text n = if n == 1 then [] else codes ", format " ++ decimal n
 
@@ -69,11 +69,11 @@ since_text n = if n == 1 then [] else codes ", format " ++ decimal n
 abbrev pub line : KindRow → List ℕ
 line row = row.word ++ since_text row.since ++ codes ": " ++ keys_text row.keys ++ end
 
--- the line of a kind's row
+-- the line of a kind
 abbrev pub line_of : Kind → List ℕ
 line_of k = line (row_of k)
 
--- the lines of these kinds, and one of these keys, which every actor may have
+-- a line for each of some kinds, and a line of the keys that every actor may have
 abbrev pub listing_of : List Kind → List KeyRow → List ℕ
 listing_of ks shared = flat_map line_of ks ++ codes "every kind: " ++ keys_text shared ++ end
 

@@ -1,4 +1,4 @@
--- The table of kinds: a row each.
+-- The table of kinds: one row for each.
 use Rattle.std.specs.Prelude.{ℕ, ℤ, pos, negsuc, List, [], ◌∷◌, codes, map, Option, Some, None}
 use Rattle.sdf_limits.specs.declared.TheConstants.{LEAST_WAYS, MOST_CHANNEL, MOST_COST, MOST_DELAY, MOST_FACTOR}
 use Rattle.sdf_limits.specs.declared.TheConstants.{MOST_PROCESSOR, MOST_RATE, MOST_RUN, MOST_SHIFT, MOST_TAPS}
@@ -20,7 +20,7 @@ pub record KeyRow : Type 0 where
   pub name : List ℕ
   pub form : Form
 
--- a kind: its word, the first format that has it, and its keys in the order of their tests
+-- a kind: its word, the first format that has it, and its keys in the order in which they are tested
 pub record KindRow : Type 0 where
   pub word : List ℕ
   pub since : ℕ
@@ -59,7 +59,7 @@ bits16 absent = Integer (negsuc 32767) (pos 32767) absent
 
 -- ---- the rows
 
--- the keys that every actor may have, tested after those of its kind
+-- the keys that every actor may have; they are tested after the keys of its kind
 abbrev pub shared_keys : List KeyRow
 shared_keys = key keys.Processor (Optional 0 MOST_PROCESSOR)
     ∷ key keys.Cost (Natural 1 MOST_COST (Some 1)) ∷ []

@@ -1,4 +1,4 @@
-//! The keys of the rows, by their names.
+//! The keys of the rows, and their names.
 
 ghost use Rattle.std.specs.Prelude.{◌≡◌, Some};
 ghost use Rattle.sdf_kinds.specs.Keys.{key_name};
@@ -29,7 +29,7 @@ pub enum Key {
 }
 
 impl Key {
-    /// Its name in design files.
+    /// Returns the key's name in design files.
     pub fn name(self) -> &'static str
         ensures { result.now ≡ key_name self }
     {

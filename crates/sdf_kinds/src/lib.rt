@@ -1,4 +1,4 @@
-//! The table of kinds of actors: a row each, with the kind's word, its keys and their limits.
+//! The table of the kinds of actors. It has a row for each kind, with the kind's word, its keys and their limits.
 //!
 //! `kinds` returns all kinds, `row_of` the row of one kind, and `kinds_text` the table as a text. The reader of graph
 //! files and the kit use it. It depends on `sdf_limits`. Begin at `row`. The definitions are in `specs/Keys.antt`,

@@ -8,7 +8,7 @@ ghost use Rattle.sdf_kinds.specs.Listing.{key_text, keys_text, since_text, line_
 use crate::row::{Form, KeyForm, Kind, Width, kinds, row_of, shared_keys};
 use std::alloc::{AllocError, Global};
 
-/// Adds the numbers of either sign from one to another.
+/// Appends the range from `least` to `most`, or ` of 32 bits` for all values of an `i32`.
 #[tactic(auto, unfolding(crate::specs::Listing::integers))]
 fn push_integers(text: &mut String, least: i32, most: i32) -> Result<(), AllocError>
     ensures { OnOk result (string_bytes text.new ≡ string_bytes text.old ++ integers least most) }
@@ -20,7 +20,7 @@ fn push_integers(text: &mut String, least: i32, most: i32) -> Result<(), AllocEr
     }
 }
 
-/// Adds the numbers from the value of the key `least` to another.
+/// Appends the range from the value of the key `least` to `most`.
 #[tactic(auto, unfolding(crate::specs::Listing::from_least))]
 fn push_to(text: &mut String, most: i32) -> Result<(), AllocError>
     ensures { OnOk result (string_bytes text.new ≡ string_bytes text.old ++ from_least most) }
@@ -28,7 +28,7 @@ fn push_to(text: &mut String, most: i32) -> Result<(), AllocError>
     write!(text, " least..{most}")
 }
 
-/// Adds what a number is where its key is absent, if it may be.
+/// Appends the default in parentheses, if `absent` has one.
 #[tactic(auto, unfolding(crate::specs::Listing::absent_text))]
 fn push_absent(text: &mut String, absent: Option<i32>) -> Result<(), AllocError>
     ensures { OnOk result (string_bytes text.new ≡ string_bytes text.old ++ absent_text absent) }
@@ -39,7 +39,7 @@ fn push_absent(text: &mut String, absent: Option<i32>) -> Result<(), AllocError>
     }
 }
 
-/// Adds the numbers of a key of either sign.
+/// Appends the range and the default of a key whose value may be negative.
 fn push_integer(
     text: &mut String,
     least: i32,
@@ -53,7 +53,7 @@ fn push_integer(
     push_absent(text, absent)
 }
 
-/// Adds the numbers of a key that is no less than the key `least`.
+/// Appends the range and the default of a key whose value is at least that of the key `least`.
 fn push_from_least(text: &mut String, most: i32, absent: Option<i32>) -> Result<(), AllocError>
     ensures { OnOk result (string_bytes text.new ≡ string_bytes text.old ++ (from_least most ++ absent_text absent)) }
 {
@@ -61,7 +61,7 @@ fn push_from_least(text: &mut String, most: i32, absent: Option<i32>) -> Result<
     push_absent(text, absent)
 }
 
-/// What the values of a list fit into.
+/// Describes the range of a list's values.
 fn width_text(width: Width) -> &'static str
     ensures { result.now ≡ width_text width }
 {
@@ -71,7 +71,7 @@ fn width_text(width: Width) -> &'static str
     }
 }
 
-/// Adds how many values a list has, or the file in its place, and what they fit into.
+/// Appends the limit of a list's length and the range of its values. A file may be given instead of the list.
 fn push_values(text: &mut String, most: usize, width: Width) -> Result<(), AllocError>
     ensures { OnOk result (string_bytes text.new ≡ string_bytes text.old ++ values_text most width) }
 {
@@ -80,7 +80,7 @@ fn push_values(text: &mut String, most: usize, width: Width) -> Result<(), Alloc
     Ok(())
 }
 
-/// Adds what stands behind the name of a key.
+/// Appends what follows a key's name: its limits and its default.
 fn push_form(text: &mut String, form: Form) -> Result<(), AllocError>
     ensures { OnOk result (string_bytes text.new ≡ string_bytes text.old ++ form_text form) }
 {
@@ -101,7 +101,7 @@ fn push_key(text: &mut String, key: &KeyForm) -> Result<(), AllocError>
     push_form(text, key.1)
 }
 
-/// Adds keys, in their order.
+/// Appends `keys` in their order.
 #[tactic(auto, using(std::proofs::lemmas::List::map_more, std::proofs::lemmas::List::flat_map_more))]
 fn push_keys(text: &mut String, keys: &[KeyForm]) -> Result<(), AllocError>
     ensures { OnOk result (string_bytes text.new ≡ string_bytes text.old ++ keys_text (keys_view keys.now)) }
@@ -117,7 +117,7 @@ fn push_keys(text: &mut String, keys: &[KeyForm]) -> Result<(), AllocError>
     Ok(())
 }
 
-/// Adds the first format that has a kind, where it is not the first of all.
+/// Appends the first format that has a kind, unless it is format 1.
 fn push_since(text: &mut String, since: u32) -> Result<(), AllocError>
     ensures { OnOk result (string_bytes text.new ≡ string_bytes text.old ++ since_text since) }
 {
@@ -127,7 +127,7 @@ fn push_since(text: &mut String, since: u32) -> Result<(), AllocError>
     write!(text, ", format {since}")
 }
 
-/// Adds the line of a kind.
+/// Appends the line of `kind`.
 fn push_line(text: &mut String, kind: Kind) -> Result<(), AllocError>
     ensures { OnOk result (string_bytes text.new ≡ string_bytes text.old ++ line_of kind) }
 {
@@ -140,8 +140,8 @@ fn push_line(text: &mut String, kind: Kind) -> Result<(), AllocError>
     Ok(())
 }
 
-/// The table of kinds: a line for each, with its keys, their limits and in parentheses what a key is where it is
-/// absent; and a line for the keys that every actor may have.
+/// Returns the table of kinds, a line for each. It lists each kind's keys with their limits, and the defaults in
+/// parentheses. The last line has the keys that every actor may have.
 pub fn kinds_text(alloc: Global) -> Result<String, AllocError>
     ensures { IfOk result (λ text. string_bytes text ≡ kinds_text) }
 {

@@ -1,12 +1,12 @@
-//! The table of kinds: a row each, which one reader reads.
+//! The table of kinds: one row for each kind, and one reader for all rows.
 //!
-//! A new kind is:
-//! 1. its word in `Kind` and `KINDS`, its new keys in `key.rt` and `specs/Keys.antt`, and its row: its keys and an arm
-//!   of `row_of`, here and in `specs/Rows.antt`;
-//! 2. its line in the table of `docs/FORMATS.md`, as `kinds_text` in `listing.rt` lists it;
+//! To add a kind:
+//! 1. here, its word in `Kind` and `KINDS`, its keys and an arm of `row_of`; its row in `specs/Rows.antt`; any new keys
+//!   in `key.rt` and `specs/Keys.antt`;
+//! 2. its line in the table of `docs/FORMATS.md`, as `kinds_text` in `listing.rt` prints it;
 //! 3. in `sdf_document`, its values as a variant of `KindEntry`, with an arm of `entry_of` in `kind.rt` that takes them
 //!   in the order of the row; an equation of `entry_of` and one of `kind_values` in `specs/Kinds.antt`;
-//! 4. where it has a list, an arm of `file_of` in `document.rt` there, and an equation of `kind_file` in
+//! 4. if it has a list, an arm of `file_of` in `document.rt` there, and an equation of `kind_file` in
 //!   `specs/Document.antt`;
 //! 5. in `sdf_kit`, what it computes: see `kit.rt` there.
 ghost use Rattle.std.specs.Prelude.{◌≡◌};
@@ -37,25 +37,25 @@ pub enum Kind {
     Offset,
 }
 
-/// What the values of a list fit into.
+/// The range of the values of a list.
 #[derive(Clone, Copy, Debug, PartialEq, Eq)]
 pub enum Width {
     Bits16,
     Bits32,
 }
 
-/// How the value of a key is written, and its limits.
+/// The form of a key's value, and its limits.
 #[derive(Clone, Copy, Debug)]
 pub enum Form {
-    /// A whole number from the first to the second, and what it is where the key is absent, if it may be.
+    /// A whole number from the first to the second field. The third is its default, if the key may be absent.
     Natural(u32, u32, Option<u32>),
-    /// The same, or nothing where the key is absent.
+    /// A whole number from the first to the second field, or no value if the key is absent.
     Optional(u32, u32),
-    /// As `Natural`, and of either sign.
+    /// Like `Natural`, but the number and its limits may be negative.
     Integer(i32, i32, Option<i32>),
-    /// The same, and no less than the value of the key `least`, which stands before it.
+    /// Like `Integer`, but at least the value of the key `least`, which precedes it in the row.
     FromLeast(i32, i32, Option<i32>),
-    /// An array of whole numbers, or the key `file` in its place. The first field is its greatest length.
+    /// An array of whole numbers, or the key `file` instead. The first field is the greatest length.
     List(usize, Width),
 }
 
@@ -63,7 +63,8 @@ pub enum Form {
 #[derive(Clone, Copy, Debug)]
 pub struct KeyForm(pub Key, pub Form);
 
-/// A kind: its word, the first format that has it, and its keys in the order of their tests.
+/// A row of the table: the kind's word, the first format that has it, and its keys in the order in which they are
+/// tested.
 #[derive(Clone, Copy, Debug)]
 pub struct Row {
     pub word: &'static str,
@@ -133,14 +134,14 @@ static KINDS: [Kind; 14] = [
     Kind::Offset,
 ];
 
-/// The keys that every actor may have, tested after those of its kind.
+/// Returns the keys that every actor may have. They are tested after the keys of the actor's kind.
 pub fn shared_keys() -> &'static [KeyForm]
     ensures { keys_view result.now ≡ shared_keys }
 {
     SHARED_KEYS.as_slice()
 }
 
-/// All kinds.
+/// Returns all kinds, in the order of the table.
 pub fn kinds() -> &'static [Kind]
     ensures { result.now ≡ kinds }
 {
@@ -153,7 +154,7 @@ fn row_with(word: &'static str, since: u32, keys: &'static [KeyForm]) -> Row
     Row { word, since, keys }
 }
 
-/// The row of a kind.
+/// Returns the row of `kind`.
 pub fn row_of(kind: Kind) -> Row
     ensures { row_view result ≡ row_of kind }
 {
@@ -176,7 +177,7 @@ pub fn row_of(kind: Kind) -> Row
 }
 
 impl Kind {
-    /// Its word in design files.
+    /// Returns the kind's word in design files.
     pub fn word(self) -> &'static str
         ensures { result.now ≡ (row_of self).word }
     {
