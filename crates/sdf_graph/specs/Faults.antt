@@ -1,5 +1,5 @@
--- The faults of a graph, in the order of their tests: the first one that holds is the one that is answered. And why a
--- graph has no period.
+-- The faults of a graph, in the order of their tests: the first one that holds is returned. And why a graph has no
+-- repetition vector.
 use Rattle.std.specs.Prelude.{◌≡◌, ◌≢◌, ℕ, ◌+◌, ◌<◌, ◌==◌, ◌&&◌, ◌||◌, Bool, true, List, [], ◌∷◌, length, sum, nat_le}
 use Rattle.std.specs.Prelude.{nat_lt, Option, Some, None, if◌then◌else◌}
 use Rattle.sdf_limits.specs.declared.TheConstants.{MOST_ACTORS, MOST_LINKS, MOST_RATE, MOST_CYCLE, MOST_INITIAL}
@@ -16,7 +16,7 @@ use Rattle.sdf_graph.specs.declared.fault.GraphFault.TheVariants.{Inconsistent, 
 abbrev pub is_within : ℕ → ℕ → ℕ → Bool
 is_within least most n = nat_le least n && nat_le n most
 
--- both ends of a channel are actors, of whom there are so many
+-- both ends of a channel are actors below `actors`
 abbrev pub joins_actors : ℕ → Edge → Bool
 joins_actors actors e = nat_lt e.from actors && nat_lt e.to actors
 
@@ -25,7 +25,7 @@ abbrev pub are_small : List ℕ → Bool
 are_small [] = true
 are_small (x ∷ xs) = nat_le x MOST_RATE && are_small xs
 
--- nor does a cycle move nothing, where it has firings at all
+-- no rate is over the limit, and a cycle with firings does not move nothing
 abbrev pub are_rates : List ℕ → Bool
 are_rates rates = are_small rates && (length rates == 0 || nat_lt 0 (sum rates))
 
@@ -36,7 +36,7 @@ has_rates e = are_rates e.put && are_rates e.take
 abbrev pub is_cycle : ℕ → List ℕ → Bool
 is_cycle n rates = is_within 1 MOST_CYCLE (length rates) && length rates == n
 
--- so it is at both ends of a channel, among all channels
+-- the rates at both ends of a channel have the lengths of their actors' cycles, among all channels
 abbrev pub has_cycles : List Edge → Edge → Bool
 has_cycles channels e = is_cycle (cycle_among channels e.from) e.put && is_cycle (cycle_among channels e.to) e.take
 
@@ -61,7 +61,7 @@ channels_fault actors channels c [] = None
 channels_fault actors channels c (e ∷ es) = or_else (channel_fault actors channels c e)
     (channels_fault actors channels (c + 1) es)
 
--- the first fault of the numbers of a graph: how many actors, how many channels, and then each channel's in order
+-- the first fault of the numbers of a graph: of its actors, of its channels, then of each channel in order
 abbrev pub numbers_fault : Shape → Option GraphFault
 numbers_fault g =
     if is_within 1 MOST_ACTORS g.actors then (
@@ -72,7 +72,7 @@ numbers_fault g =
 abbrev pub IsConnected : Shape → Type 0
 IsConnected g = (a : ℕ) → a < g.actors → IsReached g a
 
--- the lowest actor that they do not join to actor 0
+-- the lowest actor that channels, walked both ways, do not join to actor 0
 pub record IsLowestUnreached (g : Shape) (a : ℕ) : Type 0 where
   pub known : a < g.actors
   pub unreached : IsReached g a → ⊥
@@ -83,19 +83,19 @@ pub record IsFaultless (g : Shape) : Type 0 where
   pub numbers : numbers_fault g ≡ None
   pub connected : IsConnected g
 
--- the first fault that holds. Memory may be refused at any place
+-- the first fault that holds; memory may be refused at any place
 abbrev pub IsFirstFault : Shape → GraphFault → Type 0
 IsFirstFault g OutOfMemory = Unit {0}
 IsFirstFault g (NotConnected a) = (numbers_fault g ≡ None) × IsLowestUnreached g a
 IsFirstFault g fault = numbers_fault g ≡ Some fault
 
--- no period vector balances all channels, and what meets at channel c differs
+-- no repetition vector balances all channels, and the balance of channel c is uneven
 pub record IsInconsistent (g : Shape) (c : ℕ) (m : Meeting) : Type 0 where
   pub none : (p : List ℕ) → IsPeriodVector (rates g) p → ⊥
   pub meets : IsMeeting g c m
   pub differs : m.puts ≢ m.takes
 
--- why there is no period: a refusal is true of the graph
+-- why there is no repetition vector: each fault is true of the graph
 abbrev pub IsPeriodFault : Shape → GraphFault → Type 0
 IsPeriodFault g OutOfMemory = Unit {0}
 IsPeriodFault g (Inconsistent c m) = IsInconsistent g c m

@@ -8,21 +8,21 @@ use Rattle.sdf_graph.specs.Periods.{IsPeriodVector, IsLeastPeriod}
 abbrev pub GraphsAreSound : Type 0
 GraphsAreSound = (g : Shape) → IsShape g → IsSound (rates g)
 
--- its period vectors are periods
+-- the repetition vectors of a graph are periods
 abbrev pub GraphsHavePeriods : Type 0
 GraphsHavePeriods = (g : Shape) (q : List ℕ) → IsShape g → IsPeriodVector (rates g) q →
     IsPeriod (rates g) (slice_index q)
 
--- there is one least period vector
+-- there is at most one least repetition vector
 abbrev pub OneLeastPeriod : Type 0
 OneLeastPeriod = (r : Rates) (p q : List ℕ) → IsLeastPeriod r p → IsLeastPeriod r q → p ≡ q
 
--- the actor that fires last counts one more
+-- the actor that fires last is counted once more
 abbrev pub LastCountsMore : Type 0
 LastCountsMore = (w : List ℕ) (i a : ℕ) → i < length w → slice_index w i ≡ a →
     times (take (i + 1) w) a ≡ times (take i w) a + 1
 
--- and every other counts the same
+-- the counts of all other actors stay
 abbrev pub OthersCountSame : Type 0
 OthersCountSame = (w : List ℕ) (i a : ℕ) → i < length w → (slice_index w i ≡ a → ⊥) →
     times (take (i + 1) w) a ≡ times (take i w) a
@@ -35,7 +35,7 @@ FrontsCountWithin = (w : List ℕ) (i a : ℕ) → times (take i w) a ≤ times 
 abbrev pub SumsGrow : Type 0
 SumsGrow = (f : ℕ → ℕ) (i : ℕ) → sum_to f (i + 1) ≡ sum_to f i + f i
 
--- so it never falls
+-- a sum over more firings is no less
 abbrev pub SumsRise : Type 0
 SumsRise = (f : ℕ → ℕ) (i j : ℕ) → i ≤ j → sum_to f i ≤ sum_to f j
 
@@ -52,18 +52,18 @@ abbrev pub ListsSumWithin : Type 0
 ListsSumWithin = (xs ys : List ℕ) → length xs ≡ length ys → ((a : ℕ) → slice_index xs a ≤ slice_index ys a) →
     sum xs ≤ sum ys
 
--- a period's schedule can be repeated
+-- the schedule of a period can be repeated
 abbrev pub PeriodsRepeat : Type 0
 PeriodsRepeat =
     (r : Rates) (q : ℕ → ℕ) (w : List ℕ) (b : ℕ) → IsSound r → IsPeriod r q → IsPass r q w →
     IsAdmissible r (repeated b w) × ((a : ℕ) → a < r.actors → times (repeated b w) a ≡ b * q a)
 
--- within the same capacities
+-- the repeated schedule fits in equal capacities
 abbrev pub CapacitiesRepeat : Type 0
 CapacitiesRepeat =
     (r : Rates) (q cap : ℕ → ℕ) (w : List ℕ) (b : ℕ) → IsSound r → IsPeriod r q → IsPass r q w →
     FitsIn r cap w → FitsIn r cap (repeated b w)
 
--- graphs with the same rates have the same admissible sequences
+-- graphs with equal rates have equal admissible sequences
 abbrev pub AlikeSequences : Type 0
 AlikeSequences = (r t : Rates) (w : List ℕ) → IsAlike r t → IsAdmissible r w → IsAdmissible t w

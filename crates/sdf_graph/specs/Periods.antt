@@ -1,4 +1,4 @@
--- Period vectors, and which is the least.
+-- Repetition vectors, and which one is the least.
 use Rattle.std.specs.Prelude.{◌≡◌, ℕ, ◌*◌, ◌≤◌, ◌<◌, List, length, slice_index, sum}
 use Rattle.sdf_graph.specs.Rates.{Rates}
 
@@ -6,7 +6,8 @@ use Rattle.sdf_graph.specs.Rates.{Rates}
 abbrev pub Divides : ℕ → ℕ → Type 0
 Divides d n = (k : ℕ) × (n ≡ k * d)
 
--- how often each actor fires in a period: whole cycles, and on each channel as much is put as is taken
+-- a repetition vector: the firings of each actor in a period. Each actor goes through whole cycles, and the samples put
+-- on each channel are the samples taken
 pub record IsPeriodVector (r : Rates) (q : List ℕ) : Type 0 where
   pub all : length q ≡ r.actors
   pub positive : (a : ℕ) → a < r.actors → 0 < slice_index q a
@@ -14,11 +15,11 @@ pub record IsPeriodVector (r : Rates) (q : List ℕ) : Type 0 where
   pub balanced : (c : ℕ) → c < r.channels → r.produced c (slice_index q (r.source c)) ≡
       r.consumed c (slice_index q (r.target c))
 
--- p is some multiple of q
+-- p is a multiple of q
 abbrev pub IsMultiple : List ℕ → List ℕ → Type 0
 IsMultiple p q = (k : ℕ) × ((a : ℕ) → slice_index p a ≡ k * slice_index q a)
 
--- the least by its sum, which also divides all others
+-- the repetition vector with the least sum, which also divides all others
 pub record IsLeastPeriod (r : Rates) (q : List ℕ) : Type 0 where
   pub is : IsPeriodVector r q
   pub least : (p : List ℕ) → IsPeriodVector r p → sum q ≤ sum p

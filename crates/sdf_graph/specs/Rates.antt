@@ -8,7 +8,7 @@ abbrev pub sum_to : (ℕ → ℕ) → ℕ → ℕ
 sum_to f zero = 0
 sum_to f (suc i) = sum_to f i + f i
 
--- the rate of firing i, where these are the rates of a cycle, which begins anew after its last
+-- the rate of firing i, given the rates of a cycle, which repeats after its last
 abbrev pub rate_at : List ℕ → ℕ → ℕ
 rate_at cycle i = slice_index cycle (i % length cycle)
 
@@ -18,16 +18,16 @@ pub record Rates : Type 0 where
   -- the actors at the two ends of a channel
   pub source : ℕ → ℕ
   pub target : ℕ → ℕ
-  -- how many firings an actor's cycle has, after which its rates begin anew
+  -- the firings in an actor's cycle, after which its rates repeat
   pub cycle : ℕ → ℕ
   -- how many samples a channel begins with
   pub initial : ℕ → ℕ
   -- how many samples the first i firings of its source put on channel c: produced c i
   pub produced : ℕ → ℕ → ℕ
-  -- and those of its target take from it
+  -- how many samples the first i firings of its target take from channel c: consumed c i
   pub consumed : ℕ → ℕ → ℕ
 
--- what the laws use of rates. All graphs have it
+-- what the laws use of rates; it is true of all graphs
 pub record IsSound (r : Rates) : Type 0 where
   pub source_in : (c : ℕ) → c < r.channels → r.source c < r.actors
   pub target_in : (c : ℕ) → c < r.channels → r.target c < r.actors
@@ -48,7 +48,7 @@ pub record Edge : Type 0 where
 abbrev pub no_channel : Edge
 no_channel = record { from = 0; put = []; to = 0; take = []; initial = 0 }
 
--- a graph as its actors' number and its channels
+-- a graph as its number of actors and its channels
 pub record Shape : Type 0 where
   pub actors : ℕ
   pub channels : List Edge
@@ -56,8 +56,8 @@ pub record Shape : Type 0 where
 abbrev pub channel : Shape → ℕ → Edge
 channel g c = slice_index_or g.channels c no_channel
 
--- the length of an actor's cycle: of its list at the first channel that it is an end of, its source before its target.
--- It is 1 for an actor without channels
+-- the length of an actor's cycle: of its rate list at its first channel, or of `put` at a channel from it to itself. It
+-- is 1 for an actor without channels
 abbrev pub cycle_among : List Edge → ℕ → ℕ
 cycle_among [] a = 1
 cycle_among (e ∷ es) a = if e.from == a then length e.put else (if e.to == a then length e.take else cycle_among es a)
@@ -84,7 +84,7 @@ pub data IsReached (g : Shape) : ℕ → Type 0 where
   along : (c : ℕ) → c < length g.channels → IsReached g (channel g c).from → IsReached g (channel g c).to
   back : (c : ℕ) → c < length g.channels → IsReached g (channel g c).to → IsReached g (channel g c).from
 
--- the rates at one end of a channel, over a cycle of so many firings
+-- the rates at one end of a channel, over a cycle of n firings
 pub record IsCycle (n : ℕ) (rates : List ℕ) : Type 0 where
   pub all : length rates ≡ n
   pub some : 0 < n
@@ -92,8 +92,8 @@ pub record IsCycle (n : ℕ) (rates : List ℕ) : Type 0 where
   pub moves : 0 < sum rates
   pub small : (i : ℕ) → slice_index rates i ≤ MOST_RATE
 
--- each channel's ends are actors, with a rate for each firing of their cycles, its numbers are small, and the graph is
--- connected
+-- each channel's ends are actors and have a rate for each firing of their cycles; the numbers are within the limits,
+-- and the graph is connected
 pub record IsShape (g : Shape) : Type 0 where
   pub some : 0 < g.actors
   pub few : g.actors ≤ MOST_ACTORS
@@ -105,7 +105,7 @@ pub record IsShape (g : Shape) : Type 0 where
   pub to_in : (c : ℕ) → c < length g.channels → (channel g c).to < g.actors
   pub initial_small : (c : ℕ) → c < length g.channels → (channel g c).initial ≤ MOST_INITIAL
 
--- two graphs with the same rates, as a net and the graph that is made of it
+-- two graphs with equal rates, as a net and the graph that is made of it
 pub record IsAlike (r t : Rates) : Type 0 where
   pub actors : r.actors ≡ t.actors
   pub channels : r.channels ≡ t.channels

@@ -1,4 +1,4 @@
-//! Channels, and what their numbers may be.
+//! Channels, and the limits of their numbers.
 
 ghost use Rattle.std.specs.Prelude.{◌≡◌, ℕ, ◌≤◌, ◌<◌, length, slice_index, sum, nat_lt, IfOk, map};
 ghost use Rattle.sdf_graph.specs.Faults.{channel_fault, channels_fault, are_small, are_rates, is_cycle};
@@ -11,9 +11,9 @@ use crate::fault::GraphFault;
 use sdf_limits::{MOST_CYCLE, MOST_INITIAL, MOST_RATE};
 use std::marker::Model;
 
-/// A channel from an actor to another one or to itself. Each actor has a cycle of firings, and firing `i` of a cycle of
-/// `n` moves what stands at `i % n` in a list of `n` rates: of `put` what `from` puts, of `take` what `to` takes. The
-/// channel begins with `initial` samples (the delays of Lee and Messerschmitt).
+/// A channel from one actor to another or to itself. Its rates are cyclic: firing `i` of `from` puts `put[i % n]`
+/// samples, with `n` the length of `put`. Firing `i` of `to` takes `take[i % n]`, with `n` the length of `take`.
+/// The channel begins with `initial` samples (the delays of Lee and Messerschmitt 1987).
 #[derive(Drop)]
 pub struct Channel {
     pub from: usize,
@@ -37,7 +37,7 @@ impl Model for Channel {
     } };
 }
 
-/// What a channel moves in a cycle of the actor at each end.
+/// The samples that a channel moves in a cycle of the actor at each end.
 #[derive(Clone, Copy)]
 pub(crate) struct Totals {
     pub(crate) from: usize,
@@ -49,14 +49,14 @@ pub(crate) struct Totals {
 /// One end of a channel.
 #[derive(Clone, Copy)]
 pub enum End {
-    /// That of the actor that puts samples on it.
+    /// The end at the actor that puts samples on the channel.
     Source,
-    /// That of the actor that takes them.
+    /// The end at the actor that takes samples from the channel.
     Target,
 }
 
 impl Channel {
-    /// The actor at one end.
+    /// Returns the actor at `end`.
     pub(crate) fn actor_at(&self, end: End) -> usize
         ensures { result ≡ actor_at end self.now }
     {
@@ -66,7 +66,7 @@ impl Channel {
         }
     }
 
-    /// How many samples firing `i` of its source puts.
+    /// Returns how many samples firing `i` of the channel's source puts.
     pub fn puts(&self, i: u32) -> u32
         requires { 0 < length self.now.put }
         ensures { result ≡ rate_at self.now.put i }
@@ -74,7 +74,7 @@ impl Channel {
         rate_at(&self.put, i)
     }
 
-    /// How many samples firing `i` of its target takes.
+    /// Returns how many samples firing `i` of the channel's target takes.
     pub fn takes(&self, i: u32) -> u32
         requires { 0 < length self.now.take }
         ensures { result ≡ rate_at self.now.take i }
@@ -82,7 +82,7 @@ impl Channel {
         rate_at(&self.take, i)
     }
 
-    /// How many samples firing `i` of the actor at one end moves: `puts` or `takes`.
+    /// Returns how many samples firing `i` of the actor at `end` moves: `puts` or `takes`.
     pub fn moves(&self, end: End, i: u32) -> u32
         requires put { 0 < length self.now.put }
         requires take { 0 < length self.now.take }
@@ -94,7 +94,7 @@ impl Channel {
         }
     }
 
-    /// What its ends move in a cycle.
+    /// Returns the samples that a cycle of the actor at each end moves.
     pub(crate) fn totals(&self) -> Totals
         requires put { (n : ℕ) × IsCycle n self.now.put }
         requires take { (n : ℕ) × IsCycle n self.now.take }
@@ -108,7 +108,7 @@ impl Channel {
         }
     }
 
-    /// The first fault of its numbers, where it is channel `number` of these, among so many actors.
+    /// Returns the first fault of this channel, which is number `number` of `channels`, in a graph of `actors` actors.
     fn fault(&self, actors: usize, channels: &[Channel], number: usize) -> Option<GraphFault>
         ensures { result ≡ channel_fault actors channels.now number self.now }
     {
@@ -128,19 +128,19 @@ impl Channel {
     }
 }
 
-/// The rate of firing `i`, where these are the rates of a cycle.
+/// Returns the rate of firing `i`, given the rates of a cycle.
 fn rate_at(rates: &[u32], i: u32) -> u32
     requires { 0 < length rates.now }
     ensures { result ≡ rate_at rates.now i }
 {
-    // A steady rate takes no division.
+    // A constant rate needs no division.
     if rates.len() == 1 {
         return rates[0];
     }
     rates[i as usize % rates.len()]
 }
 
-/// The sum of the rates of a cycle.
+/// Returns the sum of the rates of a cycle.
 fn total(rates: &[u32]) -> u32
     requires short { length rates.now ≤ MOST_CYCLE }
     requires small { (i : ℕ) → slice_index rates.now i ≤ MOST_RATE }
@@ -153,7 +153,7 @@ fn total(rates: &[u32]) -> u32
     total
 }
 
-/// Whether no rate is over the limit.
+/// Checks whether no rate is over `MOST_RATE`.
 fn are_small(rates: &[u32]) -> bool
     ensures { result ≡ are_small rates.now }
 {
@@ -165,7 +165,7 @@ fn are_small(rates: &[u32]) -> bool
     true
 }
 
-/// Whether some rate is above nothing.
+/// Checks whether some rate is above 0.
 fn some_moves(rates: &[u32]) -> bool
     ensures { result ≡ nat_lt 0 (sum rates.now) }
 {
@@ -177,21 +177,22 @@ fn some_moves(rates: &[u32]) -> bool
     false
 }
 
-/// Whether no rate is over the limit, and a cycle that has firings moves something.
+/// Checks whether no rate is over `MOST_RATE`, and not all rates are 0. An empty list passes: its fault is its length.
 fn are_rates(rates: &[u32]) -> bool
     ensures { result ≡ are_rates rates.now }
 {
     are_small(rates) && (rates.is_empty() || some_moves(rates))
 }
 
-/// Whether there is a rate for each firing of a cycle of so many.
+/// Checks whether `rates` has one rate for each firing of a cycle of `firings`, within the limits of a cycle.
 fn is_cycle(firings: usize, rates: &[u32]) -> bool
     ensures { result ≡ is_cycle firings rates.now }
 {
     1 <= rates.len() && rates.len() <= MOST_CYCLE as usize && rates.len() == firings
 }
 
-/// How many firings the cycle of an actor has: as many as its first list has rates.
+/// Returns the firings in the cycle of `actor`: the length of its rate list at its first channel. At a channel from the
+/// actor to itself, that list is `put`. An actor without channels has a cycle of 1.
 pub(crate) fn cycle_among(channels: &[Channel], actor: usize) -> usize
     ensures { result ≡ cycle_among channels.now actor }
 {
@@ -206,7 +207,7 @@ pub(crate) fn cycle_among(channels: &[Channel], actor: usize) -> usize
     1
 }
 
-/// The first fault of the channels' numbers.
+/// Returns the first fault of the channels' numbers.
 pub(crate) fn channels_fault(actors: usize, channels: &[Channel]) -> Option<GraphFault>
     ensures { result ≡ channels_fault actors channels.now 0 channels.now }
 {

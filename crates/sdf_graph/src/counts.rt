@@ -13,9 +13,9 @@ use crate::graph::Graph;
 use std::alloc::{AllocError, Global};
 use std::marker::Model;
 
-/// How often each actor has fired, and how many samples (tokens) the channels hold then.
+/// The firings of each actor so far, and the samples (tokens) that the channels hold after them.
 ///
-/// Only `new` takes memory. `enabled`, `short_channel` and `fire` look at the channels of their actor alone.
+/// Only `new` allocates memory. `enabled`, `short_channel` and `fire` look only at the channels of their actor.
 #[derive(Drop)]
 pub struct Counts<'a> {
     graph: &'a Graph,
@@ -34,7 +34,7 @@ impl<'a> Model for Counts<'a> {
 }
 
 impl<'a> Counts<'a> {
-    /// The counts before the first firing: each channel holds its initial samples.
+    /// Returns the counts before the first firing: each channel holds its initial samples.
     pub fn new(alloc: Global, graph: &'a Graph) -> Result<Counts<'a>, AllocError>
         ensures { IfOk result (λ s. s ≡ record { graph = graph.now; fired = replicate graph.now.actors 0 }) }
     {
@@ -46,7 +46,7 @@ impl<'a> Counts<'a> {
         Ok(Counts { graph, fired, held })
     }
 
-    /// How many samples a channel holds.
+    /// Returns how many samples `channel` holds.
     pub fn tokens(&self, channel: usize) -> u64
         requires { channel < length self.now.graph.channels }
         ensures { result ≡ tokens (rates self.now.graph) (counts self.now) channel }
@@ -54,7 +54,7 @@ impl<'a> Counts<'a> {
         self.held[channel]
     }
 
-    /// How often an actor has fired.
+    /// Returns how often `actor` has fired.
     pub fn fired(&self, actor: usize) -> u32
         requires { actor < self.now.graph.actors }
         ensures { result ≡ counts self.now actor }
@@ -62,7 +62,7 @@ impl<'a> Counts<'a> {
         self.fired[actor]
     }
 
-    /// Whether each channel into an actor holds what it takes.
+    /// Checks whether each channel into `actor` holds what the actor's next firing takes.
     pub fn enabled(&self, actor: usize) -> bool
         requires { actor < self.now.graph.actors }
         ensures { IsTrue result ↔ IsEnabled (rates self.now.graph) (counts self.now) actor }
@@ -70,7 +70,7 @@ impl<'a> Counts<'a> {
         self.short_channel(actor).is_none()
     }
 
-    /// The lowest channel into an actor that holds less than it takes.
+    /// Returns the lowest channel into `actor` that holds less than the actor's next firing takes.
     pub fn short_channel(&self, actor: usize) -> Option<usize>
         requires { actor < self.now.graph.actors }
         ensures { MatchOption result (IsEnabled (rates self.now.graph) (counts self.now) actor)
@@ -85,7 +85,7 @@ impl<'a> Counts<'a> {
         )
     }
 
-    /// Fires an actor that is enabled: it takes from each channel into it, and puts on each channel out of it.
+    /// Fires `actor`, which must be enabled: it takes from each channel into it, and puts on each channel out of it.
     pub fn fire(&mut self, actor: usize)
         requires known { actor < self.old.graph.actors }
         requires enabled { IsEnabled (rates self.old.graph) (counts self.old) actor }
@@ -98,7 +98,7 @@ impl<'a> Counts<'a> {
     }
 }
 
-/// The first of some channels that holds less than firing `i` of their target takes.
+/// Returns the first channel of `numbers` that holds less than firing `i` of its target takes.
 fn first_short(channels: &[Channel], i: u32, numbers: &[usize], held: &[u64]) -> Option<usize>
     requires all { length held.now ≡ length channels.now }
     requires known { (j : ℕ) → j < length numbers.now → slice_index numbers.now j < length channels.now }
@@ -115,7 +115,7 @@ fn first_short(channels: &[Channel], i: u32, numbers: &[usize], held: &[u64]) ->
     None
 }
 
-/// What all channels hold after firing `i` of an actor.
+/// Updates what all channels hold by firing `i` of `actor`, which first takes and then puts.
 fn move_all(graph: &Graph, actor: usize, i: u32, held: &mut [u64])
     requires known { actor < graph.now.actors }
     requires all { length held.old ≡ length graph.now.channels }
@@ -131,7 +131,7 @@ fn move_all(graph: &Graph, actor: usize, i: u32, held: &mut [u64])
     move_tokens(channels, graph.outgoing(actor), End::Source, i, held);
 }
 
-/// What channels hold after firing `i` of the actor at one end of some of them.
+/// Updates what the channels of `numbers` hold by firing `i` of their actor at `end`.
 fn move_tokens(channels: &[Channel], numbers: &[usize], end: End, i: u32, held: &mut [u64])
     requires all { length held.old ≡ length channels.now }
     requires rising { IsStrictlyIncreasing numbers.now }
@@ -148,7 +148,7 @@ fn move_tokens(channels: &[Channel], numbers: &[usize], end: End, i: u32, held: 
     }
 }
 
-/// What a channel holds after firing `i` of the actor at one end.
+/// Returns what `channel` holds after firing `i` of the actor at `end`, if it held `held` before.
 fn after_firing(channel: &Channel, end: End, i: u32, held: u64) -> u64
     requires puts { 0 < length channel.now.put }
     requires takes { 0 < length channel.now.take }

@@ -1,4 +1,4 @@
-//! Graphs, and the faults with which they are refused.
+//! Graphs, and the tests that refuse them.
 
 ghost use Rattle.std.specs.Prelude.{◌≡◌, ℕ, ◌^◌, ◌<◌, length, map, slice_index, slice_index_or, MatchResult, IfOk};
 ghost use Rattle.sdf_graph.specs.Rates.{Shape, IsShape, IsCycle, rates, channel, cycle, cycle_among, no_channel};
@@ -14,17 +14,17 @@ use sdf_limits::{MOST_ACTORS, MOST_LINKS};
 use std::alloc::{AllocError, Global};
 use std::marker::Model;
 
-/// A synchronous dataflow graph (Lee and Messerschmitt 1987): actors, which are numbers from 0, and the channels
-/// between them. Channels, walked both ways, join each actor to actor 0.
+/// A synchronous dataflow graph (Lee and Messerschmitt 1987). Its actors are numbers from 0, and channels join them.
+/// Channels, walked both ways, join each actor to actor 0.
 #[derive(Drop)]
 pub struct Graph {
     pub(crate) actors: usize,
     pub(crate) channels: Vec<Channel>,
-    // what each channel moves in a cycle of the actor at each end
+    // the samples that each channel moves in a cycle of the actor at each end
     pub(crate) totals: Vec<Totals>,
-    // how many firings the cycle of each actor has
+    // the firings in each actor's cycle
     pub(crate) cycles: Vec<u32>,
-    // for each actor the channels that come from it, and those that go to it
+    // for each actor, the channels that come from it and the channels that go to it
     outgoing: Vec<Vec<usize>>,
     incoming: Vec<Vec<usize>>,
 }
@@ -43,12 +43,13 @@ impl Model for Graph {
 }
 
 impl Graph {
-    /// A graph of 1 to 64 actors and at most 256 channels.
+    /// Makes a graph of 1 to 64 actors and at most 256 channels.
     ///
-    /// A fault is the first in this order: the number of actors, the number of channels, then for each channel in order
-    /// its ends, its rates (at most 1,024, and not all 0), the lengths of its lists (1 to 64, and that of the first
-    /// list of the same actor) and its initial samples (at most 65,536), and then the lowest actor that is not joined
-    /// to actor 0.
+    /// It errs with the first fault in this order:
+    /// 1. the number of actors, then the number of channels;
+    /// 2. for each channel in order: its ends, its rates (at most 1,024, and not all 0), the lengths of its lists (1 to
+    ///    64, and the length of the first list of its actor) and its initial samples (at most 65,536);
+    /// 3. the lowest actor that is not joined to actor 0.
     pub fn new(alloc: Global, actors: usize, channels: Vec<Channel>) -> Result<Graph, GraphFault>
         ensures { let shape : Shape = record { actors = actors; channels = channels.items } in
             MatchResult result (λ graph. (graph ≡ shape) × IsFaultless shape) (IsFirstFault shape) }
@@ -73,14 +74,14 @@ impl Graph {
         })
     }
 
-    /// How many actors there are.
+    /// Returns how many actors there are.
     pub fn actors(&self) -> usize
         ensures { result ≡ self.now.actors }
     {
         self.actors
     }
 
-    /// The channels, by number.
+    /// Returns the channels, by number.
     pub fn channels(&self) -> &[Channel]
         ensures list { result.now ≡ self.now.channels }
         ensures shape { IsShape self.now }
@@ -88,7 +89,8 @@ impl Graph {
         &self.channels
     }
 
-    /// How many firings the cycle of an actor has, after which its rates begin anew: 1 for an actor without channels.
+    /// Returns the firings in the cycle of `actor`, after which its rates repeat. An actor without channels has a cycle
+    /// of 1.
     pub fn cycle(&self, actor: usize) -> u32
         requires { actor < self.now.actors }
         ensures { result ≡ cycle self.now actor }
@@ -96,7 +98,7 @@ impl Graph {
         self.cycles[actor]
     }
 
-    /// What a channel moves in a cycle of the actor at each end.
+    /// Returns the samples that channel `number` moves in a cycle of the actor at each end.
     pub(crate) fn totals_at(&self, number: usize) -> Totals
         requires { number < length self.now.channels }
         ensures value { result ≡ totals (channel self.now number) }
@@ -106,8 +108,7 @@ impl Graph {
         self.totals[number]
     }
 
-    /// The numbers of the channels that come from an actor, in rising order. One from the actor to itself is among
-    /// them.
+    /// Returns the numbers of the channels that come from `actor`, in rising order. They include channels to itself.
     pub fn outgoing(&self, actor: usize) -> &[usize]
         requires { actor < self.now.actors }
         ensures { AreOutgoing (rates self.now) actor result.now }
@@ -115,7 +116,7 @@ impl Graph {
         &self.outgoing[actor]
     }
 
-    /// The numbers of the channels that go to an actor, in rising order. One from the actor to itself is among them.
+    /// Returns the numbers of the channels that go to `actor`, in rising order. They include channels from itself.
     pub fn incoming(&self, actor: usize) -> &[usize]
         requires { actor < self.now.actors }
         ensures { AreIncoming (rates self.now) actor result.now }
@@ -123,7 +124,7 @@ impl Graph {
         &self.incoming[actor]
     }
 
-    /// The numbers of the channels that have an actor at one end, in rising order: `outgoing` or `incoming`.
+    /// Returns the numbers of the channels that have `actor` at `end`, in rising order: `outgoing` or `incoming`.
     pub fn channels_at(&self, actor: usize, end: End) -> &[usize]
         requires { actor < self.now.actors }
         ensures { ListsExactly (λ c. actor_at end (channel self.now c) ≡ actor) (length self.now.channels) result.now }
@@ -135,7 +136,7 @@ impl Graph {
     }
 }
 
-/// The first fault of the numbers of a graph.
+/// Returns the first fault of a graph's numbers: of its actors, of its channels, then of each channel in order.
 pub(crate) fn numbers_fault(actors: usize, channels: &[Channel]) -> Option<GraphFault>
     ensures { result ≡ numbers_fault (record { actors = actors; channels = channels.now }) }
 {
@@ -148,7 +149,7 @@ pub(crate) fn numbers_fault(actors: usize, channels: &[Channel]) -> Option<Graph
     channels_fault(actors, channels)
 }
 
-/// What each channel moves in a cycle of the actor at each end.
+/// Returns the samples that each channel moves in a cycle of the actor at each end.
 fn totals_of(alloc: Global, channels: &[Channel]) -> Result<Vec<Totals>, AllocError>
     requires put { (c : ℕ) → c < length channels.now →
         IsCycle (cycle_among channels.now (slice_index_or channels.now c no_channel).from)
@@ -165,7 +166,7 @@ fn totals_of(alloc: Global, channels: &[Channel]) -> Result<Vec<Totals>, AllocEr
     Ok(all)
 }
 
-/// How many firings the cycle of each actor has.
+/// Returns the firings in each actor's cycle.
 fn cycles_of(alloc: Global, actors: usize, channels: &[Channel]) -> Result<Vec<u32>, AllocError>
     requires { (a : ℕ) → cycle_among channels.now a < 2 ^ 32 }
     ensures { IfOk result (λ v. (length v.items ≡ actors)

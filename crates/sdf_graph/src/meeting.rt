@@ -1,4 +1,4 @@
-//! What meets at a channel, whether or not its ends can be balanced.
+//! The balance of a channel, whether or not its ends can be balanced.
 
 ghost use Rattle.std.specs.Prelude.{◌≡◌, ◌*◌, ◌≤◌, ◌<◌, length};
 ghost use Rattle.sdf_graph.specs.Shares.{IsReduced, IsSmall, IsEvenAt, AreShares};
@@ -8,7 +8,7 @@ use crate::graph::Graph;
 use crate::repetitions::{Ratio, reduced};
 use sdf_limits::MOST_PERIOD;
 
-/// What meets at a channel: how often its source and its target fire, and what these firings put and take.
+/// The balance of a channel: how often its source and its target fire, and the samples that these firings put and take.
 #[derive(Debug, Clone, Copy, PartialEq, Eq)]
 pub struct Meeting {
     pub source: u64,
@@ -17,7 +17,7 @@ pub struct Meeting {
     pub takes: u64,
 }
 
-/// The fewest times that two actors with these shares go through their cycles, as a fraction.
+/// Returns the fewest whole cycles of two actors with the relative rates `from` and `to`, as a fraction.
 fn turns_of(from: Ratio, to: Ratio) -> Ratio
     requires from_some { (0 < from.num) × (0 < from.den) }
     requires to_some { (0 < to.num) × (0 < to.den) }
@@ -30,8 +30,7 @@ fn turns_of(from: Ratio, to: Ratio) -> Ratio
     reduced(from.num * to.den, to.num * from.den)
 }
 
-/// Returns the firings of the fewest whole cycles of the two ends of `channel`, at `parts`, and what these put and
-/// take.
+/// Returns the balance of `channel` over the fewest whole cycles of its ends at the relative rates `parts`.
 pub(crate) fn meeting_at(graph: &Graph, parts: &[Ratio], channel: usize) -> Meeting
     requires known { channel < length graph.now.channels }
     requires shares { AreShares graph.now parts.now }

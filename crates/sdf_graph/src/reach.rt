@@ -1,4 +1,4 @@
-//! Which actors channels, walked both ways, join to actor 0.
+//! The actors that channels, walked both ways, join to actor 0.
 
 ghost use Rattle.std.specs.Prelude.{◌≡◌, ℕ, ◌<◌, Some, None, length, slice_index_or, MatchOption, MatchResult};
 ghost use Rattle.sdf_graph.specs.Rates.{Shape, no_channel};
@@ -10,8 +10,8 @@ use crate::fault::GraphFault;
 use crate::graph::numbers_fault;
 use sdf_limits::MOST_ACTORS;
 
-/// Marks on those of so many actors that channels, walked both ways, join to actor 0; or the first fault of the numbers
-/// of such a graph.
+/// Marks the actors that channels, walked both ways, join to actor 0. It errs with the first fault of the graph's
+/// numbers, if they have one.
 pub fn joined(actors: usize, channels: &[Channel]) -> Result<[bool; MOST_ACTORS], GraphFault>
     ensures { let shape : Shape = record { actors = actors; channels = channels.now } in
         MatchResult result (λ marked. (numbers_fault shape ≡ None) × AreJoined shape marked)
@@ -23,7 +23,7 @@ pub fn joined(actors: usize, channels: &[Channel]) -> Result<[bool; MOST_ACTORS]
     }
 }
 
-/// The lowest actor that channels, walked both ways, do not join to actor 0.
+/// Returns the lowest actor that channels, walked both ways, do not join to actor 0.
 pub(crate) fn lowest_unreached(actors: usize, channels: &[Channel]) -> Option<usize>
     requires { numbers_fault (record { actors = actors; channels = channels.now }) ≡ None }
     ensures { let shape : Shape = record { actors = actors; channels = channels.now } in
@@ -38,7 +38,7 @@ pub(crate) fn lowest_unreached(actors: usize, channels: &[Channel]) -> Option<us
     None
 }
 
-/// Marks on the actors that channels, walked both ways, join to actor 0.
+/// Marks the actors that channels, walked both ways, join to actor 0.
 fn reached(actors: usize, channels: &[Channel]) -> [bool; MOST_ACTORS]
     requires { numbers_fault (record { actors = actors; channels = channels.now }) ≡ None }
     ensures marked { AreReached (record { actors = actors; channels = channels.now }) result }
@@ -52,7 +52,7 @@ fn reached(actors: usize, channels: &[Channel]) -> [bool; MOST_ACTORS]
     marked
 }
 
-/// The number of a channel with one end that is marked and one that is not, and the actor that is not.
+/// Finds a channel with one marked end and one unmarked end. It returns the channel's number and the unmarked actor.
 pub(crate) fn border(channels: &[Channel], marked: &[bool]) -> Option<(usize, usize)>
     requires { (c : ℕ) → c < length channels.now →
         IsJoin (length marked.now) (slice_index_or channels.now c no_channel).from

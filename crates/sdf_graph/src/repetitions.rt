@@ -1,4 +1,4 @@
-// The least period vector: fractions of actor 0's firings, walked over the channels.
+// The repetition vector. A walk over the channels finds the rates of the actors relative to actor 0 as fractions.
 
 ghost use Rattle.std.specs.Prelude.{◌≡◌, ℕ, ◌*◌, ◌≤◌, ◌<◌, ◌≢◌, ◌↔◌, List, length, map, sum, sum_by, slice_index};
 ghost use Rattle.std.specs.Prelude.{slice_index_or, set, IsTrue, MatchOption, MatchResult, IfOk};
@@ -20,14 +20,14 @@ use sdf_limits::{MOST_ACTORS, MOST_CYCLE, MOST_PERIOD, MOST_RATE};
 use std::alloc::Global;
 use std::marker::Model;
 
-/// How often an actor goes through its cycle for each time that actor 0 does.
+/// An actor's relative firing rate: its cycles for each cycle of actor 0, as a fraction.
 #[derive(Clone, Copy)]
 pub(crate) struct Ratio {
     pub(crate) num: u64,
     pub(crate) den: u64,
 }
 
-/// The greatest common divisor, which grows as its two numbers do.
+/// Returns the greatest common divisor of `a` and `b`, which scales as they do.
 fn gcd(a: u64, b: u64) -> u64
     requires { 0 < a }
     ensures some { 0 < result }
@@ -43,7 +43,7 @@ fn gcd(a: u64, b: u64) -> u64
     x
 }
 
-/// A fraction in lowest terms.
+/// Returns the fraction of `num` and `den` in lowest terms.
 pub(crate) fn reduced(num: u64, den: u64) -> Ratio
     requires top { 0 < num }
     requires bottom { 0 < den }
@@ -56,7 +56,7 @@ pub(crate) fn reduced(num: u64, den: u64) -> Ratio
     }
 }
 
-/// The lowest channel that the fractions do not balance.
+/// Returns the lowest channel that the relative rates `parts` do not balance.
 fn uneven(channels: &[Totals], parts: &[Ratio]) -> Option<usize>
     requires from_in { (c : ℕ) → c < length channels.now →
         (slice_index_or channels.now c no_totals).from < length parts.now }
@@ -81,7 +81,7 @@ fn uneven(channels: &[Totals], parts: &[Ratio]) -> Option<usize>
     None
 }
 
-/// Whether fractions at the ends of a channel balance it.
+/// Checks whether the relative rates `from` and `to` balance `channel`.
 fn evens(channel: &Totals, from: Ratio, to: Ratio) -> bool
     requires from_small { IsSmall from }
     requires to_small { IsSmall to }
@@ -92,7 +92,8 @@ fn evens(channel: &Totals, from: Ratio, to: Ratio) -> bool
     from.num * u64::from(channel.put) * to.den == to.num * u64::from(channel.take) * from.den
 }
 
-/// The fraction of the end that is not reached.
+/// Returns the relative rate of a channel's unreached end. `near` is the rate of the reached end, which moves `gives`
+/// samples in a cycle; the unreached end moves `takes`.
 fn carried(near: Ratio, gives: u32, takes: u32) -> Ratio
     requires small { IsSmall near }
     requires gives_small { gives ≤ MOST_RATE * MOST_CYCLE }
@@ -104,7 +105,7 @@ fn carried(near: Ratio, gives: u32, takes: u32) -> Ratio
     reduced(near.num * u64::from(gives), near.den * u64::from(takes))
 }
 
-/// The least common multiple of the denominators, unless it is over the limit.
+/// Returns the least common multiple of the denominators of `parts`, unless it is over `MOST_PERIOD`.
 fn common(parts: &[Ratio]) -> Option<u64>
     requires { (a : ℕ) → a < length parts.now → (0 < (ratio parts.now a).den) × IsSmall (ratio parts.now a) }
     ensures { MatchOption result
@@ -122,7 +123,7 @@ fn common(parts: &[Ratio]) -> Option<u64>
     Some(all)
 }
 
-/// The firings of each actor, unless their sum is over the limit.
+/// Returns the firings of each actor in `all` cycles of actor 0, unless their sum is over `MOST_PERIOD`.
 fn scaled(
     alloc: Global,
     cycles: &[u32],
@@ -155,7 +156,7 @@ fn scaled(
     })
 }
 
-/// The share of the actor beyond a channel of which one end is marked and one is not.
+/// Returns the relative rate of the unmarked end of `channel`. Its other end must be marked.
 fn beyond(graph: &Graph, parts: &[Ratio], marked: &[bool], channel: usize) -> Ratio
     requires walk { IsWalk graph.now parts.now marked.now }
     requires border { (a : ℕ) × IsBorder graph.now.channels marked.now channel a }
@@ -171,7 +172,7 @@ fn beyond(graph: &Graph, parts: &[Ratio], marked: &[bool], channel: usize) -> Ra
     }
 }
 
-/// The shares of all actors.
+/// Returns the relative rates of all actors. It walks the channels from actor 0.
 fn walk(graph: &Graph, alloc: Global) -> Result<Vec<Ratio>, GraphFault>
     ensures { MatchResult result (λ v. AreShares graph.now v.items) (IsPeriodFault graph.now) }
 {
@@ -189,7 +190,7 @@ fn walk(graph: &Graph, alloc: Global) -> Result<Vec<Ratio>, GraphFault>
     Ok(parts)
 }
 
-/// How often each actor fires in a period: a repetition vector, whose sum is at most 65,536.
+/// The firings of each actor in a period: a repetition vector, whose sum is at most 65,536.
 #[derive(Drop)]
 pub struct Repetitions {
     of: Vec<u32>,
@@ -208,7 +209,7 @@ impl Model for Repetitions {
 }
 
 impl Repetitions {
-    /// How often an actor fires.
+    /// Returns how often `actor` fires in a period.
     pub fn of(&self, actor: usize) -> u32
         requires { actor < length self.now }
         ensures { result ≡ slice_index self.now actor }
@@ -216,21 +217,21 @@ impl Repetitions {
         self.of[actor]
     }
 
-    /// How often the actors fire, one after another.
+    /// Returns the firings of each actor in a period, by actor.
     pub fn as_slice(&self) -> &[u32]
         ensures { result.now ≡ self.now }
     {
         self.of.as_slice()
     }
 
-    /// How many actors there are.
+    /// Returns how many actors there are.
     pub fn len(&self) -> usize
         ensures { result ≡ length self.now }
     {
         self.of.len()
     }
 
-    /// How many firings a period has.
+    /// Returns how many firings a period has.
     pub fn period(&self) -> u32
         ensures sum { result ≡ sum self.now }
         ensures within { sum self.now ≤ MOST_PERIOD }
@@ -240,11 +241,11 @@ impl Repetitions {
 }
 
 impl Graph {
-    /// The least period vector, which is the least positive vector in the null space of the topology matrix (Lee and
+    /// Returns the least repetition vector: the least positive vector in the null space of the topology matrix (Lee and
     /// Messerschmitt 1987).
     ///
-    /// A graph whose channels no vector balances is `Inconsistent`, and one whose least vector has a sum over 65,536
-    /// `PeriodTooLong`; where both hold, either may be answered.
+    /// It errs with `Inconsistent` if no vector balances the channels, and with `PeriodTooLong` if the least vector has
+    /// a sum over 65,536. If both are true of the graph, it may return either.
     pub fn repetitions(&self, alloc: Global) -> Result<Repetitions, GraphFault>
         ensures { MatchResult result
             (λ q. IsLeastPeriod (rates self.now) q × (sum q ≤ MOST_PERIOD))
