@@ -1,4 +1,4 @@
--- What a firing moves, as the lean policy keeps it.
+-- The samples that a firing moves, as the lean policy keeps them.
 use Rattle.std.specs.Prelude.{◌≡◌, ℕ, ◌*◌, ◌≤◌}
 use Rattle.sdf_limits.specs.declared.TheConstants.{MOST_RATE, MOST_LINKS}
 use Rattle.sdf_graph.specs.Rates.{Rates}
@@ -10,7 +10,7 @@ pub record IsFlow (r : Rates) (k : ℕ → ℕ) (a : ℕ) (f : Flow) : Type 0 wh
   pub put : f.put ≡ puts r k a
   pub taken : f.taken ≡ takes r k a
 
--- they are no more than all channels move at most
+-- they are at most what all channels can move
 pub record AreSmall (f : Flow) : Type 0 where
   pub put : f.put ≤ MOST_RATE * MOST_LINKS
   pub taken : f.taken ≤ MOST_RATE * MOST_LINKS

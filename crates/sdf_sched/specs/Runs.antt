@@ -1,12 +1,12 @@
--- The policy of runs: it stays with an actor while that is runnable, and then goes to the next runnable one in file
+-- The policy of runs: it stays with an actor while it is runnable, and then goes to the next runnable one in file
 -- order.
 use Rattle.std.specs.Prelude.{◌≡◌, ℕ, ◌≤◌, ◌<◌, List, ◌∷◌, length, slice_index, take, ◌⊎◌}
 use Rattle.sdf_graph.specs.Rates.{Rates, Shape}
 use Rattle.sdf_graph.specs.Sequences.{times, IsRunnable}
 use Rattle.sdf_sched.specs.Round.{IsNextInPass}
 
--- the state of runs is the actor that fired last: the first runnable one from there on fires, or with none left the
--- first of all
+-- the state of `Runs` is the actor that fired last: the first runnable actor from there on fires; if none is left, the
+-- first of all fires
 pub record IsRunsChoice (last : ℕ) (g : Shape) (k : ℕ → ℕ) (xs : List ℕ) (at : ℕ) (last' : ℕ) : Type 0 where
   pub next : IsNextInPass last xs at
   pub after : last' ≡ slice_index xs at
@@ -20,7 +20,7 @@ pub record IsNextFrom (r : Rates) (q k : ℕ → ℕ) (a b : ℕ) : Type 0 where
   pub runnable : IsRunnable r q k b
   pub first : (c : ℕ) → IsRunnable r q k c → ComesBefore a c b → ⊥
 
--- the actor that fired last in a sequence, and before all firings actor 0
+-- the actor that fired last in a sequence, or actor 0 before all firings
 abbrev pub last_fired : List ℕ → ℕ
 last_fired w = slice_index (0 ∷ w) (length w)
 

@@ -21,7 +21,7 @@ use sdf_graph::{Counts, Graph, Repetitions};
 use sdf_limits::MOST_PERIOD;
 use std::alloc::{AllocError, Global};
 
-/// The runnable actors in file order, and for each other actor whose firings are not over a channel that it waits for.
+/// The runnable actors in file order, and for each other actor with firings left the channel that it waits for.
 #[derive(Drop)]
 struct Candidates {
     runnable: Vec<usize>,
@@ -40,7 +40,7 @@ fn short_of(counts: &Counts, firings: &[u32], actor: usize) -> Option<usize>
     counts.short_channel(actor)
 }
 
-/// Returns whether `actor` is runnable, and keeps the channel that it waits for if it is not.
+/// Checks whether `actor` is runnable, and stores the channel that it waits for if it is not.
 fn test(counts: &Counts, firings: &[u32], actor: usize, awaited: &mut [Option<usize>]) -> bool
     requires all { length firings.now ≡ counts.now.graph.actors }
     requires known { actor < length firings.now }
@@ -71,7 +71,7 @@ fn insert(actor: usize, runnable: &mut Vec<usize>)
     }
 }
 
-/// Puts `actor` into the list of runnable ones if it is runnable.
+/// Puts `actor` into the list of runnable actors if it is runnable.
 fn admit(counts: &Counts, firings: &[u32], actor: usize, candidates: &mut Candidates)
     requires all { length firings.now ≡ counts.now.graph.actors }
     requires known { actor < length firings.now }
@@ -91,7 +91,7 @@ fn admit(counts: &Counts, firings: &[u32], actor: usize, candidates: &mut Candid
     }
 }
 
-/// Takes the actor at place `at` out of the list if it is not runnable any more.
+/// Takes the actor at place `at` out of the list if it is no longer runnable.
 fn dismiss(counts: &Counts, firings: &[u32], at: usize, candidates: &mut Candidates)
     requires all { length firings.now ≡ counts.now.graph.actors }
     requires place { at < length candidates.old.runnable.items }
@@ -125,7 +125,8 @@ fn collect(counts: &Counts, firings: &[u32], candidates: &mut Candidates)
     }
 }
 
-/// Fires the actor at place `at` of the list. Besides it, only actors that wait for a channel that it feeds are tested.
+/// Fires the actor at place `at` of the list. Apart from this actor, only actors that wait for a channel that it feeds
+/// are tested.
 fn fire(graph: &Graph, firings: &[u32], at: usize, counts: &mut Counts, candidates: &mut Candidates)
     requires same { counts.old.graph ≡ graph.now }
     requires all { length firings.now ≡ graph.now.actors }
@@ -153,7 +154,7 @@ fn fire(graph: &Graph, firings: &[u32], at: usize, counts: &mut Counts, candidat
     }
 }
 
-/// Returns whether `channel` is the one that `actor` waits for.
+/// Checks whether `channel` is the one that `actor` waits for.
 fn awaits(awaited: &[Option<usize>], actor: usize, channel: usize) -> bool
     requires { actor < length awaited.now }
     ensures { IsTrue result ↔ (slice_index_or awaited.now actor None ≡ Some channel) }
@@ -161,7 +162,7 @@ fn awaits(awaited: &[Option<usize>], actor: usize, channel: usize) -> bool
     awaited[actor] == Some(channel)
 }
 
-/// Fires what the pick chooses while some actor is runnable.
+/// Fires the actors that `pick` chooses while some actor is runnable.
 fn fire_all<P: Pick>(
     graph: &Graph,
     firings: &[u32],
@@ -187,7 +188,7 @@ fn fire_all<P: Pick>(
     }
 }
 
-/// The unfinished actors, each with its lowest channel that holds too little.
+/// Collects the unfinished actors, each with its lowest channel that holds too little.
 fn collect_short(counts: &Counts, firings: &[u32], short: &mut Vec<(usize, usize)>)
     requires all { length firings.now ≡ counts.now.graph.actors }
     requires empty { short.old.items ≡ [] }
@@ -204,7 +205,7 @@ fn collect_short(counts: &Counts, firings: &[u32], short: &mut Vec<(usize, usize
     }
 }
 
-/// How often each actor has fired.
+/// Collects how often each actor has fired.
 fn collect_done(counts: &Counts, reps: &Repetitions, done: &mut Vec<u32>)
     requires all { length reps.now ≡ counts.now.graph.actors }
     requires same { length counts.now.fired ≡ length reps.now }
@@ -217,7 +218,7 @@ fn collect_done(counts: &Counts, reps: &Repetitions, done: &mut Vec<u32>)
     }
 }
 
-/// How many firings there are in all.
+/// Returns the number of firings of all actors.
 fn total(firings: &[u32]) -> usize
     requires { sum firings.now ≤ MOST_PERIOD }
     ensures { result ≡ sum firings.now }
@@ -229,8 +230,8 @@ fn total(firings: &[u32]) -> usize
     total
 }
 
-/// Fires what the pick chooses, from the start until no actor is runnable. It takes all its memory before the first
-/// choice.
+/// Fires the actors that `pick` chooses, from the start until no actor is runnable. All memory is allocated before the
+/// first choice.
 fn fire_greedily<'a, P: Pick>(
     alloc: Global,
     graph: &'a Graph,
@@ -260,10 +261,11 @@ fn fire_greedily<'a, P: Pick>(
     Ok((counts, order))
 }
 
-/// A schedule of one period, made by a pick's choices among the runnable actors. It takes all its memory before the
-/// first choice; after an error the pick is in the state that its last choice left.
+/// Returns a schedule of one period, made by the choices of `pick` among the runnable actors.
 ///
-/// (Lee and Messerschmitt 1987, class S algorithms: any of them finds a schedule where one exists.)
+/// All memory is allocated before the first choice. After an error `pick` is in the state that its last choice left.
+///
+/// (Lee and Messerschmitt 1987: every class S algorithm finds a schedule if one exists.)
 pub fn class_s<P: Pick>(
     alloc: Global,
     graph: &Graph,
@@ -276,7 +278,7 @@ pub fn class_s<P: Pick>(
         × IsPicked P.chooses graph.now (slice_index reps.now) pick.old s.order pick.new)
         (IsSchedFault P.chooses graph.now (slice_index reps.now) pick.old pick.new) }
 {
-    // the graph has a shape, so its rates are sound, and counts that are stuck mean a deadlock
+    // the graph has a shape, so its rates are sound, and stuck counts mean a deadlock
     graph.channels();
     reps.period();
     let mut done = Vec::with_capacity(alloc, reps.len())?;
@@ -293,8 +295,8 @@ pub fn class_s<P: Pick>(
     })
 }
 
-/// A schedule of so many firings of each actor, as of several periods, made by a pick's choices. There is one wherever
-/// any sequence of enabled firings does them all.
+/// Returns a schedule in which each actor fires the number of times in `firings`, for example in several periods.
+/// `pick` makes the choices. A schedule exists if any sequence of enabled firings does them all.
 pub fn class_s_of<P: Pick>(
     alloc: Global,
     graph: &Graph,

@@ -9,7 +9,8 @@ use crate::pick::Pick;
 use sdf_graph::{Counts, End, Graph};
 use sdf_limits::{MOST_LINKS, MOST_RATE};
 
-/// The runnable actor whose firing adds least to what the channels hold; of several the first in file order.
+/// The lean policy: it fires the runnable actor whose firing adds least to what the channels hold. Of several it fires
+/// the first in file order.
 #[derive(Drop)]
 pub struct Lean;
 
@@ -23,14 +24,14 @@ impl Pick for Lean {
     }
 }
 
-/// The samples that an actor's next firing puts on channels, and those that it takes from channels.
+/// The samples that an actor's next firing puts on channels and takes from channels.
 #[derive(Clone, Copy)]
 struct Flow {
     put: u64,
     taken: u64,
 }
 
-/// The place of the leanest actor, the first of several.
+/// Returns the place in `runnable` of the leanest actor, the first if there are several.
 fn leanest(graph: &Graph, counts: &Counts, runnable: &[usize]) -> usize
     requires same { counts.now.graph ≡ graph.now }
     requires some { 0 < length runnable.now }
@@ -54,7 +55,7 @@ fn leanest(graph: &Graph, counts: &Counts, runnable: &[usize]) -> usize
     best
 }
 
-/// Returns whether a firing with flow `one` adds less to what the channels hold than one with flow `other`.
+/// Checks whether a firing with flow `one` adds less to what the channels hold than one with flow `other`.
 fn is_leaner(one: Flow, other: Flow) -> bool
     requires one { AreSmall one }
     requires other { AreSmall other }
@@ -77,8 +78,8 @@ fn flow_of(graph: &Graph, counts: &Counts, actor: usize) -> Flow
     }
 }
 
-/// The samples that firing `i` of an actor moves: what it puts on the channels of which it is the source, or what it
-/// takes from those of which it is the target.
+/// Returns the samples that firing `i` of `actor` moves at its channels with the actor at `end`: what it puts on
+/// outgoing channels, or takes from incoming ones.
 fn moved_by(graph: &Graph, actor: usize, end: End, i: u32) -> u64
     requires { actor < graph.now.actors }
     ensures sum { (k : ℕ → ℕ) → k actor ≡ i → result ≡ moved_by end (rates graph.now) k actor }

@@ -8,8 +8,8 @@ use crate::round::next_in_pass;
 use sdf_graph::{Counts, Graph};
 use std::marker::Model;
 
-/// Stays with an actor while that is runnable, and then goes to the next runnable one in file order, from the last back
-/// to the first.
+/// A policy that stays with an actor while it is runnable. Then it goes to the next runnable one in file order, from
+/// the last back to the first.
 #[derive(Drop)]
 pub struct Runs {
     actor: usize,
@@ -22,7 +22,7 @@ impl Model for Runs {
 }
 
 impl Runs {
-    /// Before the first run: the first runnable actor begins.
+    /// Returns the policy before the first run, which the first runnable actor begins.
     pub fn new() -> Runs
         ensures { result ≡ 0 }
     {
