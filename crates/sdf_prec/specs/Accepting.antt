@@ -1,4 +1,4 @@
--- Which rows make a table, and why others make none.
+-- Rows that make a table, and the reasons why others do not.
 use Rattle.std.specs.Prelude.{◌≡◌, ℕ, ◌⊎◌, List, length, slice_index, Option}
 use Rattle.sdf_graph.specs.Rates.{Rates}
 use Rattle.sdf_prec.specs.declared.firing.Firing.{Firing}
@@ -8,13 +8,13 @@ use Rattle.sdf_prec.specs.Tables.{IsValid, Tabled, IsTable}
 use Rattle.sdf_prec.specs.Tidied.{tidied}
 use Rattle.sdf_prec.specs.Refusals.{AreNarrow, StandsFirst}
 
--- a block of j periods may be, and m workers
+-- j periods are a block for m workers
 pub record IsSize (j m : ℕ) (reps : List ℕ) : Type 0 where
   pub factor : IsBlocking j
   pub workers : IsWorkers m
   pub short : IsShort j reps
 
--- the rows are a valid table, within the width, and t is it
+-- the rows are a valid table within the width, and t is this table
 pub record IsAccepted (r : Rates) (n : ℕ → ℕ) (width : ℕ) (rows : List (List (Option Firing)))
     (t : Tabled) : Type 0 where
   pub narrow : AreNarrow width rows (length rows)
@@ -22,7 +22,7 @@ pub record IsAccepted (r : Rates) (n : ℕ → ℕ) (width : ℕ) (rows : List (
   pub kept : t.rows ≡ tidied width rows
   pub table : IsTable r n width t
 
--- why there is none: the size, or else the first test of the rows that fails
+-- why there is no table: its size, or otherwise the first test that the rows fail
 abbrev pub IsTableFault : Rates → ℕ → ℕ → List ℕ → List (List (Option Firing)) → PrecFault → Type 0
 IsTableFault r j m reps rows e = IsSizeFault j m reps e
     ⊎ (IsSize j m reps × StandsFirst r (slice_index (block j reps)) m rows e)

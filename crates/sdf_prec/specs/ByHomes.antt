@@ -1,4 +1,4 @@
--- One firing a row, each in its actor's home.
+-- Rows with one firing each, in its actor's home.
 use Rattle.std.specs.Prelude.{◌≡◌, ℕ, ◌<◌, ◌⊎◌, List, length, take, replicate, slice_index, slice_index_or, slice_set}
 use Rattle.std.specs.Prelude.{Option, Some, None}
 use Rattle.sdf_graph.specs.Rates.{Rates}
@@ -11,11 +11,11 @@ use Rattle.sdf_prec.specs.Blocks.{IsSizeFault}
 use Rattle.sdf_prec.specs.Tables.{row}
 use Rattle.sdf_prec.specs.Accepting.{IsSize}
 
--- actor a is at home in one of the first m columns
+-- the home of actor a is one of the first m columns
 abbrev pub HasHome : List (Option ℕ) → ℕ → ℕ → Type 0
 HasHome homes m a = (j : ℕ) × (slice_index_or homes a None ≡ Some j) × (j < m)
 
--- the lowest of so many actors that is not
+-- a is the lowest actor below `actors` without a home below m
 pub record IsBadHome (homes : List (Option ℕ)) (m actors a : ℕ) : Type 0 where
   pub known : a < actors
   pub bad : HasHome homes m a → ⊥
@@ -31,7 +31,7 @@ pub record AreByHomes (homes : List (Option ℕ)) (m : ℕ) (w : List ℕ) (rows
   pub each : (p j : ℕ) → p < length w → slice_index_or homes (slice_index w p) None ≡ Some j →
       row rows p ≡ slice_set (replicate m None) j (Some (firing_at w p))
 
--- row by row the firings of n of each actor in runs: an actor fires on while it is runnable, and then the next one in
+-- row by row the n a firings of each actor a in runs: an actor fires on while it is runnable, and then the next one in
 -- file order
 pub record AreRunsByHomes (r : Rates) (n : ℕ → ℕ) (homes : List (Option ℕ)) (m : ℕ)
     (rows : List (List (Option Firing))) : Type 0 where
@@ -39,7 +39,7 @@ pub record AreRunsByHomes (r : Rates) (n : ℕ → ℕ) (homes : List (Option �
   pub in_runs : IsInRuns r n order
   pub by : AreByHomes homes m order rows
 
--- why there is no such table: the size, or else the lowest actor without a home
+-- why there is no table by homes: its size, or otherwise the lowest actor without a home
 abbrev pub IsHomesFault : ℕ → ℕ → List ℕ → List (Option ℕ) → PrecFault → Type 0
 IsHomesFault j m reps homes e = IsSizeFault j m reps e
     ⊎ (IsSize j m reps × ((a : ℕ) × (e ≡ BadHome a) × IsBadHome homes m (length reps) a))

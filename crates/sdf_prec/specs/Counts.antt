@@ -1,11 +1,11 @@
--- How many firings tables have.
+-- The number of firings of tables.
 use Rattle.std.specs.Prelude.{◌≡◌, ℕ, ◌*◌, List, length, slice_index, sum}
 use Rattle.sdf_graph.specs.Rates.{Rates}
 use Rattle.sdf_graph.specs.Sequences.{repeated}
 use Rattle.sdf_prec.specs.Blocks.{block}
 use Rattle.sdf_prec.specs.Tables.{Tabled, IsTable}
 
--- b blocks in the row order of a table have as many firings as their periods
+-- b blocks in the row order of a table have the number of firings of their periods
 abbrev pub TablesCount : Type 0
 TablesCount =
     (r : Rates) (q : List ℕ) (j width : ℕ) (t : Tabled) (b : ℕ) → length q ≡ r.actors →

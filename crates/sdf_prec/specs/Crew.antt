@@ -1,4 +1,4 @@
--- Rows made one after the other.
+-- Rows made one after another.
 use Rattle.std.specs.Prelude.{◌≡◌, ℕ, ◌+◌, ◌*◌, ◌≤◌, ◌<◌, ◌⊎◌, ◌↔◌, List, length, sum, slice_index, slice_index_or}
 use Rattle.std.specs.Prelude.{replicate, [], Option, Some, None, Bool, true, IsTrue}
 use Rattle.sdf_limits.specs.declared.TheConstants.{MOST_ACTORS, MOST_BLOCK, MOST_COST}
@@ -14,7 +14,7 @@ use Rattle.sdf_prec.specs.Trying.{IsQueue}
 use Rattle.sdf_prec.specs.Queued.{IsQueueOf, IsUnmarked}
 use Rattle.sdf_prec.specs.Floor.{IsNextReady, IsFloor, AreStarted, IsStuck, IsDue, IsDone}
 
--- what rows are made of
+-- the inputs to rows
 pub record IsJob (actors : ℕ) (firings : List ℕ) (levels : Numbered) (costs weights : List ℕ) : Type 0 where
   pub actors_few : actors ≤ MOST_ACTORS
   pub firings_all : length firings ≡ actors
@@ -28,8 +28,8 @@ pub record IsJob (actors : ℕ) (firings : List ℕ) (levels : Numbered) (costs 
 abbrev pub IsJobFor : Shape → Job → Type 0
 IsJobFor g job = IsJob g.actors job.firings.now job.levels.now job.costs.now job.weights.now
 
--- who is at work at a time: counts of ended and of started firings, whose firing each column had last and when it is
--- through, homes, ready firings, and a mark for each actor that may have become ready
+-- the work at a time: the counts of ended and of started firings, the actor that each column fired last and when that
+-- firing ends, homes, ready firings, and a mark for each actor that may have become ready
 pub record Crewed : Type 0 where
   pub time : ℕ
   pub counts : Tally
@@ -40,7 +40,7 @@ pub record Crewed : Type 0 where
   pub queue : List Firing
   pub marks : List Bool
 
--- lists for each actor or column, homes in columns, and a time that is no later than the costs of what has ended
+-- lists for each actor or column, homes in columns, and a time of at most the greatest cost for each ended firing
 pub record IsCrew (crew : Crewed) : Type 0 where
   pub sound : IsSound (rates crew.counts.graph)
   pub fired_all : length crew.counts.fired ≡ crew.counts.graph.actors
@@ -52,7 +52,7 @@ pub record IsCrew (crew : Crewed) : Type 0 where
   pub early : crew.time ≤ MOST_COST * sum crew.counts.fired
   pub soon : (j : ℕ) → slice_index crew.until j ≤ crew.time + MOST_COST
 
--- nobody is at work yet
+-- no column is at work yet
 abbrev pub idle : Shape → (width : ℕ) → Crewed
 idle g width = record {
   time = 0;
@@ -71,11 +71,11 @@ IsReadyTo job crew =
     IsNextReady (rates crew.counts.graph) (slice_index job.firings.now) (slice_index crew.counts.fired)
     (slice_index crew.started)
 
--- a crew whose queue has all of them
+-- a crew whose queue has all ready firings
 abbrev pub IsQueued : Job → Crewed → Type 0
 IsQueued job crew = IsQueue (number job.levels.now) (IsReadyTo job crew) crew.queue
 
--- or all but those of marked actors
+-- a crew whose queue has ready firings, among them all of unmarked actors
 abbrev pub IsQueuedBut : Job → Crewed → Type 0
 IsQueuedBut job crew = IsQueueOf (number job.levels.now) (IsReadyTo job crew) (IsUnmarked crew.marks) crew.queue
 
@@ -87,7 +87,7 @@ IsDueTo job crew past =
     (slice_index crew.counts.fired) (slice_index crew.started) (slice_index crew.whose) (slice_index crew.until)
     (λ a. slice_index_or crew.homes a None)
 
--- and one that is done with its time
+-- a crew that is done with its time, after some rows
 abbrev pub IsDoneBy : Job → Crewed → List Timed → Type 0
 IsDoneBy job crew past =
     IsDone (rates crew.counts.graph) (slice_index job.firings.now) (slice_index job.costs.now) (number job.levels.now)
@@ -95,7 +95,7 @@ IsDoneBy job crew past =
     (slice_index crew.counts.fired) (slice_index crew.started) (slice_index crew.whose) (slice_index crew.until)
     (λ a. slice_index_or crew.homes a None)
 
--- a crew to which a row is due after these rows, with some start times, and one that is done after them
+-- a crew to which a row is due after these rows, with some start times; and a crew that is done after them
 abbrev pub IsDueAfter : Job → Crewed → List (List (Option Firing)) → Type 0
 IsDueAfter job crew rows = (past : List Timed) × (cells_of past ≡ rows) × IsDueTo job crew past
 

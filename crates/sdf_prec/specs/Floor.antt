@@ -1,5 +1,5 @@
--- What is known while rows are made: counts of started and of ended firings, whose firing each column had last, and
--- when it is through.
+-- The state while rows are made: counts of started and of ended firings, the actor that each column fired last, and
+-- when that firing ends.
 use Rattle.std.specs.Prelude.{◌≡◌, ℕ, ◌+◌, ◌≤◌, ◌<◌, ◌⊎◌, ◌↔◌, List, [], length, slice_index, Option, Some, None, Bool}
 use Rattle.std.specs.Prelude.{IsTrue}
 use Rattle.sdf_graph.specs.Rates.{Rates}
@@ -19,7 +19,7 @@ pub record IsNextReady (r : Rates) (n ended started : ℕ → ℕ) (f : Firing) 
   pub through : ended f.actor ≡ started f.actor
   pub on : IsEnabled r ended f.actor
 
--- the columns that are through by time now, filled
+-- the first i columns: the ones that are idle at time now hold the first firings of the queue, the others nothing
 pub record IsFilling (until : List ℕ) (now i : ℕ) (queue : List Firing) (next : ℕ)
     (cells : List (Option Firing)) : Type 0 where
   pub columns : List ℕ
@@ -28,7 +28,7 @@ pub record IsFilling (until : List ℕ) (now i : ℕ) (queue : List Firing) (nex
   pub count : next ≡ length columns
   pub wide : length cells ≡ i
 
--- after some rows, at time now
+-- the state after some rows, at time now
 pub record IsFloor (r : Rates) (n cost : ℕ → ℕ) (width : ℕ) (past : List Timed) (now : ℕ)
     (ended started whose until : ℕ → ℕ) : Type 0 where
   pub occurs : (f : Firing) → f.actor < r.actors → (f.number < started f.actor) ↔ Occurs past f
@@ -36,7 +36,7 @@ pub record IsFloor (r : Rates) (n cost : ℕ → ℕ) (width : ℕ) (past : List
       (f.actor < r.actors) × (j < width) × ((timed past i).start ≤ now)
   pub within : (a : ℕ) → a < r.actors → started a ≤ n a
   pub once : (i j k m : ℕ) (f : Firing) → StandsAt past i j f → StandsAt past k m f → (i ≡ k) × (j ≡ m)
-  -- a firing has ended exactly where its number is among those that have
+  -- a firing has ended exactly if its number is below the count of its actor's ended firings
   pub ended_is : (i j : ℕ) (f : Firing) → StandsAt past i j f →
       (end_at cost past i f ≤ now) ↔ (f.number < ended f.actor)
   -- an actor has ended all that it started, or all but the last
@@ -45,7 +45,7 @@ pub record IsFloor (r : Rates) (n cost : ℕ → ℕ) (width : ℕ) (past : List
   -- a firing that has not ended is the last one in its column
   pub at_work : (i j : ℕ) (f : Firing) → StandsAt past i j f → now < end_at cost past i f →
       (whose j ≡ f.actor) × (until j ≡ end_at cost past i f)
-  -- a column is through where the last firing in it ends
+  -- a column's time is the latest end of a firing in it, or 0
   pub until_above : (i j : ℕ) (f : Firing) → StandsAt past i j f → end_at cost past i f ≤ until j
   pub until_at : (j : ℕ) → (until j ≡ 0) ⊎ ((i : ℕ) × (f : Firing) × StandsAt past i j f
       × (until j ≡ end_at cost past i f))
@@ -66,13 +66,13 @@ IsNextEnd ends now i None = (j : ℕ) → j < i → slice_index ends j ≤ now
 IsNextEnd ends now i (Some t) = (now < t) × ((j : ℕ) × (j < i) × (slice_index ends j ≡ t))
     × ((j : ℕ) → j < i → now < slice_index ends j → t ≤ slice_index ends j)
 
--- each column that is through at time now was at work for an enabled actor, and no two of them for one
+-- each column whose firing ends at time now was at work for an enabled actor, and these actors differ
 pub record AreAtWork (r : Rates) (now width : ℕ) (ended whose until : ℕ → ℕ) : Type 0 where
   pub known : (j : ℕ) → j < width → until j ≡ now → whose j < r.actors
   pub on : (j : ℕ) → j < width → until j ≡ now → IsEnabled r ended (whose j)
   pub apart : (j m : ℕ) → j < width → m < width → until j ≡ now → until m ≡ now → whose j ≡ whose m → j ≡ m
 
--- the actors whose columns, of the first i, are through at time now have ended one firing more, no others
+-- the actors whose firings in the first i columns end at time now have ended one firing more; all other counts stay
 pub record AreEnded (now i : ℕ) (whose until : ℕ → ℕ) (old new : List ℕ) : Type 0 where
   pub through : (j : ℕ) → j < i → until j ≡ now →
       slice_index new (whose j) ≡ slice_index old (whose j) + 1
@@ -84,7 +84,7 @@ abbrev pub IsStuck : Rates → (ℕ → ℕ) → (ℕ → ℕ) → (ℕ → ℕ)
 IsStuck r n ended started until homes width now homed = (f : Firing) → IsNextReady r n ended started f →
     ((k : ℕ) × IsTrue homed × (homes f.actor ≡ Some k) × (now < until k)) ⊎ ((j : ℕ) → j < width → now < until j)
 
--- a row is due at time now: all earlier times are behind, and at none of them since the last row was there another one
+-- a row is due at time now: all rows start earlier, and at no time between does the rule have a row with a firing
 pub record IsDue (r : Rates) (n cost : ℕ → ℕ) (level : Firing → ℕ) (width : ℕ) (homed : Bool) (past : List Timed)
     (now : ℕ) (ended started whose until : ℕ → ℕ) (homes : ℕ → Option ℕ) : Type 0 where
   pub floor : IsFloor r n cost width past now ended started whose until
@@ -95,7 +95,7 @@ pub record IsDue (r : Rates) (n cost : ℕ → ℕ) (level : Firing → ℕ) (wi
   pub begins : past ≡ [] → now ≡ 0
   pub homes_are : IsTrue homed → (a j : ℕ) → a < r.actors → (homes a ≡ Some j) ↔ IsSettled past a j
 
--- time now is done: its row stands, or it has none, and no ready firing can start
+-- time now is done: its row is there or is empty, and no ready firing can start
 pub record IsDone (r : Rates) (n cost : ℕ → ℕ) (level : Firing → ℕ) (width : ℕ) (homed : Bool) (past : List Timed)
     (now : ℕ) (ended started whose until : ℕ → ℕ) (homes : ℕ → Option ℕ) : Type 0 where
   pub floor : IsFloor r n cost width past now ended started whose until

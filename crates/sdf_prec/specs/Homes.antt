@@ -1,23 +1,23 @@
--- In which columns the firings of an actor stand.
+-- The columns that hold the firings of an actor.
 use Rattle.std.specs.Prelude.{◌≡◌, ℕ, ◌<◌, ◌⊎◌, ◌==◌, List, length, slice_index_or, if◌then◌else◌, Option, Some, None}
 use Rattle.sdf_prec.specs.declared.firing.Firing.{Firing}
 use Rattle.sdf_prec.specs.declared.homes.Standing.{Standing}
 use Rattle.sdf_prec.specs.declared.homes.Standing.TheVariants.{Nowhere, In, Apart}
 use Rattle.sdf_prec.specs.Tables.{cell}
 
--- the columns with property P are none, this one, or several
+-- the columns with the property P: none, this one, or several
 abbrev pub IsStanding : (ℕ → Type 0) → Standing → Type 0
 IsStanding P Nowhere = (m : ℕ) → P m → ⊥
 IsStanding P (In j) = P j × ((m : ℕ) → P m → m ≡ j)
 IsStanding P Apart = (j : ℕ) × (m : ℕ) × P j × P m × (j ≡ m → ⊥)
 
--- with one column more
+-- the columns with one column more
 abbrev pub also : Standing → ℕ → Standing
 also Nowhere m = In m
 also (In j) m = if j == m then In j else Apart
 also Apart m = Apart
 
--- the one column
+-- the only column, if there is exactly one
 abbrev pub home_of : Standing → Option ℕ
 home_of Nowhere = None
 home_of (In j) = Some j
@@ -31,6 +31,6 @@ IsAmong rows i j a m = (k : ℕ) × (f : Firing) × (cell rows k m ≡ Some f) �
 abbrev pub standing_of : List Standing → ℕ → Standing
 standing_of all a = slice_index_or all a Nowhere
 
--- where each actor stands there
+-- the columns of each actor's firings in the first i rows and the first j columns of row i
 abbrev pub AreStanding : List (List (Option Firing)) → ℕ → ℕ → List Standing → Type 0
 AreStanding rows i j all = (a : ℕ) → a < length all → IsStanding (IsAmong rows i j a) (standing_of all a)

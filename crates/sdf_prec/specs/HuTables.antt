@@ -6,7 +6,7 @@ use Rattle.sdf_prec.specs.Levels.{IsLevel}
 use Rattle.sdf_prec.specs.Tables.{Tabled, IsTable, IsOfBlock}
 use Rattle.sdf_prec.specs.TimedRows.{AreHuRows}
 
--- a table whose rows are those of the rule, by the levels of the block's firings
+-- a table of the rule's rows, by the levels of the block's firings
 pub record IsHuTable (r : Rates) (n cost : ℕ → ℕ) (width : ℕ) (homed : Bool) (t : Tabled) : Type 0 where
   pub table : IsTable r n width t
   pub level : Firing → ℕ

@@ -1,4 +1,4 @@
--- Long blocks, and their tables by homes that are worked out from weights.
+-- Long blocks, and their tables with homes from weights.
 use Rattle.std.specs.Prelude.{◌≡◌, ℕ, ◌*◌, ◌<◌, ◌≤◌, ◌⊎◌, List, slice_index, Option}
 use Rattle.sdf_graph.specs.Rates.{Rates}
 use Rattle.sdf_prec.specs.declared.long.TheConstants.{MOST_MOVED}
@@ -9,28 +9,28 @@ use Rattle.sdf_prec.specs.Tables.{Tabled, IsTable, IsHomed}
 use Rattle.sdf_prec.specs.ByHomes.{AreRunsByHomes}
 use Rattle.sdf_prec.specs.Spread.{AreSpread}
 
--- the samples that channel c moves in a period in which the actors fire q times each
+-- the samples that channel c moves in a period with the repetition vector q
 abbrev pub moved : Rates → List ℕ → ℕ → ℕ
 moved r q c = r.produced c (slice_index q (r.source c))
 
--- a block of j such periods keeps within the samples of a channel, and within the firings of a block
+-- j periods with the repetition vector q keep within MOST_MOVED samples on each channel and the firings of a block
 pub record IsWithinLong (r : Rates) (q : List ℕ) (j : ℕ) : Type 0 where
   pub moves : (c : ℕ) → c < r.channels → j * moved r q c ≤ MOST_MOVED
   pub short : IsShort j q
 
--- the greatest such j, or 1 where a single period passes them
+-- the greatest number of periods within these limits, or 1 if a single period passes them
 pub record IsLongest (r : Rates) (q : List ℕ) (j : ℕ) : Type 0 where
   pub some : 1 ≤ j
   pub within : (j ≡ 1) ⊎ IsWithinLong r q j
   pub greatest : (k : ℕ) → IsWithinLong r q k → k ≤ j
 
--- j periods make a block for m workers
+-- j periods are a long block for m workers
 pub record IsLongSize (j m : ℕ) (reps : List ℕ) : Type 0 where
   pub some : 1 ≤ j
   pub workers : IsWorkers m
   pub short : IsShort j reps
 
--- the first reason why they make none
+-- the first reason why j periods are not a long block for m workers
 abbrev pub IsSpreadFault : ℕ → ℕ → List ℕ → PrecFault → Type 0
 IsSpreadFault j m reps OutOfMemory = Unit {0}
 IsSpreadFault j m reps BlockingFactor = j ≡ 0

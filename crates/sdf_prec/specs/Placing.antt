@@ -6,7 +6,7 @@ use Rattle.sdf_prec.specs.declared.firing.Firing.{Firing}
 use Rattle.sdf_prec.specs.Tables.{firing, cell_of}
 use Rattle.sdf_prec.specs.Trying.{load, IsLeast, IsHomeFor, IsPlaced}
 
--- what the firings of each actor cost together, a weight for each home
+-- the cost of all firings of each actor: a weight for each home
 pub record AreWeights (weights : List ℕ) (homes : List (Option ℕ)) : Type 0 where
   pub all : length weights ≡ length homes
   pub few : length homes ≤ MOST_ACTORS
@@ -16,16 +16,16 @@ pub record AreWeights (weights : List ℕ) (homes : List (Option ℕ)) : Type 0 
 abbrev pub load_by : List ℕ → List (Option ℕ) → ℕ → ℕ
 load_by weights homes = load (length homes) (slice_index weights) (λ a. slice_index_or homes a None)
 
--- a column that is through by time now and in which nothing stands yet
+-- column j is idle at time now and still empty
 abbrev pub IsOpen : List ℕ → ℕ → List (Option Firing) → ℕ → Type 0
 IsOpen until now cells j = (slice_index until j ≤ now) × (cell_of cells j ≡ None)
 
--- of the first i columns, the free one of least load, or none where none is free
+-- of the first i columns, the free one of least load; there is none if no column is free
 abbrev pub IsBest : ℕ → (ℕ → Type 0) → (ℕ → ℕ) → Option ℕ → Type 0
 IsBest i free load None = (j : ℕ) → j < i → free j → ⊥
 IsBest i free load (Some b) = (b < i) × free b × IsLeast i free load b
 
--- the first i firings of the queue are placed, and these are the homes then
+-- the first i firings of the queue are placed, and `homes` are the homes after that
 pub record IsPlacing (actors width : ℕ) (weight : ℕ → ℕ) (idle : ℕ → Type 0) (before : ℕ → Option ℕ)
     (queue : List Firing) (i : ℕ) (cells : List (Option Firing)) (homes : List (Option ℕ)) : Type 0 where
   pub each : (p : ℕ) → p < i → IsPlaced actors width weight idle before queue cells p
@@ -35,7 +35,7 @@ pub record IsPlacing (actors width : ℕ) (weight : ℕ → ℕ) (idle : ℕ →
   pub wide : length cells ≡ width
   pub all : length homes ≡ actors
 
--- a firing with this home finds its column taken, or with no home all of them
+-- a firing finds no column: its home is taken, or all columns are if it has no home
 abbrev pub IsNowhere : ℕ → (ℕ → Type 0) → Option ℕ → Type 0
 IsNowhere width open' None = (j : ℕ) → j < width → open' j → ⊥
 IsNowhere width open' (Some k) = (k < width) × (open' k → ⊥)

@@ -9,14 +9,14 @@ use Rattle.sdf_prec.specs.Trying.{IsTriedBefore}
 abbrev pub AreInTurn : (Firing → ℕ) → List Firing → Type 0
 AreInTurn level queue = (p m : ℕ) → p < m → m < length queue → IsTriedBefore level (firing queue p) (firing queue m)
 
--- ready firings in the order in which they are tried, among them those of all actors of some kind
+-- ready firings in the order in which they are tried, among them all ready firings of the actors of some kind
 pub record IsQueueOf (level : Firing → ℕ) (ready : Firing → Type 0) (kind : ℕ → Type 0)
     (queue : List Firing) : Type 0 where
   pub each : (f : Firing) → Stands queue f → ready f
   pub all : (f : Firing) → ready f → kind f.actor → Stands queue f
   pub sorted : AreInTurn level queue
 
--- so many firings of its actor have started that the firing is the next
+-- the firing is its actor's next one, by the number of firings that its actor has started
 abbrev pub is_next : List ℕ → Firing → Bool
 is_next started f = slice_index started f.actor == f.number
 
@@ -24,7 +24,7 @@ is_next started f = slice_index started f.actor == f.number
 abbrev pub IsUnmarked : List Bool → ℕ → Type 0
 IsUnmarked marks a = slice_index_or marks a true ≡ false
 
--- a firing of an actor is neither one of actor a nor one that puts on a channel to it
+-- actor a is not `actor`, and no channel goes from `actor` to it
 pub record IsApart (r : Rates) (actor a : ℕ) : Type 0 where
   pub other : a ≡ actor → ⊥
   pub feeds : (c : ℕ) → c < r.channels → r.source c ≡ actor → r.target c ≡ a → ⊥

@@ -1,4 +1,4 @@
--- Where each firing costs 1 the rows of the rule with costs are Hu's rows.
+-- If each firing costs 1, the rows of the rule with costs are Hu's rows.
 use Rattle.std.specs.Prelude.{◌≡◌, ℕ, ◌<◌, List}
 use Rattle.sdf_graph.specs.Rates.{Rates}
 use Rattle.sdf_prec.specs.declared.firing.Firing.{Firing}

@@ -22,7 +22,7 @@ use sdf_graph::Graph;
 use sdf_limits::MOST_BLOCK;
 use std::alloc::{AllocError, Global};
 
-/// The first test of rows that fails.
+/// Returns the fault of the first test that `rows` fail, for a block in which the actors fire `firings` times each.
 fn rows_fault(
     alloc: Global,
     graph: &Graph,
@@ -52,13 +52,14 @@ fn rows_fault(
 }
 
 impl Table {
-    /// The table with these rows, for a block of `j` periods in which the actors fire `reps` times each, and `m`
-    /// workers. A shorter row is filled up, and one in which no firing stands is left out.
+    /// Makes the table with these rows, for `m` workers and a block of `j` periods in which the actors fire `reps`
+    /// times each. Shorter rows are filled up, and rows without a firing are left out.
     ///
-    /// A fault is the first in this order: `BlockingFactor`, `WorkerCount`, `BlockTooLong`; then row by row
-    /// `RowTooWide`, and column by column `FiringTwice` and `FiringUnknown`; then `FiringMissing` with the least actor
-    /// and its least missing firing; then in row order `TooEarly`, with the firing before of the same actor, or else by
-    /// channel number with the last one that is waited for.
+    /// It errs with the first fault in this order:
+    /// 1. `BlockingFactor`, `WorkerCount`, `BlockTooLong`;
+    /// 2. row by row `RowTooWide`, and column by column `FiringTwice` and `FiringUnknown`;
+    /// 3. `FiringMissing` with the lowest actor and its first missing firing;
+    /// 4. in row order `TooEarly`, with the actor's previous firing, or otherwise by channel with the last one needed.
     pub fn accept(
         alloc: Global,
         graph: &Graph,

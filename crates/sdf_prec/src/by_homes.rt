@@ -1,4 +1,4 @@
-//! Tables by given homes: one firing a row.
+//! Tables with given homes and one firing in each row.
 
 ghost use Rattle.std.specs.Prelude.{◌≡◌, ℕ, ◌≤◌, ◌<◌, ◌^◌, ◌↔◌, length, slice_index, slice_index_or, IfOk, IsTrue};
 ghost use Rattle.std.specs.Prelude.{MatchOption, MatchResult, Some, None};
@@ -21,7 +21,7 @@ use sdf_sched::class_s::class_s_of;
 use sdf_sched::{Period, Runs};
 use std::alloc::{AllocError, Global};
 
-/// Whether an actor is at home in one of the first `m` columns.
+/// Checks whether the home of `actor` is one of the first `m` columns.
 fn has_home(homes: &[Option<usize>], m: usize, actor: usize) -> bool
     ensures { IsTrue result ↔ HasHome homes.now m actor }
 {
@@ -34,7 +34,7 @@ fn has_home(homes: &[Option<usize>], m: usize, actor: usize) -> bool
     }
 }
 
-/// The lowest actor that is not.
+/// Returns the lowest actor without a home below `m`.
 fn bad_home(homes: &[Option<usize>], m: usize, actors: usize) -> Option<usize>
     ensures { MatchOption result ((a : ℕ) → a < actors → HasHome homes.now m a) (IsBadHome homes.now m actors) }
 {
@@ -46,7 +46,7 @@ fn bad_home(homes: &[Option<usize>], m: usize, actors: usize) -> Option<usize>
     None
 }
 
-/// The home of an actor that has one.
+/// Returns the home of `actor`, or 0 if it does not have one.
 fn home_of(homes: &[Option<usize>], actor: usize) -> usize
     requires { actor < length homes.now }
     ensures { (j : ℕ) → slice_index_or homes.now actor None ≡ Some j → result ≡ j }
@@ -54,7 +54,7 @@ fn home_of(homes: &[Option<usize>], actor: usize) -> usize
     homes[actor].unwrap_or(0)
 }
 
-/// The firings of an order, one a row, each in its actor's home.
+/// Returns one row for each firing in `order`, with the firing in its actor's home.
 fn rows_of(
     alloc: Global,
     order: &[usize],
@@ -82,7 +82,7 @@ fn rows_of(
     Ok(rows)
 }
 
-/// Why such a table can't be: by its size, or an actor without a home.
+/// Returns the reason why there is no table with these homes: its size, or an actor without a home below `m`.
 fn homes_fault(j: u32, m: usize, reps: &[u32], homes: &[Option<usize>]) -> Option<PrecFault>
     requires few { length reps.now < 2 ^ 20 }
     ensures { MatchOption result
@@ -98,7 +98,7 @@ fn homes_fault(j: u32, m: usize, reps: &[u32], homes: &[Option<usize>]) -> Optio
     }
 }
 
-/// The table of an order, one firing a row, each in its actor's home.
+/// Returns the table of `order`, with one firing in each row, in its actor's home.
 fn by_order(
     alloc: Global,
     graph: &Graph,
@@ -119,7 +119,7 @@ fn by_order(
     Ok(table)
 }
 
-/// The table of the firings of `j` periods in runs, one a row, each in its actor's home.
+/// Returns the table of the firings of `j` periods in the order of `Runs`, one in each row, in its actor's home.
 pub(crate) fn in_runs(
     alloc: Global,
     graph: &Graph,
@@ -145,10 +145,11 @@ pub(crate) fn in_runs(
 }
 
 impl Table {
-    /// The period's order `j` times, one firing a row, each in its actor's home, of `m` workers.
+    /// Makes the table of the order of `period`, `j` times, for `m` workers. Each row has one firing, in its actor's
+    /// home.
     ///
-    /// A fault is the first of `BlockingFactor`, `WorkerCount`, `BlockTooLong`, and `BadHome` with the lowest actor
-    /// that has no home among the `m` columns.
+    /// It errs with the first of `BlockingFactor`, `WorkerCount`, `BlockTooLong` and `BadHome`. The last one has the
+    /// lowest actor without a home among the `m` columns.
     pub fn by_homes(
         alloc: Global,
         graph: &Graph,
@@ -173,10 +174,10 @@ impl Table {
         Ok(table)
     }
 
-    /// The firings of `j` periods in runs, one a row, each in its actor's home, of `m` workers: an actor fires on while
-    /// it is runnable in the block, and then the next runnable one in file order.
+    /// Makes the table of the firings of `j` periods in runs, for `m` workers. An actor fires on while it is runnable
+    /// in the block, and then the next runnable one in file order. Each row has one firing, in its actor's home.
     ///
-    /// The faults are those of `by_homes`.
+    /// It errs like `by_homes`.
     pub fn by_homes_in_runs(
         alloc: Global,
         graph: &Graph,

@@ -1,4 +1,4 @@
-//! Rows made one after the other, at the times at which a column is through.
+//! The rows of Hu's rule, made one after another in simulated time, at the times at which a column's firing ends.
 
 ghost use Rattle.std.specs.Prelude.{◌≡◌, ℕ, ◌<◌, List, length, sum, slice_index, IfOk, Some};
 ghost use Rattle.sdf_graph.specs.Rates.{rates, IsSound};
@@ -24,8 +24,8 @@ use sdf_graph::{Counts, Graph};
 use std::alloc::{AllocError, Global};
 use std::marker::Model;
 
-/// What rows are made of: how often each actor fires, levels, costs, what each actor's firings cost together, and
-/// whether actors have homes.
+/// The inputs to rows: how often each actor fires in the block, the levels and the costs of firings, the cost of all
+/// firings of each actor (`weights`), and whether actors have homes.
 #[derive(Drop)]
 pub(crate) struct Job<'a> {
     pub(crate) firings: &'a [u32],
@@ -35,8 +35,8 @@ pub(crate) struct Job<'a> {
     pub(crate) homed: bool,
 }
 
-/// Who is at work at a time: counts of ended and of started firings, whose firing each column had last and when it is
-/// through, and the homes. Ready firings stand in a queue, and an actor is marked that may have become ready.
+/// The work at a time: the counts of ended and of started firings, the actor that each column fired last and when that
+/// firing ends, and the homes. Ready firings are in a queue, and actors that may have become ready are marked.
 #[derive(Drop)]
 struct Crew<'a> {
     time: u64,
@@ -78,7 +78,7 @@ impl<'a> Model for Crew<'a> {
 }
 
 impl<'a> Crew<'a> {
-    /// Nobody is at work yet, at time 0.
+    /// Returns the state at time 0, with idle columns.
     fn new(alloc: Global, graph: &'a Graph, width: usize) -> Result<Crew<'a>, AllocError>
         ensures { IfOk result (λ crew. crew ≡ idle graph.now width) }
     {
@@ -96,7 +96,7 @@ impl<'a> Crew<'a> {
         })
     }
 
-    /// Puts the firings into the queue that have become ready.
+    /// Puts the firings that have become ready into the queue.
     fn renew_queue(&mut self, job: &Job) -> Result<(), AllocError>
         requires job { IsJobFor self.old.counts.graph job.now }
         requires queue { IsQueuedBut job.now self.old }
@@ -113,7 +113,8 @@ impl<'a> Crew<'a> {
         )
     }
 
-    /// Makes `cells` the row of this time, which may be empty. Actors whose first firing is in it get their homes.
+    /// Makes `cells` the row of the current time, which may be empty. Actors whose first firing is in it get their
+    /// homes.
     fn next_cells(&mut self, job: &Job, cells: &mut Vec<Option<Firing>>) -> Result<(), AllocError>
         requires job { IsJobFor self.old.counts.graph job.now }
         requires queue { IsQueued job.now self.old }
@@ -138,7 +139,7 @@ impl<'a> Crew<'a> {
         }
     }
 
-    /// Starts the firings of a row, which leave the queue.
+    /// Starts the firings of the row `cells`, which leave the queue.
     fn start(&mut self, job: &Job, cells: &[Option<Firing>])
         requires job { IsJobFor self.old.counts.graph job.now }
         requires row { (past : List Timed) × IsRowFor job.now self.old past cells.now }
@@ -166,7 +167,7 @@ impl<'a> Crew<'a> {
         leave(&mut self.queue, &self.started);
     }
 
-    /// Adds the row of this time, which is made in `cells`, if it is not empty.
+    /// Makes the row of the current time in `cells`, and appends it to `rows` if it has a firing.
     fn add_row(
         &mut self,
         job: &Job,
@@ -192,7 +193,7 @@ impl<'a> Crew<'a> {
         Ok(())
     }
 
-    /// The least later time at which a column is through.
+    /// Returns the earliest later time at which a column's firing ends.
     fn next_end(&self) -> Option<u64>
         ensures crew { IsCrew self.now }
         ensures next { IsNextEnd self.now.until self.now.time (length self.now.until) result }
@@ -200,7 +201,7 @@ impl<'a> Crew<'a> {
         next_end(&self.until, self.time)
     }
 
-    /// Goes on to the next time at which a column is through.
+    /// Goes on to time `next`, the next time at which a column's firing ends, and adds its row.
     fn turn(
         &mut self,
         graph: &Graph,
@@ -235,7 +236,7 @@ impl<'a> Crew<'a> {
     }
 }
 
-/// The rows of the rule, until each firing of the block stands.
+/// Returns the rows of Hu's rule with costs, until each firing of the block is in one.
 pub(crate) fn timed_rows(
     alloc: Global,
     graph: &Graph,

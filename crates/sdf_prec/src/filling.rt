@@ -1,4 +1,4 @@
-//! Rows in which any firing may stand in any column.
+//! Rows without homes: any firing may be in any column.
 
 ghost use Rattle.std.specs.Prelude.{◌≡◌, length, slice_get, IfOk};
 ghost use Rattle.sdf_prec.specs.Floor.{IsFilling};
@@ -7,14 +7,14 @@ ghost use Rattle.std.specs.Prelude.{ℕ};
 use crate::firing::Firing;
 use std::alloc::AllocError;
 
-/// The firing at a place of a queue, where there is one.
+/// Returns the firing at `place` in `queue`, if there is one.
 fn firing_at(queue: &[Firing], place: usize) -> Option<Firing>
     ensures { result ≡ slice_get queue.now place }
 {
     queue.get(place).copied()
 }
 
-/// Makes `cells` the row in which the first firings of `queue` stand in the columns that are through by time `now`.
+/// Makes `cells` the row in which the columns that are idle at time `now` hold the first firings of `queue`.
 pub(crate) fn fill(
     queue: &[Firing],
     until: &[u64],

@@ -1,4 +1,4 @@
-//! Who is at work while rows are made: counts of started firings, and when each column is through.
+//! The work while rows are made: counts of started firings, and when each column's firing ends.
 
 ghost use Rattle.std.specs.Prelude.{◌≡◌, ℕ, ◌+◌, ◌<◌, ◌≤◌, ◌^◌, length, slice_index, Some, IfOk};
 ghost use Rattle.sdf_graph.specs.Rates.{rates, IsSound};
@@ -14,7 +14,7 @@ use crate::marked::Marks;
 use sdf_graph::{Counts, Graph};
 use std::alloc::AllocError;
 
-/// Starts the firings of a row at time `now`.
+/// Starts the firings of the row `cells` at time `now`.
 pub(crate) fn start(
     cells: &[Option<Firing>],
     now: u64,
@@ -47,7 +47,7 @@ pub(crate) fn start(
     }
 }
 
-/// The least later time at which a column is through.
+/// Returns the earliest time in `until` that is later than `now`.
 pub(crate) fn next_end(until: &[u64], now: u64) -> Option<u64>
     ensures { IsNextEnd until.now now (length until.now) result }
 {
@@ -61,7 +61,7 @@ pub(crate) fn next_end(until: &[u64], now: u64) -> Option<u64>
     if some { Some(next) } else { None }
 }
 
-/// Marks an actor and those to which its channels go.
+/// Marks `actor` and the actors to which its channels go.
 fn mark(graph: &Graph, actor: usize, marks: &mut Marks) -> Result<(), AllocError>
     requires known { actor < graph.now.actors }
     requires all { length marks.old ≡ graph.now.actors }
@@ -78,7 +78,7 @@ fn mark(graph: &Graph, actor: usize, marks: &mut Marks) -> Result<(), AllocError
     Ok(())
 }
 
-/// Ends the firings of the columns that are through at time `now`, and marks the actors that may be ready then.
+/// Ends the firings whose columns end them at time `now`, and marks the actors that may be ready then.
 pub(crate) fn end_by(
     now: u64,
     graph: &Graph,

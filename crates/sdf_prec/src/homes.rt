@@ -1,4 +1,4 @@
-//! The columns in which all firings of an actor stand.
+//! The homes of actors: the columns that hold all their firings.
 
 ghost use Rattle.std.specs.Prelude.{◌≡◌, ℕ, ◌+◌, ◌<◌, ◌↔◌, length, map, slice_index_or, slice_set, IfOk, Some, None};
 ghost use Rattle.sdf_prec.specs.declared.firing.Firing.{Firing};
@@ -9,7 +9,7 @@ use crate::firing::Firing;
 use crate::rows::Rows;
 use std::alloc::{AllocError, Global};
 
-/// Where the firings of an actor stand: in no column, in one, or in several.
+/// The columns that hold an actor's firings: none, one, or several.
 #[derive(Clone, Copy)]
 pub(crate) enum Standing {
     Nowhere,
@@ -18,7 +18,7 @@ pub(crate) enum Standing {
 }
 
 impl Standing {
-    /// Where they stand with one more in a column.
+    /// Returns the columns with `column` added.
     fn also(self, column: usize) -> Standing
         ensures { result ≡ also self column }
     {
@@ -35,7 +35,7 @@ impl Standing {
         }
     }
 
-    /// The one column.
+    /// Returns the column, if there is exactly one.
     fn home(self) -> Option<usize>
         ensures { result ≡ home_of self }
     {
@@ -46,7 +46,7 @@ impl Standing {
     }
 }
 
-/// Where each actor stands with one more firing in a column.
+/// Adds `column` to the columns of the actor of `firing`.
 fn see(standing: &mut [Standing], firing: Firing, column: usize)
     requires { firing.actor < length standing.old }
     ensures { standing.new ≡ slice_set standing.old firing.actor (also (standing_of standing.old firing.actor) column) }
@@ -54,7 +54,7 @@ fn see(standing: &mut [Standing], firing: Firing, column: usize)
     standing[firing.actor] = standing[firing.actor].also(column);
 }
 
-/// Where each actor stands once row `i` is seen too.
+/// Adds the columns of the firings in row `i` to their actors' columns.
 fn see_row(rows: &Rows, i: usize, standing: &mut [Standing])
     requires within { i < length rows.now.rows }
     requires known { (f : Firing) → Stands (firings (row rows.now.rows i)) f → f.actor < length standing.old }
@@ -68,7 +68,7 @@ fn see_row(rows: &Rows, i: usize, standing: &mut [Standing])
     }
 }
 
-/// The one column of each actor.
+/// Returns for each actor its column, if it has exactly one.
 fn homes_of(alloc: Global, standing: &[Standing]) -> Result<Vec<Option<usize>>, AllocError>
     ensures { IfOk result (λ v. v.items ≡ map home_of standing.now) }
 {
@@ -79,7 +79,7 @@ fn homes_of(alloc: Global, standing: &[Standing]) -> Result<Vec<Option<usize>>, 
     Ok(homes)
 }
 
-/// The column of each actor in which all its firings stand, where there is one.
+/// Returns for each actor the column that holds all its firings, if there is one.
 pub(crate) fn homes(
     alloc: Global,
     actors: usize,

@@ -1,4 +1,4 @@
-//! Rows in which each actor's firings stand in its home.
+//! Rows with homes: each actor's firings are in its home.
 
 ghost use Rattle.std.specs.Prelude.{◌≡◌, ℕ, ◌<◌, ◌≤◌, ◌*◌, ◌↔◌, List, length, slice_index, slice_index_or, MatchOption};
 ghost use Rattle.std.specs.Prelude.{IfOk, Option, Some, None, IsTrue};
@@ -10,7 +10,7 @@ ghost use Rattle.sdf_prec.specs.Placing.{AreWeights, load_by, IsOpen, IsBest, Is
 use crate::firing::Firing;
 use std::alloc::AllocError;
 
-/// The weights of the actors at home in a column.
+/// Returns the load of `column`: the sum of the weights of the actors at home there.
 fn load_of(weights: &[u64], homes: &[Option<usize>], column: usize) -> u64
     requires weights { AreWeights weights.now homes.now }
     ensures { result ≡ load_by weights.now homes.now column }
@@ -24,7 +24,7 @@ fn load_of(weights: &[u64], homes: &[Option<usize>], column: usize) -> u64
     load
 }
 
-/// Whether a column is through by time `now`, and nothing stands in it yet.
+/// Checks whether `column` is idle at time `now` and still empty.
 fn is_open(until: &[u64], now: u64, cells: &[Option<Firing>], column: usize) -> bool
     requires known { column < length until.now }
     requires wide { length cells.now ≡ length until.now }
@@ -33,7 +33,7 @@ fn is_open(until: &[u64], now: u64, cells: &[Option<Firing>], column: usize) -> 
     until[column] <= now && cells[column].is_none()
 }
 
-/// Whether a column has less load than the best one so far.
+/// Checks whether `column` has less load than `best`, or there is no `best` column yet.
 fn is_lighter(weights: &[u64], homes: &[Option<usize>], column: usize, best: Option<usize>) -> bool
     requires weights { AreWeights weights.now homes.now }
     ensures { IsTrue result ↔ ((b : ℕ) → best ≡ Some b →
@@ -45,7 +45,7 @@ fn is_lighter(weights: &[u64], homes: &[Option<usize>], column: usize, best: Opt
     }
 }
 
-/// The open column of least load, the lowest of several.
+/// Returns the open column of least load, the lowest if there are several.
 fn least_open(
     until: &[u64],
     now: u64,
@@ -66,7 +66,8 @@ fn least_open(
     best
 }
 
-/// The column for a firing whose actor has this home.
+/// Returns the column for a firing whose actor has this `home`: the home if it is open. Without a home it is the open
+/// column of least load.
 fn column_for(
     home: Option<usize>,
     until: &[u64],
@@ -94,7 +95,7 @@ fn column_for(
     }
 }
 
-/// Makes `cells` the row in which each firing of `queue` stands in its actor's home if that is open. An actor without a
+/// Makes `cells` the row in which each firing of `queue` is in its actor's home if that is open. An actor without a
 /// home gets the open column of least load when its first firing is tried.
 pub(crate) fn place(
     queue: &[Firing],

@@ -1,4 +1,4 @@
-//! Hu's rule with costs: of the firings that are ready those of highest level first.
+//! Hu's rule with costs: of the ready firings, the ones of highest level go first.
 
 ghost use Rattle.std.specs.Prelude.{◌≡◌, ℕ, ◌*◌, ◌<◌, List, length, slice_index, IfOk, MatchResult};
 ghost use Rattle.sdf_graph.specs.Rates.{rates};
@@ -22,7 +22,7 @@ use sdf_graph::Graph;
 use sdf_sched::Period;
 use std::alloc::{AllocError, Global};
 
-/// What the firings of each actor in a block cost together.
+/// Returns the cost of all firings of each actor in a block.
 fn weights_of(alloc: Global, firings: &[u32], costs: &Costs) -> Result<Vec<u64>, AllocError>
     requires costs { AreCosts (length firings.now) costs.now }
     ensures all { IfOk result (λ w. length w.items ≡ length firings.now) }
@@ -36,7 +36,7 @@ fn weights_of(alloc: Global, firings: &[u32], costs: &Costs) -> Result<Vec<u64>,
     Ok(weights)
 }
 
-/// The table of the rule's rows, by the levels of the block's firings.
+/// Returns the table of the rule's rows, by the levels of the block's firings.
 fn table_for(alloc: Global, graph: &Graph, job: &Job, width: usize) -> Result<Table, AllocError>
     requires job { IsJobFor graph.now job.now }
     requires levels { AreLevels (rates graph.now) job.now.firings.now (slice_index job.now.costs.now)
@@ -51,10 +51,11 @@ fn table_for(alloc: Global, graph: &Graph, job: &Job, width: usize) -> Result<Ta
     Ok(table)
 }
 
-/// The table of Hu's rule with costs for a block of `j` periods and a team, free or with a home for each actor.
+/// Makes the table of Hu's rule with costs for a block of `j` periods and a `team`, free or with a home for each actor.
 ///
-/// A fault is the first of `BlockingFactor`, `WorkerCount`, `BlockTooLong`. The time is linear in the firings, each
-/// times the actors and links of the graph. (Hu 1961; costs, columns, homes and ties are the profile's.)
+/// It errs with the first of `BlockingFactor`, `WorkerCount` and `BlockTooLong`. The time is linear in the firings; for
+/// each it is linear in the actors and links of the graph. (Hu 1961; costs, columns, homes and the order of ties are
+/// added here.)
 #[tactic(auto, using(crate::proofs::Finals::fault_size))]
 pub fn hu(
     alloc: Global,

@@ -1,4 +1,4 @@
-//! Tables of long blocks, by homes that are worked out from weights.
+//! Tables of long blocks, with homes from weights.
 
 ghost use Rattle.std.specs.Prelude.{◌≡◌, ℕ, ◌≤◌, ◌<◌, ◌^◌, length, slice_index, sum, MatchOption, MatchResult};
 ghost use Rattle.sdf_limits.specs.declared.TheConstants.{MOST_BLOCK};
@@ -20,10 +20,10 @@ use sdf_limits::{MOST_BLOCK, MOST_WORKERS};
 use sdf_sched::Period;
 use std::alloc::Global;
 
-/// Samples that a long block moves on a channel, unless a single period moves more.
+/// Samples that a long block may move on a channel, unless a single period moves more.
 pub const MOST_MOVED: u64 = 1024;
 
-/// What a channel moves in a period.
+/// Returns the samples that `channel` moves in a period.
 #[tactic(auto, using(crate::proofs::Longest::channel_moves))]
 fn moved(graph: &Graph, repetitions: &[u32], channel: usize) -> u64
     requires period { IsPeriodVector (rates graph.now) repetitions.now }
@@ -35,8 +35,8 @@ fn moved(graph: &Graph, repetitions: &[u32], channel: usize) -> u64
     moved_by(&channel.put, u64::from(repetitions[channel.from]))
 }
 
-/// How many periods make a long block: as many as keep it within `MOST_MOVED` samples on each channel and within the
-/// firings of a block, and at least one.
+/// Returns the number of periods in a long block: the most that keep it within `MOST_MOVED` samples on each channel and
+/// within the firings of a block, and at least 1.
 pub fn long_block(graph: &Graph, repetitions: &[u32]) -> u32
     requires { IsPeriodVector (rates graph.now) repetitions.now }
     ensures longest { IsLongest (rates graph.now) repetitions.now result }
@@ -50,7 +50,7 @@ pub fn long_block(graph: &Graph, repetitions: &[u32]) -> u32
     periods.max(1) as u32
 }
 
-/// Why `j` periods make no block for `m` workers.
+/// Returns the reason why `j` periods are not a block for `m` workers.
 fn long_fault(j: u32, m: usize, reps: &[u32]) -> Option<PrecFault>
     requires few { length reps.now < 2 ^ 20 }
     ensures { MatchOption result (IsLongSize j m reps.now) (IsSpreadFault j m reps.now) }
@@ -68,10 +68,10 @@ fn long_fault(j: u32, m: usize, reps: &[u32]) -> Option<PrecFault>
 }
 
 impl Table {
-    /// The firings of `j` periods in runs, as `by_homes_in_runs` has them, each actor where `spread` has its home. `j`
-    /// may pass 64.
+    /// Makes the table of the firings of `j` periods in runs, like `by_homes_in_runs`, with the homes of `spread`. `j`
+    /// may be over 64.
     ///
-    /// A fault is the first of `BlockingFactor`, for no period, `WorkerCount` and `BlockTooLong`.
+    /// It errs with the first of `BlockingFactor` (if `j` is 0), `WorkerCount` and `BlockTooLong`.
     pub fn spread(
         alloc: Global,
         graph: &Graph,

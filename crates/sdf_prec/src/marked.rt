@@ -6,7 +6,7 @@ ghost use Rattle.std.specs.Prelude.{MatchOption};
 use std::alloc::{AllocError, Global};
 use std::marker::Model;
 
-/// Which actors are marked, and a list of these, each once.
+/// The marks of actors, and a list of the marked actors, each once.
 #[derive(Drop)]
 pub(crate) struct Marks {
     is_marked: Vec<bool>,
@@ -25,7 +25,7 @@ impl Model for Marks {
 }
 
 impl Marks {
-    /// A mark for each of the first `actors` actors.
+    /// Returns marks on all of the first `actors` actors.
     pub(crate) fn of_all(alloc: Global, actors: usize) -> Result<Marks, AllocError>
         ensures { IfOk result (λ marks. marks ≡ replicate actors true) }
     {
@@ -39,7 +39,7 @@ impl Marks {
         })
     }
 
-    /// Marks an actor.
+    /// Marks `actor`.
     pub(crate) fn set(&mut self, actor: usize) -> Result<(), AllocError>
         requires known { actor < length self.old }
         ensures same { length self.new ≡ length self.old }
@@ -52,7 +52,7 @@ impl Marks {
         Ok(())
     }
 
-    /// Takes a mark away if there is one, and returns whose it was.
+    /// Removes a mark if there is one, and returns its actor.
     pub(crate) fn take(&mut self) -> Option<usize>
         ensures whose { MatchOption result ((a : ℕ) → slice_index_or self.old a false ≡ false)
             (λ actor. slice_index_or self.old actor false ≡ true) }

@@ -1,4 +1,4 @@
-//! Which firings are ready, in the order in which they are tried.
+//! The ready firings, in the order in which they are tried.
 
 ghost use Rattle.std.specs.Prelude.{◌≡◌, ℕ, ◌<◌, ◌≤◌, ◌⊎◌, ◌↔◌, ◌==◌, length, filter, slice_index, IsTrue, IfOk};
 ghost use Rattle.std.specs.Prelude.{MatchBool};
@@ -16,7 +16,8 @@ use crate::marked::Marks;
 use sdf_graph::Counts;
 use std::alloc::AllocError;
 
-/// Whether an actor's next firing may start: those before it have ended, and the ended ones leave it its samples.
+/// Checks whether the next firing of `actor` may start: the firings before it have ended, and the ended firings of all
+/// actors leave it its samples.
 fn is_ready(counts: &Counts, started: &[u32], firings: &[u32], actor: usize) -> bool
     requires known { actor < counts.now.graph.actors }
     requires started { length started.now ≡ counts.now.graph.actors }
@@ -30,7 +31,7 @@ fn is_ready(counts: &Counts, started: &[u32], firings: &[u32], actor: usize) -> 
         && counts.enabled(actor)
 }
 
-/// Whether a firing is tried before one of another actor.
+/// Checks whether `queued` is tried before `ready`, a firing of another actor.
 fn is_before(levels: &Levels, queued: Firing, ready: Firing) -> bool
     requires queued { InBlock levels.now.firings queued }
     requires ready { InBlock levels.now.firings ready }
@@ -41,7 +42,7 @@ fn is_before(levels: &Levels, queued: Firing, ready: Firing) -> bool
     other < level || other == level && queued.actor < ready.actor
 }
 
-/// How many firings of a queue are tried before one of another actor, found by halves.
+/// Returns how many firings of `queue` are tried before `ready`, by binary search.
 fn place_of(queue: &[Firing], levels: &Levels, ready: Firing) -> usize
     requires each { (p : ℕ) → p < length queue.now → InBlock levels.now.firings (firing queue.now p) }
     requires own { InBlock levels.now.firings ready }
@@ -64,7 +65,7 @@ fn place_of(queue: &[Firing], levels: &Levels, ready: Firing) -> usize
     low
 }
 
-/// Adds a firing to a queue, unless its actor has one there.
+/// Adds `ready` to `queue`, unless its actor has a firing there.
 fn add(queue: &mut Vec<Firing>, levels: &Levels, ready: Firing) -> Result<(), AllocError>
     requires each { (p : ℕ) → p < length queue.old.items → InBlock levels.now.firings (firing queue.old.items p) }
     requires own { InBlock levels.now.firings ready }
@@ -83,7 +84,7 @@ fn add(queue: &mut Vec<Firing>, levels: &Levels, ready: Firing) -> Result<(), Al
     Ok(())
 }
 
-/// Adds the firings that have become ready, of the actors that are marked, and takes the marks away.
+/// Adds the firings of marked actors that have become ready to `queue`, and removes the marks.
 pub(crate) fn renew(
     queue: &mut Vec<Firing>,
     counts: &Counts,
@@ -113,14 +114,14 @@ pub(crate) fn renew(
     Ok(())
 }
 
-/// Returns whether `firing` is its actor's next one, given how many firings each actor has started.
+/// Checks whether `firing` is its actor's next one, given how many firings each actor has started.
 fn is_next(started: &[u32], firing: &Firing) -> bool
     ensures { result ≡ is_next started.now firing.now }
 {
     started.get(firing.actor).copied().unwrap_or(0) == firing.number
 }
 
-/// Takes out the firings that have started.
+/// Removes the firings that have started from `queue`.
 pub(crate) fn leave(queue: &mut Vec<Firing>, started: &[u32])
     ensures { queue.new.items ≡ filter (is_next started.now) queue.old.items }
 {

@@ -7,7 +7,7 @@ use crate::firing::Firing;
 use crate::rows::Rows;
 use std::alloc::{AllocError, Global};
 
-/// Appends the actors of a row's firings.
+/// Appends the actors of the firings of `row` to `order`.
 fn push_row(row: &[Option<Firing>], order: &mut Vec<usize>) -> Result<(), AllocError>
     ensures { IfOk result (λ _. order.new.items ≡ order.old.items ++ map (λ f. f.actor) (firings row.now)) }
 {
@@ -19,7 +19,7 @@ fn push_row(row: &[Option<Firing>], order: &mut Vec<usize>) -> Result<(), AllocE
     Ok(())
 }
 
-/// The actors of the firings of rows, by row, then by column.
+/// Returns the actors of the firings of `rows`, by row, then by column.
 pub(crate) fn sequence(alloc: Global, rows: &Rows) -> Result<Vec<usize>, AllocError>
     ensures { IfOk result (λ order. order.items ≡ sequence rows.now.rows) }
 {

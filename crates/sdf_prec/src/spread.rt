@@ -1,4 +1,4 @@
-//! Homes worked out from what the actors weigh: each worker has a stretch of them in file order.
+//! Homes from the weights of actors: each worker has consecutive actors in file order.
 
 ghost use Rattle.std.specs.Prelude.{◌≡◌, ℕ, ◌≤◌, ◌<◌, ◌*◌, ◌↔◌, length, IfOk, IsTrue};
 ghost use Rattle.sdf_limits.specs.declared.TheConstants.{MOST_BLOCK, MOST_COST};
@@ -11,7 +11,7 @@ ghost use Rattle.sdf_prec.specs.Spread.{IsPast, share};
 use sdf_graph::Graph;
 use std::alloc::{AllocError, Global};
 
-/// Whether a channel leads from an actor at a place or behind it to one before the place.
+/// Checks whether a channel leads from an actor at place `k` or behind it to one before `k`.
 fn leads_back(graph: &Graph, k: usize) -> bool
     ensures { IsTrue result ↔ LeadsBack (rates graph.now) k }
 {
@@ -23,7 +23,7 @@ fn leads_back(graph: &Graph, k: usize) -> bool
     false
 }
 
-/// Whether an actor has inputs, and all of them from the actor before it.
+/// Checks whether `actor` has inputs, and all of them come from the actor just before it.
 fn is_fed_by_last(graph: &Graph, actor: usize) -> bool
     ensures { IsTrue result ↔ IsFedByLast (rates graph.now) actor }
 {
@@ -39,14 +39,14 @@ fn is_fed_by_last(graph: &Graph, actor: usize) -> bool
     fed
 }
 
-/// Whether the actors before a place in file order and those behind it may go to different workers.
+/// Checks whether the actors before place `k` in file order and the actors from `k` on may go to different workers.
 fn may_part(graph: &Graph, k: usize) -> bool
     ensures { IsTrue result ↔ MayPart (rates graph.now) k }
 {
     !leads_back(graph, k) && !is_fed_by_last(graph, k)
 }
 
-/// Where the stretch of an actor begins.
+/// Returns the place at which the stretch of `actor` begins.
 fn first_of(graph: &Graph, actor: usize) -> usize
     ensures { IsFirst (rates graph.now) actor result }
 {
@@ -58,7 +58,7 @@ fn first_of(graph: &Graph, actor: usize) -> usize
     0
 }
 
-/// Where the next stretch begins.
+/// Returns the place at which the next stretch begins.
 fn past_of(graph: &Graph, actor: usize) -> usize
     requires { actor < graph.now.actors }
     ensures { IsPast (rates graph.now) actor result }
@@ -72,7 +72,7 @@ fn past_of(graph: &Graph, actor: usize) -> usize
     graph.actors()
 }
 
-/// Returns what the first `actors` actors weigh together.
+/// Returns the sum of the weights of the first `actors` actors.
 fn weight_to(weights: &[u64], actors: usize) -> u64
     requires weights { AreLoads (length weights.now) weights.now }
     requires known { actors ≤ length weights.now }
@@ -86,7 +86,8 @@ fn weight_to(weights: &[u64], actors: usize) -> u64
     weight
 }
 
-/// The worker of a stretch.
+/// Returns the worker of the stretch from `first` to just before `past`. Of `m` equal shares of all weight, it has the
+/// share that holds the middle of the stretch.
 fn share(weights: &[u64], m: usize, first: usize, past: usize) -> usize
     requires weights { AreLoads (length weights.now) weights.now }
     requires workers { IsWorkers m }
@@ -100,10 +101,10 @@ fn share(weights: &[u64], m: usize, first: usize, past: usize) -> usize
     (m as u64 * middle / (2 * all)) as usize
 }
 
-/// Where each actor is at home by these weights of its firings in a period, for `m` workers.
+/// Returns the home of each actor for `m` workers, by the `weights` of its firings in a period.
 ///
-/// Actors that stand next to one another in file order go together where a channel leads back over the place between
-/// them, so that a loop is one worker's, and where the first of them alone feeds the second.
+/// Adjacent actors in file order stay together if a channel leads back over the place between them, so that a loop has
+/// one worker. They also stay together if the first of them alone feeds the second.
 pub fn spread(
     alloc: Global,
     graph: &Graph,

@@ -1,4 +1,4 @@
-//! Rows filled up to a width, and those left out in which nothing stands.
+//! Rows filled up to a width, without empty rows.
 
 ghost use Rattle.std.specs.Prelude.{◌≡◌, ℕ, ◌<◌, ◌↔◌, length, map, IfOk, IsTrue};
 ghost use Rattle.sdf_prec.specs.Tables.{firings};
@@ -9,7 +9,7 @@ use crate::firing::Firing;
 use crate::rows::Rows;
 use std::alloc::{AllocError, Global};
 
-/// Whether a firing stands in a row.
+/// Checks whether `row` has a firing.
 #[tactic(auto, using(crate::proofs::RowCells::stands_at, crate::proofs::Marks::firings_none))]
 pub(crate) fn has_firing(row: &[Option<Firing>]) -> bool
     ensures { IsTrue result ↔ 0 < length (firings row.now) }
@@ -22,7 +22,7 @@ pub(crate) fn has_firing(row: &[Option<Firing>]) -> bool
     false
 }
 
-/// The rows in which a firing stands, filled up to a width.
+/// Returns the rows with a firing, filled up to `width` cells.
 pub(crate) fn tidied(
     alloc: Global,
     width: usize,
