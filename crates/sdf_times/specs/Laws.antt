@@ -11,7 +11,8 @@ abbrev pub StartsExist : Type 0
 StartsExist = (r : Rates) (n cost : ℕ → ℕ) (rows : List (List (Option Firing))) → IsValid r n rows →
     (start : Firing → ℕ) × AreStarts r cost rows start
 
--- at no times at which each firing starts after those that come before it does any start earlier
+-- the times of a valid table are the least at which each firing starts after the ends of the firings that come before
+-- it
 abbrev pub StartsAreLeast : Type 0
 StartsAreLeast =
     (r : Rates) (n cost : ℕ → ℕ) (rows : List (List (Option Firing))) (start other : Firing → ℕ) → IsValid r n rows →
@@ -19,14 +20,14 @@ StartsAreLeast =
     ((f g : Firing) → IsInTable rows f → ComesBefore r rows g f → end_of cost other g ≤ other f) → (f : Firing) →
     IsInTable rows f → start f ≤ other f
 
--- so the times of a valid table are decided
+-- a valid table has one set of times
 abbrev pub StartsAreOne : Type 0
 StartsAreOne =
     (r : Rates) (n cost : ℕ → ℕ) (rows : List (List (Option Firing))) (start other : Firing → ℕ) → IsValid r n rows →
     AreStarts r cost rows start → AreStarts r cost rows other →
     (f : Firing) → IsInTable rows f → start f ≡ other f
 
--- no table of the block in so many columns ends sooner than the bound
+-- no table of the block with `width` columns ends sooner than the bound
 abbrev pub BoundsHold : Type 0
 BoundsHold =
     (r : Rates) (n cost : ℕ → ℕ) (width : ℕ) (rows : List (List (Option Firing))) (start : Firing → ℕ)
@@ -35,7 +36,7 @@ BoundsHold =
     IsMakespan cost rows start makespan → IsSpan r n cost span →
     IsBound span (work_of r.actors n cost) width bound → bound ≤ makespan
 
--- in rows by Hu's rule with these costs no firing starts later than its row
+-- in rows by Hu's rule with these costs, no firing starts later than its row
 abbrev pub RowsAreNoSooner : Type 0
 RowsAreNoSooner =
     (r : Rates) (n cost : ℕ → ℕ) (level : Firing → ℕ) (width : ℕ) (homed : Bool) (rows : List Timed)
@@ -44,7 +45,7 @@ RowsAreNoSooner =
     StandsAt rows i j f →
     start f ≤ (timed rows i).start
 
--- in rows by Hu's rule with costs of at least 1 each firing starts where its row does
+-- in rows by Hu's rule with costs of at least 1, each firing starts when its row does
 abbrev pub RowsAreOnTime : Type 0
 RowsAreOnTime =
     (r : Rates) (n cost : ℕ → ℕ) (level : Firing → ℕ) (width : ℕ) (homed : Bool) (rows : List Timed)

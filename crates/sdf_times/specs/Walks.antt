@@ -1,4 +1,4 @@
--- What is known while the cells of a table are walked, row by row.
+-- The state of the walk over a table's cells, row by row.
 use Rattle.std.specs.Prelude.{◌≡◌, ℕ, ◌+◌, ◌*◌, ◌≤◌, ◌<◌, ◌^◌, ◌⊎◌, List, [], ◌∷◌, ◌++◌, length, slice_index}
 use Rattle.std.specs.Prelude.{slice_index_or, slice_set, Option, Some}
 use Rattle.sdf_limits.specs.declared.TheConstants.{MOST_COST}
@@ -8,17 +8,17 @@ use Rattle.sdf_prec.specs.Precedence.{WaitsFor}
 use Rattle.sdf_prec.specs.Tables.{cell}
 use Rattle.sdf_times.specs.Times.{IsGreatest, IsStart, end_of, start_in, HasStart}
 
--- column m of row k is passed where the walk stands before column j of row i
+-- column m of row k is passed when the walk is before column j of row i
 abbrev pub IsPast : ℕ → ℕ → ℕ → ℕ → Type 0
 IsPast i j k m = (k < i) ⊎ ((k ≡ i) × (m < j))
 
--- an end of a firing that is passed in column m
+-- the end of a passed firing in column m
 abbrev pub IsColumnEnd : (ℕ → ℕ) → List (List (Option Firing)) → (ℕ → ℕ → Type 0) → (Firing → ℕ) → ℕ → ℕ → Type 0
 IsColumnEnd cost rows Past start m u = (k : ℕ) × (g : Firing) × (cell rows k m ≡ Some g) × Past k m
     × (end_of cost start g ≡ u)
 
--- the firings of the cells that are passed have their starts, no other has one, and until says when each column is
--- through
+-- the firings of the passed cells have their starts, no other firing has one, and until has the time at which each
+-- column's last passed firing ends
 pub record IsWalk (r : Rates) (cost : ℕ → ℕ) (rows : List (List (Option Firing))) (Past : ℕ → ℕ → Type 0)
     (starts : List (List ℕ)) (until : List ℕ) : Type 0 where
   pub actors : length starts ≡ r.actors
@@ -29,11 +29,11 @@ pub record IsWalk (r : Rates) (cost : ℕ → ℕ) (rows : List (List (Option Fi
   pub through : (m : ℕ) → m < length until → IsGreatest (IsColumnEnd cost rows Past (start_in starts) m)
       (slice_index until m)
 
--- an end of a firing that f waits for
+-- the end of a firing that f waits for
 abbrev pub IsNeedEnd : Rates → (ℕ → ℕ) → (Firing → ℕ) → Firing → ℕ → Type 0
 IsNeedEnd r cost start f u = (g : Firing) × WaitsFor r f g × (end_of cost start g ≡ u)
 
--- the firing before f of its actor, or one that f waits for on one of the first i of some channels
+-- g is the firing of f's actor before f, or a firing that f waits for on one of the first i of some channels
 abbrev pub IsNeedAmong : Rates → Firing → List ℕ → ℕ → Firing → Type 0
 IsNeedAmong r f channels i g =
     ((g.actor ≡ f.actor) × (g.number + 1 ≡ f.number)) ⊎
@@ -44,7 +44,7 @@ IsNeedAmong r f channels i g =
 abbrev pub IsAmongEnd : Rates → (ℕ → ℕ) → (Firing → ℕ) → Firing → List ℕ → ℕ → ℕ → Type 0
 IsAmongEnd r cost start f channels i u = (g : Firing) × IsNeedAmong r f channels i g × (end_of cost start g ≡ u)
 
--- all that f waits for have started, and their ends are small
+-- all firings that f waits for have started, and their ends are small
 pub record IsPrepared (r : Rates) (cost : ℕ → ℕ) (starts : List (List ℕ)) (f : Firing) : Type 0 where
   pub actors : length starts ≡ r.actors
   pub of : f.actor < r.actors
@@ -54,7 +54,7 @@ pub record IsPrepared (r : Rates) (cost : ℕ → ℕ) (starts : List (List ℕ)
   pub rise : (a k : ℕ) → k + 1 < length (slice_index_or starts a []) →
       slice_index (slice_index_or starts a []) k ≤ slice_index (slice_index_or starts a []) (k + 1)
 
--- where a firing has started in column j: all that is known of its start, and of what is kept
+-- firing f has started in column j: the facts about its start, and about the lists after it
 pub record IsFired (r : Rates) (cost : ℕ → ℕ) (f : Firing) (j : ℕ) (starts : List (List ℕ)) (until : List ℕ)
     (starts' : List (List ℕ)) (until' : List ℕ) : Type 0 where
   pub start : ℕ

@@ -1,4 +1,4 @@
-//! How short a table of a block may be.
+//! Lower bounds on the makespan of a block's tables.
 
 ghost use Rattle.std.specs.Prelude.{◌≡◌, ℕ, ◌≤◌, ◌<◌, length, slice_index, MatchResult};
 ghost use Rattle.sdf_graph.specs.Rates.{rates};
@@ -15,7 +15,7 @@ use sdf_prec::{Costs, Firing, Levels, PrecFault};
 use sdf_sched::Period;
 use std::alloc::Global;
 
-/// What the firings of a block of `j` periods cost together, in which the actors fire `reps` times each.
+/// Returns the cost of all firings of a block of `j` periods in which the actors fire `reps` times each.
 pub fn work(reps: &[u32], j: u32, costs: &Costs) -> u64
     requires few { length reps.now ≤ MOST_ACTORS }
     requires short { IsShort j reps.now }
@@ -30,7 +30,7 @@ pub fn work(reps: &[u32], j: u32, costs: &Costs) -> u64
     work
 }
 
-/// The greatest level of the actors' first firings.
+/// Returns the greatest level of the actors' first firings.
 fn first_levels(of: &Levels, reps: &[u32], j: u32) -> u64
     requires { of.now.firings ≡ block j reps.now }
     ensures { IsGreatest (λ u. (a : ℕ) × (0 < slice_index of.now.firings a)
@@ -46,8 +46,8 @@ fn first_levels(of: &Levels, reps: &[u32], j: u32) -> u64
     most
 }
 
-/// The greatest level of the firings of a block of `j` periods, which may pass 64: what its costliest chain costs, and
-/// 0 for no period. A fault is `BlockTooLong`, or else memory was refused.
+/// Returns the greatest level of the firings of a block of `j` periods: the cost of its costliest chain. It is 0 if `j`
+/// is 0, and `j` may be over 64. It errs with `BlockTooLong`, or if memory is refused.
 pub fn span(
     alloc: Global,
     graph: &Graph,
@@ -66,8 +66,8 @@ pub fn span(
     Ok(first_levels(&of, period.repetitions(), j))
 }
 
-/// The least time in which the costliest chain ends and so many workers can do the work: no table of the block in as
-/// many columns ends sooner (`laws::bounds_hold`).
+/// Returns the least time in which the costliest chain ends and `workers` workers can do the work. No table of the
+/// block with `workers` columns ends sooner (`laws::bounds_hold`).
 #[tactic(auto, using(crate::proofs::Spans::bound_is))]
 pub fn bound(span: u64, work: u64, workers: usize) -> u64
     requires { 0 < workers }

@@ -1,6 +1,6 @@
-//! When the firings of a table start and end, what its columns do, and how short any table of its block may be.
+//! The start and end times of a table's firings, the loads of its columns, and lower bounds for any table of its block.
 //!
-//! It depends on `sdf_graph`, `sdf_sched`, `sdf_prec` and `sdf_limits`. Begin at `times`, then `bounds`; `laws` has
+//! It depends on `sdf_graph`, `sdf_sched`, `sdf_prec` and `sdf_limits`. Begin at `times`, then `bounds`. `laws` has
 //! what is true of all tables. The definitions are in `specs/Times.antt`, the statements in `specs/Laws.antt`.
 #![tactic(auto)]
 

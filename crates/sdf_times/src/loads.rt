@@ -1,4 +1,4 @@
-//! What the columns of a table do.
+//! The loads of a table's columns.
 
 ghost use Rattle.std.specs.Prelude.{◌≡◌, ℕ, ◌+◌, ◌≤◌, ◌<◌, ◌^◌, length, slice_index, IfOk, Option, Some};
 ghost use Rattle.sdf_prec.specs.declared.firing.Firing.{Firing};
@@ -9,7 +9,7 @@ use sdf_limits::{MOST_BLOCK, MOST_COST};
 use sdf_prec::{Costs, Firing, Table};
 use std::alloc::{AllocError, Global};
 
-/// What the firing in a cell costs, or 0 where none stands there.
+/// Returns the cost of the firing in `cell`, or 0 if it is empty.
 fn cost_at(costs: &Costs, cell: Option<Firing>) -> u64
     requires { (f : Firing) → cell ≡ Some f → f.actor < length costs.now }
     ensures is { result ≡ cost_in (slice_index costs.now) cell }
@@ -21,7 +21,7 @@ fn cost_at(costs: &Costs, cell: Option<Firing>) -> u64
     }
 }
 
-/// Adds what the firings of a row cost to the loads of their columns.
+/// Adds the costs of the firings in row `i` to the loads of their columns.
 fn add_row(table: &Table, costs: &Costs, i: usize, loads: &mut Vec<u64>)
     requires within { i < length table.now.rows }
     requires wide { length (row table.now.rows i) ≡ length loads.old.items }
@@ -37,7 +37,7 @@ fn add_row(table: &Table, costs: &Costs, i: usize, loads: &mut Vec<u64>)
     }
 }
 
-/// The load of each of so many columns.
+/// Returns the load of each of the `m` columns of `table`: the cost of all firings in it.
 pub(crate) fn loads(
     alloc: Global,
     table: &Table,

@@ -1,4 +1,4 @@
-//! When all have ended that a firing waits for.
+//! The time at which all firings that a firing waits for have ended.
 
 ghost use Rattle.std.specs.Prelude.{◌≡◌, ℕ, ◌+◌, ◌-◌, ◌≤◌, ◌<◌, ◌^◌, [], length, slice_index, slice_index_or};
 ghost use Rattle.sdf_graph.specs.Rates.{rates};
@@ -10,7 +10,7 @@ use crate::starts::Starts;
 use sdf_graph::Graph;
 use sdf_prec::{Costs, Firing, needed};
 
-/// When the last of an actor's first `count` firings ends, or 0 where there is none.
+/// Returns when the last of the first `count` firings of `actor` ends, or 0 if `count` is 0.
 fn ended(starts: &[Starts], costs: &Costs, actor: usize, count: u64) -> u64
     requires known { actor < length starts.now }
     requires costs { AreCosts (length starts.now) costs.now }
@@ -27,7 +27,7 @@ fn ended(starts: &[Starts], costs: &Costs, actor: usize, count: u64) -> u64
     starts[actor].of((count - 1) as usize) + u64::from(costs.of(actor))
 }
 
-/// The actor that a channel comes from.
+/// Returns the actor that `channel` comes from.
 fn source_of(graph: &Graph, channel: usize) -> usize
     requires { channel < length graph.now.channels }
     ensures { result ≡ (rates graph.now).source channel }
@@ -36,8 +36,8 @@ fn source_of(graph: &Graph, channel: usize) -> usize
     channel.from
 }
 
-/// When all have ended that a firing waits for: the one before it of its actor, and on each channel into the actor the
-/// last one that it waits for of the source.
+/// Returns when all firings that `firing` waits for have ended: its actor's firing before it, and on each channel into
+/// its actor the last one needed from the source.
 pub(crate) fn ready(graph: &Graph, starts: &[Starts], costs: &Costs, firing: Firing) -> u64
     requires costs { AreCosts graph.now.actors costs.now }
     requires prepared { IsPrepared (rates graph.now) (slice_index costs.now) starts.now firing }

@@ -1,11 +1,11 @@
-//! When the firings of an actor start.
+//! The start times of an actor's firings.
 
 ghost use Rattle.std.specs.Prelude.{◌≡◌, ℕ, ◌<◌, ◌++◌, ◌∷◌, [], length, slice_index, slice_index_or, IfOk};
 
 use std::alloc::{AllocError, Global};
 use std::marker::Model;
 
-/// When the first so many firings of an actor start.
+/// The start times of an actor's first firings.
 #[derive(Drop)]
 pub(crate) struct Starts {
     times: Vec<u64>,
@@ -20,7 +20,7 @@ impl Model for Starts {
 }
 
 impl Starts {
-    /// Of no firing yet.
+    /// Returns an empty list of start times.
     fn new(alloc: Global) -> Starts
         ensures { result ≡ [] }
     {
@@ -29,7 +29,7 @@ impl Starts {
         }
     }
 
-    /// When the firing with a number starts.
+    /// Returns when firing `number` starts.
     pub(crate) fn of(&self, number: usize) -> u64
         requires { number < length self.now }
         ensures { result ≡ slice_index self.now number }
@@ -37,7 +37,7 @@ impl Starts {
         self.times[number]
     }
 
-    /// One firing more.
+    /// Appends the start time of the actor's next firing.
     pub(crate) fn push(&mut self, start: u64) -> Result<(), AllocError>
         ensures { IfOk result (λ _. self.new ≡ self.old ++ start ∷ []) }
     {
@@ -46,7 +46,7 @@ impl Starts {
     }
 }
 
-/// Of no firing yet, for each of so many actors.
+/// Returns an empty list of start times for each of `actors` actors.
 pub(crate) fn no_starts(alloc: Global, actors: usize) -> Result<Vec<Starts>, AllocError>
     ensures all { IfOk result (λ v. length v.items ≡ actors) }
     ensures none { IfOk result (λ v. (a : ℕ) → slice_index_or v.items a [] ≡ []) }

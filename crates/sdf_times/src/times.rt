@@ -15,7 +15,7 @@ use sdf_prec::{Costs, Firing, Table};
 use std::alloc::{AllocError, Global};
 use std::marker::Model;
 
-/// When the firings of a table start, when the last of them ends, and what its columns do.
+/// The start times of a table's firings, the time at which the last one ends, and the loads of its columns.
 #[derive(Drop)]
 pub struct Times {
     starts: Vec<Starts>,
@@ -31,7 +31,7 @@ impl Model for Times {
     ghost view = { λ t. record { starts = t.starts.items; makespan = t.makespan; loads = t.loads.items } };
 }
 
-/// The greatest of some times, or 0 where there is none.
+/// Returns the greatest of `times`, or 0 if there are none.
 fn greatest(times: &[u64]) -> u64
     ensures { IsGreatest (λ u. (j : ℕ) × (j < length times.now) × (slice_index times.now j ≡ u)) result }
 {
@@ -43,9 +43,10 @@ fn greatest(times: &[u64]) -> u64
 }
 
 impl Times {
-    /// The times of a table in `m` columns: each firing starts when the firing before it in its column and all that it
-    /// waits for have ended, and ends its cost later. It takes time linear in the firings, each times the links into
-    /// its actor, and in the cells.
+    /// Finds the times of a table with `m` columns. Each firing starts when the firing before it in its column and all
+    /// firings that it waits for have ended. It ends its cost later, so times are in units of cost.
+    ///
+    /// The time taken is linear in the cells and in the firings, and for each firing in the links into its actor.
     pub fn of(
         alloc: Global,
         graph: &Graph,
@@ -78,7 +79,7 @@ impl Times {
         })
     }
 
-    /// When a firing starts.
+    /// Returns when `firing` starts.
     pub fn start(&self, firing: Firing) -> u64
         requires { HasStart self.now.starts firing }
         ensures { result ≡ start_in self.now.starts firing }
@@ -86,14 +87,14 @@ impl Times {
         self.starts[firing.actor].of(firing.number as usize)
     }
 
-    /// When the last firing ends.
+    /// Returns when the last firing ends.
     pub fn makespan(&self) -> u64
         ensures { result ≡ self.now.makespan }
     {
         self.makespan
     }
 
-    /// What the firings of a column cost together, which are a worker's.
+    /// Returns the cost of all firings in `column`, which one worker does.
     pub fn load(&self, column: usize) -> u64
         requires { column < length self.now.loads }
         ensures { result ≡ slice_index self.now.loads column }

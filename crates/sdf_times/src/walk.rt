@@ -1,4 +1,4 @@
-//! The cells of a table, row by row: each firing starts when its column and all that it waits for are through.
+//! A walk over the cells of a table, row by row. Each firing starts when its column is idle and its needs have ended.
 
 ghost use Rattle.std.specs.Prelude.{◌≡◌, ℕ, ◌+◌, ◌<◌, ◌^◌, length, slice_index, IfOk};
 ghost use Rattle.sdf_graph.specs.Rates.{rates};
@@ -13,7 +13,7 @@ use sdf_limits::MOST_BLOCK;
 use sdf_prec::{Costs, Firing, Table};
 use std::alloc::AllocError;
 
-/// Starts a firing in a column.
+/// Starts `firing` in `column`.
 fn fire(
     graph: &Graph,
     costs: &Costs,
@@ -35,7 +35,7 @@ fn fire(
     Ok(())
 }
 
-/// Starts the firings of a row.
+/// Starts the firings of row `i`.
 pub(crate) fn fire_row(
     graph: &Graph,
     costs: &Costs,
