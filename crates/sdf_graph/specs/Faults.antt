@@ -55,7 +55,7 @@ abbrev pub or_else : Option GraphFault → Option GraphFault → Option GraphFau
 or_else (Some fault) next = Some fault
 or_else None next = next
 
--- the first fault of the rest of some channels, the first of which is channel c
+-- the first fault of the rest of some channels, which begins at channel c
 abbrev pub channels_fault : ℕ → List Edge → ℕ → List Edge → Option GraphFault
 channels_fault actors channels c [] = None
 channels_fault actors channels c (e ∷ es) = or_else (channel_fault actors channels c e)

@@ -43,7 +43,7 @@ SumsRise = (f : ℕ → ℕ) (i j : ℕ) → i ≤ j → sum_to f i ≤ sum_to f
 abbrev pub SumsAreSmall : Type 0
 SumsAreSmall = (f : ℕ → ℕ) (most : ℕ) → ((i : ℕ) → f i ≤ most) → (i : ℕ) → sum_to f i ≤ most * i
 
--- after whole cycles the sums of their rates begin anew
+-- after whole cycles the sums of rates grow as from the start
 abbrev pub CyclesBeginAnew : Type 0
 CyclesBeginAnew = (xs : List ℕ) (k i : ℕ) → sum_to (rate_at xs) (i + k * length xs) ≡ sum_to (rate_at xs) i + k * sum xs
 

@@ -10,8 +10,8 @@ use Rattle.sdf_prec.specs.Tables.{cell_of, firings}
 use Rattle.sdf_prec.specs.Trying.{AreFilled}
 use Rattle.sdf_prec.specs.TimedRows.{Timed, timed, StandsAt, Occurs, end_at, IsSettled, IsLater, AreTimed, hu_rule}
 
--- the firing is its actor's next one, those before it have ended, and the actor is enabled at the counts of ended
--- firings
+-- the firing is its actor's next one, its actor's earlier firings have ended, and the actor is enabled at the counts of
+-- ended firings
 pub record IsNextReady (r : Rates) (n ended started : ℕ → ℕ) (f : Firing) : Type 0 where
   pub known : f.actor < r.actors
   pub within : f.number < n f.actor
@@ -19,7 +19,7 @@ pub record IsNextReady (r : Rates) (n ended started : ℕ → ℕ) (f : Firing) 
   pub through : ended f.actor ≡ started f.actor
   pub on : IsEnabled r ended f.actor
 
--- the first i columns: the ones that are idle at time now hold the first firings of the queue, the others nothing
+-- the first i columns: the ones that are idle at time now hold the first firings of the queue, the others are empty
 pub record IsFilling (until : List ℕ) (now i : ℕ) (queue : List Firing) (next : ℕ)
     (cells : List (Option Firing)) : Type 0 where
   pub columns : List ℕ

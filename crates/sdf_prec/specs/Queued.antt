@@ -5,7 +5,7 @@ use Rattle.sdf_prec.specs.declared.firing.Firing.{Firing}
 use Rattle.sdf_prec.specs.Tables.{firing, Stands}
 use Rattle.sdf_prec.specs.Trying.{IsTriedBefore}
 
--- each firing of the list is tried before those behind it
+-- each firing of the list is tried before all firings behind it
 abbrev pub AreInTurn : (Firing → ℕ) → List Firing → Type 0
 AreInTurn level queue = (p m : ℕ) → p < m → m < length queue → IsTriedBefore level (firing queue p) (firing queue m)
 
