@@ -245,8 +245,8 @@ impl Graph {
     /// Messerschmitt 1987).
     ///
     /// It errs with `Inconsistent` if no vector balances the channels, and with `PeriodTooLong` if the least vector has
-    /// a sum over 65,536. An inconsistent graph may err with `PeriodTooLong` instead, if the walk first finds a relative
-    /// rate beyond the limit.
+    /// a sum over 65,536. An inconsistent graph may err with `PeriodTooLong` instead, if the walk first finds a
+    /// relative rate beyond the limit.
     pub fn repetitions(&self, alloc: Global) -> Result<Repetitions, GraphFault>
         ensures { MatchResult result
             (λ q. IsLeastPeriod (rates self.now) q × (sum q ≤ MOST_PERIOD))
