@@ -20,7 +20,7 @@ pub enum RunFault {
     /// The spin limit is out of range.
     #[error("31 Patience")]
     Patience,
-    /// A worker could not be started.
+    /// A worker could not be started. No runner returns this: without threads the workers run one after another.
     #[error("32 NoWorker")]
     NoWorker,
     /// A session is used again after memory or a worker was refused in it.
