@@ -55,7 +55,7 @@ pub fn runs_go_on<A: Actor>()
     one_history::<A>();
 }
 
-/// Proves that a run that is fed in pieces makes, joined, what one run makes, and leaves what that run leaves.
+/// Proves that a run fed in pieces makes, joined, the outputs of one run, and leaves the same net state.
 pub fn feeds_go_on<A: Actor, B: Actor<Token = A::Token, State = A::State>>()
     ensures runs { FeedsGoOn A.steps B.steps }
     ensures inputs { BegunNetsAsk A.steps B.steps }
@@ -93,8 +93,8 @@ pub fn plans_fit<A: Actor>()
     ensures { PlansFit A.steps }
 {}
 
-/// Proves that a firing of an enabled node takes its block from the front of its channels, and moves the channels on
-/// from one history to the next.
+/// Proves that a firing of an enabled node takes its block from the front of its channels, and leads from one history
+/// to the next.
 pub fn firings_move_on<A: Actor>()
     ensures counts { BlocksAreCounted A.steps }
     ensures stand { BlocksStand A.steps }

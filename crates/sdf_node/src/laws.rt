@@ -28,7 +28,7 @@ pub fn sinks_hold_lists<A: Actor>()
     ensures { SinksHoldLists A.steps }
 {}
 
-/// Proves that a node keeps the state that follows from all that it took.
+/// Proves that the state of a node follows from all that it took.
 pub fn nodes_keep_states<A: Actor>()
     ensures { NodesKeepStates A.steps }
 {}
