@@ -4,7 +4,7 @@ use Rattle.sdf_actor.specs.declared.node.Node.{Node}
 use Rattle.sdf_actor.specs.declared.node.Node.TheVariants.{Source, Sink, Inner}
 use Rattle.sdf_actor.specs.Steps.{Steps, PutsFit}
 
--- the steps of actors whose first firing finds a state
+-- the steps of actors that begin in a given state
 abbrev pub beginning : {A S T : Type 0} → Steps A S T → S → Steps A S T
 beginning s state = record {
   inputs = s.inputs;
@@ -17,7 +17,7 @@ beginning s state = record {
   puts = s.puts;
 }
 
--- y is actor x, but begins in a state
+-- y is actor x, except that it begins in the given state
 pub record BeginsIn {A B S T : Type 0} (s : Steps A S T) (r : Steps B S T) (x : A) (state : S) (y : B) : Type 0 where
   pub inputs : r.inputs y ≡ s.inputs x
   pub outputs : r.outputs y ≡ s.outputs x
@@ -28,7 +28,7 @@ pub record BeginsIn {A B S T : Type 0} (s : Steps A S T) (r : Steps B S T) (x : 
   pub next : r.next y ≡ s.next x
   pub puts : r.puts y ≡ s.puts x
 
--- a node may begin in a state: an actor's is there, and what it puts from there has its length
+-- a node may begin in a state: an actor has one, and what it puts from there on has its length
 abbrev pub MayBegin : {A S T : Type 0} → Steps A S T → Option S → Node A → Type 0
 MayBegin s state (Source ext block) = Unit {0}
 MayBegin s state (Sink ext block) = Unit {0}

@@ -3,7 +3,7 @@ use Rattle.sdf_actor.specs.declared.actor.Actor.{Ghosts}
 use Rattle.sdf_actor.specs.declared.begun.Begun.{Begun}
 use Rattle.sdf_actor.specs.Steps.{Steps}
 
--- those of the actors, but each begins in its state
+-- the steps of the actors, except that each begins in its state
 abbrev pub begun_steps : {A T S : Type 0} (g : Ghosts A T S) → Steps (Begun A T S g) S T
 begun_steps g = record {
   inputs = λ b. g.steps.inputs b.actor.now;

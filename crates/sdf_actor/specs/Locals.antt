@@ -4,9 +4,9 @@ use Rattle.sdf_actor.specs.Histories.{Wiring, Answers, taken, put, taken_before,
 use Rattle.sdf_actor.specs.Steps.{Steps}
 use Rattle.sdf_actor.specs.Nets.{Netlist, wiring, answers, IsNet, IsHistoryOf}
 
--- node a has fired k times: V c is what it put on each channel c out of it, after the samples that the channel begins
--- with, and for a channel into it at least what it took. Each block put is its answer to what it took: the equations of
--- a history at this node alone
+-- node a has fired k times. For a channel c out of it, V c is the initial samples and then what it put; for a channel
+-- into it, V c has at least what it took. Each block put is its answer to what it took: the equations of a history at
+-- this node alone
 pub record IsLocal {A : Type 0} (f : Wiring A) (answer : Answers A) (a k : ℕ) (V : ℕ → List A) : Type 0 where
   pub begins : (c : ℕ) → c < f.rates.channels → f.rates.source c ≡ a → take (f.rates.initial c) (V c) ≡ f.starts c
   pub given : (c : ℕ) → c < f.rates.channels → f.rates.source c ≡ a →
@@ -14,8 +14,8 @@ pub record IsLocal {A : Type 0} (f : Wiring A) (answer : Answers A) (a k : ℕ) 
   pub got : (c : ℕ) → c < f.rates.channels → f.rates.target c ≡ a → f.rates.consumed c k ≤ length (V c)
   pub steps : (i : ℕ) → i < k → put f V a i ≡ answer a (taken_before f V a i) (taken f V a i)
 
--- from V to W node a has fired once more than k times: what it took stayed, there is what it takes, and it put block b,
--- its answer to that
+-- from V to W node a fires once more after k firings: what it took stays, what it now takes is there, and it puts block
+-- b, its answer to what it takes
 pub record IsFiredOnce {A : Type 0} (f : Wiring A) (answer : Answers A) (a k : ℕ) (V W : ℕ → List A)
     (b : List A) : Type 0 where
   pub kept : (c : ℕ) → c < f.rates.channels → f.rates.target c ≡ a →
@@ -32,7 +32,7 @@ LocalsBegin {A} {S} {T} s =
     (n : Netlist A T) (inputs : List (List T)) (a : ℕ) → IsNet s n →
     IsLocal (wiring s n) (answers s n inputs) a 0 (wiring s n).starts
 
--- what it knows goes on with each firing of its own
+-- what a node knows grows with each firing of its own
 abbrev pub LocalsGrow : {A S T : Type 0} → Steps A S T → Type 0
 LocalsGrow {A} {S} {T} s =
     (n : Netlist A T) (inputs : List (List T)) (a k : ℕ) (V W : ℕ → List T) (b : List T) → IsNet s n →
@@ -40,8 +40,8 @@ LocalsGrow {A} {S} {T} s =
     IsLocal (wiring s n) (answers s n inputs) a k V → IsFiredOnce (wiring s n) (answers s n inputs) a k V W b →
     IsLocal (wiring s n) (answers s n inputs) a (k + 1) W
 
--- where each node a has fired k a times and knows its own channels as own a says, and what each took of a channel is
--- what was put there, what was put is the history
+-- each node a has fired k a times and knows its own channels as own a says. If what each node took from a channel is
+-- what was put there, then what was put is the history
 abbrev pub LocalsMeet : {A S T : Type 0} → Steps A S T → Type 0
 LocalsMeet {A} {S} {T} s =
     (n : Netlist A T) (inputs : List (List T)) (k : ℕ → ℕ) (own : ℕ → ℕ → List T) → IsNet s n →

@@ -1,4 +1,4 @@
--- What is left where a history ends, and the net that begins with it.
+-- The net state that a history leaves, and the net that begins with it.
 use Rattle.std.specs.Prelude.{◌≡◌, ℕ, ◌*◌, ◌<◌, List, [], ◌++◌, length, drop, Option, Some, None, slice_index_or}
 use Rattle.sdf_graph.specs.Sequences.{IsPeriod}
 use Rattle.sdf_graph.specs.Periods.{Divides}
@@ -11,18 +11,18 @@ use Rattle.sdf_actor.specs.Nets.{Netlist, node, wire, wiring, cycle_of, IsHistor
 use Rattle.sdf_actor.specs.Steps.{Steps, state_after}
 use Rattle.sdf_actor.specs.Wires.{lists}
 
--- counts of whole periods: as much was put on each channel as was taken, and rates and phases begin anew
+-- counts of whole periods: each channel has equal numbers of samples put and taken, and rates and phases begin anew
 pub record AreWhole {A S T : Type 0} (s : Steps A S T) (n : Netlist A T) (k : ℕ → ℕ) : Type 0 where
   pub period : IsPeriod (wiring s n).rates k
   pub cycles : (a : ℕ) → a < length n.nodes → Divides (cycle_of s (node n a)) (k a)
 
--- the state that a node is left in that took these blocks: none of a source or a sink
+-- the state of a node after it took these blocks; None for a source or a sink
 abbrev pub state_left : {A S T : Type 0} → Steps A S T → Node A → List (List T) → Option S
 state_left s (Source ext block) past = None
 state_left s (Sink ext block) past = None
 state_left s (Inner x) past = Some (state_after s x past)
 
--- what the history V leaves where each node a has fired k a times: each node's state after all that it took, and of
+-- rest is what the history V leaves after k a firings of each node a: each node's state after all that it took, and on
 -- each channel the samples that were not taken
 pub record Leaves {A S T : Type 0} (s : Steps A S T) (n : Netlist A T) (k : ℕ → ℕ) (V : ℕ → List T)
     (rest : Rest T S) : Type 0 where
@@ -34,21 +34,21 @@ pub record Leaves {A S T : Type 0} (s : Steps A S T) (n : Netlist A T) (k : ℕ 
       slice_index_or (lists rest.held.items) c [] ≡
       drop ((wiring s n).rates.consumed c (k ((wiring s n).rates.target c))) (V c)
 
--- a rest is left by the history on these inputs
+-- the history on these inputs leaves rest
 pub record IsRest {A S T : Type 0} (s : Steps A S T) (n : Netlist A T) (inputs : List (List T)) (k : ℕ → ℕ)
     (rest : Rest T S) : Type 0 where
   pub history : ℕ → List T
   pub is : IsHistoryOf s n inputs k history
   pub left : Leaves s n k history rest
 
--- y is node x, but an actor begins in a state
+-- y is node x, except that an actor begins in the given state
 abbrev pub IsNodeIn : {A B S T : Type 0} → Steps A S T → Steps B S T → Option S → Node A → Node B → Type 0
 IsNodeIn s r state (Source ext block) y = y ≡ Source ext block
 IsNodeIn s r state (Sink ext block) y = y ≡ Sink ext block
 IsNodeIn {A} {B} {S} {T} s r state (Inner x) y =
     (b : B) × (now : S) × (y ≡ Inner b) × (state ≡ Some now) × BeginsIn s r x now b
 
--- m is net n, but its actors begin in the states of a rest, and its channels with the samples of it
+-- m is net n, except that its actors begin in the states of rest, and its channels with the samples of rest
 pub record BeginsWith {A B S T : Type 0} (s : Steps A S T) (r : Steps B S T) (n : Netlist A T) (rest : Rest T S)
     (m : Netlist B T) : Type 0 where
   pub nodes : length m.nodes ≡ length n.nodes
@@ -64,6 +64,6 @@ AllRead n inputs k =
     (a ext block : ℕ) → a < length n.nodes → node n a ≡ Source ext block →
     length (slice_index_or inputs ext []) ≡ block * k a
 
--- each list is one of the first and then one of the later ones
+-- each list of all is the one of first, then the one of later
 abbrev pub AreJoined : {T : Type 0} → List (List T) → List (List T) → List (List T) → Type 0
 AreJoined first later all = (e : ℕ) → slice_index_or all e [] ≡ slice_index_or first e [] ++ slice_index_or later e []

@@ -6,53 +6,54 @@ ghost use Rattle.sdf_actor.specs.Steps.{Steps, total_in, total_out, sum_in, sum_
 use sdf_limits::MOST_PORTS;
 use std::alloc::{AllocError, Global};
 
-/// An actor: it has a cycle of phases, and in each firing takes the number of samples of its phase at each input port
-/// and puts that on each output port (Bilsen and others 1996; with one phase, Lee and Messerschmitt 1987).
+/// An actor with a cycle of phases. The phase of a firing sets how many samples it takes at each input port and puts on
+/// each output port (Bilsen and others 1996; with one phase, Lee and Messerschmitt 1987).
 pub trait Actor: Sync + Drop {
     /// A sample.
     type Token: Copy + Send + Sync;
 
-    /// What it keeps from one firing to the next.
+    /// The state that it keeps from one firing to the next.
     type State: Send + Sync + Drop;
 
     /// Its ports, rates and step.
     ghost steps: { Steps Self Self.State Self.Token };
 
-    /// How many input ports it has. They are numbered from 0.
+    /// Returns how many input ports it has. They are numbered from 0.
     fn inputs(&self) -> usize
         ensures value { result ≡ steps.inputs self.now }
         ensures few { result ≤ MOST_PORTS };
 
-    /// How many output ports it has. They are numbered from 0.
+    /// Returns how many output ports it has. They are numbered from 0.
     fn outputs(&self) -> usize
         ensures value { result ≡ steps.outputs self.now }
         ensures few { result ≤ MOST_PORTS };
 
-    /// How many phases its cycle has: 1 to 64 in a net. Firing `i` is at phase `i` modulo that.
+    /// Returns how many phases its cycle has: 1 to 64 in a net. Firing `i` is at phase `i` modulo this number.
     fn cycle(&self) -> u32
         ensures { result ≡ steps.cycle self.now };
 
-    /// How many samples a firing at a phase takes at an input port.
+    /// Returns how many samples a firing at `phase` takes at input port `port`.
     fn take(&self, port: usize, phase: u32) -> u32
         requires port { port < steps.inputs self.now }
         requires phase { phase < steps.cycle self.now }
         ensures { result ≡ steps.take self.now port phase };
 
-    /// How many samples a firing at a phase puts on an output port.
+    /// Returns how many samples a firing at `phase` puts on output port `port`.
     fn put(&self, port: usize, phase: u32) -> u32
         requires port { port < steps.outputs self.now }
         requires phase { phase < steps.cycle self.now }
         ensures { result ≡ steps.put self.now port phase };
 
-    /// Its state before the first firing.
+    /// Returns its state before the first firing.
     fn start(&self, alloc: Global) -> Result<Self::State, AllocError>
         ensures { IfOk result (λ s. s ≡ steps.start self.now) };
 
-    /// A copy of a state.
+    /// Returns a copy of `state`.
     fn again(&self, alloc: Global, state: &Self::State) -> Result<Self::State, AllocError>
         ensures { IfOk result (λ s. s ≡ state.now) };
 
-    /// Fires once, at a phase. The blocks of all ports stand one after another in port order. It takes no memory.
+    /// Fires once, at `phase`. `taken` and `put` hold the blocks of all ports, one after another in port order. Takes
+    /// no memory.
     fn fire(
         &self,
         phase: u32,
@@ -66,7 +67,7 @@ pub trait Actor: Sync + Drop {
         ensures state { state.new ≡ steps.next self.now phase state.old taken.now }
         ensures put { put.new ≡ steps.puts self.now phase state.old taken.now };
 
-    /// How many samples a firing at a phase takes at all ports.
+    /// Returns how many samples a firing at `phase` takes at all ports.
     fn samples_in(&self, phase: u32) -> usize
         requires { phase < steps.cycle self.now }
         ensures { result ≡ total_in steps self.now phase }
@@ -78,7 +79,7 @@ pub trait Actor: Sync + Drop {
         total
     }
 
-    /// How many samples a firing at a phase puts on all ports.
+    /// Returns how many samples a firing at `phase` puts on all ports.
     fn samples_out(&self, phase: u32) -> usize
         requires { phase < steps.cycle self.now }
         ensures { result ≡ total_out steps self.now phase }
@@ -90,8 +91,8 @@ pub trait Actor: Sync + Drop {
         total
     }
 
-    /// Fires many times in one piece of work, where it has one for that, and answers true; else it does nothing.
-    /// `fire_many` asks it first. It takes no memory.
+    /// Fires `many` times in one batch, if the actor has code for that, and returns whether it did. If not, nothing has
+    /// changed. `fire_many` tries this first. Takes no memory.
     fn fire_at_once(
         &self,
         phase: u32,
@@ -109,8 +110,8 @@ pub trait Actor: Sync + Drop {
         false
     }
 
-    /// Fires many times, the first time at a phase, from consecutive blocks to consecutive blocks: the block of a
-    /// firing stands behind that of the one before it. It takes no memory.
+    /// Fires `many` times, the first time at `phase`. `taken` and `put` hold the blocks of the firings, one after
+    /// another. Takes no memory.
     fn fire_many(
         &self,
         phase: u32,
@@ -141,11 +142,11 @@ pub trait Actor: Sync + Drop {
         }
     }
 
-    /// What a firing puts has its length.
+    /// A firing puts the number of samples that its phase sets.
     ghost puts_fit: { (x : Self) → PutsFit steps x };
 }
 
-/// The phase after one of a cycle, which begins anew after its last.
+/// Returns the phase after `phase` in a cycle of `cycle` phases: 0 after the last.
 pub fn next_phase(phase: u32, cycle: u32) -> u32
     requires { phase < cycle }
     ensures { result ≡ (phase + 1) % cycle }
@@ -153,7 +154,7 @@ pub fn next_phase(phase: u32, cycle: u32) -> u32
     if phase + 1 == cycle { 0 } else { phase + 1 }
 }
 
-/// Where a block ends that lies at a place of a list.
+/// Returns where a block of `block` samples at `place` ends, in a list of `len` samples.
 fn end_of(place: usize, block: usize, len: usize) -> usize
     requires { place + block ≤ len }
     ensures value { result ≡ place + block }

@@ -1,4 +1,4 @@
-//! Actors that begin in a state.
+//! Resumed actors: they begin in a given state.
 
 ghost use Rattle.sdf_actor.specs.Steps.{Steps, PutsFit};
 ghost use Rattle.sdf_actor.specs.Begun.{beginning, BeginsIn};
@@ -6,17 +6,17 @@ ghost use Rattle.sdf_actor.specs.Begun.{beginning, BeginsIn};
 use crate::actor::Actor;
 use std::alloc::{AllocError, Global};
 
-/// An actor that begins in a state, in place of its own first one, and goes on as ever.
+/// An actor that begins in `state` instead of its own first state, and is the same otherwise.
 #[derive(Drop)]
 pub struct Begun<'a, A: Actor> {
     actor: &'a A,
     state: A::State,
-    // what it puts has its length
+    // a firing puts the number of samples that its phase sets
     ghost fits: { PutsFit (beginning A.steps state) actor.now },
 }
 
 impl<'a, A: Actor> Begun<'a, A> {
-    /// An actor that begins in a state.
+    /// Makes an actor that begins in `state`.
     pub(crate) fn new(actor: &'a A, state: A::State) -> Begun<'a, A>
         requires { PutsFit (beginning A.steps state) actor.now }
         ensures { BeginsIn A.steps ⟦<Begun<'a, A> as Actor>⟧.steps actor.now state result }

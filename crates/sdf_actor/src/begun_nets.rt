@@ -1,4 +1,4 @@
-//! Nets that begin with what a run left.
+//! Resumed nets: they begin with what a run left.
 
 ghost use Rattle.std.specs.Prelude.{◌≡◌, ◌<◌, ℕ, List, [], Some, None, length, map, slice_index_or, IfOk};
 ghost use Rattle.sdf_actor.specs.declared.node.Node.TheVariants.{Sink, Inner};
@@ -17,7 +17,7 @@ use crate::node::Node;
 use crate::rest::Rest;
 use std::alloc::{AllocError, Global};
 
-/// A node, where an actor begins in a state.
+/// Returns a copy of `node`. If it is an actor, the copy begins in `state`.
 fn node_in<'a, A: Actor>(
     alloc: Global,
     node: &'a Node<A>,
@@ -42,7 +42,7 @@ fn node_in<'a, A: Actor>(
     }
 }
 
-/// A link that begins with these samples.
+/// Returns a copy of `link` that begins with the samples `held`.
 fn link_with<T: Copy>(alloc: Global, link: &Link<T>, held: &[T]) -> Result<Link<T>, AllocError>
     ensures { IfOk result (λ l. wire_of l ≡ record { from = link.now.from; to = link.now.to; initial = held.now }) }
 {
@@ -53,7 +53,7 @@ fn link_with<T: Copy>(alloc: Global, link: &Link<T>, held: &[T]) -> Result<Link<
     })
 }
 
-/// The nodes, where actors begin in these states.
+/// Returns a copy of `nodes`. Each actor begins in its state in `states`.
 fn nodes_in<'a, A: Actor>(
     alloc: Global,
     nodes: &'a [Node<A>],
@@ -74,7 +74,7 @@ fn nodes_in<'a, A: Actor>(
     Ok(begun)
 }
 
-/// The links, where channels begin with these samples.
+/// Returns a copy of `links`. Each channel begins with its samples in `held`.
 fn links_with<T: Copy>(
     alloc: Global,
     links: &[Link<T>],
@@ -96,7 +96,7 @@ fn links_with<T: Copy>(
     Ok(begun)
 }
 
-/// The state that a node begins in: none of a source or a sink.
+/// Returns the state that `node` begins in, or `None` for a source or a sink.
 fn first_state<A: Actor>(alloc: Global, node: &Node<A>) -> Result<Option<A::State>, AllocError>
     ensures { IfOk result (λ state. state ≡ state_left A.steps node.now []) }
 {
@@ -106,7 +106,7 @@ fn first_state<A: Actor>(alloc: Global, node: &Node<A>) -> Result<Option<A::Stat
     }
 }
 
-/// The states that nodes begin in.
+/// Returns the state that each node begins in, or `None` for a source or a sink.
 fn first_states<A: Actor>(
     alloc: Global,
     nodes: &[Node<A>],
@@ -122,7 +122,7 @@ fn first_states<A: Actor>(
     Ok(states)
 }
 
-/// The samples that channels begin with.
+/// Returns the samples that each channel begins with.
 fn first_held<T: Copy>(alloc: Global, links: &[Link<T>]) -> Result<Vec<Vec<T>>, AllocError>
     ensures { IfOk result (λ v. lists v.items ≡ map (λ w. w.initial) (wires links.now)) }
 {
@@ -134,7 +134,8 @@ fn first_held<T: Copy>(alloc: Global, links: &[Link<T>]) -> Result<Vec<Vec<T>>, 
 }
 
 impl<A: Actor> Net<A> {
-    /// What it begins with: the first states of its actors, and the samples that its channels begin with.
+    /// Returns the net's state before its first firing: the first states of its actors, and the initial samples of its
+    /// channels.
     pub fn first_rest(&self, alloc: Global) -> Result<Rest<A::Token, A::State>, AllocError>
         ensures { IfOk result (λ rest. (inputs : List (List A.Token)) → IsRest A.steps self.now inputs (λ _. 0) rest) }
     {
@@ -144,7 +145,7 @@ impl<A: Actor> Net<A> {
         })
     }
 
-    /// The net, where its actors begin in the states of a rest, and its channels with the samples of it.
+    /// Returns the resumed net: its actors begin in the states of `rest`, its channels with the samples of `rest`.
     pub fn begun<'a>(
         &'a self,
         alloc: Global,

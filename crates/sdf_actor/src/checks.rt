@@ -1,6 +1,7 @@
-//! The tests of a net, a module for each. `Parts::new` makes them in this order, and the first that fails gives the
-//! fault: `counts` 2, 3; for each link `links` 20, 21; `ports` 22; `lists` 23, 26, 27; for each link `numbers` 5, 63,
-//! 6; then the graph's own 7 and 8 or 9; `samples` 24, 25.
+//! The tests of a net, one module for each group of faults. `Parts::new` runs them in this order and returns the first
+//! fault: `counts` 2 ActorCount, 3 ChannelCount; for each link, `links` 20 NoPort, 21 PortTwice; `ports` 22 PortOpen;
+//! `lists` 23 ExtTwice, 26 NoInput, 27 NoOutput; for each link, `numbers` 5 BadRate, 63 CycleLength, 6 InitialCount;
+//! then the graph's own 7 NotConnected and 8 Inconsistent or 9 PeriodTooLong; `samples` 24 InputRates, 25 OutputRates.
 
 pub(crate) mod counts;
 pub(crate) mod links;

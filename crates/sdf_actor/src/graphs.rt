@@ -13,7 +13,7 @@ use crate::sides::Side;
 use sdf_graph::Channel;
 use std::alloc::{AllocError, Global};
 
-/// The channels of all links.
+/// Returns the graph's channel for each link, in the order of `links`.
 pub(crate) fn channels<A: Actor>(
     alloc: Global,
     nodes: &[Node<A>],
@@ -29,7 +29,7 @@ pub(crate) fn channels<A: Actor>(
     Ok(channels)
 }
 
-/// The channel of a link.
+/// Returns the graph's channel for `link`, with the rates of the ports at its ends.
 fn channel<A: Actor>(
     alloc: Global,
     nodes: &[Node<A>],

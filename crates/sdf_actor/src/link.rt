@@ -6,7 +6,7 @@ ghost use Rattle.sdf_actor.specs.Wires.{wire_of};
 
 use crate::sides::Side;
 
-/// A channel, from an output port of a node to an input port of a node. An end is a node and a port of it.
+/// A channel from an output port to an input port, with its initial samples. An end is a node and one of its ports.
 #[derive(Drop)]
 pub struct Link<T> {
     pub from: (usize, usize),
@@ -15,7 +15,7 @@ pub struct Link<T> {
 }
 
 impl<T> Link<T> {
-    /// Its end at the input or output port of a node.
+    /// Returns its end at the input port or at the output port, as `side` says.
     pub(crate) fn end(&self, side: Side) -> (usize, usize)
         ensures { result ≡ end_of side (wire_of self.now) }
     {

@@ -1,10 +1,10 @@
-//! What a run leaves.
+//! The net state that a run leaves.
 
-/// The states of a net's actors and the samples on its channels, from which another run can go on.
+/// A net state: the states of a net's actors and the samples on its channels. Another run can go on from it.
 #[derive(Drop)]
 pub struct Rest<T, S> {
-    /// By node: that of an actor, none of a source or a sink.
+    /// The state of each node; `None` for a source or a sink.
     pub states: Vec<Option<S>>,
-    /// By channel: the samples that were put and not taken.
+    /// The samples on each channel that are not yet taken.
     pub held: Vec<Vec<T>>,
 }

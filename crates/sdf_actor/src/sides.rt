@@ -2,7 +2,7 @@
 
 use std::fmt;
 
-/// A side of a node: that of its input ports, or that of its output ports.
+/// A side of a node: its input ports or its output ports.
 #[derive(Clone, Copy, Debug, PartialEq, Eq)]
 pub enum Side {
     Input,
@@ -18,7 +18,7 @@ impl fmt::Display for Side {
     }
 }
 
-/// The lists of samples of a net: those that its sources read, or those that its sinks make.
+/// One sort of a net's sample lists: its sources read `Inputs`, its sinks make `Outputs`.
 #[derive(Clone, Copy)]
 pub enum Lists {
     Inputs,

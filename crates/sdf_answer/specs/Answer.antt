@@ -1,4 +1,4 @@
--- What a run of a net is given and gives.
+-- The inputs and outputs of a net's run.
 use Rattle.std.specs.Prelude.{◌≡◌, ℕ, ◌*◌, ◌≤◌, ◌<◌, List, [], length, slice_index, slice_index_or}
 use Rattle.sdf_actor.specs.declared.node.Node.TheVariants.{Sink}
 use Rattle.sdf_actor.specs.declared.sides.Lists.TheVariants.{Inputs, Outputs}
@@ -9,17 +9,17 @@ use Rattle.sdf_answer.specs.declared.fault.RunFault.{RunFault}
 use Rattle.sdf_answer.specs.declared.fault.RunFault.TheVariants.{OutOfMemory, InputLength, NotHomed, Patience, NoWorker}
 use Rattle.sdf_answer.specs.declared.fault.RunFault.TheVariants.{SessionFailed}
 
--- so many lists, all of one length and none shorter than the least
+-- there are many lists, all of one length and none shorter than least
 pub record AreInputs {T : Type 0} (many least : ℕ) (inputs : List (List T)) : Type 0 where
   pub count : length inputs ≡ many
   pub even : (e : ℕ) → e < length inputs → length (slice_index_or inputs e []) ≡ length (slice_index_or inputs 0 [])
   pub enough : (e : ℕ) → e < length inputs → least ≤ length (slice_index_or inputs e [])
 
--- as many as the net reads, with the samples that its sources read in so many periods of q
+-- the inputs are the lists that the net reads, each with at least the samples of the given number of periods of q
 abbrev pub HasInputs : {A T : Type 0} → Netlist A T → List ℕ → ℕ → List (List T) → Type 0
 HasInputs n q periods inputs = AreInputs (list_count Inputs n.nodes) (periods * period_samples n.nodes Inputs q) inputs
 
--- the output lists of the history where each node a has fired k a times: each sink's is what has arrived there
+-- the output lists of the history after k a firings of each node a: for each sink what has arrived there
 pub record AreOutputs {A S T : Type 0} (s : Steps A S T) (n : Netlist A T) (inputs : List (List T)) (k : ℕ → ℕ)
     (outputs : List (List T)) : Type 0 where
   pub history : ℕ → List T
@@ -28,12 +28,12 @@ pub record AreOutputs {A S T : Type 0} (s : Steps A S T) (n : Netlist A T) (inpu
   pub each : (a e block : ℕ) → a < length n.nodes → node n a ≡ Sink e block →
       slice_index_or outputs e [] ≡ arrived s n k history a
 
--- how often each node has fired after so many periods of q
+-- how often node a has fired after a number of periods of q
 abbrev pub periods_of : List ℕ → ℕ → ℕ → ℕ
 periods_of q periods a = periods * slice_index q a
 
--- a fault is true of what was given: a runner that does not ask for homes, patience or workers has no fault of them,
--- and none is a session
+-- a fault is true of what was given: a runner without homes, spin limit or workers has no fault of them, and a run is
+-- not a session
 abbrev pub IsRunFault : {A T : Type 0} → Netlist A T → List ℕ → ℕ → List (List T) → RunFault → Type 0
 IsRunFault n q periods inputs OutOfMemory = Unit {0}
 IsRunFault n q periods inputs InputLength = HasInputs n q periods inputs → ⊥

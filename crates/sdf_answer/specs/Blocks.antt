@@ -9,18 +9,18 @@ use Rattle.sdf_answer.specs.Held.{Held}
 abbrev pub nothing : {T : Type 0} → Held T
 nothing = record { samples = []; room = 0 }
 
--- the samples that stand on channel c, and how many may
+-- the samples on channel c, and how many it has room for
 abbrev pub samples : {T : Type 0} → List (Held T) → ℕ → List T
 samples qs c = (slice_index_or qs c nothing).samples
 
 abbrev pub room : {T : Type 0} → List (Held T) → ℕ → ℕ
 room qs c = (slice_index_or qs c nothing).room
 
--- the block that stands at the fronts of the queues of some channels
+-- the block at the fronts of the queues of some channels
 abbrev pub front : {T : Type 0} → List ℕ → List ℕ → List (Held T) → List T
 front sizes ports qs = flat_map (λ c. take (slice_index sizes c) (samples qs c)) ports
 
--- many, where the channel is one of these
+-- many if channel c is one of these, otherwise 0
 abbrev pub at_ports : List ℕ → ℕ → ℕ → ℕ
 at_ports [] many c = 0
 at_ports (d ∷ ds) many c = cond (d == c) many (at_ports ds many c)
@@ -41,34 +41,35 @@ abbrev pub HaveRoom : {T : Type 0} → List ℕ → List ℕ → List (Held T) �
 HaveRoom ports sizes qs = (n : ℕ) → n < length ports →
     length (samples qs (slice_index ports n)) + slice_index sizes (slice_index ports n) ≤ room qs (slice_index ports n)
 
--- it holds what so many firings take from it
+-- the queue at each port holds what times firings take from it
 abbrev pub HoldManyBlocks : {T : Type 0} → ℕ → List ℕ → List ℕ → List (Held T) → Type 0
 HoldManyBlocks times ports sizes qs = (n : ℕ) → n < length ports →
     times * slice_index sizes (slice_index ports n) ≤ length (samples qs (slice_index ports n))
 
--- it has room for what so many firings put on it
+-- the queue at each port has room for what times firings put on it
 abbrev pub HaveRoomForMany : {T : Type 0} → ℕ → List ℕ → List ℕ → List (Held T) → Type 0
 HaveRoomForMany times ports sizes qs = (n : ℕ) → n < length ports →
     length (samples qs (slice_index ports n)) + times * slice_index sizes (slice_index ports n) ≤
     room qs (slice_index ports n)
 
--- so many samples of a channel are gone from the front of its queue where it is one of the ports, and else none
+-- for each channel c at one of the ports, many c samples are gone from the front of its queue; the other queues hold
+-- the same samples
 abbrev pub AreTaken : {T : Type 0} → List ℕ → (ℕ → ℕ) → List (Held T) → List (Held T) → Type 0
 AreTaken ports many qs qs' = (c : ℕ) → c < length qs →
     samples qs' c ≡ drop (at_ports ports (many c) c) (samples qs c)
 
--- behind the samples of each queue stand these
+-- each queue c has the samples put c behind its own
 abbrev pub ArePut : {T : Type 0} → (ℕ → List T) → List (Held T) → List (Held T) → Type 0
 ArePut put qs qs' = (c : ℕ) → c < length qs → samples qs' c ≡ samples qs c ++ put c
 
--- each queue has the same room
+-- each queue keeps its room
 abbrev pub KeepRoom : {T : Type 0} → List (Held T) → List (Held T) → Type 0
 KeepRoom qs qs' = (c : ℕ) → c < length qs → room qs' c ≡ room qs c
 
--- the block of firing i, of those that stand at the fronts of the queues
+-- the block of firing i at the fronts of the queues
 abbrev pub front_at : {T : Type 0} → List ℕ → List ℕ → List (Held T) → ℕ → List T
 front_at takes ins qs i = flat_map (λ c. take (slice_index takes c) (drop (i * slice_index takes c) (samples qs c))) ins
 
--- what so many firings put on channel c, where block b has a part of the size more for each
+-- what times firings put on channel c, if block b has a part of more samples for each firing
 abbrev pub dealt : {T : Type 0} → List ℕ → List ℕ → ℕ → List T → ℕ → ℕ → List T
 dealt puts outs more b c times = joined (λ i. spread (slice_index puts) outs (take more (drop (i * more) b)) c) times

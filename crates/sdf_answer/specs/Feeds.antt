@@ -14,7 +14,7 @@ use Rattle.sdf_answer.specs.Answer.{HasInputs, periods_of, IsRunFault}
 use Rattle.sdf_answer.specs.declared.fault.RunFault.{RunFault}
 use Rattle.sdf_answer.specs.Periods.{HasPeriod}
 
--- the outputs of the history where each node a has fired k a times, and what that history leaves
+-- the outputs of the history after k a firings of each node a, and what that history leaves
 pub record HasRun {A S T : Type 0} (s : Steps A S T) (n : Netlist A T) (inputs : List (List T)) (k : ℕ → ℕ)
     (outputs : List (List T)) (rest : Rest T S) : Type 0 where
   pub history : ℕ → List T
@@ -24,13 +24,13 @@ pub record HasRun {A S T : Type 0} (s : Steps A S T) (n : Netlist A T) (inputs :
       slice_index_or outputs e [] ≡ arrived s n k history a
   pub left : Leaves s n k history rest
 
--- the input lists hold the samples of so many periods of q, and no more
+-- each input list holds exactly the samples of the given number of periods of q
 abbrev pub AreFull : {A T : Type 0} → Netlist A T → List ℕ → ℕ → List (List T) → Type 0
 AreFull n q periods inputs = (e : ℕ) → e < length inputs →
     length (slice_index_or inputs e []) ≡ periods * period_samples n.nodes Inputs q
 
--- a run of net n on the first lists, and then one of the net that begins with what it left, on the later ones, are a
--- run of net n on both joined: its outputs are theirs joined, and it leaves what the later one leaves
+-- a run of net n on the lists first, and then a run of the net that begins with what it left on the lists later, are
+-- one run of net n on the joined lists. Its outputs are theirs joined, and it leaves what the later run leaves
 abbrev pub FeedsGoOn : {A B S T : Type 0} → Steps A S T → Steps B S T → Type 0
 FeedsGoOn {A} {B} {S} {T} s r =
     (n : Netlist A T) (m : Netlist B T) (p : Schedule) (few more : ℕ) (first later all made on joined : List (List T))
@@ -41,7 +41,7 @@ FeedsGoOn {A} {B} {S} {T} s r =
     AreJoined first later all → AreJoined made on joined → length joined ≡ length made →
     HasRun s n all (periods_of p.repetitions (few + more)) joined last
 
--- where each node has fired so many periods of q, the lists of what the sinks took and what is left are a run
+-- if each node has fired a number of periods of q, the lists of what the sinks took and what is left are a run
 abbrev pub SinksMakeRuns : {A S T : Type 0} → Steps A S T → Type 0
 SinksMakeRuns {A} {S} {T} s =
     (n : Netlist A T) (inputs : List (List T)) (q : List ℕ) (periods : ℕ) (k : ℕ → ℕ) (V : ℕ → List T)
@@ -52,7 +52,7 @@ SinksMakeRuns {A} {S} {T} s =
     slice_index_or outputs ext [] ≡ flat_map (λ (b : List T). b) (taken_before (wiring s n) V a (k a))) →
     Leaves s n k V rest → HasRun s n inputs (periods_of q periods) outputs rest
 
--- where the inputs hold no sample, empty lists and what the net begins with are one
+-- if the inputs hold no sample, empty lists and what the net begins with are a run
 abbrev pub NothingRuns : {A S T : Type 0} → Steps A S T → Type 0
 NothingRuns {A} {S} {T} s =
     (n : Netlist A T) (q : List ℕ) (periods : ℕ) (inputs outputs : List (List T)) (rest : Rest T S) →
@@ -61,21 +61,21 @@ NothingRuns {A} {S} {T} s =
     length outputs ≡ list_count Outputs n.nodes → ((e : ℕ) → e < length outputs → slice_index_or outputs e [] ≡ []) →
     IsRest s n inputs (λ _. 0) rest → HasRun s n inputs (periods_of q periods) outputs rest
 
--- a net that begins with a rest is given the same inputs
+-- a net that begins with a rest of net n needs the same inputs as n
 abbrev pub BegunNetsAsk : {A B S T : Type 0} → Steps A S T → Steps B S T → Type 0
 BegunNetsAsk {A} {B} {S} {T} s r =
     (n : Netlist A T) (rest : Rest T S) (m : Netlist B T) (q : List ℕ) (periods : ℕ) (inputs : List (List T)) →
     BeginsWith s r n rest m →
     HasInputs m q periods inputs ↔ HasInputs n q periods inputs
 
--- and makes as many outputs
+-- a net that begins with a rest of net n makes the same number of outputs as n
 abbrev pub BegunNetsMake : {A B S T : Type 0} → Steps A S T → Steps B S T → Type 0
 BegunNetsMake {A} {B} {S} {T} s r =
     (n : Netlist A T) (rest : Rest T S) (m : Netlist B T) → BeginsWith s r n rest m →
     list_count Outputs m.nodes ≡ list_count Outputs n.nodes
 
--- a run goes on by so many periods on the later lists: whatever run left the rest, with nothing unread, the outputs are
--- what it then makes beyond that, and the last rest is what it leaves
+-- a run goes on by more periods on the lists later: whatever run left rest, with nothing unread, the outputs on are
+-- what it then makes beyond its own, and last is what it leaves
 pub record GoesOnBy {A S T : Type 0} (s : Steps A S T) (n : Netlist A T) (q : List ℕ) (rest : Rest T S) (more : ℕ)
     (later on : List (List T)) (last : Rest T S) : Type 0 where
   pub given : HasInputs n q more later
@@ -85,7 +85,7 @@ pub record GoesOnBy {A S T : Type 0} (s : Steps A S T) (n : Netlist A T) (q : Li
       AreJoined first later all → AreJoined made on joined → length joined ≡ length made →
       HasRun s n all (periods_of q (few + more)) joined last
 
--- the counts of so many periods are whole, so a net may begin with what is left there
+-- the counts of any number of periods are whole, so a net may begin with what is left there
 abbrev pub PeriodsMayLeave : {A S T : Type 0} → Steps A S T → Type 0
 PeriodsMayLeave {A} {S} {T} s = (n : Netlist A T) (p : Schedule) (few : ℕ) → HasPeriod s n p →
     AreWhole s n (periods_of p.repetitions few)
@@ -98,7 +98,7 @@ BegunRunsGoOn {A} {B} {S} {T} s r =
     HasRun r m later (periods_of p.repetitions more) on last →
     GoesOnBy s n p.repetitions rest more later on last
 
--- and a fault of it is one of the net
+-- a fault of a net that begins with a rest is a fault of the net
 abbrev pub BegunRunsFail : {A B S T : Type 0} → Steps A S T → Steps B S T → Type 0
 BegunRunsFail {A} {B} {S} {T} s r =
     (n : Netlist A T) (rest : Rest T S) (m : Netlist B T) (q : List ℕ) (periods : ℕ) (inputs : List (List T))

@@ -1,4 +1,4 @@
--- The laws of graphs that a run stands on.
+-- The laws of graphs that a run depends on.
 use Rattle.sdf_graph.specs.Laws.{GraphsAreSound, GraphsHavePeriods, PeriodsRepeat, AlikeSequences, OneLeastPeriod}
 
 pub record GraphLaws : Type 0 where

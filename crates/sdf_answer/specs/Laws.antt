@@ -15,12 +15,12 @@ use Rattle.sdf_answer.specs.Periods.{HasPeriod, CanRun}
 use Rattle.sdf_answer.specs.Moves.{FitsPorts, IsLeft, front_of, MovesOn}
 use Rattle.sdf_answer.specs.Sizes.{IsPlan}
 
--- each list begins the later one of its number
+-- each list is the beginning of the later list of its number
 abbrev pub Begin : {T : Type 0} → List (List T) → List (List T) → Type 0
 Begin lists later =
     (e : ℕ) → slice_index_or lists e [] ≡ take (length (slice_index_or lists e [])) (slice_index_or later e [])
 
--- the outputs of more periods begin with those of fewer, on inputs that begin with theirs
+-- the outputs of more periods begin with the outputs of fewer, on inputs that begin with the inputs of fewer
 abbrev pub RunsGoOn : {A S T : Type 0} → Steps A S T → Type 0
 RunsGoOn {A} {S} {T} s =
     (n : Netlist A T) (p : Schedule) (few many : ℕ) (inputs later longer : List (List T)) →
@@ -29,13 +29,13 @@ RunsGoOn {A} {S} {T} s =
     AreOutputs s n inputs (periods_of p.repetitions few)
     (map (take (few * period_samples n.nodes Outputs p.repetitions)) longer)
 
--- a net that has a period can be run for as many as its inputs reach
+-- a net that has a period can be run for any number of periods that its inputs reach
 abbrev pub NetsCanRun : {A S T : Type 0} → Steps A S T → Type 0
 NetsCanRun {A} {S} {T} s =
     (n : Netlist A T) (p : Schedule) (periods : ℕ) (inputs : List (List T)) →
     HasPeriod s n p → HasInputs n p.repetitions periods inputs → CanRun s n p.repetitions periods inputs
 
--- where no node has fired, the history is what the channels begin with
+-- if no node has fired, the history is what the channels begin with
 abbrev pub HistoriesBegin : {A S T : Type 0} → Steps A S T → Type 0
 HistoriesBegin {A} {S} {T} s =
     (n : Netlist A T) (inputs : List (List T)) (k : ℕ → ℕ) → IsNet s n → ((a : ℕ) → a < length n.nodes → k a ≡ 0) →
@@ -47,7 +47,7 @@ SinksTakeAll {A} {S} {T} s =
     (n : Netlist A T) (V : ℕ → List T) (k : ℕ → ℕ) (a ext block : ℕ) → IsNet s n → node n a ≡ Sink ext block →
     flat_map (λ (b : List T). b) (taken_before (wiring s n) V a (k a)) ≡ arrived s n k V a
 
--- so the lists of what the sinks took are the outputs
+-- the lists of what the sinks took are the outputs
 abbrev pub SinksMakeOutputs : {A S T : Type 0} → Steps A S T → Type 0
 SinksMakeOutputs {A} {S} {T} s =
     (n : Netlist A T) (inputs : List (List T)) (q : List ℕ) (periods : ℕ) (k : ℕ → ℕ) (V : ℕ → List T)
@@ -58,7 +58,7 @@ SinksMakeOutputs {A} {S} {T} s =
     slice_index_or outputs ext [] ≡ flat_map (λ (b : List T). b) (taken_before (wiring s n) V a (k a))) →
     AreOutputs s n inputs (periods_of q periods) outputs
 
--- where the inputs hold no sample no period was asked, nothing fires, and empty lists are the outputs
+-- if the inputs hold no sample, there is no period to run, nothing fires, and empty lists are the outputs
 abbrev pub NothingMakesNothing : {A S T : Type 0} → Steps A S T → Type 0
 NothingMakesNothing {A} {S} {T} s =
     (n : Netlist A T) (q : List ℕ) (periods : ℕ) (inputs outputs : List (List T)) →
@@ -85,14 +85,14 @@ PlansFit {A} {S} {T} s =
     (n : Netlist A T) (a i : ℕ) (takes puts : List ℕ) → IsNet s n → a < length n.nodes → IsPlan s n a i takes puts →
     FitsPorts s n a i takes puts
 
--- the block of a node's next firing stands at the front of its channels
+-- the block of a node's next firing is at the front of its channels
 abbrev pub BlocksStand : {A S T : Type 0} → Steps A S T → Type 0
 BlocksStand {A} {S} {T} s =
     (n : Netlist A T) (k : ℕ → ℕ) (a : ℕ) (V : ℕ → List T) (takes puts : List ℕ) (queue : ℕ → List T) →
     IsNet s n → a < length n.nodes → IsPlan s n a (k a) takes puts → IsLeft s n k V queue →
     front_of s n a takes queue ≡ taken (wiring s n) V a (k a)
 
--- an enabled node's firing takes what stands on the channels from one history to the next
+-- a firing of an enabled node moves the samples on the channels on from one history to the next
 abbrev pub FiringsMoveOn : {A S T : Type 0} → Steps A S T → Type 0
 FiringsMoveOn {A} {S} {T} s =
     (n : Netlist A T) (inputs : List (List T)) (k m : ℕ → ℕ) (a : ℕ) (V : ℕ → List T) (takes puts : List ℕ)

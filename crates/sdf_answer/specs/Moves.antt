@@ -1,4 +1,4 @@
--- What one firing of a node does to the samples that stand on the channels.
+-- What one firing of a node does to the samples on the channels.
 use Rattle.std.specs.Prelude.{◌≡◌, ◌≢◌, ℕ, ◌<◌, List, [], ◌∷◌, ◌++◌, length, take, drop, slice_index}
 use Rattle.std.specs.List.{flat_map, sum_by}
 use Rattle.sdf_graph.specs.Sequences.{IsEnabled}
@@ -10,7 +10,7 @@ use Rattle.sdf_answer.specs.Blocks.{at_ports, ArePorts}
 use Rattle.sdf_answer.specs.Sizes.{in_all, out_all}
 
 module _ {A S T : Type 0} (s : Steps A S T) (n : Netlist A T) where
-  -- the sizes of firing i of node a by its ports: each is a channel of its own, and they come to what the firing moves
+  -- the sizes of firing i of node a by its ports: each is a channel of its own, and they sum to what the firing moves
   -- in all
   pub record FitsPorts (a i : ℕ) (takes puts : List ℕ) : Type 0 where
     pub ins_are : ArePorts ((wiring s n).ins a) takes (length n.wires)
@@ -18,7 +18,7 @@ module _ {A S T : Type 0} (s : Steps A S T) (n : Netlist A T) where
     pub taken : sum_by (slice_index takes) ((wiring s n).ins a) ≡ in_all s (node n a) i
     pub put : sum_by (slice_index puts) ((wiring s n).outs a) ≡ out_all s (node n a) i
 
-  -- the rest of a history stands on the channels
+  -- the channels hold the samples of a history that are not yet taken
   abbrev pub IsLeft : (ℕ → ℕ) → (ℕ → List T) → (ℕ → List T) → Type 0
   IsLeft k V queue = (c : ℕ) → c < length n.wires →
       queue c ≡ drop ((wiring s n).rates.consumed c (k ((wiring s n).rates.target c))) (V c)
@@ -31,7 +31,7 @@ module _ {A S T : Type 0} (s : Steps A S T) (n : Netlist A T) where
   pub record MovesOn (inputs : List (List T)) (k m : ℕ → ℕ) (a : ℕ) (V : ℕ → List T) (takes puts : List ℕ)
       (queue : ℕ → List T) : Type 0 where
     pub is : IsHistoryOf s n inputs m (after_firing s n inputs k V a)
-    -- its block is gone from the channels, and its answer stands there
+    -- its block is gone from the channels, and its answer is on them
     pub left : (c : ℕ) → c < length n.wires →
         drop (at_ports ((wiring s n).ins a) (slice_index takes c) c) (queue c) ++
         spread (slice_index puts) ((wiring s n).outs a)

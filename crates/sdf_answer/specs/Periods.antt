@@ -1,4 +1,4 @@
--- What a run of so many periods stands on.
+-- What a run of a number of periods depends on.
 use Rattle.std.specs.Prelude.{◌≡◌, ℕ, ◌*◌, ◌≤◌, ◌<◌, List, [], length, slice_index, slice_index_or}
 use Rattle.sdf_limits.specs.declared.TheConstants.{MOST_RATE, MOST_BLOCK}
 use Rattle.sdf_graph.specs.Rates.{Rates, rates, IsShape, IsAlike}
@@ -29,12 +29,13 @@ abbrev pub AreApart : {A T : Type 0} → Netlist A T → Type 0
 AreApart n = (a d e x y : ℕ) → a < length n.nodes → d < length n.nodes → node n a ≡ Sink e x → node n d ≡ Sink e y →
     a ≡ d
 
--- each sink makes one of them, alone
+-- each sink makes an output list of its own
 pub record HasSinks {A T : Type 0} (n : Netlist A T) : Type 0 where
   pub apart : AreApart n
   pub below : (a ext block : ℕ) → a < length n.nodes → node n a ≡ Sink ext block → ext < list_count Outputs n.nodes
 
--- so many periods of q as one likes can be fired from the start, and each puts and takes the same on each channel
+-- any number of periods of q can be fired from the start, and each puts and takes the same number of samples on each
+-- channel
 pub record IsPaced (r : Rates) (q : List ℕ) : Type 0 where
   pub all : length q ≡ r.actors
   pub small : (a : ℕ) → a < r.actors → slice_index q a ≤ 65536
@@ -44,7 +45,7 @@ pub record IsPaced (r : Rates) (q : List ℕ) : Type 0 where
   pub taken : (b c : ℕ) → c < r.channels → r.consumed c (b * slice_index q (r.target c)) ≡
       b * r.produced c (slice_index q (r.source c))
 
--- a net can be run for so many periods of q on these inputs
+-- a net can be run for a number of periods of q on these inputs
 pub record CanRun {A S T : Type 0} (s : Steps A S T) (n : Netlist A T) (q : List ℕ) (periods : ℕ)
     (inputs : List (List T)) : Type 0 where
   pub paced : IsPaced (wiring s n).rates q
@@ -52,7 +53,7 @@ pub record CanRun {A S T : Type 0} (s : Steps A S T) (n : Netlist A T) (q : List
   pub reads : (a ext block : ℕ) → a < length n.nodes → node n a ≡ Source ext block →
       (ext < length inputs) × (block * periods_of q periods a ≤ length (slice_index_or inputs ext []))
   pub reach : InputsReach n inputs (periods_of q periods)
-  -- as many samples reach each sink
+  -- the same number of samples reaches each sink
   pub makes : (a ext block : ℕ) → a < length n.nodes → node n a ≡ Sink ext block →
       block * periods_of q periods a ≡ periods * period_samples n.nodes Outputs q
   -- a period puts on each channel what the graph says
@@ -61,7 +62,7 @@ pub record CanRun {A S T : Type 0} (s : Steps A S T) (n : Netlist A T) (q : List
       r.produced c (slice_index q (r.source c)) ≡ (wiring s n).rates.produced c
       (slice_index q ((wiring s n).rates.source c))
 
--- in a block of few firings no list moves more samples than these have at the greatest rate
+-- in a block of few firings no list moves more samples than MOST_BLOCK firings do at the rate MOST_RATE
 abbrev pub AreBlocksSmall : {A S T : Type 0} → Steps A S T → Netlist A T → Type 0
 AreBlocksSmall s n =
     (j : ℕ) (q : List ℕ) (lists : Lists) → IsLeastPeriod (rates (graph_of s n)) q → IsShort j q →

@@ -1,4 +1,4 @@
--- Tables that a net is run by, block after block.
+-- Tables that workers follow, block after block.
 use Rattle.std.specs.Prelude.{ℕ, ◌≤◌, List, slice_index}
 use Rattle.sdf_graph.specs.Rates.{Rates}
 use Rattle.sdf_sched.specs.Period.{IsPeriodOf}
@@ -6,8 +6,8 @@ use Rattle.sdf_prec.specs.Blocks.{block, IsWorkers, IsShort}
 use Rattle.sdf_prec.specs.Tables.{Tabled, IsTable}
 use Rattle.sdf_answer.specs.declared.block_table.BlockTable.{BlockTable}
 
--- a table of some width, for blocks of j periods in each of which every actor a fires q a times. The periods may be as
--- many as the firings of a block allow
+-- a table of some width, for blocks of j periods; in each period every actor a fires q a times. Only the limit on the
+-- firings of a block limits j
 pub record IsTableOf (r : Rates) (q : List ℕ) (j : ℕ) (t : Tabled) : Type 0 where
   pub width : ℕ
   pub some : 1 ≤ j
@@ -15,7 +15,7 @@ pub record IsTableOf (r : Rates) (q : List ℕ) (j : ℕ) (t : Tabled) : Type 0 
   pub short : IsShort j q
   pub table : IsTable r (slice_index (block j q)) width t
 
--- a period of the rates, and a table for blocks of so many of it
+-- a schedule of the rates, and a table for blocks of factor periods
 pub record IsBlockTableOf (r : Rates) (t : BlockTable) : Type 0 where
   pub period : IsPeriodOf r t.period
   pub table : IsTableOf r t.period.repetitions t.factor t.table

@@ -39,7 +39,7 @@ in_all s x i = sum_by (λ p. rate_of s Input x p (phase_of s x i)) (range_with_l
 abbrev pub out_all : {A S T : Type 0} → Steps A S T → Node A → ℕ → ℕ
 out_all s x i = sum_by (λ p. rate_of s Output x p (phase_of s x i)) (range_with_len 0 (outputs_of s x))
 
--- firing i of node a takes and puts so many samples on each of its channels
+-- firing i of node a takes and puts these numbers of samples on each of its channels
 pub record IsPlan {A S T : Type 0} (s : Steps A S T) (n : Netlist A T) (a i : ℕ) (takes puts : List ℕ) : Type 0 where
   pub takes_all : length takes ≡ length n.wires
   pub puts_all : length puts ≡ length n.wires

@@ -1,4 +1,4 @@
--- Two ports, at each of which a firing moves one sample.
+-- Two ports. A firing moves one sample at each.
 use Rattle.std.specs.Prelude.{◌≡◌, ℕ, ◌<◌, List, length, slice_index}
 
 pub record ArePairs (ports sizes : List ℕ) : Type 0 where

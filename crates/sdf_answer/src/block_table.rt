@@ -3,7 +3,8 @@
 use sdf_prec::Table;
 use sdf_sched::Period;
 
-/// What workers follow: one period of a net, how many periods a block has, and a table of the firings of a block.
+/// The plan that workers follow: the schedule of a net's period, the number of periods in a block, and a table of the
+/// firings of a block.
 #[derive(Drop)]
 pub struct BlockTable {
     pub period: Period,

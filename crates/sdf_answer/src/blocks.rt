@@ -8,14 +8,14 @@ ghost use Rattle.sdf_answer.specs.Blocks.{front, ArePorts, HoldBlocks, HaveRoom,
 use crate::queue::Queue;
 use sdf_node::append;
 
-/// The channels at a node's ports on a side, and how many samples a firing moves on each channel of the net.
+/// The channels at a node's ports on one side, and the samples that a firing moves on each channel of the net.
 #[derive(Clone, Copy)]
 pub struct Ports<'a> {
     pub channels: &'a [usize],
     pub sizes: &'a [usize],
 }
 
-/// Copies the oldest samples at each port to the end of a block with room for them: of each channel its size.
+/// Copies the oldest samples at each port to the end of `block`, which has room for them. `ports.sizes` says how many.
 pub fn read_fronts<T: Copy>(ports: &Ports, queues: &[Queue<T>], block: &mut Vec<T>)
     requires ports { ArePorts ports.now.channels.now ports.now.sizes.now (length queues.now) }
     requires held { HoldBlocks ports.now.channels.now ports.now.sizes.now queues.now }
@@ -29,7 +29,7 @@ pub fn read_fronts<T: Copy>(ports: &Ports, queues: &[Queue<T>], block: &mut Vec<
     }
 }
 
-/// Drops the oldest samples at each port: of each channel its size.
+/// Drops the oldest samples at each port. `ports.sizes` says how many.
 pub fn skip_fronts<T: Copy>(ports: &Ports, queues: &mut [Queue<T>])
     requires ports { ArePorts ports.now.channels.now ports.now.sizes.now (length queues.old) }
     requires held { HoldBlocks ports.now.channels.now ports.now.sizes.now queues.old }
@@ -41,7 +41,7 @@ pub fn skip_fronts<T: Copy>(ports: &Ports, queues: &mut [Queue<T>])
     }
 }
 
-/// Moves the oldest samples at each port to the end of a block with room for them: from each channel its size.
+/// Moves the oldest samples at each port to the end of `block`, which has room for them. `ports.sizes` says how many.
 pub fn take_block<T: Copy>(ports: &Ports, queues: &mut [Queue<T>], block: &mut Vec<T>)
     requires ports { ArePorts ports.now.channels.now ports.now.sizes.now (length queues.old) }
     requires held { HoldBlocks ports.now.channels.now ports.now.sizes.now queues.old }
@@ -57,7 +57,7 @@ pub fn take_block<T: Copy>(ports: &Ports, queues: &mut [Queue<T>], block: &mut V
     }
 }
 
-/// Puts a block on the channels of the ports, to each channel its size.
+/// Splits `block` over the channels of the ports. `ports.sizes` says how many samples each channel gets.
 pub fn put_block<T: Copy>(ports: &Ports, block: &[T], queues: &mut [Queue<T>])
     requires ports { ArePorts ports.now.channels.now ports.now.sizes.now (length queues.old) }
     requires room { HaveRoom ports.now.channels.now ports.now.sizes.now queues.old }

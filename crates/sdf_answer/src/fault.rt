@@ -1,29 +1,29 @@
-//! Why a run is refused.
+//! Faults of runs.
 
 ghost use Rattle.std.specs.Prelude.{◌≡◌};
 
 use std::alloc::AllocError;
 use thiserror::Error;
 
-/// Why there was no run.
+/// The fault of a run.
 #[derive(Debug, Clone, Copy, PartialEq, Eq, Error)]
 pub enum RunFault {
     /// Memory was refused.
     #[error("1 OutOfMemory")]
     OutOfMemory,
-    /// There are not as many input lists as the net reads, they differ in length, or they are too short.
+    /// The number of input lists is not the number that the net reads, they differ in length, or they are too short.
     #[error("29 InputLength")]
     InputLength,
     /// The table has an actor in two columns.
     #[error("30 NotHomed")]
     NotHomed,
-    /// The number of repeated tests is out of range.
+    /// The spin limit is out of range.
     #[error("31 Patience")]
     Patience,
-    /// A worker could not be started.
+    /// A worker could not be started. No runner returns this: without threads the workers run one after another.
     #[error("32 NoWorker")]
     NoWorker,
-    /// A session is used again after memory was refused in it, or a worker.
+    /// A session is used again after memory or a worker was refused in it.
     #[error("33 SessionFailed")]
     SessionFailed,
 }

@@ -4,14 +4,14 @@ ghost use Rattle.std.specs.Prelude.{◌≡◌, ◌≤◌, ◌<◌, ◌↔◌, �
 ghost use Rattle.sdf_actor.specs.Wires.{lists};
 ghost use Rattle.sdf_answer.specs.Answer.{AreInputs};
 
-/// Whether a list has that length and is not shorter than the least.
+/// Checks whether `list` has `len` samples, and no fewer than `least`.
 fn is_input<T>(list: &Vec<T>, len: usize, least: usize) -> bool
     ensures { IsTrue result ↔ (length list.now.items ≡ len) × (least ≤ length list.now.items) }
 {
     list.len() == len && least <= list.len()
 }
 
-/// Whether there are so many lists, all of one length and none shorter than the least.
+/// Checks whether there are `many` lists, all of one length and none shorter than `least`.
 pub fn are_inputs<T>(inputs: &[Vec<T>], many: usize, least: usize) -> bool
     ensures { IsTrue result ↔ AreInputs many least (lists inputs.now) }
 {
@@ -26,7 +26,7 @@ pub fn are_inputs<T>(inputs: &[Vec<T>], many: usize, least: usize) -> bool
     true
 }
 
-/// The first sample of the first list.
+/// Returns the first sample of the first list, or `None` if there is none.
 pub fn first_sample<T: Copy>(inputs: &[Vec<T>]) -> Option<T>
     ensures { IfNone result (length (slice_index_or (lists inputs.now) 0 []) ≡ 0) }
 {

@@ -1,4 +1,4 @@
-//! Laws over the definitions, each the contract of a function that does nothing but call laws of lower crates.
+//! Laws of runs. Each law is the contract of a function that computes nothing.
 
 ghost use Rattle.std.specs.Prelude.{◌<◌, ℕ, List, length};
 ghost use Rattle.sdf_graph.specs.Rates.{rates, IsShape, IsAlike};
@@ -16,7 +16,7 @@ ghost use Rattle.sdf_answer.specs.Laws.{BlocksAreCounted, NodesTakeTheirs, Plans
 use sdf_actor::laws::{history_grows_by_firing, one_history};
 use sdf_actor::{Actor, Net};
 
-/// The facts that a run stands on, as the net's accessors have them.
+/// Proves the facts that a run depends on, from the contracts of the net's accessors.
 pub fn net_facts<A: Actor>(net: &Net<A>)
     ensures net { IsNet A.steps net.now }
     ensures graph { IsShape (graph_of A.steps net.now) }
@@ -29,47 +29,47 @@ pub fn net_facts<A: Actor>(net: &Net<A>)
     let _repetitions = net.repetitions();
 }
 
-/// A net and any period of it have what the laws of runs want.
+/// Proves that a net and any period of it have what the laws of runs need.
 pub fn nets_have_periods<A: Actor>(net: &Net<A>)
     ensures { (p : Schedule) → IsPeriodOf (rates (graph_of A.steps net.now)) p → HasPeriod A.steps net.now p }
 {
     net_facts(net);
 }
 
-/// A block of few firings reads and makes few samples.
+/// Proves that a block of few firings reads and makes few samples.
 pub fn blocks_are_small<A: Actor>(net: &Net<A>)
     ensures { AreBlocksSmall A.steps net.now }
 {
     net_facts(net);
 }
 
-/// A net that has a period can be run for as many as its inputs reach.
+/// Proves that a net with a period can be run for any number of periods that its inputs reach.
 pub fn nets_can_run<A: Actor>()
     ensures { NetsCanRun A.steps }
 {}
 
-/// A run of more periods goes on where one of fewer ends: its outputs begin with those.
+/// Proves that the outputs of a run begin with the outputs of a run of fewer periods.
 pub fn runs_go_on<A: Actor>()
     ensures { RunsGoOn A.steps }
 {
     one_history::<A>();
 }
 
-/// A run that is fed in pieces makes, joined, what one run makes, and leaves what it leaves.
+/// Proves that a run fed in pieces makes, joined, the outputs of one run, and leaves the same net state.
 pub fn feeds_go_on<A: Actor, B: Actor<Token = A::Token, State = A::State>>()
     ensures runs { FeedsGoOn A.steps B.steps }
     ensures inputs { BegunNetsAsk A.steps B.steps }
     ensures outputs { BegunNetsMake A.steps B.steps }
 {}
 
-/// A net that begins with what periods left is run in place of the net, from there on.
+/// Proves that a net that begins with what periods left is run in place of the net, from there on.
 pub fn begun_nets_go_on<A: Actor, B: Actor<Token = A::Token, State = A::State>>()
     ensures whole { PeriodsMayLeave A.steps }
     ensures runs { BegunRunsGoOn A.steps B.steps }
     ensures faults { BegunRunsFail A.steps B.steps }
 {}
 
-/// A history begins with what the channels begin with, and what its sinks took are the outputs.
+/// Proves that a history begins with the initial samples of the channels, and that what its sinks took is the outputs.
 pub fn histories_make_outputs<A: Actor>()
     ensures begin { HistoriesBegin A.steps }
     ensures took { SinksTakeAll A.steps }
@@ -77,24 +77,24 @@ pub fn histories_make_outputs<A: Actor>()
     ensures nothing { NothingMakesNothing A.steps }
 {}
 
-/// What its sinks took and what is left is a run.
+/// Proves that what a history's sinks took, with what is left, is a run.
 pub fn histories_make_runs<A: Actor>()
     ensures runs { SinksMakeRuns A.steps }
     ensures nothing { NothingRuns A.steps }
 {}
 
-/// A node takes from the channels that lead to it, each at one of its ports, and from no other.
+/// Proves that a node takes from the channels that lead to it, each at one of its ports, and from no other.
 pub fn nodes_take_theirs<A: Actor>()
     ensures { NodesTakeTheirs A.steps }
 {}
 
-/// The sizes of a firing fit its node's ports.
+/// Proves that the sizes of a firing fit its node's ports.
 pub fn plans_fit<A: Actor>()
     ensures { PlansFit A.steps }
 {}
 
-/// A firing of an enabled node takes its block from the front of its channels, and they go on from one history to the
-/// next.
+/// Proves that a firing of an enabled node takes its block from the front of its channels, and leads from one history
+/// to the next.
 pub fn firings_move_on<A: Actor>()
     ensures counts { BlocksAreCounted A.steps }
     ensures stand { BlocksStand A.steps }

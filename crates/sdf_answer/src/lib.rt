@@ -1,11 +1,11 @@
-//! What runs of nets are given and give, whatever runs them.
+//! The inputs and outputs of a net's run, whatever runs it.
 //!
 //! It depends on `sdf_graph`, `sdf_sched`, `sdf_prec`, `sdf_actor` and `sdf_node`, and every runner depends on it.
-//! Begin at `specs/Answer.antt`: which inputs a run is given, and that its outputs are the lists of the histories. Then
-//! `inputs` and `outputs`, the tests and the lists of a run, `sizes`, how many samples firings move, `queue`, the
-//! samples that stand on a channel, `blocks`, those that a firing moves at its ports, `many_blocks`, those that many
-//! firings move (`parts`: at one port; `pairs`: at two), `rooms`, how many stand on a channel, `block_table`, what
-//! workers follow (`specs/Rows.antt`), and `laws`, what every runner's proof uses.
+//! Begin at `specs/Answer.antt`: the inputs of a run, and its outputs as lists of the histories. Then read `inputs` and
+//! `outputs`, the tests and the lists of a run; `sizes`, the samples that firings move; `queue`, the samples on a
+//! channel; `blocks`, the samples that a firing moves at its ports; `many_blocks`, the samples of batched firings
+//! (`parts`: at one port; `pairs`: at two); `rooms`, how many samples fit on a channel; `block_table`, the plan that
+//! workers follow (`specs/Rows.antt`); and `laws`, which every runner's proof uses.
 #![tactic(auto)]
 
 pub mod block_table;

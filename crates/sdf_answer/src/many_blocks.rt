@@ -1,4 +1,4 @@
-//! The blocks of many firings at their ports: at each port all of them in one piece.
+//! The blocks of batched firings at their ports: at each port all of them in one piece.
 
 ghost use Rattle.std.specs.Prelude.{◌≡◌, ℕ, ◌+◌, ◌*◌, ◌≤◌, ◌<◌, ◌++◌, length, take, drop, slice_index};
 ghost use Rattle.std.specs.List.{sum_by};
@@ -13,7 +13,7 @@ use crate::pairs::weave;
 use crate::parts::deal_row;
 use crate::queue::{Queue, put_pairs};
 
-/// How many whole blocks of a size so many samples hold, up to a limit, which is the answer where they have no size.
+/// Returns how many whole blocks of `size` samples are in `samples` samples, at most `most`; `most` if `size` is 0.
 pub fn whole_blocks(samples: usize, size: usize, most: usize) -> usize
     ensures within { result ≤ most }
     ensures held { result * size ≤ samples }
@@ -26,8 +26,8 @@ pub fn whole_blocks(samples: usize, size: usize, most: usize) -> usize
     }
 }
 
-/// Moves what so many firings take from one queue to their blocks, each of a size: behind what stands in them before a
-/// place.
+/// Moves the input of `times` firings from `queue` into `blocks` of `size` samples: `width` samples to each block, at
+/// offset `at`.
 fn take_row<T: Copy>(
     queue: &mut Queue<T>,
     blocks: &mut [T],
@@ -48,7 +48,7 @@ fn take_row<T: Copy>(
     queue.release(many);
 }
 
-/// Returns whether the ports are two channels, and a firing moves one sample on each.
+/// Checks whether the ports are two channels, and a firing moves one sample on each.
 fn are_pairs(ports: &Ports) -> bool
     requires { (n : ℕ) → n < length ports.now.channels.now →
         slice_index ports.now.channels.now n < length ports.now.sizes.now }
@@ -58,7 +58,7 @@ fn are_pairs(ports: &Ports) -> bool
     channels.len() == 2 && ports.sizes[channels[0]] == 1 && ports.sizes[channels[1]] == 1
 }
 
-/// Moves what `times` firings take from two queues to their blocks, one sample of each for a firing.
+/// Moves the input of `times` firings from two queues into `blocks`, one sample of each queue for a firing.
 fn take_pairs<T: Copy>(ports: &Ports, times: usize, queues: &mut [Queue<T>], blocks: &mut [T])
     requires ports { ArePorts ports.now.channels.now ports.now.sizes.now (length queues.old) }
     requires pairs { ArePairs ports.now.channels.now ports.now.sizes.now }
@@ -81,7 +81,7 @@ fn take_pairs<T: Copy>(ports: &Ports, times: usize, queues: &mut [Queue<T>], blo
     queues[second].release(times);
 }
 
-/// Puts the blocks of `times` firings on two channels, one sample of a block on each.
+/// Puts the output of `times` firings on two channels, one sample of a firing on each.
 fn put_on_pairs<T: Copy>(ports: &Ports, times: usize, block: &[T], queues: &mut [Queue<T>])
     requires ports { ArePorts ports.now.channels.now ports.now.sizes.now (length queues.old) }
     requires pairs { ArePairs ports.now.channels.now ports.now.sizes.now }
@@ -98,8 +98,8 @@ fn put_on_pairs<T: Copy>(ports: &Ports, times: usize, block: &[T], queues: &mut 
     queues[second] = target;
 }
 
-/// Moves what so many firings take from the queues at the ports to their blocks, each of a size, which lie one behind
-/// another.
+/// Moves the input of `times` firings from the queues at the ports into `blocks`: `size` samples for each firing, one
+/// firing after another.
 pub fn take_blocks<T: Copy>(
     ports: &Ports,
     times: usize,
@@ -128,7 +128,7 @@ pub fn take_blocks<T: Copy>(
     }
 }
 
-/// Puts the blocks of so many firings, each of a size, on the channels of the ports.
+/// Puts the output of `times` firings on the channels of the ports. `block` has `size` samples for each firing.
 pub fn put_blocks<T: Copy>(
     ports: &Ports,
     times: usize,

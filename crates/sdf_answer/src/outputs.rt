@@ -1,4 +1,4 @@
-//! What a run made.
+//! The results of a run.
 
 ghost use Rattle.std.specs.Prelude.{◌≡◌, ◌≢◌, ℕ, [], vec_capacity, IfOk};
 ghost use Rattle.sdf_answer.specs.Lists.{list, AreEmpty};
@@ -6,16 +6,16 @@ ghost use Rattle.sdf_answer.specs.Lists.{list, AreEmpty};
 use std::alloc::{AllocError, Global};
 use std::mem;
 
-/// What a run made.
+/// The result of a run.
 #[derive(Drop)]
 pub struct Ran<T> {
     /// The output lists, by number.
     pub outputs: Vec<Vec<T>>,
-    /// How many rounds its workers took: none on one thread.
+    /// The rounds that its workers took; 0 on one thread.
     pub rounds: u64,
 }
 
-/// Takes the list at `place` out of `spares`, and leaves an empty one. Past their end it returns an empty list.
+/// Takes the list at `place` out of `spares` and leaves an empty one. Returns an empty list if `place` is past the end.
 pub fn take_spare<T>(alloc: Global, spares: &mut [Vec<T>], place: usize) -> Vec<T>
     ensures taken { result.items ≡ list spares.old place }
     ensures left { list spares.new place ≡ [] }
@@ -28,8 +28,8 @@ pub fn take_spare<T>(alloc: Global, spares: &mut [Vec<T>], place: usize) -> Vec<
     }
 }
 
-/// Returns an empty list with room for `room` samples: the one at `place` of `spares` if its capacity is `room`, else a
-/// new one.
+/// Returns an empty list with room for `room` samples: the one at `place` of `spares` if its capacity is `room`,
+/// otherwise a new one.
 fn renew_list<T: Copy>(
     alloc: Global,
     spares: &mut [Vec<T>],
@@ -47,7 +47,7 @@ fn renew_list<T: Copy>(
     Vec::with_capacity(alloc, room)
 }
 
-/// Empty output lists, with room for so many samples each.
+/// Makes `many` empty output lists with room for `room` samples each.
 pub fn make_outputs<T: Copy>(
     alloc: Global,
     many: usize,
@@ -59,7 +59,8 @@ pub fn make_outputs<T: Copy>(
     renew_outputs(alloc, many, room, &mut spares)
 }
 
-/// Makes `many` empty output lists with room for `room` samples each, in the memory of the first `many` of `spares`.
+/// Makes `many` empty output lists with room for `room` samples each. A list of `spares` is used again if its capacity
+/// is `room`.
 pub fn renew_outputs<T: Copy>(
     alloc: Global,
     many: usize,

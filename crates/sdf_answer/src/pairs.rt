@@ -1,9 +1,9 @@
-//! The samples of two channels by turns, as an actor with two inputs or two outputs moves them.
+//! Interleaved samples of two channels, as an actor with two inputs or two outputs moves them.
 
 ghost use Rattle.std.specs.Prelude.{◌≡◌, ◌*◌, ◌++◌, length, slice_range};
 ghost use Rattle.sdf_node.specs.Many.{nth_block, joined};
 
-/// Writes the samples of `left` and `right` by turns. One loop for both is faster than a loop for each.
+/// Interleaves the samples of `left` and `right` in `pairs`. One loop for both is faster than a loop for each.
 pub fn weave<T: Copy>(left: &[T], right: &[T], pairs: &mut [T], many: usize)
     requires left { length left.now ≡ many }
     requires right { length right.now ≡ many }
@@ -16,7 +16,7 @@ pub fn weave<T: Copy>(left: &[T], right: &[T], pairs: &mut [T], many: usize)
     }
 }
 
-/// Writes the samples of `pairs` by turns to `left` and `right`.
+/// Splits the interleaved samples of `pairs` into `left` and `right`.
 pub fn unweave<T: Copy>(pairs: &[T], left: &mut [T], right: &mut [T], many: usize)
     requires left { length left.old ≡ many }
     requires right { length right.old ≡ many }

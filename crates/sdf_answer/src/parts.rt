@@ -1,18 +1,18 @@
-//! A port's parts of many blocks. By themselves they lie side by side, in a row; among the other ports' each stands at
-//! its place in its own block.
+//! One port's parts of many blocks. In a row the parts are side by side; in the blocks each part is at its place among
+//! the parts of the other ports.
 
 ghost use Rattle.std.specs.Prelude.{◌≡◌, ◌≤◌, ◌<◌, ◌+◌, ◌*◌, ℕ, length, take, drop, slice_range};
 ghost use Rattle.sdf_node.specs.Many.{nth_block, joined};
 ghost use Rattle.sdf_answer.specs.Parts.{CanCopy, AreCopied};
 
-/// Where the first part begins, and how far behind it the next.
+/// The places of parts in a list: where the first part begins, and the distance from each part to the next.
 #[derive(Clone, Copy)]
 struct Stride {
     first: usize,
     step: usize,
 }
 
-/// Copies a part of one list into another.
+/// Copies `width` samples at `start` of `from` to `at` in `to`.
 fn copy_part<T: Copy>(from: &[T], start: usize, to: &mut [T], at: usize, width: usize)
     requires from { start + width ≤ length from.now }
     requires to { at + width ≤ length to.old }
@@ -25,7 +25,7 @@ fn copy_part<T: Copy>(from: &[T], start: usize, to: &mut [T], at: usize, width: 
     }
 }
 
-/// Copies so many samples of one list to places in another.
+/// Copies `many` samples of `from`, at the places `out`, to the places `into` in `to`.
 #[inline(always)]
 fn copy_each<T: Copy>(from: &[T], out: Stride, to: &mut [T], into: Stride, many: usize)
     requires { CanCopy out into 1 many from.now to.old }
@@ -36,8 +36,8 @@ fn copy_each<T: Copy>(from: &[T], out: Stride, to: &mut [T], into: Stride, many:
     }
 }
 
-/// The same, several at a time where it is known how far apart they are: those of every other place into a row, and
-/// those of a row to every other place.
+/// Copies `many` samples as `copy_each` does. Two cases are compiled with known steps, so that several samples are
+/// copied at a time: from every other place into a row, and from a row to every other place.
 fn copy_samples<T: Copy>(from: &[T], out: Stride, to: &mut [T], into: Stride, many: usize)
     requires { CanCopy out into 1 many from.now to.old }
     ensures { AreCopied out into 1 many from.now to.old to.new }
@@ -51,7 +51,7 @@ fn copy_samples<T: Copy>(from: &[T], out: Stride, to: &mut [T], into: Stride, ma
     }
 }
 
-/// A stride of a step that is known.
+/// Returns `stride` with `step` for its step, so that the compiler knows it as a constant.
 #[inline(always)]
 fn every(step: usize, stride: Stride) -> Stride
     requires { step ≡ stride.step }
@@ -63,7 +63,7 @@ fn every(step: usize, stride: Stride) -> Stride
     }
 }
 
-/// Copies so many parts of one list to parts of another.
+/// Copies `many` parts of `width` samples from the places `out` to the places `into`.
 fn copy_wide_parts<T: Copy>(
     from: &[T],
     out: Stride,
@@ -81,7 +81,7 @@ fn copy_wide_parts<T: Copy>(
     }
 }
 
-/// Copies so many parts of one list to parts of another. Most are one sample.
+/// Copies `many` parts of `width` samples from the places `out` to the places `into`. Most parts are one sample.
 fn copy_parts<T: Copy>(
     from: &[T],
     out: Stride,
@@ -100,7 +100,7 @@ fn copy_parts<T: Copy>(
     }
 }
 
-/// Deals a row out to blocks of a size, to each its part from a place on.
+/// Deals `row` out to `many` blocks of `size` samples: `width` samples to each, at offset `at`.
 pub fn deal_row<T: Copy>(
     row: &[T],
     blocks: &mut [T],
@@ -132,7 +132,7 @@ pub fn deal_row<T: Copy>(
     }
 }
 
-/// Gathers a row from blocks of a size, from each its part from a place on.
+/// Gathers `row` from `many` blocks of `size` samples: `width` samples of each, at offset `at`.
 pub fn gather_row<T: Copy>(
     blocks: &[T],
     row: &mut [T],

@@ -1,4 +1,4 @@
-//! The samples that stand on a channel.
+//! The queue of samples on a channel.
 
 ghost use Rattle.std.specs.Prelude.{◌≡◌, ◌+◌, ◌-◌, ◌*◌, ◌≤◌, ◌<◌, ◌++◌, IfOk, length, map, take, drop, slice_range};
 ghost use Rattle.std.specs.Prelude.{◌^◌, vec_len, vec_capacity};
@@ -16,14 +16,14 @@ use std::alloc::{AllocError, Global};
 use std::marker::Model;
 use std::mem;
 
-/// The samples that stand on a channel, the oldest first. Once it is made it takes no memory.
+/// The samples on a channel, oldest first. Once it is made it takes no memory.
 ///
-/// They lie in one piece of a buffer of twice their room, where actors read and write them in place. Those taken are
-/// dropped at the front, and the rest moves there when the end of the buffer is reached: at most one move for each
-/// sample put.
+/// The samples are in one piece of a buffer of twice their room, so that actors read and write them in place. Samples
+/// that are taken are dropped at the front. The rest moves there when the end of the buffer is reached: at most one
+/// move for each sample put.
 #[derive(Drop)]
 pub struct Queue<T> {
-    /// The samples, from `start` to `end`. What else stands there is no sample of the channel.
+    /// The buffer. The channel's samples are from `start` to `end`; the rest of the buffer does not count.
     items: Vec<T>,
     start: usize,
     end: usize,
@@ -38,7 +38,7 @@ impl<T> Model for Queue<T> {
     ghost invariant = { λ q. (q.start ≤ q.end) × (q.end ≤ vec_len q.items) × (q.room + q.room ≤ vec_len q.items) };
 }
 
-/// Lengthens a list by fillers, within its room, where it is shorter than that.
+/// Lengthens `list` with fillers to `len`, within its capacity, if it is shorter.
 pub fn lengthen<T: Copy>(list: &mut Vec<T>, len: usize, filler: T)
     requires { len ≤ vec_capacity list.old }
     ensures front { take (vec_len list.old) list.new.items ≡ list.old.items }
@@ -51,8 +51,9 @@ pub fn lengthen<T: Copy>(list: &mut Vec<T>, len: usize, filler: T)
     }
 }
 
-/// Where a part of a list begins and ends that has room for more behind it: it moves to the front where the room is not
-/// there. An empty part begins at the front again, so that a queue that is emptied often uses little of its buffer.
+/// Makes room for `more` samples behind the part of `list` from `start` to `end`, and returns where that part then
+/// begins and ends. It moves to the front if there is no room behind it. An empty part begins at the front again, so
+/// that a queue that is emptied often uses little of its buffer.
 fn place_for<T: Copy>(list: &mut Vec<T>, start: usize, end: usize, more: usize) -> (usize, usize)
     requires rise { start ≤ end }
     requires within { end ≤ vec_len list.old }
@@ -72,7 +73,7 @@ fn place_for<T: Copy>(list: &mut Vec<T>, start: usize, end: usize, more: usize) 
     (0, end - start)
 }
 
-/// So many firings of an actor, from a phase on.
+/// Consecutive firings of an actor: `times` of them, the first at `phase`.
 #[derive_where(Clone, Copy)]
 pub struct Firings<'a, A> {
     pub actor: &'a A,
@@ -81,7 +82,7 @@ pub struct Firings<'a, A> {
 }
 
 impl<T: Copy> Queue<T> {
-    /// The samples that a channel begins with, and room for a number of samples in all. The filler is any sample.
+    /// Makes a queue of the samples `initial`, with room for `room` samples in all. `filler` may be any sample.
     pub fn new(alloc: Global, initial: &[T], room: usize, filler: T) -> Result<Queue<T>, AllocError>
         requires initial { length initial.now ≤ room }
         requires room { room ≤ 4_611_686_018_427_387_904 }
@@ -98,7 +99,8 @@ impl<T: Copy> Queue<T> {
         })
     }
 
-    /// Drops the samples and begins anew with `initial` and `room`, in the same buffer if a new one would be as long.
+    /// Drops the samples and begins anew with `initial` and `room`. The buffer is used again if it has the length of a
+    /// new one.
     pub fn renewed(self, initial: &[T], room: usize, filler: T) -> Result<Queue<T>, AllocError>
         requires initial { length initial.now ≤ room }
         requires room { room ≤ 4_611_686_018_427_387_904 }
@@ -120,21 +122,21 @@ impl<T: Copy> Queue<T> {
         Ok(queue)
     }
 
-    /// How many samples there are.
+    /// Returns the number of samples.
     pub fn len(&self) -> usize
         ensures { result ≡ length self.now.samples }
     {
         self.end - self.start
     }
 
-    /// How many there may be.
+    /// Returns how many samples it has room for.
     pub fn room(&self) -> usize
         ensures { result ≡ self.now.room }
     {
         self.room
     }
 
-    /// What it holds, and what it has room for, can be counted.
+    /// Proves that the number of samples, and the number it has room for, fit in 64 bits.
     pub fn is_small(&self)
         ensures held { length self.now.samples < 2 ^ 64 }
         ensures room { self.now.room < 2 ^ 64 }
@@ -142,7 +144,7 @@ impl<T: Copy> Queue<T> {
         let _items = &self.items;
     }
 
-    /// Puts a block behind the samples.
+    /// Puts `block` behind the samples.
     pub fn put(&mut self, block: &[T])
         requires { length self.old.samples + length block.now ≤ self.old.room }
         ensures { self.new ≡ record self.old { samples = self.old.samples ++ block.now } }
@@ -154,7 +156,7 @@ impl<T: Copy> Queue<T> {
         self.end = last;
     }
 
-    /// Moves the oldest samples to the end of a list with room for them.
+    /// Moves the `many` oldest samples to the end of `list`, which has room for them.
     pub fn take(&mut self, many: usize, list: &mut Vec<T>)
         requires held { many ≤ length self.old.samples }
         requires room { vec_len list.old + many ≤ vec_capacity list.old }
@@ -167,7 +169,7 @@ impl<T: Copy> Queue<T> {
         self.release(many);
     }
 
-    /// The oldest samples, where they lie.
+    /// Returns the `many` oldest samples, in place.
     pub fn oldest(&self, many: usize) -> &[T]
         requires { many ≤ length self.now.samples }
         ensures { result.now ≡ take many self.now.samples }
@@ -176,7 +178,7 @@ impl<T: Copy> Queue<T> {
         &self.items[self.start..end]
     }
 
-    /// Lets the oldest samples go.
+    /// Drops the `many` oldest samples.
     pub fn release(&mut self, many: usize)
         requires { many ≤ length self.old.samples }
         ensures { self.new ≡ record self.old { samples = drop many self.old.samples } }
@@ -184,7 +186,7 @@ impl<T: Copy> Queue<T> {
         self.start += many;
     }
 
-    /// Fires an actor so many times at once, into the room behind the samples, which takes what it puts.
+    /// Fires an actor in one batch, which writes its `made` samples in place, behind the samples of the queue.
     pub fn put_fired<A: Actor<Token = T>>(
         &mut self,
         firings: Firings<'_, A>,
@@ -217,7 +219,8 @@ impl<T: Copy> Queue<T> {
         self.end = end;
     }
 
-    /// Puts a row behind the samples, gathered from blocks of a size: from each its part from a place on.
+    /// Puts a row behind the samples, gathered from `many` blocks of `size` samples: from each block `width` samples at
+    /// offset `at`.
     pub fn put_row(&mut self, blocks: &[T], at: usize, width: usize, many: usize, size: usize)
         requires inside { at + width ≤ size }
         requires blocks { length blocks.now ≡ size * many }
@@ -236,7 +239,7 @@ impl<T: Copy> Queue<T> {
         self.end = last;
     }
 
-    /// The queue, and one with no room in its place.
+    /// Takes the queue out, and leaves one with no room in its place.
     pub fn lift(&mut self) -> Queue<T>
         ensures { result ≡ self.old }
     {
@@ -251,7 +254,7 @@ impl<T: Copy> Queue<T> {
     }
 }
 
-/// Puts the samples of `pairs` by turns behind those of two queues, `many` on each.
+/// Splits the interleaved samples of `pairs` over two queues, `many` behind the samples of each.
 pub fn put_pairs<T: Copy>(first: &mut Queue<T>, second: &mut Queue<T>, pairs: &[T], many: usize)
     requires pairs { length pairs.now ≡ 2 * many }
     requires first { length first.old.samples + many ≤ first.old.room }
@@ -275,7 +278,7 @@ pub fn put_pairs<T: Copy>(first: &mut Queue<T>, second: &mut Queue<T>, pairs: &[
     second.end = end;
 }
 
-/// Copies of the samples in each queue.
+/// Returns copies of the samples in each queue.
 pub fn held<T: Copy>(alloc: Global, queues: &[Queue<T>]) -> Result<Vec<Vec<T>>, AllocError>
     ensures { IfOk result (λ v. lists v.items ≡ map (λ q. q.samples) queues.now) }
 {

@@ -1,4 +1,4 @@
-//! How many samples stand on a channel, and queues that have room for them.
+//! How many samples may be on a channel, and queues with room for them.
 
 ghost use Rattle.std.specs.Prelude.{◌≡◌, ◌+◌, ◌*◌, ◌≤◌, ◌<◌, ℕ, length, slice_index, slice_index_or, vec_len, IfOk};
 ghost use Rattle.sdf_graph.specs.Rates.{rates, rate_at, sum_to};
@@ -11,7 +11,7 @@ use sdf_actor::{Actor, Net};
 use sdf_graph::Channel;
 use std::alloc::{AllocError, Global};
 
-/// How many samples so many periods of firings put on a channel.
+/// Returns how many samples the source of `channel` puts on it in `periods` periods of `firings` firings each.
 pub fn put_in(channel: &Channel, firings: u32, periods: u32) -> usize
     requires some { 0 < length channel.now.put }
     requires small { (i : ℕ) → slice_index channel.now.put i ≤ 1024 }
@@ -23,7 +23,7 @@ pub fn put_in(channel: &Channel, firings: u32, periods: u32) -> usize
     periods as usize * put_by(channel, firings)
 }
 
-/// How many samples the first firings of its source put on a channel.
+/// Returns how many samples the first `firings` firings of its source put on `channel`.
 fn put_by(channel: &Channel, firings: u32) -> usize
     requires some { 0 < length channel.now.put }
     requires small { (i : ℕ) → slice_index channel.now.put i ≤ 1024 }
@@ -37,7 +37,7 @@ fn put_by(channel: &Channel, firings: u32) -> usize
     total
 }
 
-/// Makes the queue of `channel`, in the buffer of `spares[channel]` if there is one, which is left with no room.
+/// Makes the queue of `channel`, in the buffer of `spares[channel]` if there is one. That spare is left with no room.
 fn renew_queue<T: Copy>(
     alloc: Global,
     spares: &mut [Queue<T>],
@@ -56,7 +56,7 @@ fn renew_queue<T: Copy>(
     Queue::new(alloc, initial, room, filler)
 }
 
-/// The samples that each channel begins with, and room for these and what so many periods put there.
+/// Makes the queue of each channel: its initial samples, and room for these and for what `periods` periods put there.
 pub fn make_queues<A: Actor>(
     alloc: Global,
     net: &Net<A>,
@@ -78,8 +78,8 @@ pub fn make_queues<A: Actor>(
     renew_queues(alloc, net, repetitions, periods, filler, &mut spares)
 }
 
-/// Makes the queues that `make_queues` makes, in the buffers of `spares`: queues of an earlier run, by channel. These
-/// lose their buffers.
+/// Makes the queues that `make_queues` makes, in the buffers of `spares`: queues of an earlier run, by channel. The
+/// spares lose their buffers.
 pub fn renew_queues<A: Actor>(
     alloc: Global,
     net: &Net<A>,

@@ -14,7 +14,7 @@ use sdf_graph::Channel;
 use std::alloc::{AllocError, Global};
 use std::marker::Model;
 
-/// How many samples move in so many blocks, where each of their periods moves so many.
+/// Returns how many samples move in `blocks` blocks of `j` periods, if each period moves `each`.
 pub fn samples_of_blocks(blocks: u32, j: u32, each: usize) -> usize
     requires { j * each ≤ MOST_RATE * MOST_BLOCK }
     ensures { result ≡ blocks * j * each }
@@ -22,7 +22,7 @@ pub fn samples_of_blocks(blocks: u32, j: u32, each: usize) -> usize
     blocks as usize * (j as usize * each)
 }
 
-/// How many samples a firing at each phase takes from each channel, and puts on it: by phase, then by channel.
+/// The samples that a firing at each phase takes from each channel and puts on it: by phase, then by channel.
 #[derive(Drop)]
 pub struct Sizes {
     takes: Vec<Vec<usize>>,
@@ -39,7 +39,7 @@ impl Model for Sizes {
 }
 
 impl Sizes {
-    /// The sizes of a net's firings, up to the longest cycle of a node.
+    /// Makes the sizes of a net's firings, up to the longest cycle of a node.
     pub fn new<A: Actor>(alloc: Global, net: &Net<A>) -> Result<Sizes, AllocError>
         ensures { IfOk result (AreSizes A.steps net.now) }
     {
@@ -51,7 +51,7 @@ impl Sizes {
         Ok(Sizes { takes, puts })
     }
 
-    /// How many samples a firing at a phase moves on each channel on a side of its node.
+    /// Returns how many samples a firing at `phase` takes from each channel (`Input`) or puts on it (`Output`).
     pub fn on(&self, side: Side, phase: u32) -> &[usize]
         requires { phase < length (rows_on side self.now) }
         ensures { result.now ≡ at_phase (rows_on side self.now) phase }
@@ -62,7 +62,7 @@ impl Sizes {
         }
     }
 
-    /// What the firings of a node move on a side: by phase, then by port.
+    /// Returns how many samples the firings of node `a` move on `side`: by phase, then by port.
     pub fn rows<A: Actor>(
         &self,
         alloc: Global,
@@ -84,7 +84,7 @@ impl Sizes {
     }
 }
 
-/// The channels at a node's ports on a side.
+/// Returns the channels at the ports of node `a` on `side`.
 fn channels_of<A: Actor>(net: &Net<A>, a: usize, side: Side) -> &[usize]
     requires { a < length net.now.nodes }
     ensures { result.now ≡ channels_at A.steps net.now side a }
@@ -95,7 +95,7 @@ fn channels_of<A: Actor>(net: &Net<A>, a: usize, side: Side) -> &[usize]
     }
 }
 
-/// The sizes at some channels.
+/// Returns the sizes at `channels`, in their order.
 fn at_channels(alloc: Global, channels: &[usize], sizes: &[usize]) -> Result<Vec<usize>, AllocError>
     requires { (p : ℕ) → p < length channels.now → slice_index channels.now p < length sizes.now }
     ensures { IfOk result (λ v. v.items ≡ map (slice_index sizes.now) channels.now) }
@@ -107,7 +107,7 @@ fn at_channels(alloc: Global, channels: &[usize], sizes: &[usize]) -> Result<Vec
     Ok(row)
 }
 
-/// The length of the longest cycle of a node.
+/// Returns the length of the longest cycle of a node.
 fn longest_cycle<A: Actor>(net: &Net<A>) -> u32
     ensures { (a : ℕ) → a < length net.now.nodes → cycle_of A.steps (node net.now a) ≤ result }
 {
@@ -118,7 +118,7 @@ fn longest_cycle<A: Actor>(net: &Net<A>) -> u32
     longest
 }
 
-/// What firings at each phase move on each channel, at the end on a side of its nodes.
+/// Returns how many samples firings at each phase move on each channel, at its end on `side`.
 fn by_phase(
     alloc: Global,
     channels: &[Channel],
@@ -137,7 +137,7 @@ fn by_phase(
     Ok(rows)
 }
 
-/// What a firing at a phase moves on each channel.
+/// Returns how many samples a firing at `phase` moves on each channel, at its end on `side`.
 fn row(
     alloc: Global,
     channels: &[Channel],
@@ -155,7 +155,7 @@ fn row(
     Ok(row)
 }
 
-/// What a firing at a phase moves on a channel.
+/// Returns how many samples a firing at `phase` moves on `channel`, at its end on `side`.
 fn size(channel: &Channel, side: Side, phase: u32) -> usize
     requires { 0 < length (rates_on side channel.now) }
     ensures { result ≡ rate_at (rates_on side channel.now) phase }

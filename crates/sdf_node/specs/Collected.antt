@@ -11,7 +11,7 @@ use Rattle.sdf_node.specs.declared.node.NodeState.{NodeState}
 use Rattle.sdf_node.specs.declared.node.NodeState.TheVariants.{Sink}
 use Rattle.sdf_node.specs.Nodes.{IsAt}
 
--- the list that a node made, where it is a sink, has its number among some lists, and the others are as they were
+-- if node x is a sink, outputs' has the list that it made at its number; the other lists are as in outputs
 pub record IsCollected {A S T : Type 0} (x : Node A) (w : NodeState T S)
     (outputs outputs' : List (Vec T Global)) : Type 0 where
   pub all : length outputs' ≡ length outputs
@@ -20,7 +20,7 @@ pub record IsCollected {A S T : Type 0} (x : Node A) (w : NodeState T S)
   pub others : (e : ℕ) → ((block : ℕ) → x ≡ node.Sink e block → ⊥) →
       slice_index_or (lists outputs') e [] ≡ slice_index_or (lists outputs) e []
 
--- a sink has a list, of all that it took
+-- a sink has a list of all that it took
 abbrev pub SinksHoldLists : {A S T : Type 0} → Steps A S T → Type 0
 SinksHoldLists {A} {S} {T} s =
     (inputs : List (List T)) (many ext block : ℕ) (past : List (List T)) (w : NodeState T S) →

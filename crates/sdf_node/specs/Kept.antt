@@ -8,12 +8,12 @@ use Rattle.sdf_node.specs.declared.node.NodeState.{NodeState}
 use Rattle.sdf_node.specs.declared.node.NodeState.TheVariants.{Inner}
 use Rattle.sdf_node.specs.Nodes.{IsAt}
 
--- the state of a node, where it is an actor
+-- the state of an actor, and None for a source or a sink
 abbrev pub kept_of : {A S T : Type 0} → Node A → NodeState T S → Option S
 kept_of (node.Inner x) (Inner phase state) = Some state
 kept_of x w = None
 
--- a node keeps the state that it is left in by all that it took
+-- a node keeps the state that follows from all that it took
 abbrev pub NodesKeepStates : {A S T : Type 0} → Steps A S T → Type 0
 NodesKeepStates {A} {S} {T} s =
     (inputs : List (List T)) (many : ℕ) (x : Node A) (past : List (List T)) (w : NodeState T S) →

@@ -1,5 +1,4 @@
--- Many firings of a node of one phase in one piece of work: the block of a firing stands behind that of the one before
--- it.
+-- Batched firings of a node of one phase: the blocks of the firings are one after another.
 use Rattle.std.specs.Prelude.{◌≡◌, ℕ, zero, suc, ◌+◌, ◌*◌, ◌≤◌, ◌<◌, List, [], ◌∷◌, ◌++◌, length, slice_index_or}
 use Rattle.std.specs.Prelude.{vec_capacity}
 use Rattle.std.specs.List.{between}
@@ -10,11 +9,11 @@ use Rattle.sdf_node.specs.declared.node.NodeState.{NodeState}
 use Rattle.sdf_node.specs.declared.node.NodeState.TheVariants.{Source, Sink, Inner}
 use Rattle.sdf_node.specs.Nodes.{takes_of}
 
--- block i of those of a size in a list
+-- block i of a list that is cut into blocks of one size
 abbrev pub nth_block : {T : Type 0} → ℕ → List T → ℕ → List T
 nth_block size xs i = between (size * i) (size * (i + 1)) xs
 
--- the first blocks as a list of blocks, and joined
+-- the first i blocks as a list of blocks, and joined
 abbrev pub listed : {T : Type 0} → (ℕ → List T) → ℕ → List (List T)
 listed block zero = []
 listed block (suc i) = listed block i ++ block i ∷ []
@@ -23,11 +22,12 @@ abbrev pub joined : {T : Type 0} → (ℕ → List T) → ℕ → List T
 joined block zero = []
 joined block (suc i) = joined block i ++ block i
 
--- each block has the length of what a firing of the node takes
+-- each block has the length that a firing of the node takes
 abbrev pub AreFullBlocks : {A S T : Type 0} → Steps A S T → Node A → List (List T) → Type 0
 AreFullBlocks s x past = (i : ℕ) → i < length past → length (slice_index_or past i []) ≡ takes_of s x 0
 
--- the next firings find what they read and have room for what they make, where so many samples are taken and put in all
+-- the next many firings find what they read and have room for what they make; taken and put are their numbers of
+-- samples
 abbrev pub CanStepMany : {A S T : Type 0} → Steps A S T → List (List T) → Node A → NodeState T S → ℕ → ℕ → ℕ → Type 0
 CanStepMany s inputs (node.Source ext block) (Source next) many taken put =
     (ext < length inputs) × (next + put ≤ length (slice_index_or inputs ext [])) × (put ≡ block * many)

@@ -1,4 +1,4 @@
-//! The lists that sinks made.
+//! The lists that sinks make.
 
 ghost use Rattle.std.specs.Prelude.{◌≡◌, ◌<◌, ℕ, length};
 ghost use Rattle.std.specs.declared.vec.Vec.{Vec};
@@ -11,7 +11,7 @@ use crate::node::NodeState;
 use sdf_actor::{Actor, Node};
 use std::mem;
 
-/// Changes the list of a sink for another.
+/// Swaps the list of a sink with `list`.
 fn swap_list<T, S>(state: &mut NodeState<T, S>, list: &mut Vec<T>)
     ensures { (made : Vec T Global) → state.old ≡ Sink made → list.new ≡ made }
 {
@@ -20,7 +20,7 @@ fn swap_list<T, S>(state: &mut NodeState<T, S>, list: &mut Vec<T>)
     }
 }
 
-/// Takes the list of a node, where it is a sink, to its number. It takes no memory.
+/// Moves the list of a sink to its number in `outputs`, and does nothing for other nodes. Takes no memory.
 pub fn collect_at<A: Actor>(
     node: &Node<A>,
     state: &mut NodeState<A::Token, A::State>,

@@ -1,8 +1,8 @@
-//! What the runners with workers share: nodes at work, and the gate that each firing passes.
+//! What the runners with workers share: node runtimes, and the gate that each firing passes.
 //!
-//! It depends on `sdf_graph` and `sdf_actor`. Begin at `node`, then `many`, many firings in one piece of work, then
-//! `gate`; the definitions are in `specs/Nodes.antt` and `specs/Many.antt`. What a node knows of its own channels,
-//! whatever the others do, is `IsLocal` in `sdf_actor`, whose laws are in `laws` too.
+//! It depends on `sdf_graph` and `sdf_actor`. Begin at `node`, then `many`, batched firings, then `gate`. The
+//! definitions are in `specs/Nodes.antt` and `specs/Many.antt`. `IsLocal` in `sdf_actor` says what a node knows of its
+//! own channels, whatever the other nodes do; `laws` has its laws too.
 #![tactic(auto)]
 
 pub mod collect;

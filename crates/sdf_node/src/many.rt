@@ -1,4 +1,4 @@
-//! Many firings of a node in one piece of work.
+//! Batched firings of a node.
 
 ghost use Rattle.std.specs.Prelude.{◌≡◌, ◌<◌, ◌++◌, ℕ, List, length};
 ghost use Rattle.sdf_actor.specs.Nets.{answer_of};
@@ -9,7 +9,8 @@ ghost use Rattle.sdf_node.specs.Many.{nth_block, listed, AreFullBlocks, CanStepM
 use crate::node::{NodeState, append, read_input};
 use sdf_actor::{Actor, Node};
 
-/// Many firings of a node of one phase, from consecutive blocks taken to consecutive blocks put. It takes no memory.
+/// Fires a node of one phase `many` times. `taken` and `put` hold the blocks of the firings, one after another. Takes
+/// no memory.
 pub fn step_many<A: Actor>(
     node: &Node<A>,
     inputs: &[Vec<A::Token>],

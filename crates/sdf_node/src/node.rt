@@ -1,4 +1,4 @@
-//! Nodes at work, whatever holds their channels: queues, rings, or the blocks of a row.
+//! Node runtimes, whatever holds the nodes' channels: queues, rings, or the blocks of a row.
 
 ghost use Rattle.std.specs.Prelude.{◌≡◌, ◌+◌, ◌≤◌, ◌<◌, ◌++◌, ◌∷◌, [], ℕ, List, length, slice_range, slice_index_or};
 ghost use Rattle.std.specs.Prelude.{vec_len, vec_capacity, IfOk};
@@ -11,19 +11,19 @@ use sdf_actor::{Actor, Node};
 use std::alloc::{AllocError, Global};
 use std::mem;
 
-/// What a node keeps from one firing to the next. It holds no reference.
+/// The runtime state of a node: what it keeps from one firing to the next. It holds no reference.
 #[derive(Drop)]
 pub enum NodeState<T, S> {
-    /// The place in the input list.
+    /// The place in the input list of the next sample to read.
     Source(usize),
-    /// The output list, with room for all that is still to come.
+    /// The output list, with room for all samples that are still to come.
     Sink(Vec<T>),
     /// The phase of an actor's next firing, and its state.
     Inner(u32, S),
 }
 
 impl<T, S> NodeState<T, S> {
-    /// The phase of the next firing.
+    /// Returns the phase of the next firing.
     pub fn phase(&self) -> u32
         ensures { result ≡ phase_at self.now }
     {
@@ -34,7 +34,7 @@ impl<T, S> NodeState<T, S> {
     }
 }
 
-/// How many samples a firing at a phase takes at all ports.
+/// Returns how many samples a firing at `phase` takes at all ports.
 pub fn takes<A: Actor>(node: &Node<A>, phase: u32) -> usize
     requires { phase < cycle_of A.steps node.now }
     ensures { result ≡ takes_of A.steps node.now phase }
@@ -46,7 +46,7 @@ pub fn takes<A: Actor>(node: &Node<A>, phase: u32) -> usize
     }
 }
 
-/// How many samples a firing at a phase puts on all ports.
+/// Returns how many samples a firing at `phase` puts on all ports.
 pub fn puts<A: Actor>(node: &Node<A>, phase: u32) -> usize
     requires { phase < cycle_of A.steps node.now }
     ensures { result ≡ puts_of A.steps node.now phase }
@@ -58,7 +58,7 @@ pub fn puts<A: Actor>(node: &Node<A>, phase: u32) -> usize
     }
 }
 
-/// The greatest number of samples that a firing takes at all ports, or puts there.
+/// Returns the greatest number of samples that a firing takes at all ports or puts on all ports.
 pub fn most<A: Actor>(node: &Node<A>) -> usize
     ensures { IsMost A.steps node.now result }
 {
@@ -69,7 +69,7 @@ pub fn most<A: Actor>(node: &Node<A>) -> usize
     most
 }
 
-/// A node before its first firing. The list of a sink has so much room.
+/// Returns the state of a node before its first firing. The list of a sink gets room for `room` samples.
 pub fn begin<A: Actor>(
     alloc: Global,
     node: &Node<A>,
@@ -85,14 +85,14 @@ pub fn begin<A: Actor>(
     }
 }
 
-/// Copies a block to the end of a list with room for it.
+/// Appends `block` to `list`, which has room for it.
 pub fn append<T: Copy>(list: &mut Vec<T>, block: &[T])
     requires { vec_len list.old + length block.now ≤ vec_capacity list.old }
     ensures items { list.new.items ≡ list.old.items ++ block.now }
     ensures len { vec_len list.new ≡ vec_len list.old + length block.now }
     ensures capacity { vec_capacity list.new ≡ vec_capacity list.old }
 {
-    // In a list of its own the length stays in a register, so that code can copy several samples at a time.
+    // A local list keeps its length in a register, so the compiler can copy several samples at a time.
     let mut longer = mem::replace(list, Vec::new(*list.allocator()));
     for sample in block {
         longer.push_reserved(*sample);
@@ -110,7 +110,7 @@ fn read_block<T: Copy>(list: &[T], next: usize, put: &mut [T]) -> usize
     end
 }
 
-/// Reads the next samples of an input list.
+/// Reads the samples of input list `ext` from `next` on into `put`, and returns the place behind them.
 pub(crate) fn read_input<T: Copy>(
     inputs: &[Vec<T>],
     ext: usize,
@@ -125,7 +125,7 @@ pub(crate) fn read_input<T: Copy>(
     read_block(inputs[ext].as_slice(), next, put)
 }
 
-/// One firing of a node, from the block taken to the block put. It takes no memory.
+/// Fires a node once, from the block `taken` to the block `put`. Takes no memory.
 pub fn step<A: Actor>(
     node: &Node<A>,
     inputs: &[Vec<A::Token>],

@@ -1,4 +1,4 @@
-//! What nodes at work leave.
+//! The states that node runtimes keep for the next run.
 
 ghost use Rattle.std.specs.Prelude.{◌≡◌, IfOk};
 ghost use Rattle.sdf_node.specs.Kept.{kept_of};
@@ -7,7 +7,7 @@ use crate::node::NodeState;
 use sdf_actor::{Actor, Node};
 use std::alloc::{AllocError, Global};
 
-/// A copy of the state that a node keeps, where it is an actor.
+/// Returns a copy of the state of an actor, or `None` for a source or a sink.
 pub fn kept<A: Actor>(
     alloc: Global,
     node: &Node<A>,

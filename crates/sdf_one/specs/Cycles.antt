@@ -1,11 +1,11 @@
--- What whole cycles of nodes move.
+-- The samples that whole cycles of nodes move.
 use Rattle.std.specs.Prelude.{◌≡◌, ◌⊎◌, ℕ, ◌<◌, List, length, slice_index}
 use Rattle.sdf_actor.specs.Nets.{Netlist, wiring}
 use Rattle.sdf_actor.specs.Steps.{Steps}
 use Rattle.sdf_answer.specs.Sizes.{at_phase}
 use Rattle.sdf_one.specs.declared.cycles.Cycles.{Cycles}
 
--- a cycle of its target takes so many samples from each channel, and a cycle of its source puts so many there
+-- y has the samples that a cycle of the target takes from each channel, and that a cycle of the source puts on it
 pub record AreCycles {A S T : Type 0} (s : Steps A S T) (n : Netlist A T) (y : Cycles) : Type 0 where
   pub takes_all : length y.takes.items ≡ length n.wires
   pub puts_all : length y.puts.items ≡ length n.wires
@@ -19,7 +19,7 @@ abbrev pub AreRowsAt : List ℕ → List (List ℕ) → ℕ → Type 0
 AreRowsAt ports rows cycle = (j : ℕ) → j < cycle → (j < length rows)
     × ((p : ℕ) → p < length ports → slice_index ports p < length (at_phase rows j))
 
--- the firings of a cycle serve the ports in turn: none moves samples at a port before one where an earlier firing does
+-- the firings of a cycle serve the ports in turn: no firing moves samples at a port before a port of an earlier firing
 abbrev pub IsInTurn : List ℕ → List (List ℕ) → ℕ → Type 0
 IsInTurn ports rows cycle = (m n p q : ℕ) → m < n → n < cycle → p < q → q < length ports →
     (slice_index (at_phase rows m) (slice_index ports q) ≡ 0)

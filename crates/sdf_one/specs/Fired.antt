@@ -17,17 +17,17 @@ use Rattle.sdf_one.specs.declared.work.Work.{Work}
 use Rattle.sdf_one.specs.declared.work.Work.TheVariants.{Source, Sink, Inner}
 use Rattle.sdf_one.specs.Runs.{Stands}
 
--- a period of the net, and inputs that hold so many
+-- a schedule of the net's period, and inputs that hold all periods of the passage
 pub record IsPassage {A S T : Type 0} (s : Steps A S T) (p : Passage A T S) : Type 0 where
   pub period : IsPeriodOf (rates (graph_of s p.net.now)) p.period.now
   pub inputs : HasInputs p.net.now p.period.now.repetitions p.periods (lists p.inputs.now)
 
--- empty output lists, with room for what it makes
+-- empty output lists, with room for what the passage makes
 abbrev pub TakeWhatItMakes : {A S T Z : Type 0} → Passage A T S → List (Vec T Z) → Type 0
 TakeWhatItMakes p outputs = AreEmpty outputs (list_count Outputs p.net.now.nodes)
     (p.periods * period_samples p.net.now.nodes Outputs p.period.now.repetitions)
 
--- each node has fired so many periods of q on these inputs, and all stands where the history ends
+-- each node has fired the given number of periods of q on these inputs, and the run is where the history ends
 pub record HasFiredPeriods {A S T : Type 0} (s : Steps A S T) (n : Netlist A T) (inputs : List (List T)) (q : List ℕ)
     (periods : ℕ) (r : Run A T S) : Type 0 where
   pub good : IsNet s n
@@ -36,7 +36,7 @@ pub record HasFiredPeriods {A S T : Type 0} (s : Steps A S T) (n : Netlist A T) 
   pub stands : Stands s n inputs (periods_of q periods) (slice_index r.done.items) r.works.items r.queues.items
       r.outputs.items
 
--- the state of an actor at work
+-- the state of an actor, or None for a source or a sink
 abbrev pub state_in : {A S T : Type 0} → Work A T S → Option S
 state_in (Source ext next size) = None
 state_in (Sink ext) = None

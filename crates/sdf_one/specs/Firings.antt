@@ -15,30 +15,30 @@ phase_at (Source ext next block) = 0
 phase_at (Sink ext) = 0
 phase_at (Inner actor phase state taken put lengths) = phase
 
--- what is added to output list e where block b is taken
+-- what is added to output list e if block b is taken
 abbrev pub added : {A S T : Type 0} → Work A T S → List T → ℕ → List T
 added (Sink ext) b e = cond (ext == e) b []
 added w b e = []
 
--- an actor, which fires by copies where its firings can't be done at once
+-- an actor, which fires by copies if its firings cannot be batched
 abbrev pub IsActor : {A S T : Type 0} → Work A T S → Type 0
 IsActor (Source ext next block) = ⊥
 IsActor (Sink ext) = ⊥
 IsActor (Inner actor phase state taken put lengths) = Unit {0}
 
--- the block that it puts, where block b is taken
+-- the block that an actor puts if it takes block b
 abbrev pub made : {A S T : Type 0} → Steps A S T → Work A T S → List T → List T
 made s (Inner actor phase state taken put lengths) b = s.puts actor.now phase state b
 made s w b = []
 
--- the work still to do after it took block b
+-- the work of an actor after it took block b
 abbrev pub IsWorkAfter : {A S T : Type 0} → Steps A S T → Work A T S → List T → Work A T S → Type 0
 IsWorkAfter s (Inner actor phase state taken put lengths) b (Inner actor' phase' state' taken' put' lengths') =
     (actor' ≡ actor) × (phase' ≡ (phase + 1) % s.cycle actor.now) × (state' ≡ s.next actor.now phase state b) ×
     (vec_capacity taken' ≡ vec_capacity taken) × (length put'.items ≡ length put.items) × (lengths' ≡ lengths)
 IsWorkAfter s w b w' = ⊥
 
--- many samples are taken and more are put: its blocks have their lengths
+-- a firing takes many samples and puts more, and its blocks have room for them
 abbrev pub CanWork : {A S T : Type 0} → Steps A S T → Work A T S → ℕ → ℕ → Type 0
 CanWork s (Inner actor phase state taken put lengths) many more =
     (phase < s.cycle actor.now) × (many ≡ total_in s actor.now phase) × (more ≡ total_out s actor.now phase)
@@ -46,7 +46,7 @@ CanWork s (Inner actor phase state taken put lengths) many more =
     (length lengths.items ≡ s.cycle actor.now) × (slice_index lengths.items phase ≡ more) × (more ≤ length put.items)
 CanWork s w many more = ⊥
 
--- an actor can fire that takes from the channels ins and puts on the channels outs
+-- an actor that takes from the channels ins and puts on the channels outs can fire
 pub record ActorCanFire {A S T : Type 0} (s : Steps A S T) (ins outs takes puts : List ℕ) (w : Work A T S)
     (qs : List (Held T)) : Type 0 where
   pub ins_are : ArePorts ins takes (length qs)
@@ -58,7 +58,7 @@ pub record ActorCanFire {A S T : Type 0} (s : Steps A S T) (ins outs takes puts 
       length (samples qs c) - at_ports ins (slice_index takes c) c + slice_index puts c ≤ room qs c
   pub work : CanWork s w (sum_by (slice_index takes) ins) (sum_by (slice_index puts) outs)
 
--- and this is what its firing does
+-- what a firing of an actor does
 pub record IsFired {A S T : Type 0} (s : Steps A S T) (ins outs takes puts : List ℕ) (w w' : Work A T S)
     (qs qs' : List (Held T)) : Type 0 where
   pub work : IsWorkAfter s w (front takes ins qs) w'

@@ -8,14 +8,14 @@ pub record IsMostPut (r : Rates) (q : List ℕ) (channels most : ℕ) : Type 0 w
   pub above : (c : ℕ) → c < channels → r.produced c (slice_index q (r.source c)) ≤ most
   pub reached : (most ≡ 0) ⊎ ((c : ℕ) × (c < channels) × (r.produced c (slice_index q (r.source c)) ≡ most))
 
--- so many periods of a run, of which each reads and puts so many samples, together read at most MOST_READ of an input
--- and put at most MOST_PUT on a channel
+-- many periods of a run, each of which reads and puts these samples, together read at most MOST_READ of an input and
+-- put at most MOST_PUT on a channel
 pub record Fit (read put periods many : ℕ) : Type 0 where
   pub within : many ≤ periods
   pub reads : many * read ≤ MOST_READ
   pub puts : many * put ≤ MOST_PUT
 
--- as many as fit, but one where none does
+-- the greatest number of periods that fit, or one if none fits
 pub record AreBlock (read put periods many : ℕ) : Type 0 where
   pub some : 0 < many
   pub fit : 1 < many → Fit read put periods many

@@ -1,4 +1,4 @@
--- What a runner on one thread holds between two firings.
+-- The state of a run on one thread between two firings.
 use Rattle.std.specs.Prelude.{◌≡◌, ℕ, ◌+◌, ◌*◌, ◌^◌, ◌≤◌, ◌<◌, List, [], length, drop, slice_index, slice_index_or}
 use Rattle.std.specs.Prelude.{slice_set, vec_capacity}
 use Rattle.std.specs.List.{flat_map}
@@ -20,8 +20,8 @@ use Rattle.sdf_answer.specs.Sizes.{at_phase}
 use Rattle.sdf_answer.specs.Lists.{list, capacity}
 use Rattle.sdf_one.specs.Firings.{phase_at, ActorCanFire, IsFired}
 
--- an actor's two blocks have room for a firing at each phase and for a whole cycle, and what it puts at each phase has
--- its length
+-- an actor's two blocks have room for a firing at each phase and for a whole cycle, and lengths has the length of what
+-- it puts at each phase
 pub record HasBlocks {A S T : Type 0} (s : Steps A S T) (x : A) (taken put : Vec T Global)
     (lengths : Vec ℕ Global) : Type 0 where
   pub some : 0 < s.cycle x
@@ -45,7 +45,7 @@ IsWork s inputs outputs many (node.Inner x) past (Inner actor j state taken put 
     (actor.now ≡ x) × (j ≡ phase s x (length past)) × (state ≡ state_after s x past) × HasBlocks s x taken put lengths
 IsWork s inputs outputs many x past w = ⊥
 
--- where each node a has fired k a times: a history, what is left of it in the queues, and each node's work
+-- after k a firings of each node a: a history, the queues with what is left of it, and each node's work
 pub record Stands {A S T Z : Type 0} (s : Steps A S T) (n : Netlist A T) (inputs : List (List T)) (many k : ℕ → ℕ)
     (works : List (Work A T S)) (qs : List (Held T)) (outputs : List (Vec T Z)) : Type 0 where
   pub history : ℕ → List T
@@ -58,15 +58,15 @@ pub record Stands {A S T Z : Type 0} (s : Steps A S T) (n : Netlist A T) (inputs
       IsWork s inputs outputs (many a) (nets.node n a) (taken_before (wiring s n) history a (k a))
       (slice_index_or works a d)
 
--- a run there, of many a firings of each node a in all
+-- a run after k a of the many a firings of each node a
 abbrev pub IsRunAt : {A S T : Type 0} → Steps A S T → Run A T S → (ℕ → ℕ) → (ℕ → ℕ) → Type 0
 IsRunAt s r many k = Stands s r.net.now (lists r.inputs.now) many k r.works.items r.queues.items r.outputs.items
 
--- P holds of the work of node a of a run
+-- P is true of the work of node a of a run
 abbrev pub HoldsOfWork : {A S T : Type 0} → Run A T S → ℕ → (Work A T S → Type 0) → Type 0
 HoldsOfWork {A} {S} {T} r a P = (d : Work A T S) → P (slice_index_or r.works.items a d)
 
--- node a of a run has its work and its sizes there, and so many more of its firings can be counted
+-- node a of a run has its work and its sizes there, and times more of its firings can be counted
 pub record IsInRun {A S T : Type 0} (r : Run A T S) (a times : ℕ) : Type 0 where
   pub known : a < length r.net.now.nodes
   pub worked : a < length r.works.items
@@ -81,7 +81,7 @@ pub record CanFireAt {A S T : Type 0} (s : Steps A S T) (r : Run A T S) (a : ℕ
   pub can : HoldsOfWork r a (λ w. ActorCanFire s ((wiring s r.net.now).ins a) ((wiring s r.net.now).outs a)
       (at_phase r.sizes.takes (phase_at w)) (at_phase r.sizes.puts (phase_at w)) w r.queues.items)
 
--- so many firings of node a leave what is not its own
+-- times firings of node a change nothing that is not its own
 pub record FiresAlone {A S T : Type 0} (r r' : Run A T S) (a times : ℕ) : Type 0 where
   pub net : r'.net ≡ r.net
   pub inputs : r'.inputs ≡ r.inputs
@@ -97,7 +97,7 @@ pub record FiresAlone {A S T : Type 0} (r r' : Run A T S) (a times : ℕ) : Type
   pub others : (b : ℕ) (d : Work A T S) → (a ≡ b → ⊥) →
       slice_index_or r'.works.items b d ≡ slice_index_or r.works.items b d
 
--- and this is what its firing does
+-- what a firing of node a of a run, an actor, does
 pub record IsFiredAt {A S T : Type 0} (s : Steps A S T) (r r' : Run A T S) (a : ℕ) : Type 0 where
   pub alone : FiresAlone r r' a 1
   pub lists : r'.outputs ≡ r.outputs

@@ -1,4 +1,4 @@
--- A run in blocks of periods, whose nodes fire in whatever order their samples come.
+-- A run in blocks of periods. Its nodes fire in whatever order their samples come.
 use Rattle.std.specs.Prelude.{◌≡◌, ℕ, ◌+◌, ◌*◌, ◌^◌, ◌≤◌, ◌<◌, Bool, false, IsTrue, List, length, slice_index}
 use Rattle.std.specs.Prelude.{sum}
 use Rattle.std.specs.declared.vec.Vec.{Vec}
@@ -41,7 +41,7 @@ pub record Sweeps {A S T Z : Type 0} (s : Steps A S T) (n : Netlist A T) (inputs
       r.initial c + r.produced c (high * slice_index q (r.source c)) ≤
       room qs c + r.consumed c (low * slice_index q (r.target c))
 
--- so it is in a run
+-- Sweeps is true of a run
 abbrev pub IsSwept : {A S T : Type 0} → Steps A S T → Run A T S → Type 0
 IsSwept s r = Sweeps s r.net.now (lists r.inputs.now) r.sizes r.cycles r.repetitions.now r.periods r.high r.done.items
     r.works.items r.queues.items r.outputs.items
@@ -50,23 +50,23 @@ IsSwept s r = Sweeps s r.net.now (lists r.inputs.now) r.sizes r.cycles r.repetit
 abbrev pub MayFire : {A S T : Type 0} → Steps A S T → Run A T S → ℕ → Type 0
 MayFire s r a = IsRunnable (wiring s r.net.now).rates (periods_of r.repetitions.now r.high) (slice_index r.done.items) a
 
--- it has so many firings left within the block
+-- node a has many firings left within the block
 abbrev pub IsLeft : {A S T : Type 0} → Run A T S → ℕ → ℕ → Type 0
 IsLeft r a many = slice_index r.done.items a + many ≡ r.high * slice_index r.repetitions.now a
 
--- each channel into a node holds what so many firings take
+-- each channel into node a holds what times firings take
 abbrev pub AreHeld : {A S T : Type 0} → Steps A S T → Run A T S → ℕ → ℕ → Type 0
 AreHeld s r a times = HoldsOfWork r a (λ w.
     HoldManyBlocks times ((wiring s r.net.now).ins a) (at_phase r.sizes.takes (phase_at w)) r.queues.items)
 
--- the queues have room for a block of so many periods
+-- the queues have room for a block of size periods
 abbrev pub HasRoom : {A S T : Type 0} → Steps A S T → ℕ → Run A T S → Type 0
 HasRoom s size r =
     (c : ℕ) → c < length r.net.now.wires →
     (wiring s r.net.now).rates.initial c + size * (wiring s r.net.now).rates.produced c
     (slice_index r.repetitions.now ((wiring s r.net.now).rates.source c)) ≤ room r.queues.items c
 
--- what firings leave as it was
+-- what firings do not change
 pub record Keeps {A S T : Type 0} (r r' : Run A T S) : Type 0 where
   pub net : r'.net ≡ r.net
   pub inputs : r'.inputs ≡ r.inputs
@@ -76,7 +76,7 @@ pub record Keeps {A S T : Type 0} (r r' : Run A T S) : Type 0 where
   pub queues : length r'.queues.items ≡ length r.queues.items
   pub rooms : KeepRoom r.queues.items r'.queues.items
 
--- and whether there were any
+-- what firings do in the block: Keeps is true, and moved says whether there were any
 pub record IsMoved {A S T : Type 0} (r r' : Run A T S) (moved : Bool) : Type 0 where
   pub keeps : Keeps r r'
   pub high : r'.high ≡ r.high

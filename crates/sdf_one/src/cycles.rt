@@ -1,4 +1,4 @@
-//! What whole cycles of nodes move.
+//! The samples that whole cycles of nodes move.
 
 ghost use Rattle.std.specs.Prelude.{◌≡◌, ◌≤◌, ◌<◌, ℕ, length, slice_index, IfOk, IsTrue};
 ghost use Rattle.sdf_graph.specs.Moved.{moves};
@@ -11,14 +11,14 @@ use sdf_answer::Sizes;
 use sdf_graph::{Channel, End};
 use std::alloc::{AllocError, Global};
 
-/// How many samples a cycle of its target takes from each channel, and a cycle of its source puts there.
+/// The samples that a cycle of the target takes from each channel, and that a cycle of the source puts on it.
 #[derive(Drop)]
 pub(crate) struct Cycles {
     pub(crate) takes: Vec<usize>,
     pub(crate) puts: Vec<usize>,
 }
 
-/// How many samples so many firings of the actor at one end of a channel move.
+/// Returns how many samples the first `firings` firings of the actor at `end` of `channel` move.
 fn moved(channel: &Channel, end: End, firings: u32) -> usize
     requires put { 0 < length channel.now.put }
     requires take { 0 < length channel.now.take }
@@ -31,7 +31,7 @@ fn moved(channel: &Channel, end: End, firings: u32) -> usize
     total
 }
 
-/// What the cycles of a net's nodes move.
+/// Returns the samples that the cycles of a net's nodes move on each channel.
 pub(crate) fn make_cycles<A: Actor>(alloc: Global, net: &Net<A>) -> Result<Cycles, AllocError>
     ensures { IfOk result (AreCycles A.steps net.now) }
 {
@@ -45,7 +45,7 @@ pub(crate) fn make_cycles<A: Actor>(alloc: Global, net: &Net<A>) -> Result<Cycle
     Ok(Cycles { takes, puts })
 }
 
-/// The last port at which samples move, or the first that is asked for where that is later.
+/// Returns the last port at which samples move, or `first` if that is later.
 fn last_port(ports: &[usize], sizes: &[usize], first: usize) -> usize
     requires { (p : ℕ) → p < length ports.now → slice_index ports.now p < length sizes.now }
     ensures from { first ≤ result }
@@ -61,7 +61,7 @@ fn last_port(ports: &[usize], sizes: &[usize], first: usize) -> usize
     last
 }
 
-/// Whether no samples move at the ports before one.
+/// Checks whether no samples move at the ports before `end`.
 fn is_still(ports: &[usize], sizes: &[usize], end: usize) -> bool
     requires { (p : ℕ) → p < length ports.now → slice_index ports.now p < length sizes.now }
     ensures { IsTrue result → (p : ℕ) → p < end → p < length ports.now →
@@ -75,7 +75,7 @@ fn is_still(ports: &[usize], sizes: &[usize], end: usize) -> bool
     true
 }
 
-/// Whether the firings of a cycle serve the ports on a side in turn.
+/// Checks whether the firings of a cycle serve the ports on `side` in turn.
 pub(crate) fn is_in_turn(ports: &[usize], sizes: &Sizes, side: Side, cycle: u32) -> bool
     requires { AreRowsAt ports.now (rows_on side sizes.now) cycle }
     ensures { IsTrue result → IsInTurn ports.now (rows_on side sizes.now) cycle }

@@ -1,4 +1,4 @@
-//! A run on one thread that another one goes on from.
+//! Runs on one thread that can be resumed.
 
 ghost use Rattle.std.specs.Prelude.{◌≡◌, ◌^◌, ◌<◌, ℕ, List, map, MatchResult, IfOk};
 ghost use Rattle.sdf_graph.specs.Rates.{rates};
@@ -23,7 +23,7 @@ use sdf_answer::{Ran, RunFault};
 use sdf_sched::Period;
 use std::alloc::{AllocError, Global};
 
-/// A copy of the state of an actor at work.
+/// Returns a copy of the state of an actor, or `None` for a source or a sink.
 fn state_of<A: Actor>(alloc: Global, work: &Work<A>) -> Result<Option<A::State>, AllocError>
     ensures { IfOk result (λ state. state ≡ state_in work.now) }
 {
@@ -33,7 +33,7 @@ fn state_of<A: Actor>(alloc: Global, work: &Work<A>) -> Result<Option<A::State>,
     }
 }
 
-/// Copies of the states of all actors.
+/// Returns a copy of each actor's state, or `None` for a source or a sink, by node.
 fn states_of<A: Actor>(
     alloc: Global,
     works: &[Work<A>],
@@ -47,7 +47,7 @@ fn states_of<A: Actor>(
     Ok(states)
 }
 
-/// What a run makes and leaves.
+/// Fires all periods of a run, and returns its outputs and the net state that it leaves.
 fn run<A: Actor>(
     alloc: Global,
     passage: Passage<'_, A>,
@@ -70,7 +70,8 @@ fn run<A: Actor>(
     Ok((finished.outputs, rest))
 }
 
-/// Returns what a run makes and leaves. Without a sample nothing fires, and the memory of earlier queues is freed.
+/// Returns the outputs of a run and the net state that it leaves. Without a sample nothing fires, and the memory of
+/// earlier queues is freed.
 fn fill<A: Actor>(
     alloc: Global,
     passage: Passage<'_, A>,
@@ -93,7 +94,7 @@ fn fill<A: Actor>(
     }
 }
 
-/// Runs a net as `run_one` does, and gives what the run leaves beside what it makes. `Net::begun` goes on from there.
+/// Runs a net as `run_one` does, and also returns the net state that the run leaves. `Net::begun` goes on from there.
 pub fn feed_one<A: Actor>(
     alloc: Global,
     net: &Net<A>,
@@ -150,8 +151,8 @@ fn feed_one_in<A: Actor>(
     Ok((Ran { outputs, rounds: 0 }, rest))
 }
 
-/// Goes on from where runs of a net left it, with all samples read: by further periods on further inputs. What it
-/// makes, joined to what they made, is what one run on all inputs makes.
+/// Resumes `net` from `rest`, which earlier runs left with all samples read, for `periods` more periods on `inputs`.
+/// Its outputs, joined to the outputs of the earlier runs, are the outputs of one run on all inputs.
 pub fn resume_one<A: Actor>(
     alloc: Global,
     net: &Net<A>,
@@ -177,8 +178,8 @@ pub fn resume_one<A: Actor>(
     resume_one_in(alloc, passage, rest, &mut Spares::none(alloc))
 }
 
-/// Goes on as `resume_one` does, in the memory that earlier runs left in `spares`, and leaves its own there. In this
-/// way a sound that is run in many pieces asks for most of its memory once.
+/// Resumes a net as `resume_one` does, in the memory that earlier runs left in `spares`, and leaves its own there. A
+/// sound that is run in many pieces then allocates most of its memory once.
 pub fn resume_one_in<A: Actor>(
     alloc: Global,
     passage: Passage<'_, A>,

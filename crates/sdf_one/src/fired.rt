@@ -15,14 +15,14 @@ use sdf_answer::{Queue, Sizes};
 use sdf_sched::Period;
 use std::alloc::{AllocError, Global};
 
-/// How often each node has fired before a run.
+/// Returns how often each node has fired before a run: never.
 fn none_done(alloc: Global, repetitions: &[u32]) -> Result<Vec<usize>, AllocError>
     ensures { IfOk result (λ v. v.items ≡ map (λ _. 0) repetitions.now) }
 {
     repetitions.iter().map(|_| 0usize).collect(alloc)
 }
 
-/// A net, its period, and the inputs on which it is run for `periods` periods.
+/// A net, the schedule of its period, and the inputs on which it is run for `periods` periods.
 #[derive_where(Clone, Copy)]
 pub struct Passage<'a, A: Actor> {
     pub net: &'a Net<A>,
@@ -32,7 +32,7 @@ pub struct Passage<'a, A: Actor> {
     pub inputs: &'a [Vec<A::Token>],
 }
 
-/// Fires all periods of a run, whose queues are made in the buffers of `spares`.
+/// Fires all periods of a run. Its queues are made in the buffers of `spares`.
 pub(crate) fn fired<'a, A: Actor>(
     alloc: Global,
     passage: Passage<'a, A>,

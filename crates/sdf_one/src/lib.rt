@@ -1,9 +1,10 @@
 //! Runs of nets on one thread.
 //!
-//! It depends on `sdf_answer`, `sdf_graph`, `sdf_sched`, `sdf_actor` and `sdf_node`. Begin with `feed`, a run and what
-//! it leaves, from which another one goes on, also in its memory (`spares`). `one` gives the run alone. Then read
-//! `fired` (its firings), `lengths` (how many periods its blocks have), `run` (what it holds), `work` (a node at work),
-//! `block` (the blocks of its firings), and `cycles` (what whole cycles of a node move).
+//! It depends on `sdf_answer`, `sdf_graph`, `sdf_sched`, `sdf_actor` and `sdf_node`. Begin with `feed`: a run and the
+//! net state that it leaves. Another run can go on from there, and use the same memory (`spares`). `one` is the run
+//! alone. Then read `fired` (its firings), `lengths` (how many periods its blocks have), `run` (its state), `work` (the
+//! runtime of a node), `block` (the blocks of its firings), and `cycles` (the samples that whole cycles of a node
+//! move).
 #![tactic(auto)]
 
 mod block;

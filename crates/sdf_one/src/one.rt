@@ -13,10 +13,11 @@ use sdf_answer::{Ran, RunFault};
 use sdf_sched::Period;
 use std::alloc::Global;
 
-/// Runs a net for a number of periods, each node in turn firing as often as its samples and a block of periods allow.
+/// Runs `net` for `periods` periods. Each node in turn fires until its samples or the block of periods stop it.
 ///
-/// All room is taken before the first firing. A channel's queue has room for what it begins with and what one block
-/// puts on it, so it does not grow with the length of the run, whose time is linear in that length.
+/// The room for all samples is taken before the first firing. A channel's queue has room for its initial samples and
+/// for what one block puts on it, so it does not grow with the length of the run. The time of a run is linear in its
+/// length.
 pub fn run_one<A: Actor>(
     alloc: Global,
     net: &Net<A>,

@@ -17,31 +17,31 @@ use sdf_actor::{Actor, Net, Side};
 use sdf_answer::blocks::Ports;
 use sdf_answer::{Queue, Sizes};
 
-/// What a run holds. Its net, inputs, sizes, cycles, period and length stay as they are.
+/// The state of a run. Its net, inputs, sizes, cycles, repetitions and number of periods do not change.
 #[derive(Drop)]
 pub(crate) struct Run<'a, A: Actor> {
     pub(crate) net: &'a Net<A>,
     pub(crate) inputs: &'a [Vec<A::Token>],
     pub(crate) sizes: Sizes,
     pub(crate) cycles: Cycles,
-    /// How often each node fires in a period.
+    /// The repetition vector: how often each node fires in a period.
     pub(crate) repetitions: &'a [u32],
-    /// How many periods there are in all.
+    /// The number of periods in all.
     pub(crate) periods: u32,
-    /// How many of them there are up to the end of the block.
+    /// The number of periods up to the end of the block.
     pub(crate) high: u32,
-    /// How often each node has fired.
+    /// The number of firings of each node up to now.
     pub(crate) done: Vec<usize>,
-    /// The work of each node.
+    /// The runtime of each node.
     pub(crate) works: Vec<Work<'a, A>>,
     /// The samples on each channel.
     pub(crate) queues: Vec<Queue<A::Token>>,
     pub(crate) outputs: Vec<Vec<A::Token>>,
-    /// A sample to fill up buffers with.
+    /// A sample to fill buffers with.
     pub(crate) filler: A::Token,
 }
 
-/// The ports of a node, and what its firings at a phase move there.
+/// Returns the ports of node `a`, and how many samples its firings at `phase` move there.
 fn ports_at<'b, A: Actor>(net: &'b Net<A>, sizes: &'b Sizes, a: usize, phase: u32) -> NodePorts<'b>
     requires known { a < length net.now.nodes }
     requires takes { phase < length sizes.now.takes }
@@ -63,7 +63,7 @@ fn ports_at<'b, A: Actor>(net: &'b Net<A>, sizes: &'b Sizes, a: usize, phase: u3
     }
 }
 
-/// The ports of a node, and what its cycles move there.
+/// Returns the ports of node `a`, and how many samples its cycles move there.
 fn ports_of<'b, A: Actor>(net: &'b Net<A>, cycles: &'b Cycles, a: usize) -> NodePorts<'b>
     requires { a < length net.now.nodes }
     ensures ins { result.ins.channels.now ≡ (wiring A.steps net.entry.now).ins a }
@@ -84,7 +84,7 @@ fn ports_of<'b, A: Actor>(net: &'b Net<A>, cycles: &'b Cycles, a: usize) -> Node
 }
 
 impl<'a, A: Actor> Run<'a, A> {
-    /// Fires an actor.
+    /// Fires actor `a` once.
     fn fire(&mut self, a: usize)
         requires { CanFireAt A.steps self.old a }
         ensures { IsFiredAt A.steps self.old self.new a }
@@ -95,7 +95,7 @@ impl<'a, A: Actor> Run<'a, A> {
         self.done[a] += 1;
     }
 
-    /// Fires a node so many times at once.
+    /// Fires node `a` `times` times in one batch, from queue to queue.
     fn fire_at_once(&mut self, a: usize, times: usize)
         requires { CanFireAtOnceAt A.steps self.old a times }
         ensures { AreFiredAt A.steps self.old self.new a times }
@@ -112,7 +112,7 @@ impl<'a, A: Actor> Run<'a, A> {
         self.done[a] += times;
     }
 
-    /// Fires an actor for so many cycles through its blocks.
+    /// Fires actor `a` for `times` cycles in one batch, through its blocks.
     fn fire_many(&mut self, a: usize, times: usize)
         requires { CanFireManyAt A.steps self.old a times }
         ensures { AreManyFiredAt A.steps self.old self.new a times }
@@ -122,7 +122,7 @@ impl<'a, A: Actor> Run<'a, A> {
         self.done[a] += times * self.net.node(a).cycle() as usize;
     }
 
-    /// How many firings a node has left within the block.
+    /// Returns how many firings node `a` has left within the block.
     fn left(&self, a: usize) -> usize
         requires known { a < length self.now.net.now.nodes }
         requires swept { IsSwept A.steps self.now }
@@ -131,8 +131,8 @@ impl<'a, A: Actor> Run<'a, A> {
         self.high as usize * self.repetitions[a] as usize - self.done[a]
     }
 
-    /// Whether a node may fire within the block: it has firings left there, and the channels into it hold what the next
-    /// one takes.
+    /// Checks whether node `a` may fire within the block. It must have firings left there, and the channels into it
+    /// must hold the input of the next one.
     fn may_fire(&self, a: usize) -> bool
         requires known { a < length self.now.net.now.nodes }
         requires swept { IsSwept A.steps self.now }
@@ -145,7 +145,7 @@ impl<'a, A: Actor> Run<'a, A> {
         hold_blocks(self.net.channels_in(a), sizes, &self.queues)
     }
 
-    /// How many firings of a node can be done at once, within the block.
+    /// Returns how many firings of node `a` can be batched within the block.
     fn times(&self, a: usize) -> usize
         requires may { MayFire A.steps self.now a }
         requires swept { IsSwept A.steps self.now }
@@ -159,8 +159,8 @@ impl<'a, A: Actor> Run<'a, A> {
         blocks_held(self.net.channels_in(a), sizes, &self.queues, left)
     }
 
-    /// How many cycles of a node can be done through its blocks, within the block: none of one whose firings go one by
-    /// one.
+    /// Returns how many cycles of node `a` can be batched through its blocks within the block of periods: 0 if its
+    /// firings go one by one.
     fn cycles_in_blocks(&self, a: usize) -> usize
         requires known { a < length self.now.net.now.nodes }
         requires swept { IsSwept A.steps self.now }
@@ -177,7 +177,8 @@ impl<'a, A: Actor> Run<'a, A> {
         self.works[a].fits(&ports, most)
     }
 
-    /// Fires a node that may fire: once, or as often in one piece of work as its samples and the block allow.
+    /// Fires node `a`, which may fire: once, or in one batch up to the limits of its samples, its buffers and the
+    /// block.
     fn fire_some(&mut self, a: usize)
         requires may { MayFire A.steps self.old a }
         requires swept { IsSwept A.steps self.old }
@@ -201,7 +202,7 @@ impl<'a, A: Actor> Run<'a, A> {
         }
     }
 
-    /// Fires a node as often as its samples and the block allow, and tells whether it fired.
+    /// Fires node `a` until its samples or the block stop it, and returns whether it fired.
     fn fire_node(&mut self, a: usize) -> bool
         requires known { a < length self.old.net.now.nodes }
         requires swept { IsSwept A.steps self.old }
@@ -217,7 +218,7 @@ impl<'a, A: Actor> Run<'a, A> {
         fired
     }
 
-    /// Fires each node in turn, and tells whether any fired.
+    /// Fires each node in turn, and returns whether any fired.
     fn sweep(&mut self) -> bool
         requires swept { IsSwept A.steps self.old }
         ensures swept { IsSwept A.steps self.new }
@@ -248,7 +249,7 @@ impl<'a, A: Actor> Run<'a, A> {
         }
     }
 
-    /// Fires all periods, in blocks of so many and a last one of what is left.
+    /// Fires all periods, in blocks of `size` periods and a last block of the rest.
     pub(crate) fn fire_all(&mut self, size: u32)
         requires size { 0 < size }
         requires start { self.old.high ≡ 0 }
@@ -266,7 +267,7 @@ impl<'a, A: Actor> Run<'a, A> {
     }
 }
 
-/// Where the next block ends.
+/// Returns the number of periods up to the end of the next block.
 fn next_block(high: u32, size: u32, periods: u32) -> u32
     requires left { high < periods }
     requires some { 0 < size }

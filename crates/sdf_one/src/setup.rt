@@ -1,4 +1,4 @@
-//! What a run holds before its first firing.
+//! The state of a run before its first firing.
 
 ghost use Rattle.std.specs.Prelude.{◌≡◌, ◌+◌, ◌≤◌, ◌<◌, ℕ, length, slice_index, vec_len, IfOk};
 ghost use Rattle.std.specs.List.{sum_by};
@@ -13,7 +13,7 @@ use sdf_actor::{Actor, Net, Node, Side};
 use sdf_answer::Sizes;
 use std::alloc::{AllocError, Global};
 
-/// Puts a filler behind a block for each sample that a firing moves at some ports.
+/// Appends a filler to `block` for each sample that a firing moves at `ports`.
 fn extend_by<T: Copy>(
     block: &mut Vec<T>,
     ports: &[usize],
@@ -29,7 +29,7 @@ fn extend_by<T: Copy>(
     Ok(())
 }
 
-/// Puts `many` fillers behind a block.
+/// Appends `many` fillers to `block`.
 fn extend<T: Copy>(block: &mut Vec<T>, many: usize, filler: T) -> Result<(), AllocError>
     ensures { IfOk result (λ _. vec_len block.new ≡ vec_len block.old + many) }
 {
@@ -41,7 +41,7 @@ fn extend<T: Copy>(block: &mut Vec<T>, many: usize, filler: T) -> Result<(), All
 /// Samples of working space beyond one cycle, so that cycles can be batched.
 const MORE: usize = 1024;
 
-/// The makings of an actor's blocks: a sample to fill them with, and the samples beyond one cycle.
+/// The contents of an actor's blocks: a sample to fill them with, and the number of samples beyond one cycle.
 #[derive(Clone, Copy)]
 struct Blank<T> {
     filler: T,
@@ -62,7 +62,8 @@ impl<T: Copy> Blank<T> {
     }
 }
 
-/// A block with a place for each sample that a cycle moves at some ports and some more, and the length at each phase.
+/// Makes a block with a place for each sample that a cycle moves at `ports`, and `blank.more` places beyond them. Also
+/// returns how many samples a firing moves there, by phase.
 fn make_blocks<T: Copy>(
     alloc: Global,
     ports: &[usize],
@@ -88,7 +89,7 @@ fn make_blocks<T: Copy>(
     Ok((block, lengths))
 }
 
-/// A node before its first firing.
+/// Makes the runtime of node `a` before its first firing.
 fn make_work<'a, A: Actor>(
     alloc: Global,
     net: &'a Net<A>,
@@ -130,7 +131,7 @@ fn make_work<'a, A: Actor>(
     }
 }
 
-/// All nodes before the first firing.
+/// Makes the runtimes of all nodes before the first firing.
 pub(crate) fn make_works<'a, A: Actor>(
     alloc: Global,
     net: &'a Net<A>,

@@ -31,7 +31,7 @@ impl<T: Copy> Spares<T> {
     }
 
     /// Makes `many` empty output lists with room for `room` samples each. Lists that were given back are used if they
-    /// fit, and else freed.
+    /// fit, otherwise they are freed.
     pub(crate) fn take_outputs(
         &mut self,
         alloc: Global,

@@ -1,4 +1,4 @@
-//! Nodes at work.
+//! Node runtimes.
 
 ghost use Rattle.std.specs.Prelude.{◌≡◌, ◌+◌, ◌*◌, ◌<◌, ◌≤◌, ◌++◌, ℕ, length, slice_index, take, drop, IsTrue, false};
 ghost use Rattle.sdf_actor.specs.Histories.{spread};
@@ -16,20 +16,21 @@ use sdf_answer::many_blocks::whole_blocks;
 use sdf_answer::queue::{Firings, lengthen};
 use sdf_answer::{Queue, Sizes};
 
-/// What a node does in a firing.
+/// The runtime of a node: what it does in a firing.
 #[derive(Drop)]
 pub(crate) enum Work<'a, A: Actor> {
-    /// Reads the next block of an input list.
+    /// A source: it reads the next block of an input list.
     Source {
         ext: usize,
         next: usize,
         block: usize,
     },
-    /// Adds the block that it takes to an output list.
+    /// A sink: it adds the block that it takes to an output list.
     Sink {
         ext: usize,
     },
-    /// Fires an actor, from one block to the other. What it puts at each phase has its length.
+    /// An actor: it fires from the block `taken` to the block `put`. `lengths` has the length of its output at each
+    /// phase.
     Inner {
         actor: &'a A,
         phase: u32,
@@ -47,7 +48,7 @@ pub(crate) struct NodePorts<'a> {
     pub(crate) outs: Ports<'a>,
 }
 
-/// Fires an actor at a phase on the block taken. What it puts stands at the front of the other block.
+/// Fires `actor` at `phase` on the block `taken`. Its `many` samples of output go to the front of `put`.
 fn fire_into<A: Actor>(
     actor: &A,
     phase: u32,
@@ -68,8 +69,8 @@ fn fire_into<A: Actor>(
     actor.fire(phase, state, taken.as_slice(), front);
 }
 
-/// Fires an actor so many times on the first samples of the block taken. What it puts stands at the front of the other
-/// block.
+/// Fires an actor in one batch on the first `all` samples of `taken`. Its `many` samples of output go to the front of
+/// `put`.
 fn fire_many_into<A: Actor>(
     firings: Firings<'_, A>,
     state: &mut A::State,
@@ -98,7 +99,7 @@ fn fire_many_into<A: Actor>(
     actor.fire_many(phase, times, state, &taken[..all], front);
 }
 
-/// Whether no channel is on both sides.
+/// Checks whether `ins` and `outs` have no channel in common.
 fn are_apart(ins: &[usize], outs: &[usize]) -> bool
     ensures { IsTrue result → (i j : ℕ) → i < length ins.now → j < length outs.now →
         slice_index ins.now i ≡ slice_index outs.now j → ⊥ }
@@ -111,7 +112,7 @@ fn are_apart(ins: &[usize], outs: &[usize]) -> bool
     true
 }
 
-/// Whether a channel is among some.
+/// Checks whether `channel` is in `channels`.
 fn has(channels: &[usize], channel: usize) -> bool
     ensures { result ≡ false → (j : ℕ) → j < length channels.now → channel ≡ slice_index channels.now j → ⊥ }
 {
@@ -123,7 +124,7 @@ fn has(channels: &[usize], channel: usize) -> bool
     false
 }
 
-/// Fires an actor so many times at once, from one queue's memory to another's.
+/// Fires an actor in one batch, directly from one queue's memory to another's.
 fn fire_through<A: Actor>(
     firings: Firings<'_, A>,
     state: &mut A::State,
@@ -175,7 +176,7 @@ impl<'a, A: Actor> Work<'a, A> {
     ghost use Rattle.std.specs.List.{sum_by};
     ghost use Rattle.sdf_one.specs.Many.{HasRows, GoesByMany, Fit, CanFireMany, AreManyFired};
 
-    /// The phase of the next firing.
+    /// Returns the phase of the next firing.
     pub(crate) fn phase(&self) -> u32
         ensures { result ≡ phase_at self.now }
     {
@@ -185,8 +186,7 @@ impl<'a, A: Actor> Work<'a, A> {
         }
     }
 
-    /// One firing of an actor: from each channel into it its block is taken, and on each channel out of it a block is
-    /// put.
+    /// Fires an actor once: takes a block from the channels into it, and puts a block on the channels out of it.
     pub(crate) fn fire(&mut self, ports: &NodePorts, queues: &mut [Queue<A::Token>])
         requires { ActorCanFire A.steps ports.now.ins.channels.now ports.now.outs.channels.now ports.now.ins.sizes.now
             ports.now.outs.sizes.now
@@ -213,7 +213,7 @@ impl<'a, A: Actor> Work<'a, A> {
         }
     }
 
-    /// Whether its firings can be done at once, where these are its channels.
+    /// Checks whether its firings can be batched from queue to queue, if its channels are `ins` and `outs`.
     pub(crate) fn goes_at_once(&self, ins: &[usize], outs: &[usize]) -> bool
         ensures goes { IsTrue result → GoesAtOnce A.steps self.now ins.now outs.now }
         ensures others { result ≡ false → IsActor self.now }
@@ -226,8 +226,8 @@ impl<'a, A: Actor> Work<'a, A> {
         }
     }
 
-    /// So many firings at once: from the channel into the node all that they take is taken, and on the channel out of
-    /// it all that they put is put.
+    /// Fires a node `times` times in one batch: takes all input from the channel into it, and puts all output on the
+    /// channel out of it.
     pub(crate) fn fire_at_once(
         &mut self,
         times: usize,
@@ -270,8 +270,8 @@ impl<'a, A: Actor> Work<'a, A> {
         }
     }
 
-    /// Whether its cycles can be done through its blocks, where these are its channels: it is at the beginning of one,
-    /// and its ports are served in turn.
+    /// Checks whether its cycles can be batched through its blocks, if its channels are `ins` and `outs`. It must be at
+    /// the beginning of a cycle, share no channel between both sides, and serve its ports in turn.
     pub(crate) fn goes_by_many(&self, ins: &[usize], outs: &[usize], sizes: &Sizes) -> bool
         requires { HasRows A.steps sizes.now self.now ins.now outs.now }
         ensures { IsTrue result → GoesByMany A.steps sizes.now self.now ins.now outs.now }
@@ -288,7 +288,7 @@ impl<'a, A: Actor> Work<'a, A> {
         }
     }
 
-    /// For how many cycles its blocks have room, up to a limit.
+    /// Returns for how many cycles its blocks have room, at most `most`.
     pub(crate) fn fits(&self, ports: &NodePorts, most: usize) -> usize
         requires ins { ArePorts ports.now.ins.channels.now ports.now.ins.sizes.now (length ports.now.ins.sizes.now) }
         requires outs { ArePorts ports.now.outs.channels.now ports.now.outs.sizes.now
@@ -308,8 +308,8 @@ impl<'a, A: Actor> Work<'a, A> {
         }
     }
 
-    /// So many cycles of an actor: from each channel into it their blocks are taken, and on each channel out of it
-    /// their blocks are put.
+    /// Fires an actor for `times` cycles in one batch: takes their blocks from the channels into it, and puts their
+    /// blocks on the channels out of it.
     pub(crate) fn fire_many(
         &mut self,
         times: usize,

@@ -1,4 +1,4 @@
--- Blocks of a table, one after the other.
+-- Blocks of a table, one after another.
 use Rattle.std.specs.Prelude.{◌≡◌, ℕ, ◌+◌, ◌*◌, ◌≤◌, ◌<◌, List, length, slice_index}
 use Rattle.sdf_actor.specs.Steps.{Steps}
 use Rattle.sdf_actor.specs.Nets.{Netlist, wiring}
@@ -8,7 +8,8 @@ use Rattle.sdf_answer.specs.Held.{Held}
 use Rattle.sdf_answer.specs.Blocks.{room}
 use Rattle.sdf_rows.specs.Stands.{IsBetween}
 
--- counts of whole periods: the firings after them move what the first ones move, and channels hold what they began with
+-- counts of whole periods: the firings after them move what the first ones move, and each channel holds its initial
+-- number of samples
 pub record IsRound {A S T : Type 0} (s : Steps A S T) (n : Netlist A T) (k : ℕ → ℕ) : Type 0 where
   pub produced : (c i : ℕ) → c < length n.wires →
       (wiring s n).rates.produced c (k ((wiring s n).rates.source c) + i) ≡
@@ -20,11 +21,11 @@ pub record IsRound {A S T : Type 0} (s : Steps A S T) (n : Netlist A T) (k : ℕ
       (wiring s n).rates.produced c (k ((wiring s n).rates.source c)) ≡
       (wiring s n).rates.consumed c (k ((wiring s n).rates.target c))
 
--- how often each node has fired when a block of j periods of q follows on k
+-- how often each node has fired after the counts k and a block of j periods of q
 abbrev pub block_after : List ℕ → ℕ → (ℕ → ℕ) → ℕ → ℕ
 block_after q j k a = k a + slice_index (block j q) a
 
--- between blocks, after b of so many: each channel has room for what it begins with and what a block puts there
+-- between blocks, after b of all: each channel has room for its initial samples and for what a block puts on it
 pub record IsResting {A S T : Type 0} (s : Steps A S T) (n : Netlist A T) (inputs : List (List T)) (q : List ℕ)
     (j blocks b : ℕ) (k : ℕ → ℕ) (states : List (NodeState T S)) (ls : List (Held T)) : Type 0 where
   pub counts : (a : ℕ) → a < length n.nodes → k a ≡ b * (j * slice_index q a)

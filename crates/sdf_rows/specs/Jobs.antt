@@ -16,7 +16,7 @@ module _ {A S T : Type 0} (s : Steps A S T) (n : Netlist A T) (inputs : List (Li
   abbrev pub block_of : Job A T S → List T
   block_of j = front (at_phase z.takes j.phase) ((wiring s n).ins j.actor) ls
 
-  -- its samples stand on the channels, and it can be done
+  -- the samples of a job's firing are on the channels, and it can be done
   pub record JobFits (j : Job A T S) : Type 0 where
     pub known : j.actor < length n.nodes
     pub in_cycle : j.phase < cycle_of s (node n j.actor)
@@ -29,7 +29,7 @@ module _ {A S T : Type 0} (s : Steps A S T) (n : Netlist A T) (inputs : List (Li
         (sum_by (slice_index (at_phase z.takes j.phase)) ((wiring s n).ins j.actor))
         (puts_of s (node n j.actor) j.phase)
 
-  -- the node's answer to its block, and its state after it
+  -- job k is job j after its firing: it has the node's answer to its block, and the node's state after it
   pub record HasFired (j k : Job A T S) : Type 0 where
     pub actor_kept : k.actor ≡ j.actor
     pub phase_kept : k.phase ≡ j.phase
@@ -40,7 +40,7 @@ module _ {A S T : Type 0} (s : Steps A S T) (n : Netlist A T) (inputs : List (Li
     pub put : (many : ℕ) (past : List (List T)) → IsAt s inputs many (node n j.actor) past j.state →
         take (puts_of s (node n j.actor) j.phase) k.put.items ≡ answer_of s inputs (node n j.actor) past (block_of j)
 
-  -- so has each of some jobs
+  -- each job of jobs' is the job of jobs at its place after its firing
   abbrev pub HaveFired : List (Job A T S) → List (Job A T S) → Type 0
   HaveFired jobs jobs' = (i : ℕ) (j : Job A T S) → i < length jobs →
       HasFired (slice_index_or jobs i j) (slice_index_or jobs' i j)

@@ -1,4 +1,4 @@
--- What a run by rows begins with.
+-- The state that a run by rows begins with.
 use Rattle.std.specs.Prelude.{ℕ, ◌≤◌, ◌<◌, List, [], length, slice_index_or, vec_capacity}
 use Rattle.sdf_actor.specs.Steps.{Steps}
 use Rattle.sdf_actor.specs.declared.node.Node.{Node}
@@ -7,12 +7,12 @@ use Rattle.sdf_node.specs.Nodes.{takes_of, puts_of, CanBegin, IsAt}
 use Rattle.sdf_node.specs.declared.node.NodeState.{NodeState}
 use Rattle.sdf_rows.specs.declared.job.Job.{Job}
 
--- a node's state before its first firing, where its list has so much room
+-- a node's state before its first firing, if its list has this room
 abbrev pub IsUnfired : {A S T : Type 0} → Steps A S T → ℕ → Node A → NodeState T S → Type 0
 IsUnfired {A} {S} {T} s room x w = (inputs : List (List T)) (many : ℕ) → CanBegin inputs many room x →
     IsAt s inputs many x [] w
 
--- so are those of all nodes
+-- the states of all nodes before their first firing
 abbrev pub AreUnfired : {A S T : Type 0} → Steps A S T → ℕ → Netlist A T → List (NodeState T S) → Type 0
 AreUnfired {A} {S} {T} s room n states = (a : ℕ) (w : NodeState T S) → a < length n.nodes →
     IsUnfired s room (node n a) (slice_index_or states a w)

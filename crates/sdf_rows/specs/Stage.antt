@@ -18,7 +18,7 @@ use Rattle.sdf_answer.specs.Sizes.{Rows, at_phase}
 abbrev pub actors_of : {A S T : Type 0} → List (Job A T S) → List ℕ
 actors_of jobs = map (λ j. j.actor) jobs
 
--- and those of a row's firings
+-- the actors of a row's firings
 abbrev pub row_actors : List (Option Firing) → List ℕ
 row_actors row = map (λ f. f.actor) (firings row)
 
@@ -37,7 +37,7 @@ pub record IsFilled {A S T : Type 0} (p m a : ℕ) (w : NodeState T S) (j k : Jo
   pub taken : k.taken ≡ j.taken
   pub put : k.put ≡ j.put
 
--- what a cell of column p fills, where so many firings of each actor are done
+-- what a cell of column p fills; done has the number of firings of each actor
 abbrev pub HasLoaded : {A S T : Type 0} → Option Firing → ℕ → List ℕ → List (NodeState T S) → List (NodeState T S) →
     List (Job A T S) → List (Job A T S) → ℕ → ℕ → Type 0
 HasLoaded None p done states states' jobs jobs' many more = (more ≡ many) × (states' ≡ states) × (jobs' ≡ jobs)
@@ -48,8 +48,8 @@ HasLoaded {A} {S} {T} (Some f) p done states states' jobs jobs' many more =
     ((a : ℕ) (w : NodeState T S) → (f.actor ≡ a → ⊥) → slice_index_or states' a w ≡ slice_index_or states a w) ×
     ((i : ℕ) (j : Job A T S) → (many ≡ i → ⊥) → slice_index_or jobs' i j ≡ slice_index_or jobs i j)
 
--- a job is filled for each of some firings of a row, of an actor each, for the column in which it stands, where so many
--- firings of each actor are done; every other state and job is as it was
+-- a job is filled for each firing of fs, of an actor each, for its column in the row; done has the number of firings of
+-- each actor. Every other state and job is unchanged
 pub record AreLoaded {A S T : Type 0} (row : List (Option Firing)) (done : List ℕ) (fs : List Firing)
     (states states' : List (NodeState T S)) (jobs jobs' : List (Job A T S)) : Type 0 where
   pub states_all : length states' ≡ length states
@@ -63,8 +63,8 @@ pub record AreLoaded {A S T : Type 0} (row : List (Option Firing)) (done : List 
       slice_index_or states' a w ≡ slice_index_or states a w
   pub rest : (i : ℕ) (j : Job A T S) → length fs ≤ i → slice_index_or jobs' i j ≡ slice_index_or jobs i j
 
--- what a job took stands on its channels, there is room for what it made once that is gone, and it made as much as it
--- puts
+-- what a job took is on its channels, there is room for what it made once that is gone, and it made the number of
+-- samples that it puts
 pub record CanSettle {A S T : Type 0} (s : Steps A S T) (n : Netlist A T) (z : Rows) (j : Job A T S)
     (ls : List (Held T)) : Type 0 where
   pub known : j.actor < length n.nodes
@@ -82,7 +82,7 @@ pub record CanSettle {A S T : Type 0} (s : Steps A S T) (n : Netlist A T) (z : R
   pub whole : puts_of s (node n j.actor) j.phase ≡
       sum_by (slice_index (at_phase z.puts j.phase)) ((wiring s n).outs j.actor)
 
--- and that is what became of the channels
+-- the channels after a job was settled
 pub record HasSettled {A S T : Type 0} (s : Steps A S T) (n : Netlist A T) (z : Rows) (j : Job A T S)
     (ls ls' : List (Held T)) : Type 0 where
   pub all : length ls' ≡ length ls

@@ -1,4 +1,4 @@
--- What a runner by rows holds, within a row and between two rows.
+-- The state of a run by rows, within a row and between two rows.
 use Rattle.std.specs.Prelude.{◌≡◌, ℕ, ◌+◌, ◌^◌, ◌≤◌, ◌<◌, List, [], ◌∷◌, ◌++◌, length, take, drop, slice_index}
 use Rattle.std.specs.Prelude.{slice_index_or, vec_capacity}
 use Rattle.sdf_graph.specs.Sequences.{IsEnabled}
@@ -18,7 +18,7 @@ module _ {A S T : Type 0} (s : Steps A S T) (n : Netlist A T) where
     pub taken : (a i : ℕ) → a < length n.nodes → takes_of s (node n a) (phase_of s (node n a) i) ≤ vec_capacity j.taken
     pub put : (a i : ℕ) → a < length n.nodes → puts_of s (node n a) (phase_of s (node n a) i) ≤ length j.put.items
 
-  -- so it is with some jobs
+  -- each of some jobs has blocks with room for any firing of any node
   abbrev pub HaveBlocks : List (Job A T S) → Type 0
   HaveBlocks jobs = (i : ℕ) (j : Job A T S) → i < length jobs → HasBlocks (slice_index_or jobs i j)
 
@@ -41,16 +41,16 @@ module _ {A S T : Type 0} (s : Steps A S T) (n : Netlist A T) (inputs : List (Li
     pub put : take (puts_of s (node n a) j.phase) j.put.items ≡
         answers s n inputs a (taken_before (wiring s n) V a (k a)) (taken (wiring s n) V a (k a))
 
-  -- or its job is filled with its state, and has blocks for it
+  -- the job of the next firing of actor a is filled with its state, and has blocks for it
   pub record IsLoaded (k : ℕ → ℕ) (V : ℕ → List T) (a : ℕ) (j : Job A T S) : Type 0 where
     pub actor : j.actor ≡ a
     pub phase : j.phase ≡ phase_of s (node n a) (k a)
     pub state : IsAt s inputs (many a) (node n a) (taken_before (wiring s n) V a (k a)) j.state
     pub blocks : HasBlocks s n j
 
-  -- where each node a has fired k a times, at least low a and at most high a, of many a in all: the rest of a history
-  -- stands on the channels, which have room for all up to high. The actors of acts from one place on stand in jobs as P
-  -- says, and every other node has its state
+  -- each node a has fired k a times, at least low a and at most high a, of many a in all. The channels hold the rest of
+  -- a history, and have room for all up to high. The actors of acts from one place on are in jobs as P says; every
+  -- other node has its state
   pub record IsStage (P : (ℕ → ℕ) → (ℕ → List T) → ℕ → Job A T S → Type 0) (low high : ℕ → ℕ) (acts : List ℕ) (from : ℕ)
       (k : ℕ → ℕ) (states : List (NodeState T S)) (ls : List (Held T)) (jobs : List (Job A T S)) : Type 0 where
     pub small : (a : ℕ) → a < length n.nodes → many a < 2 ^ 63

@@ -1,4 +1,4 @@
-//! The lists that the sinks of a run by rows made.
+//! The lists that the sinks of a run by rows make.
 
 ghost use Rattle.std.specs.Prelude.{◌≡◌, length};
 ghost use Rattle.sdf_actor.specs.declared.sides.Lists.TheVariants.{Outputs};
@@ -9,7 +9,7 @@ use sdf_actor::{Actor, Net};
 use sdf_answer::laws::net_facts;
 use sdf_node::{NodeState, collect_at};
 
-/// Takes the lists out of the states of all sinks, each to its number.
+/// Moves the lists out of the states of all sinks, each to its number in `outputs`.
 pub(crate) fn collect<A: Actor>(
     net: &Net<A>,
     states: &mut [NodeState<A::Token, A::State>],

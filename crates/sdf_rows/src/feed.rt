@@ -1,4 +1,4 @@
-//! A run by rows that another one goes on from.
+//! Runs by rows that can be resumed.
 
 ghost use Rattle.std.specs.Prelude.{◌≡◌, ◌*◌, ◌<◌, ℕ, List, length, MatchResult, IfOk};
 ghost use Rattle.sdf_graph.specs.Rates.{rates};
@@ -25,7 +25,7 @@ use sdf_node::{Gate, NodeState, kept};
 use std::alloc::{AllocError, Global};
 use std::thread::Threads;
 
-/// Copies of the states of all actors.
+/// Returns a copy of each actor's state, or `None` for a source or a sink, by node.
 fn kept_by<A: Actor>(
     alloc: Global,
     net: &Net<A>,
@@ -42,7 +42,8 @@ fn kept_by<A: Actor>(
     Ok(copies)
 }
 
-/// What a run makes and leaves. Without a sample there are no blocks, and nothing fires.
+/// Returns the outputs of a run and the net state that it leaves. Without a sample there are no blocks, and nothing
+/// fires.
 fn fill<R: Threads + AllocGlobal + Sync, A: Actor, G: Gate>(
     rt: &R,
     net: &Net<A>,
@@ -74,7 +75,7 @@ fn fill<R: Threads + AllocGlobal + Sync, A: Actor, G: Gate>(
     }
 }
 
-/// Runs a net as `run_rows` does, and gives what the run leaves beside what it makes. `Net::begun` goes on from there.
+/// Runs a net as `run_rows` does, and also returns the net state that the run leaves. `Net::begun` goes on from there.
 pub fn feed_rows<R: Threads + AllocGlobal + Sync, A: Actor, G: Gate>(
     rt: &R,
     net: &Net<A>,
@@ -100,8 +101,8 @@ pub fn feed_rows<R: Threads + AllocGlobal + Sync, A: Actor, G: Gate>(
     Ok((Ran { outputs, rounds }, rest))
 }
 
-/// Goes on from where runs of a net left it, with all samples read: by further blocks on further inputs. What it makes,
-/// joined to what they made, is what one run on all inputs makes.
+/// Resumes `net` from `rest`, which earlier runs left with all samples read, for further blocks on `inputs`. Its
+/// outputs, joined to the outputs of the earlier runs, are the outputs of one run on all inputs.
 pub fn resume_rows<R: Threads + AllocGlobal + Sync, A: Actor, G: Gate>(
     rt: &R,
     net: &Net<A>,

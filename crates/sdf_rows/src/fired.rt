@@ -24,21 +24,21 @@ use sdf_prec::Table;
 use std::alloc::{AllocError, Global};
 use std::thread::Threads;
 
-/// What is run: so many blocks, as a table says.
+/// The plan of a run: a table, and how many of its blocks are run.
 #[derive(Clone, Copy)]
 pub struct TableBlocks<'a> {
     pub table: &'a BlockTable,
     pub blocks: u32,
 }
 
-/// How often each node has fired before a run.
+/// Returns how often each node has fired before a run: never.
 fn none_done(alloc: Global, repetitions: &[u32]) -> Result<Vec<u64>, AllocError>
     ensures { IfOk result (λ v. v.items ≡ map (λ _. 0) repetitions.now) }
 {
     repetitions.iter().map(|_| 0u64).collect(alloc)
 }
 
-/// Fires all blocks, and gives what stands behind them.
+/// Fires all blocks, and returns the state after them.
 pub(crate) fn fire<R: Threads + AllocGlobal + Sync, A: Actor, G: Gate>(
     rt: &R,
     net: &Net<A>,
@@ -79,7 +79,7 @@ pub(crate) fn fire<R: Threads + AllocGlobal + Sync, A: Actor, G: Gate>(
     Ok(stage)
 }
 
-/// How many rows are fired in so many blocks.
+/// Returns how many rows are fired in `blocks` blocks of `rows` rows.
 pub(crate) fn rounds_of(blocks: u32, rows: usize) -> u64
     requires { rows ≤ MOST_BLOCK }
     ensures { result ≡ blocks * rows }

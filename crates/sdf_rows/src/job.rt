@@ -1,4 +1,4 @@
-//! The firings of one row, at once.
+//! The firings of one row, in parallel.
 
 ghost use Rattle.std.specs.Prelude.{◌≡◌, ◌≤◌, ◌<◌, ◌++◌, ◌∷◌, [], ℕ, All, List, length, take};
 ghost use Rattle.sdf_actor.specs.Nets.{answer_of, wiring};
@@ -14,7 +14,7 @@ use sdf_node::{ActorId, Gate, NodeState, puts, step};
 use std::thread;
 use std::thread::Threads;
 
-/// One firing of a row. Its blocks have room for any firing of any node, what it puts stands at the front of `put`.
+/// One firing of a row. Its blocks have room for any firing of any node. Its output is at the front of `put`.
 #[derive(Drop)]
 pub(crate) struct Job<A: Actor> {
     pub(crate) processor: usize,
@@ -27,7 +27,7 @@ pub(crate) struct Job<A: Actor> {
     pub(crate) put: Vec<A::Token>,
 }
 
-/// Fires a node on the block taken. What it puts stands at the front of the other block.
+/// Fires `node` on the block `taken`. Its `many` samples of output go to the front of `put`.
 fn step_into<A: Actor>(
     node: &Node<A>,
     inputs: &[Vec<A::Token>],
@@ -49,7 +49,7 @@ fn step_into<A: Actor>(
     step(node, inputs, state, taken.as_slice(), front);
 }
 
-/// One firing, of the samples that stand on the channels.
+/// Fires one job on a copy of its input. The samples stay on the channels until the job is settled.
 fn fire_job<A: Actor, G: Gate>(scene: &Scene<A, G>, queues: &[Queue<A::Token>], job: &mut Job<A>)
     requires { JobFits A.steps scene.now.net.now (lists scene.now.inputs.now) scene.now.sizes queues.now job.old }
     ensures { HasFired A.steps scene.now.net.now (lists scene.now.inputs.now) scene.now.sizes queues.now job.old
@@ -74,7 +74,7 @@ fn fire_job<A: Actor, G: Gate>(scene: &Scene<A, G>, queues: &[Queue<A::Token>], 
     );
 }
 
-/// Each firing in a worker of its own, or a single one here. All are back when it returns.
+/// Fires each job in a worker of its own, or a single job on this thread. Returns when all have fired.
 pub(crate) fn fire_jobs<R: Threads + Sync, A: Actor, G: Gate>(
     rt: &R,
     scene: &Scene<A, G>,

@@ -1,4 +1,4 @@
-//! The runner by rows: all firings of a row of a table at once.
+//! The barrier-synchronous runner: the firings of a row of a table run in parallel.
 
 ghost use Rattle.std.specs.Prelude.{◌≡◌, ◌*◌, length, MatchResult};
 ghost use Rattle.sdf_graph.specs.Rates.{rates};
@@ -14,12 +14,11 @@ use sdf_answer::{BlockTable, Ran, RunFault};
 use sdf_node::Gate;
 use std::thread::Threads;
 
-/// Runs a net for a number of blocks, as its table says: the firings of a row run at once, each in a
-/// worker of its own, and are joined before the next row begins. The processor that the gate is told is the firing's
-/// column.
+/// Runs `net` for `blocks` blocks, as `table` says. The firings of a row run in parallel, each in a worker of its own,
+/// and are joined before the next row begins. The gate gets the column of a firing as its processor.
 ///
-/// All room is taken before the first firing. A channel has room for what it begins with and what one block puts on it.
-/// Where the system starts no thread, the firings of a row run one after another.
+/// The room for all samples is taken before the first firing. A channel has room for its initial samples and for what
+/// one block puts on it. If the system starts no thread, the firings of a row run one after another.
 pub fn run_rows<R: Threads + AllocGlobal + Sync, A: Actor, G: Gate>(
     rt: &R,
     net: &Net<A>,

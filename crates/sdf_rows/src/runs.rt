@@ -1,4 +1,4 @@
-//! Rows and blocks of a table, one after the other.
+//! Rows and blocks of a table, one after another.
 
 ghost use Rattle.std.specs.Prelude.{◌≡◌, ◌≤◌, ◌<◌, ℕ, length, slice_index};
 ghost use Rattle.sdf_graph.specs.Rates.{rates};
@@ -19,7 +19,7 @@ use sdf_node::Gate;
 use sdf_prec::Table;
 use std::thread::Threads;
 
-/// A table, and the block that it is of: `j` periods in which the nodes fire as often as the repetitions say.
+/// A table for a block of `j` periods, and the repetition vector of a period.
 #[derive(Drop)]
 pub(crate) struct Timetable<'a> {
     pub(crate) table: &'a Table,
@@ -27,7 +27,7 @@ pub(crate) struct Timetable<'a> {
     pub(crate) j: u32,
 }
 
-/// Fires the rows of a block.
+/// Fires the rows of one block.
 pub(crate) fn run_block<R: Threads + Sync, A: Actor, G: Gate>(
     rt: &R,
     scene: &Scene<A, G>,

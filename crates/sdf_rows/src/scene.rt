@@ -1,9 +1,9 @@
-//! What all firings of a run share.
+//! The data that all firings of a run share.
 
 use sdf_actor::{Actor, Net};
 use sdf_answer::Sizes;
 
-/// What all firings of a run share.
+/// The data that all firings of a run share.
 #[derive(Drop)]
 pub(crate) struct Scene<'a, A: Actor, G> {
     pub(crate) net: &'a Net<A>,

@@ -1,4 +1,4 @@
-//! What a run by rows holds before its first firing.
+//! The state of a run by rows before its first firing.
 
 ghost use Rattle.std.specs.Prelude.{◌≡◌, ◌<◌, ℕ, All, length, vec_len, IfOk};
 ghost use Rattle.sdf_actor.specs.Nets.{node};
@@ -10,7 +10,7 @@ use sdf_actor::{Actor, Net};
 use sdf_node::{NodeState, begin};
 use std::alloc::{AllocError, Global};
 
-/// All nodes before the first firing. The list of a sink has so much room.
+/// Makes the states of all nodes before the first firing. The list of a sink gets room for `room` samples.
 pub(crate) fn make_states<A: Actor>(
     alloc: Global,
     net: &Net<A>,
@@ -25,7 +25,7 @@ pub(crate) fn make_states<A: Actor>(
     Ok(states)
 }
 
-/// The greatest number that a firing of any node takes or puts.
+/// Returns the greatest number of samples that a firing of any node takes or puts.
 fn most<A: Actor>(net: &Net<A>) -> usize
     ensures { (a : ℕ) → a < length net.now.nodes → IsMost A.steps (node net.now a) result }
 {
@@ -36,7 +36,7 @@ fn most<A: Actor>(net: &Net<A>) -> usize
     most
 }
 
-/// A job whose blocks have so many places, as many as any firing moves.
+/// Makes a job with blocks of `places` samples, which is enough for any firing.
 fn make_job<A: Actor>(
     alloc: Global,
     net: &Net<A>,
@@ -59,7 +59,7 @@ fn make_job<A: Actor>(
     })
 }
 
-/// Jobs with blocks for any firing of any node, as many as a row has columns.
+/// Makes `width` jobs, one for each column of a row. Their blocks have room for any firing of any node.
 pub(crate) fn make_jobs<A: Actor>(
     alloc: Global,
     net: &Net<A>,

@@ -1,4 +1,4 @@
-//! A row's firings: their jobs are filled, fired at once, and what they made is put on the channels.
+//! The firings of a row: their jobs are filled and fired in parallel, and then their output is put on the channels.
 
 ghost use Rattle.std.specs.Prelude.{◌≡◌, ◌+◌, ◌^◌, ◌≤◌, ◌<◌, ℕ, length, slice_index, slice_set, Some};
 ghost use Rattle.sdf_graph.specs.Sequences.{times};
@@ -20,8 +20,8 @@ use sdf_prec::Firing;
 use std::mem;
 use std::thread::Threads;
 
-/// What stands between two rows: the state of each node, the samples on each channel, and how often each node has
-/// fired.
+/// The state of a run between two rows: the state of each node, the samples on each channel, and the number of firings
+/// of each node.
 #[derive(Drop)]
 pub(crate) struct Stage<A: Actor> {
     pub(crate) states: Vec<NodeState<A::Token, A::State>>,
@@ -29,7 +29,7 @@ pub(crate) struct Stage<A: Actor> {
     pub(crate) done: Vec<u64>,
 }
 
-/// Fills the job of an actor's next firing. The actor's state is in it until the firing is settled.
+/// Fills `job` with the next firing of `actor`. The actor's state is in the job until the firing is settled.
 fn load<A: Actor>(
     job: &mut Job<A>,
     state: &mut NodeState<A::Token, A::State>,
@@ -52,7 +52,7 @@ fn load<A: Actor>(
     mem::swap(&mut job.state, state);
 }
 
-/// Fills the next job where a firing stands in the column, and tells how many are filled.
+/// Fills the next job if `cell` has a firing, and returns how many jobs are filled.
 fn load_cell<A: Actor>(
     cell: &Option<Firing>,
     column: usize,
@@ -80,7 +80,7 @@ fn load_cell<A: Actor>(
     }
 }
 
-/// Fills a job for each firing of a row, from the front of the jobs, and tells how many there are.
+/// Fills a job for each firing of `row`, from the front of `jobs`, and returns how many there are.
 pub(crate) fn load_row<A: Actor>(
     row: &[Option<Firing>],
     done: &[u64],
@@ -100,7 +100,7 @@ pub(crate) fn load_row<A: Actor>(
     many
 }
 
-/// Drops from the channels what a firing took, puts on them what it made, and gives its actor the state back.
+/// Drops from the channels what a firing took, puts its output on them, and gives its actor the state back.
 fn settle<A: Actor, G>(
     scene: &Scene<A, G>,
     job: &mut Job<A>,
@@ -145,7 +145,7 @@ fn settle_at<A: Actor, G>(scene: &Scene<A, G>, job: &mut Job<A>, stage: &mut Sta
     stage.done[actor] += 1;
 }
 
-/// Settles all firings of a row, whose jobs these are.
+/// Settles all firings of a row, which are in `jobs`.
 pub(crate) fn settle_row<A: Actor, G>(
     scene: &Scene<A, G>,
     jobs: &mut [Job<A>],
@@ -172,7 +172,7 @@ pub(crate) fn settle_row<A: Actor, G>(
     }
 }
 
-/// Fires the row whose jobs these are: all its firings at once, and then one after another they are settled.
+/// Fires the row in `jobs`: all its firings in parallel. Then settles them one after another.
 pub(crate) fn fire_row<R: Threads + Sync, A: Actor, G: Gate>(
     rt: &R,
     scene: &Scene<A, G>,
@@ -198,7 +198,7 @@ pub(crate) fn fire_row<R: Threads + Sync, A: Actor, G: Gate>(
     settle_row(scene, jobs, stage);
 }
 
-/// Fires a row of a table.
+/// Fires `row`, a row of a table.
 pub(crate) fn run_row<R: Threads + Sync, A: Actor, G: Gate>(
     rt: &R,
     scene: &Scene<A, G>,

@@ -22,14 +22,14 @@ use Rattle.sdf_answer.specs.declared.fault.RunFault.TheVariants.{SessionFailed}
 use Rattle.sdf_run.specs.declared.mode.Mode.{Mode}
 use Rattle.sdf_run.specs.declared.mode.Mode.TheVariants.{Rows, Rings}
 
--- so many lists, each of the samples of so many blocks
+-- there are many lists, and each has the samples of this number of blocks
 pub record AreBlocks {T : Type 0} (many samples blocks : ℕ) (inputs : List (List T)) : Type 0 where
   pub few : blocks ≤ 4294967295
   pub count : length inputs ≡ many
   pub each : (e : ℕ) → e < length inputs → length (slice_index_or inputs e []) ≡ blocks * samples
 
--- a net, a period of it, and a table for blocks of so many periods; what the feeds left, where none has failed, and
--- what was counted
+-- a net, a schedule of its period, and a table for blocks of factor periods; the state that the feeds left, unless the
+-- session is spent, and the counts
 pub record SessionValue (A S T : Type 0) : Type 0 where
   pub net : Netlist A T
   pub period : Schedule
@@ -40,12 +40,12 @@ pub record SessionValue (A S T : Type 0) : Type 0 where
   pub blocks : ℕ
   pub rounds : ℕ
 
--- how a table can be run
+-- a table can be run in a mode
 abbrev pub MayRun : Tabled → Mode → Type 0
 MayRun t Rows = Unit {0}
 MayRun t (Rings patience) = IsHomed t × (patience ≤ MOST_PATIENCE)
 
--- the first test of that which fails
+-- the first test of MayRun that fails
 abbrev pub IsModeFault : Tabled → Mode → RunFault → Type 0
 IsModeFault t mode OutOfMemory = Unit {0}
 IsModeFault t Rows fault = ⊥
@@ -53,7 +53,7 @@ IsModeFault t (Rings patience) NotHomed = IsHomed t → ⊥
 IsModeFault t (Rings patience) Patience = IsHomed t × (MOST_PATIENCE < patience)
 IsModeFault t (Rings patience) fault = ⊥
 
--- a run of so many blocks takes so many rounds: over rings each does some firing
+-- a run of these blocks takes these rounds: over rings each does some firing
 abbrev pub HasRounds : Tabled → List ℕ → ℕ → Mode → ℕ → ℕ → Type 0
 HasRounds t q j Rows blocks rounds = rounds ≡ blocks * length t.rows
 HasRounds t q j (Rings patience) blocks rounds = (rounds ≤ blocks * (j * sum q)) × (0 < blocks → 0 < rounds)
@@ -66,12 +66,13 @@ counted n = min n (2 ^ 64 - 1)
 abbrev pub IsLive : {A S T : Type 0} → SessionValue A S T → Type 0
 IsLive {A} {S} {T} v = (rest : Rest T S) × (v.rest ≡ Some rest)
 
--- the lists are so many blocks for it
+-- the lists are this number of blocks for the session
 abbrev pub FeedsBlocks : {A S T : Type 0} → SessionValue A S T → ℕ → List (List T) → Type 0
 FeedsBlocks v blocks inputs = AreBlocks (list_count Inputs v.net.nodes)
     (v.factor * period_samples v.net.nodes Inputs v.period.repetitions) blocks inputs
 
--- it stands after the input lists of so many blocks, of which a run makes these lists: it holds what that run leaves
+-- the session is in the state after this number of blocks in the lists fed, of which a run makes the lists made: it
+-- holds what that run leaves
 pub record StandsAfter {A S T : Type 0} (s : Steps A S T) (v : SessionValue A S T) (blocks : ℕ)
     (fed made : List (List T)) : Type 0 where
   pub given : HasInputs v.net v.period.repetitions (blocks * v.factor) fed
@@ -80,7 +81,7 @@ pub record StandsAfter {A S T : Type 0} (s : Steps A S T) (v : SessionValue A S 
   pub held : v.rest ≡ Some rest
   pub run : HasRun s v.net fed (periods_of v.period.repetitions (blocks * v.factor)) made rest
 
--- what every session is; one that is not spent stands after some lists
+-- what is true of every session; one that is not spent is in the state after some lists
 pub record IsSession {A S T : Type 0} (s : Steps A S T) (v : SessionValue A S T) : Type 0 where
   pub period : IsPeriodOf (rates (graph_of s v.net)) v.period
   pub table : IsTableOf (rates (graph_of s v.net)) v.period.repetitions v.factor v.table
@@ -88,8 +89,8 @@ pub record IsSession {A S T : Type 0} (s : Steps A S T) (v : SessionValue A S T)
   pub stands : IsLive v → (blocks : ℕ) × (fed : List (List T)) × (made : List (List T))
       × StandsAfter s v blocks fed made
 
--- so many blocks are fed to session v, which is w then: whatever it stood after, it stands after that and these, and
--- what it made of these, behind what a run makes of that, is what one run makes of both
+-- this number of blocks is fed to session v, which is then w. If v is in the state after some lists, w is in the state
+-- after these and fed, joined. The outputs of these and then made are the outputs of one run on both
 pub record HasFed {A S T : Type 0} (s : Steps A S T) (v w : SessionValue A S T) (blocks : ℕ) (fed made : List (List T))
     (rounds : ℕ) : Type 0 where
   pub live : IsLive v
@@ -107,7 +108,7 @@ pub record HasFed {A S T : Type 0} (s : Steps A S T) (v w : SessionValue A S T) 
       length joined ≡ length before →
       StandsAfter s w (few + blocks) all joined
 
--- why lists are not taken: the session is spent, they are no blocks, or memory was refused
+-- why lists are refused: the session is spent, they are not whole blocks, or memory was refused
 abbrev pub IsFeedFault : {A S T : Type 0} → SessionValue A S T → List (List T) → RunFault → Type 0
 IsFeedFault v inputs SessionFailed = v.rest ≡ None
 IsFeedFault v inputs InputLength = IsLive v × ((blocks : ℕ) → FeedsBlocks v blocks inputs → ⊥)
@@ -116,13 +117,13 @@ IsFeedFault v inputs NoWorker = ⊥
 IsFeedFault v inputs NotHomed = ⊥
 IsFeedFault v inputs Patience = ⊥
 
--- what becomes of it: it is spent where memory or a worker was refused, and else as it was
+-- the session after a fault: it is spent if memory or a worker was refused, otherwise unchanged
 abbrev pub after_fault : {A S T : Type 0} → SessionValue A S T → RunFault → SessionValue A S T
 after_fault v OutOfMemory = record v { rest = None }
 after_fault v NoWorker = record v { rest = None }
 after_fault v fault = v
 
--- so many lists, and no sample in them
+-- there are many lists, and no sample in them
 pub record AreNone {T : Type 0} (many : ℕ) (inputs : List (List T)) : Type 0 where
   pub count : length inputs ≡ many
   pub each : (e : ℕ) → slice_index_or inputs e [] ≡ []
@@ -140,7 +141,7 @@ AreFed s v [] w = w ≡ v
 AreFed {A} {S} {T} s v (f ∷ feeds) w = (u : SessionValue A S T) × HasFed s v u f.blocks f.fed f.made f.rounds
     × AreFed s u feeds w
 
--- the outputs of any feeds, one behind the other, are those of one run on all that was fed
+-- the outputs of any feeds, one after another, are the outputs of one run on all that was fed
 abbrev pub FeedsAreOneRun : {A S T : Type 0} → Steps A S T → Type 0
 FeedsAreOneRun {A} {S} {T} s =
     (v w : SessionValue A S T) (few : ℕ) (first before all joined : List (List T)) (feeds : List (Feed T)) →

@@ -1,11 +1,11 @@
-//! How the blocks of a session are run.
+//! The ways to run the blocks of a session.
 
-/// How the blocks of a session are run. Both make the same.
+/// A way to run the blocks of a session. Both ways make the same outputs.
 #[derive(Debug, Clone, Copy)]
 pub enum Mode {
-    /// Row by row of the table, the firings of a row at once.
+    /// Barrier-synchronous: row by row of the table, the firings of a row in parallel.
     Rows,
-    /// By a worker for each column over rings of the table's capacities. Each worker repeats at most `patience` tests
-    /// in a round.
+    /// Self-timed: a worker for each column, over rings of the table's capacities. `patience` is the spin limit: each
+    /// worker repeats at most `patience` tests in a round.
     Rings { patience: u32 },
 }

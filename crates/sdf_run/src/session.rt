@@ -27,15 +27,15 @@ use std::alloc::Global;
 use std::marker::Model;
 use std::thread::Threads;
 
-/// A run of a net that is fed in pieces, each of whole blocks: what its feeds make, joined, is what one run makes of
-/// all that was fed. It holds the states of the actors and the samples on the channels, and nothing that was fed
+/// A run of a net that is fed in pieces of whole blocks. The outputs of its feeds, joined, are the outputs of one run
+/// on all that was fed. It holds the states of the actors and the samples on the channels, and nothing that was fed
 /// before.
 #[derive(Drop)]
 pub struct Session<'a, A: Actor> {
     net: &'a Net<A>,
     table: &'a BlockTable,
     mode: Mode,
-    /// None once memory or a worker was refused.
+    /// The net state, or `None` once memory or a worker was refused.
     rest: Option<Rest<A::Token, A::State>>,
     blocks: u64,
     rounds: u64,
@@ -69,15 +69,14 @@ impl<'a, A: Actor> Model for Session<'a, A> {
     }) };
 }
 
-/// What was counted over all feeds of a session that were answered. A count that would pass its greatest number stays
-/// there.
+/// The counts over all successful feeds of a session. A count that would pass its greatest number stays there.
 #[derive(Debug, Clone, Copy, PartialEq, Eq)]
 pub struct Closed {
     pub blocks: u64,
     pub rounds: u64,
 }
 
-/// Whether a table can be run so.
+/// Checks whether `table` can be run in `mode`.
 fn may_run(table: &Table, mode: Mode) -> Result<(), RunFault>
     ensures { MatchResult result (λ _. MayRun table.now mode) (IsModeFault table.now mode) }
 {
@@ -95,7 +94,8 @@ fn may_run(table: &Table, mode: Mode) -> Result<(), RunFault>
     }
 }
 
-/// How many blocks the lists have, where each block has so many samples of each, or none where they are no blocks.
+/// Returns how many blocks the lists have, if there are `many` lists and a block has `samples` samples of each. Returns
+/// `None` if they are not whole blocks, or more blocks than a `u32` holds.
 fn blocks_in<T>(inputs: &[Vec<T>], many: usize, samples: usize) -> Option<u32>
     requires many { 0 < many }
     requires samples { 0 < samples }
@@ -116,7 +116,7 @@ fn blocks_in<T>(inputs: &[Vec<T>], many: usize, samples: usize) -> Option<u32>
     Some(blocks as u32)
 }
 
-/// What a session keeps to: a net, a table of its blocks, and how these are run.
+/// The terms of a session: a net, a table of its blocks, and how these are run.
 #[derive_where(Clone, Copy)]
 struct Terms<'a, A: Actor> {
     net: &'a Net<A>,
@@ -124,7 +124,7 @@ struct Terms<'a, A: Actor> {
     mode: Mode,
 }
 
-/// Goes on by some blocks.
+/// Resumes a run from `rest` for `blocks` further blocks.
 fn go_on<R: Threads + AllocGlobal + Sync, A: Actor, G: Gate>(
     rt: &R,
     terms: Terms<'_, A>,
@@ -157,7 +157,7 @@ fn go_on<R: Threads + AllocGlobal + Sync, A: Actor, G: Gate>(
 }
 
 impl<'a, A: Actor> Session<'a, A> {
-    /// A session that was fed nothing. The faults, over rings alone, in this order: 30 NotHomed, 31 Patience.
+    /// Opens a session that was fed nothing. The faults, over rings only, in this order: 30 NotHomed, 31 Patience.
     pub fn open(
         alloc: Global,
         net: &'a Net<A>,
@@ -192,18 +192,18 @@ impl<'a, A: Actor> Session<'a, A> {
         })
     }
 
-    /// What holds of every session.
+    /// Proves what is true of every session.
     pub fn facts(&self)
         ensures { IsSession A.steps self.now }
     {
         let _ = &self.net;
     }
 
-    /// Runs the blocks of the lists, of which each has as many samples of each as a block reads, and gives what they
-    /// make beyond what was made before. No sample is no block, and makes empty lists.
+    /// Runs the blocks in `inputs`, and returns the outputs beyond what was made before. Each list must have the
+    /// samples of the same number of blocks. Lists without samples are 0 blocks, and make empty lists.
     ///
-    /// Lists that are no blocks are 29 InputLength, and leave the session as it was. After 1 OutOfMemory or 32 NoWorker
-    /// it is spent, and answers 33 SessionFailed.
+    /// Returns 29 InputLength if the lists are not whole blocks, and leaves the session unchanged. After 1 OutOfMemory
+    /// the session is spent, and returns 33 SessionFailed. 32 NoWorker would spend it too, if a runner returned it.
     pub fn feed<R: Threads + AllocGlobal + Sync, G: Gate>(
         &mut self,
         rt: &R,
@@ -242,7 +242,7 @@ impl<'a, A: Actor> Session<'a, A> {
         }
     }
 
-    /// Ends a session, and tells how many blocks and rounds the feeds had that were answered. A spent one is 33
+    /// Ends a session, and returns how many blocks and rounds its successful feeds had. A spent session returns 33
     /// SessionFailed.
     pub fn close(self) -> Result<Closed, RunFault>
         ensures { MatchResult result
@@ -259,7 +259,7 @@ impl<'a, A: Actor> Session<'a, A> {
     }
 }
 
-/// What the feeds of a session make, joined, is what one run makes of all that they were given.
+/// Proves that the outputs of a session's feeds, joined, are the outputs of one run on all that they were given.
 pub fn feeds_are_one_run<A: Actor>()
     ensures { FeedsAreOneRun A.steps }
 {}

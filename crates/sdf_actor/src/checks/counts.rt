@@ -1,4 +1,4 @@
-//! 2, 3: how many nodes and links there are.
+//! 2 ActorCount, 3 ChannelCount: the numbers of nodes and links.
 
 ghost use Rattle.std.specs.Prelude.{MatchResult};
 ghost use Rattle.sdf_actor.specs.Wires.{netlist};

@@ -1,4 +1,4 @@
-//! 20, 21: the ends of links.
+//! 20 NoPort, 21 PortTwice: the ends of links.
 
 ghost use Rattle.std.specs.Prelude.{◌<◌, ◌↔◌, length, IsTrue, MatchBool, MatchResult};
 ghost use Rattle.sdf_actor.specs.Wires.{wires, netlist};
@@ -10,7 +10,7 @@ use crate::link::Link;
 use crate::node::Node;
 use crate::sides::Side;
 
-/// The first link that fails a test.
+/// Checks the ends of each link. Errs at the first link that fails.
 pub(crate) fn check_links<A: Actor>(
     nodes: &[Node<A>],
     links: &[Link<A::Token>],
@@ -29,14 +29,14 @@ pub(crate) fn check_links<A: Actor>(
     Ok(())
 }
 
-/// Whether an end is a port of a node.
+/// Checks whether `end` is a port of one of `nodes` on `side`.
 fn has_port<A: Actor>(nodes: &[Node<A>], side: Side, end: (usize, usize)) -> bool
     ensures { IsTrue result ↔ IsPort A.steps nodes.now side end }
 {
     end.0 < nodes.len() && end.1 < nodes[end.0].ports(side)
 }
 
-/// Whether an earlier link has an end of link `c`.
+/// Checks whether an earlier link has an end in common with link `c`.
 fn shares_end<T>(links: &[Link<T>], c: usize) -> bool
     requires { c < length links.now }
     ensures { MatchBool result (SharesEnd (wires links.now) c) (IsApart (wires links.now) c) }

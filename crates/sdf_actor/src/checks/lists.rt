@@ -1,4 +1,4 @@
-//! 23, 26, 27: the numbers of input and output lists.
+//! 23 ExtTwice, 26 NoInput, 27 NoOutput: the numbers of input and output lists.
 
 ghost use Rattle.std.specs.Prelude.{◌≡◌, ◌<◌, ◌≤◌, ◌↔◌, ℕ, length, IsTrue, MatchBool, MatchOption, MatchResult};
 ghost use Rattle.sdf_actor.specs.declared.sides.Lists.TheVariants.{Inputs, Outputs};
@@ -9,7 +9,7 @@ use crate::fault::NetFault;
 use crate::node::Node;
 use crate::sides::Lists;
 
-/// How many input and output lists there are, or the first test of their numbers that fails.
+/// Returns how many input and output lists there are, or the fault of the first test that fails.
 pub(crate) fn list_counts<A>(nodes: &[Node<A>]) -> Result<(usize, usize), NetFault>
     ensures { MatchResult result
         (λ k. HasLists nodes.now × (k.0 ≡ list_count Inputs nodes.now) × (k.1 ≡ list_count Outputs nodes.now))
@@ -31,7 +31,7 @@ pub(crate) fn list_counts<A>(nodes: &[Node<A>]) -> Result<(usize, usize), NetFau
     Ok((inputs, outputs))
 }
 
-/// The first node whose list an earlier node has.
+/// Returns the first node whose list an earlier node has too.
 fn first_repeated<A>(nodes: &[Node<A>]) -> Option<usize>
     ensures { MatchOption result
         ((a : ℕ) → a < length nodes.now → Repeats nodes.now a → ⊥)
@@ -45,7 +45,7 @@ fn first_repeated<A>(nodes: &[Node<A>]) -> Option<usize>
     None
 }
 
-/// Whether an earlier node has the list of node `a` among these lists.
+/// Checks whether a node before `a` has the list of node `a`, among `lists`.
 fn repeats<A>(nodes: &[Node<A>], a: usize, lists: Lists) -> bool
     requires { a < length nodes.now }
     ensures { IsTrue result ↔ RepeatsOn nodes.now lists a }
@@ -56,7 +56,7 @@ fn repeats<A>(nodes: &[Node<A>], a: usize, lists: Lists) -> bool
     }
 }
 
-/// Whether one of the first `m` nodes has a list among these lists.
+/// Checks whether one of the first `m` nodes has the list of number `list`, among `lists`.
 fn has_list<A>(nodes: &[Node<A>], m: usize, lists: Lists, list: usize) -> bool
     requires { m ≤ length nodes.now }
     ensures { IsTrue result ↔ HasList nodes.now lists m list }
@@ -69,7 +69,7 @@ fn has_list<A>(nodes: &[Node<A>], m: usize, lists: Lists, list: usize) -> bool
     false
 }
 
-/// One more than the highest number of such a list.
+/// Returns one more than the highest number of a list among `lists`, or 0 if there is none.
 fn list_count<A>(nodes: &[Node<A>], lists: Lists) -> usize
     ensures { result ≡ list_count lists nodes.now }
 {

@@ -1,4 +1,5 @@
-//! 5, 63, 6: the numbers of the channels. No list of rates is made here, so a cycle may be of any length.
+//! 5 BadRate, 63 CycleLength, 6 InitialCount: the rates, cycles and initial samples of channels. No list of rates is
+//! allocated here, so a cycle may be of any length.
 
 ghost use Rattle.std.specs.Prelude.{◌≡◌, ◌<◌, ◌&&◌, length, nat_le, Some, None, MatchResult, if◌then◌else◌};
 ghost use Rattle.sdf_graph.specs.Faults.{are_rates, is_within, numbers_fault, IsFirstFault};
@@ -16,7 +17,7 @@ use crate::sides::Side;
 use sdf_graph::GraphFault;
 use sdf_limits::{MOST_CYCLE, MOST_INITIAL};
 
-/// The first fault of the numbers of a net's graph.
+/// Checks the rates, cycles and initial samples of each channel, and returns the first fault.
 pub(crate) fn check_numbers<A: Actor>(
     nodes: &[Node<A>],
     links: &[Link<A::Token>],
@@ -34,7 +35,8 @@ pub(crate) fn check_numbers<A: Actor>(
     Ok(())
 }
 
-/// The first fault of the numbers of channel `c`, which is a link between two nodes.
+/// Returns the first fault of the rates, cycles and initial samples of channel `c`: `link`, between the nodes `from`
+/// and `to`.
 fn channel_fault<A: Actor>(
     from: &Node<A>,
     to: &Node<A>,

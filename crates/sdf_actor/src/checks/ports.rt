@@ -1,4 +1,4 @@
-//! 22: the channels at the ports of nodes.
+//! 22 PortOpen: the channels at the ports of nodes.
 
 ghost use Rattle.std.specs.Prelude.{◌≡◌, ◌==◌, ◌&&◌, ℕ, [], length, map, MatchResult};
 ghost use Rattle.std.specs.List.{range_with_len, position_or_len};
@@ -15,14 +15,14 @@ use crate::node::Node;
 use crate::sides::Side;
 use std::alloc::Global;
 
-/// The channels into each node and out of it, by port.
+/// The channels into and out of each node, by port.
 #[derive(Drop)]
 pub(crate) struct PortTables {
     pub(crate) into: Vec<Vec<usize>>,
     pub(crate) out_of: Vec<Vec<usize>>,
 }
 
-/// The channels at all ports, or the first port without one.
+/// Returns the channels at all ports. Errs at the first port without a channel.
 pub(crate) fn port_tables<A: Actor>(
     alloc: Global,
     nodes: &[Node<A>],
@@ -46,7 +46,7 @@ pub(crate) fn port_tables<A: Actor>(
     Ok(PortTables { into, out_of })
 }
 
-/// The channels at so many ports of a node, or the first of these ports without one.
+/// Returns the channels at the first `ports` ports of `node` on `side`. Errs at the first of them without a channel.
 fn channels_at<T>(
     alloc: Global,
     links: &[Link<T>],
@@ -74,7 +74,7 @@ fn channels_at<T>(
     Ok(channels)
 }
 
-/// The first link at a port, or how many links there are.
+/// Returns the first link at `port` of `node` on `side`, or the number of links if there is none.
 pub(crate) fn first_at<T>(links: &[Link<T>], side: Side, node: usize, port: usize) -> usize
     ensures { result ≡ channel_at (netlist {A = ℕ} [] links.now) side node port }
 {
@@ -86,7 +86,7 @@ pub(crate) fn first_at<T>(links: &[Link<T>], side: Side, node: usize, port: usiz
     links.len()
 }
 
-/// Whether a link ends at a port.
+/// Checks whether `link` ends at `port` of `node` on `side`.
 fn is_at<T>(link: &Link<T>, side: Side, node: usize, port: usize) -> bool
     ensures { result ≡ ((end_of side (wire_of link.now)).0 == node && (end_of side (wire_of link.now)).1 == port) }
 {

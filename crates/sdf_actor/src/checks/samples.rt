@@ -1,4 +1,4 @@
-//! 24, 25: the samples of a period.
+//! 24 InputRates, 25 OutputRates: the samples of a period.
 
 ghost use Rattle.std.specs.Prelude.{◌≡◌, ◌*◌, ◌<◌, ◌≤◌, ◌↔◌, ◌^◌, ℕ, length, slice_index, slice_index_or, IsTrue};
 ghost use Rattle.std.specs.Prelude.{MatchOption, MatchResult};
@@ -12,7 +12,7 @@ use crate::node::Node;
 use crate::sides::Lists;
 use sdf_graph::Repetitions;
 
-/// How many samples the sources put and the sinks take in a period, or the first of them that differs.
+/// Returns how many samples each source puts and each sink takes in a period. Errs at the first node that differs.
 pub(crate) fn samples<A>(
     nodes: &[Node<A>],
     repetitions: &Repetitions,
@@ -36,7 +36,7 @@ pub(crate) fn samples<A>(
     Ok((samples_in, samples_out))
 }
 
-/// The first node with a list on a side, or how many nodes there are.
+/// Returns the first node with a list among `lists`, or the number of nodes if there is none.
 fn first_on<A>(nodes: &[Node<A>], lists: Lists) -> usize
     ensures { result ≡ first_on lists nodes.now }
 {
@@ -48,7 +48,7 @@ fn first_on<A>(nodes: &[Node<A>], lists: Lists) -> usize
     nodes.len()
 }
 
-/// X that moves another number of samples in a period.
+/// Returns the first node with a list among `lists` that does not move `samples` samples in a period.
 fn differing<A>(
     nodes: &[Node<A>],
     repetitions: &Repetitions,
@@ -68,7 +68,7 @@ fn differing<A>(
     None
 }
 
-/// How many samples a node reads or takes in a period, and 0 past the last node.
+/// Returns how many samples source or sink `a` moves in a period, or 0 if `a` is an actor or past the last node.
 fn node_samples<A>(nodes: &[Node<A>], repetitions: &Repetitions, a: usize) -> usize
     requires { length nodes.now ≡ length repetitions.now }
     ensures { result ≡ block_of (slice_index_or nodes.now a (Sink 0 0)) * slice_index repetitions.now a }
@@ -80,7 +80,7 @@ fn node_samples<A>(nodes: &[Node<A>], repetitions: &Repetitions, a: usize) -> us
     }
 }
 
-/// The product of two small numbers.
+/// Multiplies `a` and `b` as `usize`, so that the product cannot overflow.
 fn product(a: u32, b: u32) -> usize
     ensures { result ≡ a * b }
 {
