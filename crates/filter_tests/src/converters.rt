@@ -85,8 +85,8 @@ fn size(alloc: Global, channels: u32) -> Result<String, Fail> {
     Ok(format!(in alloc; "{actors} {links}")?)
 }
 
-/// Tests that each text is a design, with filters that may have their taps and stages of the right ratio. Also tests
-/// that channels are joined, and that no port is left out.
+/// Tests that each text is a design, that no filter has more taps than it may have, and that stages have the right
+/// ratio. Also tests that channels are joined, and that no port is left out.
 #[test]
 fn conversions(rt: HostRuntime) -> Result<(), Fail> {
     says(wrong_conversions(rt.alloc()), "")?;

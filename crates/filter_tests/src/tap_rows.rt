@@ -73,7 +73,7 @@ const FAR: &[(u32, u32, u32, u32, u32, u32)] = &[
     (480_000, 0, 3000, 8, 64, 9),
 ];
 
-/// Low-passes in which a step has to choose between equally late taps at different distances from the middle.
+/// Low-passes in which a step must choose between equally late taps at different distances from the middle.
 const TIES: &[(u32, u32, u32, u32, u32, u32)] = &[
     (44_100, 3644, 3706, 15, 3, 15),
     (48_000, 3978, 4022, 9, 3, 12),

@@ -1,5 +1,5 @@
-//! The texts that are printed of filters, with measures that Python makes of the same taps, the graph file of a small
-//! converter, and the texts of faults.
+//! The texts that are printed of filters, with measures that Python makes of the same taps. Also the graph file of a
+//! small converter, and the texts of faults.
 
 use sdf_filters::{Band, FilterFault, Wanted, converter_texts, filter_texts};
 use std::alloc::Global;
@@ -195,8 +195,8 @@ const TOLD: &[(Wanted, &str)] = &[
     ),
 ];
 
-/// Tests that a band-pass has the taps of its steeper slope, that a filter can have more than eight phases, and that a
-/// window can have more than 96 dB.
+/// Tests that a band-pass has the taps of its steeper slope. Also tests that a filter can have more than eight phases,
+/// and a window more than 96 dB.
 #[test]
 fn taps_are_told(rt: HostRuntime) -> Result<(), Fail> {
     for (wanted, told) in TOLD {

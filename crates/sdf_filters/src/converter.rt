@@ -130,7 +130,8 @@ fn stage_files(
     Ok(files)
 }
 
-/// Returns the design that converts between two rates. Images and aliases are down by `attenuation` dB.
+/// Returns the design that converts between two rates, with filters that are to attenuate images and aliases by
+/// `attenuation` dB.
 ///
 /// Its stages are given by `stages`, each with the taps of its filter. Frequencies up to ten elevenths of half the
 /// lower rate pass, and nothing aliases onto them. Between these and half the rate, images may be left.

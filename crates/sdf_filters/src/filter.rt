@@ -68,8 +68,8 @@ fn more_taps(alloc: Global, filter: &Lowpass, count: usize) -> Result<Vec<i32>, 
 
 /// Returns the taps of a low-pass. If one of them has over 16 bits, it tries one more tap in each phase.
 ///
-/// If a filter has half its height at half the rate of its input, its middle tap makes up the sum of its phase, which
-/// is too large if `shift` is 15. With an even number of taps, no tap is in the middle.
+/// If a filter has half its height at half the rate of its input, its middle tap makes up the sum of its phase. That
+/// sum is too large if `shift` is 15. With an even number of taps, no tap is in the middle.
 fn low_taps(alloc: Global, filter: &Lowpass) -> Result<Vec<i32>, FilterFault>
     ensures { MatchResult result (λ taps. AreLowTaps filter.now taps.items)
         (λ fault. IsCountFault fault ⊎ IsTapFault fault) }

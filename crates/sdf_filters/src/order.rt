@@ -102,7 +102,7 @@ pub(crate) fn is_round(taps: &[i32], reals: &[f64], way: Way) -> bool
     latest < soonest
 }
 
-/// Compares the taps of the two branches of `node`, and puts the turn of the one that is moved first at the node.
+/// Compares the taps of the two branches of `node`, and puts the turn of the sooner one at the node.
 fn meet(tree: &mut [usize], taps: &[i32], reals: &[f64], way: Way, node: usize)
     requires room { length tree.old ≡ NODES }
     requires same { length reals.now ≡ length taps.now }

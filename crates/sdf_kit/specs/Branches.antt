@@ -10,7 +10,7 @@ use Rattle.sdf_kit.specs.Stretches.{IsBranch}
 use Rattle.sdf_kit.specs.declared.branches.Branches.{Branches}
 use Rattle.sdf_kit.specs.declared.polyphase.Firings.{Firings}
 
--- the branch of phase p: n taps, the last one first, and zeros where the filter has none
+-- the branch of phase p: n taps, the last one first, with zeros for taps that the filter does not have
 abbrev pub branch : List ℤ → ℕ → ℕ → ℕ → List ℤ
 branch taps up p n = map (λ i. sample taps (p + (n - 1 - i) * up)) (range_with_len 0 n)
 

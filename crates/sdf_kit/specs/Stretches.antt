@@ -37,8 +37,9 @@ walked n [] = 0
 walked zero (x ∷ xs) = 1 + walked (x - 1) xs
 walked (suc n) (x ∷ xs) = walked n xs
 
--- whether sums of 16-bit samples above the peak go by stretches: one begins at each sixteen, and if samples of `up`
--- branches can be split, the stretches after the first of each branch cost no more than a second pass over the sixteens
+-- whether 16-bit samples above the peak are summed by stretches: one begins at each sixteen. If samples of `up`
+-- branches can be split, the stretches after the first of each branch cost no more than a second pass over the
+-- sixteens.
 abbrev pub is_wide : List ℕ → ℕ → ℕ → Bool
 is_wide lens up peak = list_all (λ n. nat_lt 0 n) lens
     && (nat_lt peak LEAST_PEAK_TO_SPLIT

@@ -163,8 +163,9 @@ fn run_parts<R: Threads + Sync, A: Actor, E: Ends<A::Token>, G: FnMut() -> B, B>
 }
 
 /// Resumes a net from its state `rest` as `resume_one` does, in parts that up to `split.workers` workers run in
-/// parallel. Each part except the first is run after a warm-up on the periods before it, and in stretches. Returns what
-/// the outputs of the stretches became, in order, and the state that the run leaves. Reuses the memory of `workers`.
+/// parallel. Each part is run in stretches, and each except the first after a warm-up on the periods before it. Returns
+/// what the outputs of the stretches became, in order, and the state that the run leaves. Reuses the memory of
+/// `workers`.
 ///
 /// Each worker has a thread of its own if one can be made. It takes one part after another, so a worker on a slow
 /// processor runs fewer. `meanwhile` is run once in this thread, even if memory is refused.

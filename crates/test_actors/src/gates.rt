@@ -36,7 +36,8 @@ impl<'a> Hold<'a> {
         turns: 0,
     };
 
-    /// Holds the first `many` firings of each of `actors` until all of them have begun their firing of that number.
+    /// Makes a hold of the first `many` firings of each of `actors`, each until all of them have begun their firing of
+    /// that number.
     pub fn meeting(actors: &'a [ActorId], many: u64) -> Hold<'a> {
         Hold {
             held: actors,
