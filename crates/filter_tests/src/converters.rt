@@ -10,7 +10,7 @@ const RATES: [u32; 11] = [
     8000, 11_025, 16_000, 22_050, 24_000, 32_000, 44_100, 48_000, 88_200, 96_000, 192_000,
 ];
 
-/// The design that texts say.
+/// Returns the design of the texts.
 fn design_of(alloc: Global, texts: &ConverterTexts) -> Result<Design, Fail> {
     let mut files = Vec::new(alloc);
     for file in &texts.files {
@@ -20,7 +20,7 @@ fn design_of(alloc: Global, texts: &ConverterTexts) -> Result<Design, Fail> {
     Ok(read_design(alloc, texts.graph.as_bytes(), &files)?)
 }
 
-/// Adds a conversion, where its design has another ratio of rates.
+/// Adds a conversion if its design has another ratio of rates.
 fn push_wrong(alloc: Global, wrong: &mut String, from: u32, to: u32) -> Result<(), Fail> {
     let design = design_of(alloc, &converter_texts(alloc, from, to, 1, 96)?)?;
     let input = design.net().samples_in() as u64;
@@ -31,7 +31,7 @@ fn push_wrong(alloc: Global, wrong: &mut String, from: u32, to: u32) -> Result<(
     Ok(())
 }
 
-/// The conversions between usual rates whose designs have another ratio of rates.
+/// Returns the conversions between usual rates whose designs have another ratio of rates.
 fn wrong_conversions(alloc: Global) -> Result<String, Fail> {
     let mut wrong = String::new(alloc);
     for from in RATES {
@@ -42,7 +42,8 @@ fn wrong_conversions(alloc: Global) -> Result<String, Fail> {
     Ok(wrong)
 }
 
-/// The stages of a conversion, as its graph file has them, and how many dB are asked for in the files of their taps.
+/// Returns the stages of a conversion, as its graph file has them, and whether each file of taps names the
+/// `attenuation`.
 fn stages(alloc: Global, from: u32, to: u32, attenuation: u32) -> Result<String, Fail> {
     let texts = converter_texts(alloc, from, to, 1, attenuation)?;
     let mut text = String::new(alloc);
@@ -59,7 +60,7 @@ fn stages(alloc: Global, from: u32, to: u32, attenuation: u32) -> Result<String,
     Ok(text)
 }
 
-/// Refuses the stages and the taps of another attenuation.
+/// Tests that stages and taps depend on the attenuation.
 #[test]
 fn stages_by_attenuation(rt: HostRuntime) -> Result<(), Fail> {
     says(
@@ -76,7 +77,7 @@ fn stages_by_attenuation(rt: HostRuntime) -> Result<(), Fail> {
     )
 }
 
-/// How many actors and links a design of so many channels has.
+/// Returns the numbers of actors and links of a design with `channels` channels.
 fn size(alloc: Global, channels: u32) -> Result<String, Fail> {
     let texts = converter_texts(alloc, 48_000, 44_100, channels, 96)?;
     let design = design_of(alloc, &texts)?;
@@ -84,8 +85,8 @@ fn size(alloc: Global, channels: u32) -> Result<String, Fail> {
     Ok(format!(in alloc; "{actors} {links}")?)
 }
 
-/// Refuses a text that is no design, a filter with more taps than one may have, and a stage of another ratio; channels
-/// that are not joined, and a port that is left out.
+/// Tests that each text is a design, that no filter has more taps than it may have, and that stages have the right
+/// ratio. Also tests that channels are joined, and that no port is left out.
 #[test]
 fn conversions(rt: HostRuntime) -> Result<(), Fail> {
     says(wrong_conversions(rt.alloc()), "")?;

@@ -12,7 +12,7 @@ struct Graph {
     links: &'static [(&'static str, &'static str)],
 }
 
-/// An input and an output of other rates.
+/// An input and an output with different rates.
 const TWO: Graph = Graph {
     format: 1,
     actors: &[
@@ -22,7 +22,7 @@ const TWO: Graph = Graph {
     links: &[("in", "out")],
 };
 
-/// A filter whose taps stand in a file.
+/// A filter with its taps in a file.
 const FILTER: Graph = Graph {
     format: 1,
     actors: &[
@@ -37,7 +37,7 @@ const FILTER: Graph = Graph {
     links: &[("in", "a"), ("a", "out")],
 };
 
-/// Dealt out to two ways by twos, and gathered by ones.
+/// An input that is dealt out to two ways by twos, and gathered by ones.
 const TURNS: Graph = Graph {
     format: 2,
     actors: &[
@@ -54,7 +54,7 @@ const TURNS: Graph = Graph {
     ],
 };
 
-/// Its text with one text in the place of another.
+/// Returns the text of `graph`, with `new` in place of `old`.
 fn text_of(alloc: Global, graph: &Graph, old: &str, new: &str) -> Result<String, Fail> {
     let mut text = format!(in alloc; "format = {}\n", graph.format)?;
     for (name, kind, keys) in graph.actors {
@@ -69,7 +69,8 @@ fn text_of(alloc: Global, graph: &Graph, old: &str, new: &str) -> Result<String,
     Ok(text.replace(alloc, old, new)?)
 }
 
-/// How many actors a design has, the name of the second, the homes and the costs, and what `check` prints.
+/// Returns the number of actors of a design, the name of the second one, the homes and the costs, and what `check`
+/// prints.
 fn parts(alloc: Global, design: &Design) -> Result<String, Fail> {
     if design.net().len() < 2 {
         return Ok(String::new(alloc));
@@ -84,7 +85,7 @@ fn parts(alloc: Global, design: &Design) -> Result<String, Fail> {
     )?)
 }
 
-/// A file `h.toml`, where it says something.
+/// Returns a file `h.toml` with `taps`, or no file if they are empty.
 fn files(alloc: Global, taps: &str) -> Result<Vec<(String, Vec<u8>)>, Fail> {
     let mut files = Vec::new(alloc);
     if !taps.is_empty() {
@@ -94,7 +95,7 @@ fn files(alloc: Global, taps: &str) -> Result<Vec<(String, Vec<u8>)>, Fail> {
     Ok(files)
 }
 
-/// The same of the design of a graph with one text in the place of another, beside such a file, or the fault.
+/// Returns the parts of the design of `graph`, with `new` in place of `old` and with a file of `taps`, or the fault.
 fn read(alloc: Global, graph: &Graph, old: &str, new: &str, taps: &str) -> Result<String, Fail> {
     let text = text_of(alloc, graph, old, new)?;
     let files = files(alloc, taps)?;
@@ -104,7 +105,7 @@ fn read(alloc: Global, graph: &Graph, old: &str, new: &str, taps: &str) -> Resul
     }
 }
 
-/// A graph, a text of it, what stands in its place, and the design, or the fault.
+/// A graph, a part of its text, the text in its place, and the design or the fault.
 const DESIGNS: &[(Graph, &str, &str, &str)] = &[
     (
         TWO,
@@ -151,7 +152,7 @@ fn reads_and_checks_designs(rt: HostRuntime) -> Result<(), Fail> {
     Ok(())
 }
 
-/// The names of the files that a graph with one text in the place of another wants, or the fault.
+/// Returns the names of the files that `graph` needs, with `new` in place of `old`, or the fault.
 fn wanted_files(alloc: Global, graph: &Graph, old: &str, new: &str) -> Result<String, Fail> {
     let text = text_of(alloc, graph, old, new)?;
     match design_files(alloc, text.as_bytes()) {

@@ -1,12 +1,11 @@
-//! What no clause says of filters and of designs from files: that taps are those of the formulas, that a split is a
-//! cheap one, that designs that convert between usual rates are accepted, the texts of designs, and the texts of
-//! faults.
+//! Tests of what no clause says about filters and designs from files. Taps match the formulas, splits are cheap, and
+//! designs that convert between usual rates are accepted. The texts of designs and of faults are right.
 //!
-//! It depends on `sdf_filters`, on `sdf_document` and `sdf_file`, which read the designs, and on `test_texts`, and has
-//! no functions: tests are in a crate of their own, since a crate's functions are proved once more with its tests.
-//! Begin at `taps`, then `designs`. `plain_taps` works out in the plainest way what `sdf_filters` does in a quicker
-//! one, and `tap_rows` compares the two on rows of filters and on those of `made`. `plain_levels` and `plain_splits` do
-//! both.
+//! It depends on `sdf_filters`, on `sdf_document` and `sdf_file`, which read the designs, and on `test_texts`. It has
+//! no functions outside its tests: a crate's functions are proved once more with its tests, so tests are in a crate of
+//! their own. Begin at `taps`, then read `designs`. `plain_taps` computes in the plainest way what `sdf_filters`
+//! computes in a quicker one. `tap_rows` compares the two on rows of filters and on filters from `made`. `plain_levels`
+//! and `plain_splits` do both.
 #![tactic(auto)]
 
 #[cfg(test)]

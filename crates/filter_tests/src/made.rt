@@ -1,14 +1,14 @@
-//! Filters and rates that come of a seed, for comparisons with what is worked out in the plainest way.
+//! Filters and rates from a seed, to compare with what is computed in the plainest way.
 
 use sdf_filters::{Band, Wanted};
 
-/// Numbers that come of a seed.
+/// Numbers from a seed.
 #[derive(Drop)]
 pub(crate) struct Numbers {
     state: u64,
 }
 
-/// Values of `up` and `shift` that are made: the more phases, the fewer steps lead to a total.
+/// The values of `up` and `shift` of the filters: the more phases, the fewer steps lead to a total.
 const KINDS: [(u32, u32); 10] = [
     (1, 15),
     (1, 12),
@@ -27,7 +27,7 @@ impl Numbers {
         Numbers { state: seed }
     }
 
-    /// The next number, below a limit.
+    /// Returns the next number below `limit`.
     pub(crate) fn below(&mut self, limit: u32) -> u32 {
         self.state = self
             .state
@@ -37,12 +37,12 @@ impl Numbers {
         u32::try_from(number).unwrap_or(0)
     }
 
-    /// The next number above one, by at most a width.
+    /// Returns the next number above `number`, by at most `width`.
     fn above(&mut self, number: u32, width: u32) -> u32 {
         number.saturating_add(1).saturating_add(self.below(width))
     }
 
-    /// The next attenuation: a third of them ask for few taps of any band.
+    /// Returns the next attenuation. A third of these ask for few taps in any band.
     fn attenuation(&mut self) -> u32 {
         match self.below(3) {
             0 => self.above(5, 5),
@@ -51,7 +51,7 @@ impl Numbers {
         }
     }
 
-    /// The next band of a rate, and a high-pass only where `up` is 1.
+    /// Returns the next band for `rate`, and a high-pass only if `up` is 1.
     fn band(&mut self, rate: u32, up: u32) -> Band {
         let width = rate / 8 / self.above(0, 60).max(1);
         let first = self.below(width);
@@ -80,7 +80,7 @@ impl Numbers {
         }
     }
 
-    /// The next filter.
+    /// Returns the next filter.
     pub(crate) fn wanted(&mut self) -> Wanted {
         let kind = self.below(10) as usize;
         let (up, shift) = KINDS.get(kind).copied().unwrap_or((1, 15));

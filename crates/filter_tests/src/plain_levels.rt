@@ -1,4 +1,4 @@
-//! Measures of taps, compared with the plainest way to work them out: one frequency after another.
+//! Measures of taps, compared with the plainest way to compute them: one frequency after another.
 
 use crate::made::Numbers;
 use sdf_filters::{Band, Wanted, filter_texts, taps_of};
@@ -15,7 +15,7 @@ struct Heights {
     greatest: f64,
 }
 
-/// The magnitude of taps at an angle for each sample.
+/// Returns the magnitude of `taps` at an angle in radians a sample.
 fn magnitude(taps: &[i32], angle: f64) -> f64 {
     let turn = 2.0 * angle.cos();
     let mut last = 0.0;
@@ -30,12 +30,12 @@ fn magnitude(taps: &[i32], angle: f64) -> f64 {
         .sqrt()
 }
 
-/// A magnitude in dB.
+/// Returns a magnitude in dB.
 fn decibels(magnitude: f64) -> f64 {
     20.0 * magnitude.max(1e-12).log10()
 }
 
-/// The magnitudes of a filter's taps between two frequencies, as parts of the unit.
+/// Returns the least and the greatest magnitude of a filter's taps between two frequencies, as parts of the unit.
 fn magnitudes(wanted: Wanted, taps: &[i32], from: u32, to: u32) -> Heights {
     let unit = f64::from(wanted.up) * f64::from(wanted.shift).exp2();
     let from = f64::from(from);
@@ -56,7 +56,7 @@ fn magnitudes(wanted: Wanted, taps: &[i32], from: u32, to: u32) -> Heights {
     magnitudes
 }
 
-/// The measures of taps.
+/// Returns the line with the measures of `taps`.
 fn plain_told(alloc: Global, wanted: Wanted, taps: &[i32]) -> Result<String, Fail> {
     let half = wanted.rate / 2;
     let (passed, loudest) = match wanted.band {
@@ -95,7 +95,7 @@ fn plain_told(alloc: Global, wanted: Wanted, taps: &[i32]) -> Result<String, Fai
     )?)
 }
 
-/// Adds a filter whose printed measures differ from the plain ones.
+/// Adds a filter whose printed measures differ from the plain ones. Returns the number of its taps.
 fn push_other(alloc: Global, text: &mut String, wanted: Wanted) -> Result<usize, Fail> {
     let Ok(taps) = taps_of(alloc, wanted) else {
         return Ok(0);
@@ -108,9 +108,9 @@ fn push_other(alloc: Global, text: &mut String, wanted: Wanted) -> Result<usize,
     Ok(taps.len())
 }
 
-/// Low-passes at 8000 Hz: `pass`, `stop`, the attenuation and `shift`. The first five have few taps, and those of the
-/// fifth are not the same from both ends. The ripple of each other one depends on one frequency, and each of these
-/// stands in a lane of its own, from the second one on.
+/// Low-passes at 8000 Hz: `pass`, `stop`, the attenuation and `shift`. The first five have few taps, and the taps of
+/// the fifth are not the same from both ends. The ripple of each other filter depends on one frequency. These
+/// frequencies are in lanes of their own, from the second lane on.
 const LOW_PASSES: &[(u32, u32, u32, u32)] = &[
     (1000, 3000, 0, 14),
     (1000, 3000, 8, 14),
@@ -151,7 +151,7 @@ fn low_passes(alloc: Global) -> Result<String, Fail> {
     Ok(text)
 }
 
-/// Returns the number of filters that a seed makes, and those whose printed measures differ from the plain ones.
+/// Returns the number of filters that `seed` makes, and the filters whose printed measures differ from the plain ones.
 fn made(alloc: Global, seed: u64) -> Result<String, Fail> {
     let mut text = String::new(alloc);
     let mut numbers = Numbers::new(seed);
@@ -166,7 +166,7 @@ fn made(alloc: Global, seed: u64) -> Result<String, Fail> {
     Ok(text)
 }
 
-/// Refuses a lane whose frequency is passed over, a frequency outside the band, and half of the taps in place of all.
+/// Tests that no frequency of a lane is left out, that no frequency is outside the band, and that all taps are used.
 #[test]
 fn levels_as_plainly(rt: HostRuntime) -> Result<(), Fail> {
     says(

@@ -1,4 +1,5 @@
-//! Splits against those that are found in the plainest way: by what each stage costs with each split of the rest.
+//! Splits, compared with splits that are found in the plainest way: by the cost of each stage with each split of the
+//! rest.
 
 use crate::made::Numbers;
 use sdf_filters::{Stage, stages};
@@ -14,21 +15,21 @@ struct Ratio {
     down: u32,
 }
 
-/// What stages are weighed by.
+/// The values that the cost of stages depends on.
 #[derive(Clone, Copy)]
 struct Weights {
     lower: f64,
     taps: f64,
 }
 
-/// What the cheapest split costs, and the place of its first stage.
+/// The cost of the cheapest split, and the place of its first stage.
 #[derive(Clone, Copy)]
 struct Best {
     cost: f64,
     place: u32,
 }
 
-/// The greatest common divisor.
+/// Returns the greatest common divisor.
 fn gcd(a: u32, b: u32) -> u32 {
     let (mut x, mut y) = (a, b);
     for _ in 0..64 {
@@ -41,7 +42,7 @@ fn gcd(a: u32, b: u32) -> u32 {
 }
 
 impl Ratio {
-    /// The stage at a place, where it is a part of the ratio.
+    /// Returns the stage at `place` if it is a part of the ratio.
     fn part(self, place: u32) -> Option<Stage> {
         let stage = Stage {
             up: place / 64 % 64 + 1,
@@ -54,7 +55,7 @@ impl Ratio {
         }
     }
 
-    /// What is left behind a stage.
+    /// Returns the ratio that is left after a stage.
     fn after(self, stage: Stage) -> Ratio {
         Ratio {
             up: self.up / stage.up.max(1),
@@ -63,7 +64,7 @@ impl Ratio {
     }
 }
 
-/// The rate behind a stage.
+/// Returns the rate after a stage.
 fn put(rate: f64, stage: Stage) -> f64 {
     rate * f64::from(stage.up) / f64::from(stage.down)
 }
@@ -83,7 +84,7 @@ impl Weights {
         }
     }
 
-    /// A ratio in one stage.
+    /// Returns the ratio `left` as one stage, with its cost.
     fn whole(self, rate: f64, left: Ratio) -> Best {
         if left.up > 64 || left.down > 64 {
             return Best {
@@ -99,7 +100,7 @@ impl Weights {
         Best { cost, place }
     }
 
-    /// The cheapest split into at most two stages.
+    /// Returns the cheapest split into at most two stages.
     fn two(self, rate: f64, left: Ratio) -> Best {
         let mut best = self.whole(rate, left);
         for place in 1..4096 {
@@ -114,7 +115,7 @@ impl Weights {
         best
     }
 
-    /// The cheapest split into at most three stages.
+    /// Returns the cheapest split into at most three stages.
     fn three(self, rate: f64, left: Ratio) -> Best {
         let mut best = self.whole(rate, left);
         for place in 1..4096 {
@@ -129,7 +130,7 @@ impl Weights {
         best
     }
 
-    /// The first stage of the cheapest split, or of the least factor where there is none.
+    /// Returns the first stage of the cheapest split, or the stage of the least factor if there is no split.
     fn next(self, rate: f64, left: Ratio) -> Option<Stage> {
         let best = self.three(rate, left);
         if best.cost < f64::INFINITY {
@@ -145,7 +146,7 @@ impl Weights {
     }
 }
 
-/// The stages between two rates as a text, which ends with a mark where a factor is too large.
+/// Returns the stages between two rates as a text, or `none` if a factor is too large.
 fn plain_text(alloc: Global, from: u32, to: u32, attenuation: u32) -> Result<String, Fail> {
     let common = gcd(from, to).max(1);
     let mut left = Ratio {
@@ -172,7 +173,7 @@ fn plain_text(alloc: Global, from: u32, to: u32, attenuation: u32) -> Result<Str
     Ok(text)
 }
 
-/// The stages between two rates as a text.
+/// Returns the stages between two rates as a text, or `none` if there is a fault.
 fn stages_text(alloc: Global, from: u32, to: u32, attenuation: u32) -> Result<String, Fail> {
     let Ok(stages) = stages(alloc, from, to, attenuation) else {
         return Ok(String::from_str(alloc, "none")?);
@@ -184,7 +185,7 @@ fn stages_text(alloc: Global, from: u32, to: u32, attenuation: u32) -> Result<St
     Ok(text)
 }
 
-/// A rate of a few factors up to a limit.
+/// Returns a rate of a few factors, each at most `most`.
 fn rate(numbers: &mut Numbers, most: u32) -> u32 {
     let mut rate = 1u32;
     for _ in 0..numbers.below(8) {
@@ -193,7 +194,7 @@ fn rate(numbers: &mut Numbers, most: u32) -> u32 {
     rate
 }
 
-/// The pairs of rates whose stages are others than those that are found plainly.
+/// Returns the pairs of rates whose stages differ from the plain ones.
 fn others(alloc: Global, seed: u64, pairs: u32) -> Result<String, Fail> {
     let mut text = String::new(alloc);
     let mut numbers = Numbers::new(seed);
@@ -210,7 +211,7 @@ fn others(alloc: Global, seed: u64, pairs: u32) -> Result<String, Fail> {
     Ok(text)
 }
 
-/// Refuses a stage that is passed over, and of two splits as cheap the later one.
+/// Tests that no stage is left out, and that the earlier one is taken of two equally cheap splits.
 #[test]
 fn splits_as_plainly(rt: HostRuntime) -> Result<(), Fail> {
     says(others(rt.alloc(), 3, 200), "")

@@ -1,4 +1,4 @@
-//! Taps that are worked out in the plainest way: each step looks at every place for the tap to move.
+//! Taps that are computed in the plainest way: each step looks at every place for the tap to move.
 
 use sdf_filters::{Band, Wanted};
 use std::alloc::Global;
@@ -6,10 +6,10 @@ use std::f64::consts::{PI, TAU};
 use std::num::{nearest_usize_to_f64, saturating_f64_to_i32, saturating_f64_to_usize};
 use std::test::Fail;
 
-/// A tap that stands further than this is moved no more.
+/// The greatest absolute value of a tap that can still be moved.
 const FARTHEST: u32 = 65_536;
 
-/// The taps of a filter, or the size of a tap of over 16 bits; 0 where a filter wants too many taps.
+/// The taps of a filter, or the size of a tap of over 16 bits. The size is 0 if the filter needs too many taps.
 pub(crate) type Taps = Result<Vec<i32>, u32>;
 
 /// A low-pass with a number of taps.
@@ -22,7 +22,7 @@ struct Plain {
     count: usize,
 }
 
-/// Kaiser's formula for the window's parameter.
+/// Returns the window's parameter, by Kaiser's formula.
 fn shape(attenuation: f64) -> f64 {
     if attenuation > 50.0 {
         0.1102 * (attenuation - 8.7)
@@ -33,7 +33,7 @@ fn shape(attenuation: f64) -> f64 {
     }
 }
 
-/// The modified Bessel function of order 0.
+/// Returns the modified Bessel function of order 0.
 fn bessel(x: f64) -> f64 {
     let mut total = 1.0;
     let mut term = 1.0;
@@ -48,7 +48,7 @@ fn bessel(x: f64) -> f64 {
     total
 }
 
-/// The sinc of a low-pass of unit height.
+/// Returns the sinc of a low-pass of unit height.
 fn sine_over(edge: f64, from_middle: f64) -> f64 {
     if from_middle == 0.0 {
         2.0 * edge
@@ -57,19 +57,19 @@ fn sine_over(edge: f64, from_middle: f64) -> f64 {
     }
 }
 
-/// How many taps a filter of one phase wants.
+/// Returns the number of taps that a filter of one phase needs.
 fn kaiser_length(wanted: Wanted, pass: u32, stop: u32) -> usize {
     let width = TAU * f64::from(stop.saturating_sub(pass)) / f64::from(wanted.rate);
     let order = (f64::from(wanted.attenuation) - 7.95) / (2.285 * width);
     saturating_f64_to_usize(order.ceil()).saturating_add(1)
 }
 
-/// A number of taps, made up to whole phases.
+/// Rounds a number of taps up to whole phases.
 fn whole(count: usize, up: usize) -> usize {
     count.max(1).div_ceil(up.max(1)).saturating_mul(up)
 }
 
-/// Which tap a step moves, and how.
+/// The phase and the direction of a step, and the bias of the middle tap.
 #[derive(Clone, Copy)]
 struct Step {
     phase: usize,
@@ -77,7 +77,7 @@ struct Step {
     bias: f64,
 }
 
-/// How much later than by its value the middle tap is moved.
+/// Returns how much later the middle tap is moved than by its value.
 fn middle_bias(done: u64, times: u64, many: u64) -> f64 {
     let last = times % many.max(1);
     let left = times.saturating_sub(done);
@@ -91,7 +91,7 @@ fn middle_bias(done: u64, times: u64, many: u64) -> f64 {
 }
 
 impl Plain {
-    /// The low-pass of a filter between two frequencies.
+    /// Makes the low-pass of a filter between two frequencies.
     fn new(wanted: Wanted, pass: u32, stop: u32, count: usize) -> Plain {
         Plain {
             edge: (f64::from(pass) + f64::from(stop)) / f64::from(wanted.rate) / 2.0,
@@ -102,7 +102,7 @@ impl Plain {
         }
     }
 
-    /// The value at a place.
+    /// Returns the value at `place`.
     fn at(self, place: usize) -> f64 {
         let beta = shape(self.attenuation);
         let middle = nearest_usize_to_f64(self.count.saturating_sub(1)) / 2.0;
@@ -118,7 +118,7 @@ impl Plain {
         up * sine_over(self.edge, from_middle) * window * f64::from(self.unit)
     }
 
-    /// The values at all places.
+    /// Returns the values at all places.
     fn reals(self, alloc: Global) -> Result<Vec<f64>, Fail> {
         let mut reals = Vec::new(alloc);
         for place in 0..self.count {
@@ -128,7 +128,7 @@ impl Plain {
         Ok(reals)
     }
 
-    /// How late a tap is moved.
+    /// Returns how late the tap at `place` is moved.
     fn lateness(self, taps: &[i32], reals: &[f64], step: Step, place: usize) -> f64 {
         let tap = taps.get(place).copied().unwrap_or(0);
         let real = reals.get(place).copied().unwrap_or(0.0);
@@ -141,7 +141,7 @@ impl Plain {
         }
     }
 
-    /// Whether a tap is moved before another.
+    /// Returns whether the tap at `place` is moved before the tap at `other`.
     fn is_sooner(
         self,
         taps: &[i32],
@@ -157,7 +157,7 @@ impl Plain {
         here < there || here == there && near < last.abs_diff(other.saturating_mul(2))
     }
 
-    /// The place of the tap that a step moves.
+    /// Returns the place of the tap that a step moves.
     fn next_place(self, taps: &[i32], reals: &[f64], step: Step) -> usize {
         let mut best = step.phase;
         for place in 0..self.count {
@@ -170,7 +170,7 @@ impl Plain {
         best
     }
 
-    /// What the taps of a phase come to.
+    /// Returns the sum of the taps of `phase`.
     fn sum(self, taps: &[i32], phase: usize) -> i64 {
         let mut sum = 0i64;
         for (place, tap) in taps.iter().enumerate() {
@@ -181,7 +181,7 @@ impl Plain {
         sum
     }
 
-    /// Moves taps of a phase until they come to the unit, or one stands too far.
+    /// Moves taps of `phase` until they sum to the unit, or until one is too large to be moved.
     fn settle_phase(self, taps: &mut [i32], reals: &[f64], phase: usize) -> Result<(), u32> {
         let sum = self.sum(taps, phase);
         let rise = sum < i64::from(self.unit);
@@ -200,7 +200,7 @@ impl Plain {
         Ok(())
     }
 
-    /// Moves the taps of all phases until each has 16 bits.
+    /// Moves taps until each phase sums to the unit. Each tap must have 16 bits, before and after.
     fn settle(self, taps: &mut [i32], reals: &[f64]) -> Result<(), u32> {
         test_16_bits(taps)?;
         for phase in 0..self.up {
@@ -209,7 +209,7 @@ impl Plain {
         test_16_bits(taps)
     }
 
-    /// The taps, where each has 16 bits.
+    /// Returns the taps if each has 16 bits.
     fn taps(self, alloc: Global) -> Result<Taps, Fail> {
         let reals = self.reals(alloc)?;
         let mut taps = Vec::new(alloc);
@@ -223,7 +223,7 @@ impl Plain {
     }
 }
 
-/// The size of the first tap of over 16 bits.
+/// Returns the size of the first tap of over 16 bits, if there is one.
 fn test_16_bits(taps: &[i32]) -> Result<(), u32> {
     for tap in taps {
         if i16::try_from(*tap).is_err() {
@@ -233,7 +233,7 @@ fn test_16_bits(taps: &[i32]) -> Result<(), u32> {
     Ok(())
 }
 
-/// The taps of a low-pass: with one more in each phase where one has over 16 bits.
+/// Returns the taps of a low-pass, with one more in each phase if one has over 16 bits.
 fn low(alloc: Global, wanted: Wanted, pass: u32, stop: u32) -> Result<Taps, Fail> {
     let up = wanted.up as usize;
     let count = whole(kaiser_length(wanted, pass, stop), up);
@@ -250,7 +250,7 @@ fn low(alloc: Global, wanted: Wanted, pass: u32, stop: u32) -> Result<Taps, Fail
     Plain::new(wanted, pass, stop, more).taps(alloc)
 }
 
-/// The first taps less the second ones, where each has 16 bits.
+/// Returns the taps `from` minus `taps`, if each has 16 bits.
 fn less(alloc: Global, from: &[i32], taps: &[i32]) -> Result<Taps, Fail> {
     let mut left = Vec::new(alloc);
     for (from, tap) in from.iter().zip(taps) {
@@ -263,7 +263,7 @@ fn less(alloc: Global, from: &[i32], taps: &[i32]) -> Result<Taps, Fail> {
     Ok(Ok(left))
 }
 
-/// The taps of a high-pass.
+/// Returns the taps of a high-pass.
 fn high(alloc: Global, wanted: Wanted, stop: u32, pass: u32) -> Result<Taps, Fail> {
     let count = whole(kaiser_length(wanted, stop, pass), 1) | 1;
     if count > 1024 {
@@ -282,7 +282,7 @@ fn high(alloc: Global, wanted: Wanted, stop: u32, pass: u32) -> Result<Taps, Fai
     }
 }
 
-/// The taps of a low-pass less those of another, of which the first one's fault comes first.
+/// Returns the taps of one low-pass minus the taps of another. The fault of the first one comes first.
 fn middle(alloc: Global, wide: Plain, narrow: Plain) -> Result<Taps, Fail> {
     match (wide.taps(alloc)?, narrow.taps(alloc)?) {
         (Ok(wide), Ok(narrow)) => less(alloc, &wide, &narrow),

@@ -1,4 +1,4 @@
-//! Stages of conversions between usual rates, which are cheap ones, and rates between which there are none.
+//! Stages of conversions between usual rates, which are cheap ones, and rates without a conversion between them.
 
 use sdf_filters::{Lowpass, Stage, stages};
 use std::alloc::Global;
@@ -11,7 +11,7 @@ const RATES: [u32; 11] = [
     8000, 11_025, 16_000, 22_050, 24_000, 32_000, 44_100, 48_000, 88_200, 96_000, 192_000,
 ];
 
-/// The stages of a conversion, each as `up` and `down`, or the fault.
+/// Returns the stages of a conversion, each as `up` and `down`, or the fault.
 fn split(alloc: Global, from: u32, to: u32) -> Result<String, Fail> {
     let split = match stages(alloc, from, to, 96) {
         Ok(split) => split,
@@ -24,7 +24,7 @@ fn split(alloc: Global, from: u32, to: u32) -> Result<String, Fail> {
     Ok(text)
 }
 
-/// Two rates, and the stages between them.
+/// Two rates, and the stages between them or the fault.
 const SPLITS: &[(u32, u32, &str)] = &[
     (48_000, 48_000, ""),
     (44_100, 48_000, "8/7 20/21 "),
@@ -37,7 +37,7 @@ const SPLITS: &[(u32, u32, &str)] = &[
     (134, 1, "FactorTooLarge { factor: 67 }"),
 ];
 
-/// Refuses a split into the least factors, and one that takes the greatest ratio first.
+/// Tests that a split does not just take the least factors, or the greatest ratio first.
 #[test]
 fn cheap_splits(rt: HostRuntime) -> Result<(), Fail> {
     for (from, to, wanted) in SPLITS {
@@ -46,13 +46,13 @@ fn cheap_splits(rt: HostRuntime) -> Result<(), Fail> {
     Ok(())
 }
 
-/// The rate behind a stage.
+/// Returns the rate after a stage.
 fn put(rate: u32, stage: Stage) -> u32 {
     let all = u64::from(rate) * u64::from(stage.up) / u64::from(stage.down);
     (all % 4_294_967_296) as u32
 }
 
-/// Refuses a split whose filters have too many taps, or that does not lead to the second rate.
+/// Tests that no filter of a split has too many taps, and that the split leads to the second rate.
 #[test]
 fn usual_rates(rt: HostRuntime) -> Result<(), Fail> {
     for from in RATES {

@@ -1,4 +1,4 @@
-//! Taps against those that are worked out in the plainest way.
+//! Taps, compared with taps that are computed in the plainest way.
 
 use crate::made::Numbers;
 use crate::plain_taps::plain_taps;
@@ -7,7 +7,7 @@ use std::alloc::Global;
 use std::test::Fail;
 use test_texts::says;
 
-/// The size of a tap of over 16 bits, and 0 of another fault.
+/// Returns the size of a tap of over 16 bits, or 0 for another fault.
 fn size_in(fault: FilterFault) -> u32 {
     match fault {
         FilterFault::TapTooLarge { size } => size,
@@ -15,7 +15,7 @@ fn size_in(fault: FilterFault) -> u32 {
     }
 }
 
-/// Adds a filter whose taps are others.
+/// Adds a filter whose taps differ from the plain ones. Returns the number of plain taps.
 fn push_other(alloc: Global, text: &mut String, wanted: Wanted) -> Result<usize, Fail> {
     let plain = plain_taps(alloc, wanted)?;
     let taps = taps_of(alloc, wanted).map_err(size_in);
@@ -25,7 +25,7 @@ fn push_other(alloc: Global, text: &mut String, wanted: Wanted) -> Result<usize,
     Ok(plain.map_or(0, |taps| taps.len()))
 }
 
-/// The filters whose taps are others than those that are worked out plainly, and whether there were many taps.
+/// Returns the filters from `seed` whose taps differ from the plain ones, and whether there were many taps.
 fn others(alloc: Global, seed: u64, filters: u32) -> Result<String, Fail> {
     let mut text = String::new(alloc);
     let mut numbers = Numbers::new(seed);
@@ -40,8 +40,8 @@ fn others(alloc: Global, seed: u64, filters: u32) -> Result<String, Fail> {
     Ok(text)
 }
 
-/// Refuses the later one of two taps that are as late and as near to the middle, and a middle tap that makes taps not
-/// symmetric.
+/// Tests that the earlier one moves of two taps that are equally late and equally near to the middle, and that the
+/// middle tap keeps taps symmetric.
 #[test]
 fn taps_as_plainly(rt: HostRuntime) -> Result<(), Fail> {
     says(others(rt.alloc(), 5, 60), "many taps")
@@ -65,7 +65,7 @@ fn low_passes(alloc: Global, rows: &[(u32, u32, u32, u32, u32, u32)]) -> Result<
     Ok(text)
 }
 
-/// Low-passes whose taps stand far below the total.
+/// Low-passes whose taps sum to far less than the total.
 const FAR: &[(u32, u32, u32, u32, u32, u32)] = &[
     (480_000, 0, 500, 8, 1, 15),
     (480_000, 0, 450, 8, 1, 14),
@@ -73,7 +73,7 @@ const FAR: &[(u32, u32, u32, u32, u32, u32)] = &[
     (480_000, 0, 3000, 8, 64, 9),
 ];
 
-/// Low-passes of which a step has the choice between equally late taps at different distances from the middle.
+/// Low-passes in which a step must choose between equally late taps at different distances from the middle.
 const TIES: &[(u32, u32, u32, u32, u32, u32)] = &[
     (44_100, 3644, 3706, 15, 3, 15),
     (48_000, 3978, 4022, 9, 3, 12),
@@ -82,15 +82,15 @@ const TIES: &[(u32, u32, u32, u32, u32, u32)] = &[
     (128, 15, 17, 15, 1, 10),
 ];
 
-/// Moves each tap many times. Refuses the one further from the middle of two taps that are as late.
+/// Tests filters in which each tap moves many times. Of two equally late taps, the one nearer to the middle moves.
 #[test]
 fn many_steps_as_plainly(rt: HostRuntime) -> Result<(), Fail> {
     says(low_passes(rt.alloc(), FAR), "5 5 4 64 ")?;
     says(low_passes(rt.alloc(), TIES), "351 81 75 25 33 ")
 }
 
-/// Phases with a tap less and a tap more than are looked through at each step, and steps of which some are fewer and
-/// some more than that. Refuses a tree in which a tap does not meet all others.
+/// Tests that each tap meets all others in the tree. The phases have one tap less or more than the number up to which
+/// each step looks at all taps. The steps are below and above their own limit.
 #[test]
 fn trees_as_plainly(rt: HostRuntime) -> Result<(), Fail> {
     let mut text = String::new(rt.alloc());
@@ -130,7 +130,7 @@ fn push_size(alloc: Global, text: &mut String, band: Band) -> Result<(), Fail> {
     Ok(())
 }
 
-/// Filters of which a tap has over 16 bits, also where one more was tried. Refuses the size of another tap.
+/// Tests the sizes of taps of over 16 bits, also after one more tap in each phase was tried.
 #[test]
 fn sizes_as_plainly(rt: HostRuntime) -> Result<(), Fail> {
     let mut text = String::new(rt.alloc());

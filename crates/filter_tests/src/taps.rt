@@ -1,11 +1,11 @@
-//! Taps against those that `scripts/coefficients` writes, in Python's own arithmetic.
+//! Taps, compared with the taps that `scripts/coefficients` writes in Python's own arithmetic.
 
 use sdf_filters::{FilterFault, Lowpass, coefficient_text};
 use std::alloc::Global;
 use std::test::Fail;
 use test_texts::says;
 
-/// A number by which lists of taps are compared.
+/// Returns a number by which lists of taps are compared.
 fn checksum(taps: &[i32]) -> u32 {
     let mut sum = 0u32;
     for tap in taps {
@@ -14,14 +14,15 @@ fn checksum(taps: &[i32]) -> u32 {
     sum
 }
 
-/// How many taps a low-pass has, and their checksum.
+/// Returns the number of taps of a low-pass, and their checksum.
 fn summed(alloc: Global, filter: Result<Lowpass, FilterFault>) -> Result<String, Fail> {
     let filter = filter?;
     let taps = filter.taps(alloc, filter.count()?)?;
     Ok(format!(in alloc; "{} {}", taps.len(), checksum(&taps))?)
 }
 
-/// The taps of a low-pass, and where it has five. Refuses a window without its sinc, and a sinc without its window.
+/// Returns the taps of a low-pass, and its taps if there are five of them. Tests that both the sinc and its window are
+/// applied.
 fn few_taps(alloc: Global) -> Result<String, Fail> {
     let filter = Lowpass::new(8000, 1000, 3000, 40, 1, 15)?;
     let taps = filter.taps(alloc, filter.count()?)?;
@@ -29,8 +30,9 @@ fn few_taps(alloc: Global) -> Result<String, Fail> {
     Ok(format!(in alloc; "{taps:?} {five:?}")?)
 }
 
-/// The taps of a low-pass as a text, and those of its high-pass. Refuses a row of eleven values, a comma behind the
-/// last one, a high-pass that is a low-pass turned round, and a middle that is one place off.
+/// Returns the taps of a low-pass as a text, and the taps of its high-pass. Tests that a row has twelve values and that
+/// no comma follows the last one. Also tests that the high-pass is not just a low-pass turned round, and that its
+/// middle is in its place.
 fn low_and_high(alloc: Global) -> Result<String, Fail> {
     let filter = Lowpass::new(8000, 1000, 2500, 40, 1, 15)?;
     let taps = filter.taps(alloc, filter.count()?)?;
@@ -39,7 +41,7 @@ fn low_and_high(alloc: Global) -> Result<String, Fail> {
     Ok(format!(in alloc; "{text}{high:?}")?)
 }
 
-/// The taps of a band-pass. Refuses one that passes what the narrow low-pass does.
+/// Returns the taps of a band-pass. Tests that it stops what the narrow low-pass passes.
 fn band(alloc: Global) -> Result<String, Fail> {
     let wide = Lowpass::new(8000, 1000, 3000, 40, 1, 15)?;
     let narrow = Lowpass::new(8000, 400, 1000, 40, 1, 15)?;
@@ -47,9 +49,9 @@ fn band(alloc: Global) -> Result<String, Fail> {
     Ok(format!(in alloc; "{taps:?}")?)
 }
 
-/// The filters of many taps refuse ones that are rounded down, and ones that are moved from the first on until the sum
-/// is exact. In the last of them each tap moves once, and ten pairs once more: this refuses steps that are not
-/// symmetric.
+/// Tests taps. The filters of many taps show that taps are not rounded down, and not moved from the first one on until
+/// the sum is exact. In the last of these filters each tap moves once, and ten pairs once more, which shows that steps
+/// are symmetric.
 #[test]
 fn taps(rt: HostRuntime) -> Result<(), Fail> {
     let alloc = rt.alloc();
@@ -88,7 +90,7 @@ fn taps(rt: HostRuntime) -> Result<(), Fail> {
     )
 }
 
-/// The fault of a low-pass, and nothing where there is none.
+/// Returns the fault of a low-pass, or nothing if there is none.
 fn refusal(alloc: Global, filter: Result<Lowpass, FilterFault>) -> Result<String, Fail> {
     match filter {
         Ok(_) => Ok(String::new(alloc)),
@@ -96,7 +98,7 @@ fn refusal(alloc: Global, filter: Result<Lowpass, FilterFault>) -> Result<String
     }
 }
 
-/// The same of a low-pass of these values at 8000 Hz.
+/// Returns the fault of a low-pass with these values at 8000 Hz, or nothing if there is none.
 fn refusal_at(alloc: Global, up: u32, shift: u32, attenuation: u32) -> Result<String, Fail> {
     refusal(
         alloc,
@@ -104,7 +106,8 @@ fn refusal_at(alloc: Global, up: u32, shift: u32, attenuation: u32) -> Result<St
     )
 }
 
-/// How many taps a steep low-pass would have, one tap with a shift of 15, and with one of 14.
+/// Returns the number of taps of a steep low-pass, one tap with a shift of 15, and one tap with a shift of 14. The
+/// first two are faults.
 fn one_tap(alloc: Global) -> Result<String, Fail> {
     let steep = Lowpass::new(48_000, 1000, 1001, 40, 1, 15)?.count();
     let large = Lowpass::new(8000, 1000, 3000, 40, 1, 15)?
@@ -114,7 +117,7 @@ fn one_tap(alloc: Global) -> Result<String, Fail> {
     Ok(format!(in alloc; "{steep:?} {large:?} {soft:?}")?)
 }
 
-/// Refuses a text of another value, a limit that is one off, and a tap of 17 bits.
+/// Tests the values that faults name, the limits of values, and a tap of 17 bits.
 #[test]
 fn faults(rt: HostRuntime) -> Result<(), Fail> {
     let alloc = rt.alloc();

@@ -1,5 +1,5 @@
-//! What is printed of filters, with what Python measures of the same taps, the graph file of a small converter, and the
-//! texts of faults.
+//! The texts that are printed of filters, with measures that Python makes of the same taps. Also the graph file of a
+//! small converter, and the texts of faults.
 
 use sdf_filters::{Band, FilterFault, Wanted, converter_texts, filter_texts};
 use std::alloc::Global;
@@ -25,7 +25,7 @@ const LOW_PASS: Wanted = Wanted {
     shift: 15,
 };
 
-/// A filter at 8000 Hz.
+/// Returns a filter at 8000 Hz.
 fn wanted(band: Band, up: u32) -> Wanted {
     Wanted {
         rate: 8000,
@@ -36,7 +36,7 @@ fn wanted(band: Band, up: u32) -> Wanted {
     }
 }
 
-/// The coefficient file of a filter and the line of what its taps do, or the fault.
+/// Returns the coefficient file of a filter and the line with the measures of its taps, or the fault.
 fn printed(alloc: Global, wanted: Wanted) -> Result<String, Fail> {
     match filter_texts(alloc, wanted) {
         Ok(texts) => Ok(format!(in alloc; "{}{}", texts.file, texts.told)?),
@@ -44,7 +44,7 @@ fn printed(alloc: Global, wanted: Wanted) -> Result<String, Fail> {
     }
 }
 
-/// Bands, and what is printed of the filters: the last five can't be asked for.
+/// Bands, values of `up`, and the texts that are printed. The last five filters are refused.
 const PRINTED: &[(Band, u32, &str)] = &[
     (
         LOW,
@@ -110,8 +110,8 @@ const PRINTED: &[(Band, u32, &str)] = &[
     ),
 ];
 
-/// Refuses levels of another band, and ones that are not parts of the unit; a band-pass of whose stopped bands only one
-/// is measured; a text of another value, and tests in another order.
+/// Tests that levels are measured in the right band, as parts of the unit, and in both stopped bands of a band-pass.
+/// Also tests the values that faults name, and the order of tests.
 #[test]
 fn filters(rt: HostRuntime) -> Result<(), Fail> {
     for (band, up, text) in PRINTED {
@@ -120,8 +120,8 @@ fn filters(rt: HostRuntime) -> Result<(), Fail> {
     Ok(())
 }
 
-/// Filters, and the lines of what their taps do: a band-pass with the steeper slope above and one with it below, which
-/// have as many taps as the steeper slope asks for; low-passes of 12 and 16 phases; and low-passes of 110 and 150 dB.
+/// Filters, and the lines with the measures of their taps. Two are band-passes, with the steeper slope above or below;
+/// it determines the number of taps. Two are low-passes of 12 and 16 phases, and two are low-passes of 110 and 150 dB.
 const TOLD: &[(Wanted, &str)] = &[
     (
         Wanted {
@@ -195,8 +195,8 @@ const TOLD: &[(Wanted, &str)] = &[
     ),
 ];
 
-/// Refuses a band-pass with the taps of its wider slope, a filter of eight phases in place of more, and a window of
-/// 96 dB in place of more.
+/// Tests that a band-pass has the taps of its steeper slope. Also tests that a filter can have more than eight phases,
+/// and a window more than 96 dB.
 #[test]
 fn taps_are_told(rt: HostRuntime) -> Result<(), Fail> {
     for (wanted, told) in TOLD {
@@ -205,12 +205,12 @@ fn taps_are_told(rt: HostRuntime) -> Result<(), Fail> {
     Ok(())
 }
 
-/// The graph file of a converter.
+/// Returns the graph file of a converter with `channels` channels.
 fn graph(alloc: Global, channels: u32) -> Result<String, Fail> {
     Ok(converter_texts(alloc, 8000, 16_000, channels, 40)?.graph)
 }
 
-/// The fault of a conversion, and nothing where there is none.
+/// Returns the fault of a conversion, or nothing if there is none.
 fn fault(alloc: Global, from: u32, to: u32, channels: u32) -> Result<String, Fail> {
     match converter_texts(alloc, from, to, channels, 96) {
         Ok(_) => Ok(String::new(alloc)),
@@ -218,8 +218,8 @@ fn fault(alloc: Global, from: u32, to: u32, channels: u32) -> Result<String, Fai
     }
 }
 
-/// Refuses a stage that is counted from 0, and a name with the mark of a channel where there is one; channels and rates
-/// that are not there, and limits that are one off.
+/// Tests that stages are counted from 1, and that names have no channel's mark if there is one channel. Also tests the
+/// limits of the number of channels, and a rate of 0.
 #[test]
 fn converters(rt: HostRuntime) -> Result<(), Fail> {
     let alloc = rt.alloc();
@@ -238,7 +238,7 @@ fn converters(rt: HostRuntime) -> Result<(), Fail> {
     says(fault(alloc, 8000, 8000, 8), "")
 }
 
-/// Faults that no other test prints, and what they say to change.
+/// Faults that no other test prints, and their texts.
 const TEXTS: &[(FilterFault, &str)] = &[
     (FilterFault::OutOfMemory, "out of memory"),
     (
@@ -266,7 +266,7 @@ const TEXTS: &[(FilterFault, &str)] = &[
     ),
 ];
 
-/// The text of a fault.
+/// Returns the text of a fault.
 fn text_of(alloc: Global, fault: &FilterFault) -> Result<String, Fail> {
     Ok(fault.to_string(alloc)?)
 }

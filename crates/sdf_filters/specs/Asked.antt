@@ -1,9 +1,10 @@
--- What a low-pass may be asked for.
+-- The values of a low-pass.
 use Rattle.std.specs.Prelude.{ℕ, ◌<◌, ◌≤◌, ◌*◌}
 use Rattle.sdf_limits.specs.declared.TheConstants.{MOST_FACTOR, MOST_SHIFT}
 use Rattle.sdf_filters.specs.declared.lowpass.TheConstants.{MOST_ATTENUATION}
 
--- samples a second at the filter, the last Hz that pass, the first that don't, dB, and the actor's `up` and `shift`
+-- the filter's rate in samples a second, the last Hz that pass, the first that are stopped, the attenuation in dB, and
+-- the actor's `up` and `shift`
 pub record Asked : Type 0 where
   pub rate : ℕ
   pub pass : ℕ
@@ -22,7 +23,7 @@ asked rate pass stop attenuation up shift = record {
   shift = shift;
 }
 
--- its values are within their limits
+-- the values of a low-pass are within their limits
 pub record IsAsked (f : Asked) : Type 0 where
   pub up : (1 ≤ f.up) × (f.up ≤ MOST_FACTOR)
   pub shift : f.shift ≤ MOST_SHIFT

@@ -7,11 +7,11 @@ use Rattle.sdf_filters.specs.Phases.{tap}
 abbrev pub new_row : List ℕ
 new_row = 10 ∷ 32 ∷ 32 ∷ []
 
--- what stands before value n: each row has twelve
+-- the separator before value n; each row has twelve values
 abbrev pub separator : ℕ → List ℕ
 separator n = cond (n == 0) new_row (cond (n % 12 == 0) (44 ∷ new_row) (codes ", "))
 
--- value n, and what stands before it
+-- value n, after its separator
 abbrev pub value_text : ℕ → ℤ → List ℕ
 value_text n value = separator n ++ signed_decimal value
 

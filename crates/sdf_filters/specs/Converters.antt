@@ -15,11 +15,11 @@ use Rattle.sdf_filters.specs.Filters.{AreFilterTexts}
 use Rattle.sdf_filters.specs.Stages.{IsSplit, IsSplitFault}
 use Rattle.sdf_filters.specs.Graphs.{stage_name, graph_text}
 
--- what passes a conversion: up to ten elevenths of half the lower rate
+-- the highest frequency that passes a conversion: ten elevenths of half the lower rate
 abbrev pub passed : ℕ → ℕ → ℕ
 passed from to = min from to * 5 / 11
 
--- the rate behind a stage
+-- the rate after a stage
 abbrev pub put : ℕ → Option Stage → ℕ
 put rate None = rate
 put rate (Some s) = rate * s.up / s.down
@@ -29,7 +29,7 @@ unfoldable pub rate_at : ℕ → List Stage → ℕ → ℕ
 rate_at from stages zero = from
 rate_at from stages (suc n) = put (rate_at from stages n) (slice_get stages n)
 
--- the filter of a stage that takes this rate: no image of what passes is left, and nothing comes to lie on it
+-- the filter of a stage that takes this rate: it stops the images of what passes, and all that would alias onto it
 abbrev pub stage_wanted : ℕ → ℕ → ℕ → Stage → Wanted
 stage_wanted rate pass attenuation s = record {
   rate = rate * s.up;
@@ -45,12 +45,12 @@ pub record IsStageFile (w : Wanted) (number : ℕ) (f : StageFile) : Type 0 wher
   pub name : string_bytes f.name ≡ stage_name number ++ codes ".toml"
   pub texts : AreFilterTexts w (string_bytes f.text) (string_bytes f.told)
 
--- a file is that of the stage with a number, which takes this rate
+-- a file belongs to the stage with this number, which takes this rate
 abbrev pub IsFileOf : ℕ → ℕ → ℕ → ℕ → Option Stage → Option StageFile → Type 0
 IsFileOf rate pass attenuation number (Some s) (Some f) = IsStageFile (stage_wanted rate pass attenuation s) number f
 IsFileOf rate pass attenuation number stage file = ⊥
 
--- the first n files are those of the stages
+-- each of the first n files belongs to its stage
 abbrev pub AreFilesTo : ℕ → ℕ → ℕ → List Stage → List StageFile → ℕ → Type 0
 AreFilesTo from pass attenuation stages files n =
     (k : ℕ) → k < n →
@@ -61,12 +61,12 @@ pub record AreStageFiles (from pass attenuation : ℕ) (stages : List Stage) (fi
   pub all : length files ≡ length stages
   pub each : AreFilesTo from pass attenuation stages files (length stages)
 
--- whether there may be so many channels
+-- whether a converter may have this number of channels
 abbrev pub channels_test : ℕ → Result (Unit {0}) FilterFault
 channels_test channels = tested (nat_le 1 channels && nat_le channels (MOST_CHANNEL + 1)) (Channels channels) (Ok tt)
 
--- The channels are 1 to 8, and the graph file and the coefficient files are those of stages whose product is the ratio
--- of the rates.
+-- The channels are 1 to 8. The graph file and the coefficient files are made for stages whose product is the ratio of
+-- the rates.
 pub record IsConverter (from to channels attenuation : ℕ) (graph : List ℕ) (files : List StageFile) : Type 0 where
   pub allowed : channels_test channels ≡ Ok tt
   pub stages : List Stage
@@ -79,7 +79,8 @@ pub record IsRateFault (rate : ℕ) (fault : FilterFault) : Type 0 where
   pub large : 2 ^ 32 ≤ rate
   pub is : fault ≡ RateTooLarge rate
 
--- why there is no file of a stage that takes this rate: its filter's rate is too large, or else the filter has no taps
+-- why there is no file of a stage that takes this rate: its filter's rate is too large, or it is not and the filter has
+-- no taps
 abbrev pub IsStageFault : ℕ → ℕ → ℕ → Stage → FilterFault → Type 0
 IsStageFault rate pass attenuation s fault =
     IsRateFault (rate * s.up) fault

@@ -1,4 +1,4 @@
--- Filters that pass what one does and another doesn't.
+-- Filters that pass what one filter passes and another does not.
 use Rattle.std.specs.Prelude.{◌≡◌, ℕ, ◌<◌, ◌/◌, ◌^◌, ℤ, pos, ◌-ℤ◌, FitsSigned, List, length, replicate, slice_set}
 use Rattle.std.specs.Int.{w16}
 use Rattle.sdf_filters.specs.Asked.{Asked}
@@ -9,17 +9,17 @@ pub record IsDifference (from tap left : ℤ) : Type 0 where
   pub is : left ≡ from -ℤ tap
   pub small : FitsSigned w16 left
 
--- place by place, each of 16 bits
+-- the differences, place by place, each of 16 bits
 pub record AreDifferences (from taps left : List ℤ) : Type 0 where
   pub all : length left ≡ length from
   pub each : (n : ℕ) → n < length from → tap left n ≡ tap from n -ℤ tap taps n
   pub small : Have16Bits left
 
--- the middle one of so many taps has this height, and the others are 0
+-- `count` taps: the middle one has this height, and the others are 0
 abbrev pub impulse : ℕ → ℤ → List ℤ
 impulse count height = slice_set (replicate count (pos 0)) (count / 2) height
 
--- a high-pass: 2^shift at the middle less the taps of the low-pass, which come to 0
+-- a high-pass: 2^shift at the middle, minus the taps of the low-pass; its taps sum to 0
 pub record AreHighpassTaps (f : Asked) (count : ℕ) (h : List ℤ) : Type 0 where
   pub all : length h ≡ count
   pub low : List ℤ
@@ -28,7 +28,7 @@ pub record AreHighpassTaps (f : Asked) (count : ℕ) (h : List ℤ) : Type 0 whe
   pub none : phase_sum h 1 0 ≡ pos 0
   pub symmetric : IsSymmetric h
 
--- a band-pass: the taps of one low-pass less those of another, each phase's of which come to 0
+-- a band-pass: the taps of one low-pass minus the taps of another; the taps of each phase sum to 0
 pub record AreBandpassTaps (f g : Asked) (count : ℕ) (h : List ℤ) : Type 0 where
   pub all : length h ≡ count
   pub wide : List ℤ

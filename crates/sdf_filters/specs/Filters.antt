@@ -11,7 +11,7 @@ use Rattle.sdf_filters.specs.Wanted.{AreTaps}
 abbrev pub end : List ℕ
 end = 10 ∷ []
 
--- which frequencies pass
+-- the kind of a filter and the edges of its bands
 abbrev pub band_text : Band → List ℕ
 band_text (Low pass stop) = codes "low-pass " ++ decimal pass ++ codes ".." ++ decimal stop
 band_text (High stop pass) = codes "high-pass " ++ decimal stop ++ codes ".." ++ decimal pass
@@ -25,23 +25,23 @@ head_text w =
     codes "# fir up " ++ decimal w.up ++ codes " shift " ++ decimal w.shift ++ codes ", " ++ band_text w.band
     ++ codes " Hz at " ++ decimal w.rate ++ codes " Hz, " ++ decimal w.attenuation ++ codes " dB" ++ end
 
--- so many ten-thousandths, with four digits behind the point
+-- n ten-thousandths, with four digits after the point
 abbrev pub with_places : ℕ → List ℕ
 with_places n =
     decimal (n / 10000) ++ codes "." ++ decimal (n / 1000 % 10) ++ decimal (n / 100 % 10) ++ decimal (n / 10 % 10)
     ++ decimal (n % 10)
 
--- so many tenths
+-- n tenths, with one digit after the point
 abbrev pub with_place : ℕ → List ℕ
 with_place n = decimal (n / 10) ++ codes "." ++ decimal (n % 10)
 
--- how many taps there are, and what they do
+-- the number of taps, and their measures
 unfoldable pub told_text : ℕ → Measured → List ℕ
 told_text count m =
     decimal count ++ codes " taps: " ++ with_places m.ripple ++ codes " dB of ripple, what is stopped at least "
     ++ with_place m.attenuation ++ codes " dB down" ++ end
 
--- the coefficient file of the filter's taps, and the line of what they do, in any numbers
+-- the coefficient file of the filter's taps, and the line with their measures, which may be any numbers
 pub record AreFilterTexts (w : Wanted) (file told : List ℕ) : Type 0 where
   pub taps : List ℤ
   pub are : AreTaps w taps

@@ -8,12 +8,12 @@ use Rattle.sdf_filters.specs.declared.graph.End.TheVariants.{Output}
 use Rattle.sdf_filters.specs.declared.stage.Stage.{Stage}
 use Rattle.sdf_filters.specs.Filters.{end}
 
--- the texts of the first n
+-- the first n texts, joined
 abbrev pub texts_to : (ℕ → List ℕ) → ℕ → List ℕ
 texts_to text zero = []
 texts_to text (suc n) = texts_to text n ++ text n
 
--- what a channel's actors have behind their names: nothing where there is one channel
+-- the mark after the names of a channel's actors: nothing if there is one channel
 abbrev pub mark : ℕ → ℕ → List ℕ
 mark channels channel = if channels == 1 then [] else codes "-" ++ decimal channel
 
@@ -56,7 +56,7 @@ keys_text number s =
     codes "up = " ++ decimal s.up ++ codes "\ndown = " ++ decimal s.down ++ codes "\nshift = " ++ decimal STAGE_SHIFT
     ++ codes "\nfile = \"" ++ stage_name number ++ codes ".toml\"\n"
 
--- the stage of a channel that stands at a place
+-- the stage at a place of a channel
 abbrev pub stage_text : ℕ → ℕ → ℕ → Option Stage → List ℕ
 stage_text channels channel place None = []
 stage_text channels channel place (Some s) =
@@ -66,14 +66,14 @@ abbrev pub stages_text : ℕ → ℕ → List Stage → List ℕ
 stages_text channels channel stages =
     texts_to (λ place. stage_text channels channel place (slice_get stages place)) (length stages)
 
--- the first channel's samples with gain 0, and what adds them to a channel
+-- the actor that passes on the first channel's samples with gain 0; `sum_text` is the actor that adds them to a channel
 unfoldable pub silence_text : ℕ → ℕ → List ℕ
 silence_text channels channel = actor_text channels (Silence channel) (codes "gain") ++ codes "gain = 0\nshift = 0\n"
 
 unfoldable pub sum_text : ℕ → ℕ → List ℕ
 sum_text channels channel = actor_text channels (Sum channel) (codes "add") ++ codes "ways = 2\n"
 
--- what joins a channel to the first one
+-- the actors that join a channel to the first one
 abbrev pub join_text : ℕ → ℕ → List ℕ
 join_text channels channel = if channel == 0 then [] else silence_text channels channel ++ sum_text channels channel
 
@@ -84,7 +84,7 @@ channel_actors channels stages channel =
     ++ join_text channels channel ++ stages_text channels channel stages
     ++ actor_text channels (Output channel) (codes "output") ++ channel_text channel
 
--- where the stages of a channel take their samples
+-- the end from which the stages of a channel take their samples
 abbrev pub source : ℕ → ℕ → End
 source channels channel =
     if channels == 1 then Input channel else if channel == 0 then Branch channel else Sum channel
@@ -97,15 +97,15 @@ joining_text channels channel =
     link_text channels (Input channel) (Sum channel) ++ link_text channels (Branch channel) (Silence channel)
     ++ link_text channels (Silence channel) (SumSecond channel)
 
--- what stands behind so many stages of a channel
+-- the end after n stages of a channel
 abbrev pub behind : ℕ → ℕ → ℕ → End
 behind channels channel n = if n == 0 then source channels channel else Filter n channel
 
--- the link into one more
+-- the link from the end after n stages into the next stage
 unfoldable pub step_text : ℕ → ℕ → ℕ → List ℕ
 step_text channels channel n = link_text channels (behind channels channel n) (Filter (n + 1) channel)
 
--- the links of a channel with so many stages
+-- the links of a channel with this number of stages
 unfoldable pub channel_links : ℕ → ℕ → ℕ → List ℕ
 channel_links channels stages channel =
     joining_text channels channel ++ texts_to (step_text channels channel) stages
@@ -116,19 +116,19 @@ unfoldable pub fork_text : ℕ → List ℕ
 fork_text channels =
     if channels == 1 then [] else actor_text channels Fork (codes "fork") ++ codes "ways = " ++ decimal channels ++ end
 
--- a line of what was asked for
+-- a comment line with a word and a number
 unfoldable pub note : List ℕ → ℕ → List ℕ
 note word number = codes "# " ++ word ++ codes " " ++ decimal number ++ end
 
--- between which rates
+-- the comment lines with the two rates
 unfoldable pub rates_text : ℕ → ℕ → List ℕ
 rates_text from to = note (codes "from") from ++ note (codes "to") to
 
--- the first lines
+-- the first lines of the file
 unfoldable pub title : ℕ → ℕ → ℕ → List ℕ
 title from to channels = rates_text from to ++ note (codes "channels") channels ++ codes "format = 1\n"
 
--- the graph file: for each channel these stages
+-- the graph file: each channel has these stages
 abbrev pub graph_text : ℕ → ℕ → ℕ → List Stage → List ℕ
 graph_text from to channels stages =
     title from to channels ++ fork_text channels ++ texts_to (channel_actors channels stages) channels

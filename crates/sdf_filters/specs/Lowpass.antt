@@ -1,4 +1,4 @@
--- What a low-pass may be asked for, and what its taps are.
+-- The tests of the values of a low-pass, and its taps.
 use Rattle.std.specs.Prelude.{◌≡◌, ℕ, ◌<◌, ◌≤◌, ◌*◌, ◌%◌, ◌^◌, ◌⊎◌, Bool, true, false, ◌&&◌, nat_lt, nat_le, ℤ, pos}
 use Rattle.std.specs.Prelude.{List}
 use Rattle.std.specs.Prelude.{length, Result, Ok, Err}
@@ -11,7 +11,7 @@ use Rattle.sdf_filters.specs.declared.fault.FilterFault.TheVariants.{TapTooLarge
 use Rattle.sdf_filters.specs.Asked.{Asked}
 use Rattle.sdf_filters.specs.Phases.{phase_sum, Have16Bits, IsSymmetric}
 
--- the fault of a test that fails, else what the later tests give
+-- the fault of a test that fails, otherwise what the later tests give
 abbrev pub tested : {X : Type 0} → Bool → FilterFault → Result X FilterFault → Result X FilterFault
 tested true fault later = later
 tested false fault later = Err fault
@@ -35,11 +35,12 @@ pub record IsCount (up count : ℕ) : Type 0 where
   pub few : count ≤ MOST_TAPS
   pub whole : count % up ≡ 0
 
--- So many taps can be symmetric: no phase is its own mirror image, one tap stands in the middle, or each sum is even.
+-- This number of taps can be symmetric: no phase is its own mirror image, one tap is in the middle, or each sum is
+-- even.
 abbrev pub CanBeSymmetric : Asked → ℕ → Type 0
 CanBeSymmetric f count = (f.up % 2 ≡ 0) ⊎ ((count % 2 ≡ 1) ⊎ (0 < f.shift))
 
--- so many taps of 16 bits, each phase's with the sum 2^shift, of linear phase where they can be
+-- `count` taps of 16 bits, with the sum 2^shift in each phase, and of linear phase if they can be
 pub record AreLowpassTaps (f : Asked) (count : ℕ) (h : List ℤ) : Type 0 where
   pub all : length h ≡ count
   pub small : Have16Bits h

@@ -1,4 +1,4 @@
--- The taps of a phase, and what they come to.
+-- The taps of a phase, and their sum.
 use Rattle.std.specs.Prelude.{◌≡◌, ℕ, zero, suc, ◌+◌, ◌-◌, ◌*◌, ◌/◌, ◌%◌, ◌<◌, ◌≤◌, ◌==◌, if◌then◌else◌, cond}
 use Rattle.std.specs.Prelude.{Bool, true}
 use Rattle.std.specs.Prelude.{false, nat_lt, ℤ, pos, negsuc, ◌+ℤ◌}
@@ -10,16 +10,16 @@ use Rattle.sdf_filters.specs.declared.order.Way.{Way}
 abbrev pub tap : List ℤ → ℕ → ℤ
 tap h n = slice_index_or h n (pos 0)
 
--- a tap x where its place n is one of the phase, else 0
+-- a tap x if its place n is one of the phase, otherwise 0
 abbrev pub counted : ℕ → ℕ → ℕ → ℤ → ℤ
 counted up phase n x = cond (n % up == phase) x (pos 0)
 
--- what the taps of a phase come to that stand before place n
+-- the sum of the taps of a phase before place n
 unfoldable pub sum_before : List ℤ → ℕ → ℕ → ℕ → ℤ
 sum_before h up phase zero = pos 0
 sum_before h up phase (suc n) = sum_before h up phase n +ℤ counted up phase n (tap h n)
 
--- what the taps of a phase come to: those at the places n with n % up = phase
+-- the sum of the taps of a phase, which are at the places n with n % up = phase
 abbrev pub phase_sum : List ℤ → ℕ → ℕ → ℤ
 phase_sum h up phase = sum_before h up phase (length h)
 
@@ -36,27 +36,27 @@ IsSymmetric h = (n : ℕ) → n < length h → tap h (length h - 1 - n) ≡ tap 
 abbrev pub IsEven : ℤ → Type 0
 IsEven z = (half : ℤ) × (z ≡ half +ℤ half)
 
--- the sum of a phase has changed by so many steps, and no other one
+-- the sum of a phase has changed by `times` steps, and no other sum has
 pub record IsSumMoved (up phase : ℕ) (rise : Bool) (times : ℕ) (old new : List ℤ) : Type 0 where
   pub sum : phase_sum new up phase ≡ phase_sum old up phase +ℤ steps rise times
   pub others : (q : ℕ) → (q ≡ phase → ⊥) → phase_sum new up q ≡ phase_sum old up q
 
--- by how much the sum of a phase changes where a tap and its mirror image move by one step
+-- the change of a phase's sum when a tap and its mirror image move by one step
 unfoldable pub weight : ℕ → ℕ → ℕ
 weight up phase = if 2 * phase + 1 == up then 2 else 1
 
--- the sum of a phase has changed by so many steps, and none but that of its mirror image: taps stay symmetric
+-- the sum of a phase has changed by `times` steps, and no other sum except its mirror image's; taps stay symmetric
 pub record AreMoved (up phase : ℕ) (rise : Bool) (times : ℕ) (old new : List ℤ) : Type 0 where
   pub all : length new ≡ length old
   pub sum : phase_sum new up phase ≡ phase_sum old up phase +ℤ steps rise times
   pub others : (q : ℕ) → (q ≡ phase → ⊥) → (q + phase + 1 ≡ up → ⊥) → phase_sum new up q ≡ phase_sum old up q
   pub symmetric : IsSymmetric old → IsSymmetric new
 
--- taps of a way's phase have moved by so many steps, each with its mirror image
+-- taps of a way's phase have moved by `times` steps, each with its mirror image
 abbrev pub AreMovedBy : Way → ℕ → List ℤ → List ℤ → Type 0
 AreMovedBy way times old new = AreMoved way.up way.phase way.rise (weight way.up way.phase * times) old new
 
--- whole phases make up so many taps, and a way's turns are some of its phase, of which none is another's mirror image
+-- `count` taps are whole phases, and a way's turns are some taps of its phase; none is another's mirror image
 pub record AreTurns (way : Way) (count : ℕ) : Type 0 where
   pub phase : way.phase < way.up
   pub whole : count % way.up ≡ 0

@@ -1,4 +1,4 @@
--- Stages of a conversion, and what they come to.
+-- The stages of a conversion, and their product.
 use Rattle.std.specs.Prelude.{◌≡◌, ◌≢◌, ℕ, ◌+◌, ◌*◌, ◌%◌, ◌<◌, ◌≤◌, ◌⊎◌, List, [], ◌∷◌}
 use Rattle.std.specs.Int.{IsGcd}
 use Rattle.std.specs.List.{All}
@@ -17,11 +17,11 @@ abbrev pub downs : List Stage → ℕ
 downs [] = 1
 downs (s ∷ ss) = s.down * downs ss
 
--- a stage is no 1 / 1
+-- a stage is not 1 / 1
 abbrev pub DoesSomething : Stage → Type 0
 DoesSomething s = 2 < s.up + s.down
 
--- the stages come to to / from, neither of which is 0, and each does something
+-- the product of the stages is to / from, no rate is 0, and each stage does something
 pub record IsSplit (from to : ℕ) (stages : List Stage) : Type 0 where
   pub from_some : 0 < from
   pub to_some : 0 < to
@@ -37,7 +37,7 @@ pub record IsLowest (from to up down : ℕ) : Type 0 where
   pub up_some : 0 < up
   pub down_some : 0 < down
 
--- the stages come to up / down, but for what is left of it
+-- the product of the stages, times what is left of the ratio, is up / down
 pub record IsSplitOf (up down up_left down_left : ℕ) (stages : List Stage) : Type 0 where
   pub up_is : ups stages * up_left ≡ up
   pub down_is : downs stages * down_left ≡ down
@@ -72,7 +72,7 @@ IsPartFault up down OutOfMemory = Unit {0}
 IsPartFault up down (FactorTooLarge factor) = IsTooLarge up down factor
 IsPartFault up down fault = ⊥
 
--- a rate is 0; or none is, and their ratio in lowest terms has such a factor, or memory was refused
+-- a rate is 0; or none is, and their ratio in lowest terms has a factor that is too large, or memory was refused
 abbrev pub IsSplitFault : ℕ → ℕ → FilterFault → Type 0
 IsSplitFault from to OutOfMemory = (0 < from) × (0 < to)
 IsSplitFault from to NoRate = (from ≡ 0) ⊎ (to ≡ 0)

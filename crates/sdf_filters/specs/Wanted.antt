@@ -1,4 +1,4 @@
--- The taps of a filter that is asked for in plain numbers, and why there are none.
+-- The taps of a filter that is specified in plain numbers, and why there are none.
 use Rattle.std.specs.Prelude.{◌≡◌, ℕ, ◌*◌, ◌%◌, ◌≤◌, ◌⊎◌, ◌==◌, nat_lt, nat_le, ℤ, List, Result, Ok, Err}
 use Rattle.std.specs.Result.{result_and}
 use Rattle.sdf_limits.specs.declared.TheConstants.{MOST_TAPS}
@@ -22,14 +22,14 @@ pub record AreLowTaps (f : Asked) (h : List ℤ) : Type 0 where
   pub is_count : IsCount f.up count
   pub taps : AreLowpassTaps f count h
 
--- those of the high-pass that passes what a low-pass stops
+-- the taps of the high-pass that passes what a low-pass stops
 pub record AreHighTaps (f : Asked) (h : List ℤ) : Type 0 where
   pub count : ℕ
   pub few : count ≤ MOST_TAPS
   pub odd : count % 2 ≡ 1
   pub taps : AreHighpassTaps f count h
 
--- those of the band-pass that passes what only the first of two low-passes does
+-- the taps of the band-pass that passes what only the first of two low-passes does
 pub record AreMiddleTaps (f g : Asked) (h : List ℤ) : Type 0 where
   pub count : ℕ
   pub is_count : IsCount f.up count
@@ -41,14 +41,14 @@ AreTapsOf w (Low pass stop) h = AreLowTaps (low w pass stop) h
 AreTapsOf w (High stop pass) h = AreHighTaps (low w stop pass) h
 AreTapsOf w (Middle low_stop low_pass pass stop) h = AreMiddleTaps (low w pass stop) (low w low_stop low_pass) h
 
--- what a high-pass wants beside what its low-pass does, or the first fault
+-- the tests of a high-pass in addition to its low-pass's: the first fault, if there is one
 abbrev pub high_tests : Wanted → ℕ → ℕ → Result (Unit {0}) FilterFault
 high_tests w stop pass =
     tested (nat_lt stop pass) (StopNotBelowPass stop pass)
     (tested (nat_le (2 * pass) w.rate) (PassOverHalf pass w.rate)
     (tested (w.up == 1) (UpOfHighpass w.up) (Ok tt)))
 
--- what a band-pass wants beside what its low-passes do, or the first fault
+-- the tests of a band-pass in addition to its low-passes': the first fault, if there is one
 abbrev pub middle_tests : ℕ → ℕ → ℕ → Result (Unit {0}) FilterFault
 middle_tests low_stop low_pass pass =
     tested (nat_lt low_stop low_pass) (StopNotBelowPass low_stop low_pass)
@@ -71,7 +71,7 @@ pub record AreTaps (w : Wanted) (h : List ℤ) : Type 0 where
   pub passed : tests_of w w.band ≡ Ok tt
   pub taps : AreTapsOf w w.band h
 
--- why there are no taps: the first test that fails, or where all passed, too many taps, too large ones, or no memory
+-- why there are no taps: the first test that fails, or if all passed, too many taps, too large ones, or no memory
 abbrev pub IsFault : Wanted → FilterFault → Type 0
 IsFault w fault =
     (tests_of w w.band ≡ Err fault) ⊎ ((tests_of w w.band ≡ Ok tt) × (IsCountFault fault ⊎ IsTapFault fault))

@@ -5,7 +5,7 @@ ghost use Rattle.sdf_filters.specs.Coefficients.{separator, value_text, values_t
 
 use std::alloc::{AllocError, Global};
 
-/// What stands before a value: each row has twelve of them.
+/// Returns the separator before the value at `place`. Each row has twelve values.
 fn separator(place: usize) -> &'static str
     ensures { result.now ≡ separator place }
 {
@@ -18,7 +18,7 @@ fn separator(place: usize) -> &'static str
     }
 }
 
-/// Adds a value.
+/// Adds a value, after its separator.
 fn push_value(text: &mut String, place: usize, value: i32) -> Result<(), AllocError>
     ensures { OnOk result (string_bytes text.new ≡ string_bytes text.old ++ value_text place value) }
 {
@@ -37,7 +37,7 @@ fn push_values(text: &mut String, taps: &[i32]) -> Result<(), AllocError>
     Ok(())
 }
 
-/// Adds the coefficient file of some taps.
+/// Adds the coefficient file of `taps`.
 pub(crate) fn push_coefficients(text: &mut String, taps: &[i32]) -> Result<(), AllocError>
     ensures { OnOk result (string_bytes text.new ≡ string_bytes text.old ++ coefficient_text taps.now) }
 {
@@ -46,7 +46,7 @@ pub(crate) fn push_coefficients(text: &mut String, taps: &[i32]) -> Result<(), A
     text.push_str("\n]\n")
 }
 
-/// The coefficient file of some taps, as an actor of kind `fir` reads it by its key `file`.
+/// Returns the coefficient file of `taps`, as an actor of kind `fir` reads it by its key `file`.
 pub fn coefficient_text(alloc: Global, taps: &[i32]) -> Result<String, AllocError>
     ensures { IfOk result (λ text. string_bytes text ≡ coefficient_text taps.now) }
 {

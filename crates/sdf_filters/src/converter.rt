@@ -17,7 +17,7 @@ use crate::wanted::{Band, Wanted};
 use sdf_limits::MOST_CHANNEL;
 use std::alloc::{AllocError, Global};
 
-/// The coefficient file of a stage: its name, its text, and the line of what its taps do.
+/// The coefficient file of a stage: its name, its text, and the line with the measures of its taps.
 #[derive(Drop)]
 pub struct StageFile {
     pub name: String,
@@ -32,7 +32,7 @@ pub struct ConverterTexts {
     pub files: Vec<StageFile>,
 }
 
-/// Tests how many channels there are.
+/// Tests the number of channels.
 fn test_channels(channels: u32) -> Result<(), FilterFault>
     ensures { result ≡ channels_test channels }
 {
@@ -42,14 +42,14 @@ fn test_channels(channels: u32) -> Result<(), FilterFault>
     )
 }
 
-/// What passes a conversion: up to ten elevenths of half the lower rate.
+/// Returns the highest frequency that passes a conversion, in Hz: ten elevenths of half the lower rate.
 fn passed(from: u32, to: u32) -> u32
     ensures { result ≡ passed from to }
 {
     (u64::from(from.min(to)) * 5 / 11) as u32
 }
 
-/// A rate of 32 bits.
+/// Returns `rate` if it fits in 32 bits.
 fn rate_of(rate: u64) -> Result<u32, FilterFault>
     ensures { MatchResult result (λ given. given ≡ rate) (IsRateFault rate) }
 {
@@ -59,7 +59,8 @@ fn rate_of(rate: u64) -> Result<u32, FilterFault>
     }
 }
 
-/// The filter of a stage that takes this rate: no image of what passes is left, and nothing comes to lie on it.
+/// Returns the filter of a stage whose input has this `rate`. It stops the images of what passes, and all that would
+/// alias onto it.
 fn stage_wanted(rate: u32, pass: u32, attenuation: u32, stage: Stage) -> Result<Wanted, FilterFault>
     ensures { MatchResult result (λ wanted. wanted ≡ stage_wanted rate pass attenuation stage)
         (IsRateFault (rate * stage.up)) }
@@ -75,7 +76,7 @@ fn stage_wanted(rate: u32, pass: u32, attenuation: u32, stage: Stage) -> Result<
     })
 }
 
-/// The name of a stage's coefficient file.
+/// Returns the name of a stage's coefficient file.
 fn file_name(alloc: Global, number: usize) -> Result<String, AllocError>
     ensures { IfOk result (λ name. string_bytes name ≡ stage_name number ++ codes ".toml") }
 {
@@ -85,7 +86,7 @@ fn file_name(alloc: Global, number: usize) -> Result<String, AllocError>
     Ok(name)
 }
 
-/// The coefficient file of a stage.
+/// Returns the coefficient file of a stage.
 fn stage_file(alloc: Global, number: usize, wanted: Wanted) -> Result<StageFile, FilterFault>
     ensures { MatchResult result (IsStageFile wanted number) (IsFault wanted) }
 {
@@ -98,7 +99,7 @@ fn stage_file(alloc: Global, number: usize, wanted: Wanted) -> Result<StageFile,
     })
 }
 
-/// One file more.
+/// Adds a file.
 fn add_file(files: &mut Vec<StageFile>, file: StageFile) -> Result<(), AllocError>
     ensures { OnOk result (files.new.items ≡ files.old.items ++ file ∷ []) }
 {
@@ -106,7 +107,7 @@ fn add_file(files: &mut Vec<StageFile>, file: StageFile) -> Result<(), AllocErro
     Ok(())
 }
 
-/// The coefficient files of stages.
+/// Returns the coefficient files of `stages`, the first of which takes the rate `from`.
 fn stage_files(
     alloc: Global,
     from: u32,
@@ -129,10 +130,11 @@ fn stage_files(
     Ok(files)
 }
 
-/// The design that converts between two rates, with this attenuation in dB of what does not belong.
+/// Returns the design that converts between two rates, with filters that are to attenuate images and aliases by
+/// `attenuation` dB.
 ///
-/// Its stages are those of `stages`, each with the taps of its filter. What is up to ten elevenths of half the lower
-/// rate passes, and nothing else comes to lie there; from there to half the rate images may be left.
+/// Its stages are given by `stages`, each with the taps of its filter. Frequencies up to ten elevenths of half the
+/// lower rate pass, and nothing aliases onto them. Between these and half the rate, images may be left.
 pub fn converter_texts(
     alloc: Global,
     from: u32,

@@ -1,9 +1,10 @@
-//! What a split into stages costs, in floats: no clause says anything of it.
+//! The cost of a split into stages, in floats. No clause says anything of it.
 //!
-//! A stage that takes r samples a second and puts s has the taps that Kaiser's formula asks for at the rate r * up,
-//! between what passes, up to ten elevenths of half the lower rate of the conversion, and the lesser of r and s less as
-//! much; so its products a second are its taps, divided by `up`, times s. One with more taps than a filter may have, or
-//! whose s is below the lower rate, can't be taken. What a split costs is the sum over its stages.
+//! A stage takes r samples a second and puts s. Its taps are given by Kaiser's formula, at the rate r * up. Frequencies
+//! pass up to p, which is ten elevenths of half the lower rate of the conversion. They are stopped from the lesser of r
+//! and s, minus p, on. The products a second of the stage are its taps, divided by `up`, times s. A stage cannot be
+//! taken if it has more taps than a filter may have, or if s is below the lower rate. The cost of a split is the sum
+//! over its stages.
 
 ghost use Rattle.std.specs.Prelude.{IfSome};
 ghost use Rattle.sdf_filters.specs.Stages.{IsPart};
@@ -14,22 +15,22 @@ use sdf_limits::{MOST_FACTOR, MOST_TAPS};
 use std::f64::consts::TAU;
 use std::num::nearest_usize_to_f64;
 
-/// How many stages a split is looked for in.
+/// The greatest number of stages of the splits that are compared.
 const MOST_STAGES: u32 = 3;
 
-/// What passes, as a part of half the lower rate.
+/// The part of half the lower rate that passes.
 const PASSED: f64 = 10.0 / 11.0;
 
-/// What the stages of a conversion are weighed by.
+/// The values that the cost of a conversion's stages depends on.
 #[derive(Clone, Copy)]
 pub(crate) struct Weights {
     /// The lower rate.
     lower: f64,
-    /// Taps, times the Hz between what passes and what is stopped, for each sample a second.
+    /// The number of taps, times the Hz between passed and stopped frequencies, for each sample a second of the filter.
     taps: f64,
 }
 
-/// What the cheapest split costs, infinitely much where there is none, and the place of its first stage.
+/// The cost of the cheapest split, infinite if there is none, and the place of its first stage.
 #[derive(Clone, Copy)]
 pub(crate) struct Best {
     cost: f64,
@@ -37,7 +38,7 @@ pub(crate) struct Best {
 }
 
 impl Weights {
-    /// Those of a conversion between two rates, with this attenuation in dB.
+    /// Returns the weights of a conversion between two rates, with this `attenuation` in dB.
     pub(crate) fn new(from: f64, to: f64, attenuation: f64) -> Weights {
         Weights {
             lower: from.min(to),
@@ -45,13 +46,13 @@ impl Weights {
         }
     }
 
-    /// What a stage costs that takes so many samples a second: infinitely much where it can't be taken.
+    /// Returns the cost of a stage that takes `rate` samples a second, infinite if it cannot be taken.
     fn stage(self, rate: f64, up: u32, down: u32) -> f64 {
         let up = f64::from(up);
         let put = rate * up / f64::from(down);
         let width = rate.min(put) - self.lower * PASSED;
         let taps = self.taps * rate * up / width;
-        // The number is rounded up, and made up to whole phases.
+        // The number of taps is rounded up to a whole number, and then to whole phases.
         let most = nearest_usize_to_f64(MOST_TAPS) - up - 1.0;
         if put < self.lower || taps > most {
             f64::INFINITY
@@ -60,7 +61,7 @@ impl Weights {
         }
     }
 
-    /// A ratio in one stage.
+    /// Returns the ratio `left` as one stage, with its cost.
     fn whole(self, rate: f64, left: Ratio) -> Best {
         if left.up > MOST_FACTOR || left.down > MOST_FACTOR {
             return Best {
@@ -77,8 +78,8 @@ impl Weights {
         Best { cost, place }
     }
 
-    /// Returns the cheapest split of the ratio `left` into at most `stages` stages. The rest behind a stage is not
-    /// split if the stage alone costs too much.
+    /// Returns the cheapest split of the ratio `left` into at most `stages` stages. It does not split the rest after a
+    /// stage that alone costs too much.
     fn best(self, rate: f64, left: Ratio, stages: u32) -> Best {
         let mut best = self.whole(rate, left);
         if stages < 2 {
@@ -106,7 +107,7 @@ impl Weights {
         best
     }
 
-    /// The first stage of the cheapest split of a ratio.
+    /// Returns the first stage of the cheapest split of the ratio `left`.
     pub(crate) fn first(self, rate: f64, left: Ratio) -> Option<Stage>
         ensures { IfSome result (IsPart left.up left.down) }
     {

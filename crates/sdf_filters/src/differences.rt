@@ -10,7 +10,7 @@ ghost use Rattle.sdf_filters.specs.Differences.{IsDifference, AreDifferences};
 use crate::fault::FilterFault;
 use std::alloc::{AllocError, Global};
 
-/// The taps of the filter that passes what the first ones do and the second ones don't.
+/// Returns the taps of the filter that passes what `from` passes and `taps` does not.
 pub(crate) fn differences(
     alloc: Global,
     from: &[i32],
@@ -27,7 +27,7 @@ pub(crate) fn differences(
     Ok(left)
 }
 
-/// One tap more.
+/// Adds a tap.
 fn add_tap(taps: &mut Vec<i32>, tap: i32) -> Result<(), AllocError>
     ensures { OnOk result (taps.new.items ≡ taps.old.items ++ tap ∷ []) }
 {
@@ -35,7 +35,7 @@ fn add_tap(taps: &mut Vec<i32>, tap: i32) -> Result<(), AllocError>
     Ok(())
 }
 
-/// The difference of two taps, of 16 bits.
+/// Returns the difference of two taps if it fits in 16 bits.
 fn difference(from: i32, tap: i32) -> Result<i32, FilterFault>
     ensures { MatchResult result (IsDifference from tap) IsTapFault }
 {
@@ -49,7 +49,7 @@ fn difference(from: i32, tap: i32) -> Result<i32, FilterFault>
     Ok(left as i32)
 }
 
-/// The fault of a difference.
+/// Returns the fault of a difference of over 16 bits.
 fn too_large(left: i64) -> FilterFault
     requires large { 32768 ≤ unsigned_abs left }
     requires fits { unsigned_abs left < 2 ^ 32 }
@@ -60,7 +60,7 @@ fn too_large(left: i64) -> FilterFault
     }
 }
 
-/// So many taps, of which the middle one has this height and the others are 0.
+/// Returns `count` taps: the middle one is `height`, and the others are 0.
 pub(crate) fn impulse(alloc: Global, count: usize, height: i32) -> Result<Vec<i32>, AllocError>
     requires { 0 < count }
     ensures { IfOk result (λ taps. taps.items ≡ slice_set (replicate count (pos 0)) (count / 2) height) }

@@ -1,4 +1,4 @@
-//! Why there is no filter, and no way between two rates.
+//! The faults of filters, and of conversions between two rates.
 
 ghost use Rattle.std.specs.Prelude.{◌≡◌, Ok};
 ghost use Rattle.sdf_filters.specs.Lowpass.{tested};
@@ -6,7 +6,7 @@ ghost use Rattle.sdf_filters.specs.Lowpass.{tested};
 use std::alloc::AllocError;
 use thiserror::Error;
 
-/// Why there is no filter, or no way between two rates. Its text says what to change.
+/// The reason why there is no filter, or no conversion between two rates. Its text says what to change.
 #[derive(Debug, Clone, Copy, PartialEq, Eq, Error)]
 pub enum FilterFault {
     /// An allocation was refused.
@@ -18,43 +18,43 @@ pub enum FilterFault {
     /// The filter's `shift` is over its limit.
     #[error("`shift` is {shift}: take one from 0 to 15")]
     Shift { shift: u32 },
-    /// Over 200 dB.
+    /// The attenuation is over 200 dB.
     #[error("an attenuation of {attenuation} dB: take one from 0 to 200")]
     Attenuation { attenuation: u32 },
-    /// What passes does not end below what is stopped.
+    /// The passed frequencies do not end below the stopped ones.
     #[error("what passes ends at {pass} Hz, what is stopped begins at {stop}: take `pass` lower, or `stop` higher")]
     PassNotBelowStop { pass: u32, stop: u32 },
-    /// What is stopped begins over half the rate.
+    /// The stopped frequencies begin above half the rate.
     #[error("what is stopped begins at {stop} Hz, over half the rate of {rate}: take it lower, or a higher rate")]
     StopOverHalf { stop: u32, rate: u32 },
     /// The formula asks for more taps than a filter may have.
     #[error("{taps} taps, over 1024: take what passes and what is stopped further apart, or less attenuation")]
     TooManyTaps { taps: usize },
-    /// A tap, of this size, has more than 16 bits.
+    /// A tap of this size has more than 16 bits.
     #[error("a tap of size {size} has over 16 bits: take a smaller `shift`, or what passes and what is stopped lower")]
     TapTooLarge { size: u32 },
-    /// What is stopped does not end below what passes.
+    /// The stopped frequencies do not end below the passed ones.
     #[error("what is stopped ends at {stop} Hz, what passes begins at {pass}: take `stop` lower, or `pass` higher")]
     StopNotBelowPass { stop: u32, pass: u32 },
-    /// What passes begins over half the rate.
+    /// The passed frequencies begin above half the rate.
     #[error("what passes begins at {pass} Hz, over half the rate of {rate}: take it lower, or a higher rate")]
     PassOverHalf { pass: u32, rate: u32 },
-    /// What passes does not begin below its end.
+    /// The passed frequencies do not begin below their end.
     #[error("what passes begins at {low_pass} Hz and ends at {pass}: take its begin lower, or its end higher")]
     NothingPasses { low_pass: u32, pass: u32 },
-    /// A high-pass has no phases.
+    /// A high-pass has no phases, but its `up` is not 1.
     #[error("a high-pass with `up` {up}: take 1")]
     UpOfHighpass { up: u32 },
-    /// A filter of a conversion would work at more than 32 bits say.
+    /// A filter of a conversion would work at a rate of more than 32 bits.
     #[error("a filter at {rate} Hz, over 4294967295: take lower rates")]
     RateTooLarge { rate: u64 },
-    /// There are as many channels as a WAV file may have.
+    /// The number of channels is not 1 to 8, the numbers that a WAV file may have.
     #[error("{channels} channels: take 1 to 8")]
     Channels { channels: u32 },
     /// A rate is 0.
     #[error("a rate is 0: take both from 1 on")]
     NoRate,
-    /// What is left of the ratio of the rates has no factor from 2 to 64.
+    /// The rest of the ratio of the rates has no factor from 2 to 64.
     #[error("the ratio of the rates has the factor {factor}, and none of it is from 2 to 64: take another rate")]
     FactorTooLarge { factor: u32 },
 }
@@ -69,7 +69,7 @@ impl From<AllocError> for FilterFault {
     }
 }
 
-/// The fault of a test that fails.
+/// Returns `fault` unless the test has passed.
 pub(crate) fn test(passed: bool, fault: FilterFault) -> Result<(), FilterFault>
     ensures { result ≡ tested passed fault (Ok tt) }
 {

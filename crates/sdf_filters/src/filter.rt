@@ -1,4 +1,4 @@
-//! The taps of a filter that is asked for in plain numbers.
+//! The taps of a filter that is specified in plain numbers.
 
 ghost use Rattle.std.specs.Prelude.{◌≡◌, ◌%◌, ◌≤◌, ◌⊎◌, IfOk, MatchResult};
 ghost use Rattle.sdf_limits.specs.declared.TheConstants.{MOST_TAPS};
@@ -11,7 +11,7 @@ use crate::lowpass::{Lowpass, test_few, whole_phases};
 use crate::wanted::{Band, Wanted};
 use std::alloc::Global;
 
-/// Tests what a high-pass wants beside what its low-pass does.
+/// Tests what a high-pass needs in addition to its low-pass.
 fn test_high(wanted: Wanted, stop: u32, pass: u32) -> Result<(), FilterFault>
     ensures { result ≡ high_tests wanted stop pass }
 {
@@ -24,7 +24,7 @@ fn test_high(wanted: Wanted, stop: u32, pass: u32) -> Result<(), FilterFault>
     test(up == 1, FilterFault::UpOfHighpass { up })
 }
 
-/// Tests what a band-pass wants beside what its low-passes do.
+/// Tests what a band-pass needs in addition to its low-passes.
 fn test_middle(low_stop: u32, low_pass: u32, pass: u32) -> Result<(), FilterFault>
     ensures { result ≡ middle_tests low_stop low_pass pass }
 {
@@ -41,7 +41,7 @@ fn test_middle(low_stop: u32, low_pass: u32, pass: u32) -> Result<(), FilterFaul
     )
 }
 
-/// The low-pass between these frequencies.
+/// Returns the low-pass between `pass` and `stop`.
 fn low(wanted: Wanted, pass: u32, stop: u32) -> Result<Lowpass, FilterFault>
     ensures { result ≡ lowpass_of (low wanted pass stop) }
 {
@@ -55,7 +55,7 @@ fn low(wanted: Wanted, pass: u32, stop: u32) -> Result<Lowpass, FilterFault>
     )
 }
 
-/// The taps of a low-pass, with one in each phase more than it wants.
+/// Returns the taps of a low-pass, with one more in each phase than `count` taps have.
 fn more_taps(alloc: Global, filter: &Lowpass, count: usize) -> Result<Vec<i32>, FilterFault>
     requires { count ≤ MOST_TAPS }
     ensures { MatchResult result (λ taps. AreLowTaps filter.now taps.items)
@@ -66,9 +66,10 @@ fn more_taps(alloc: Global, filter: &Lowpass, count: usize) -> Result<Vec<i32>, 
     Ok(taps)
 }
 
-/// The taps of a low-pass: as many as it wants, or one more in each phase where one of them has over 16 bits. In a
-/// filter that halves its height at half the rate before it, the middle tap is all of its phase; of an even number of
-/// taps none stands in the middle.
+/// Returns the taps of a low-pass. If one of them has over 16 bits, it tries one more tap in each phase.
+///
+/// If a filter has half its height at half the rate of its input, its middle tap makes up the sum of its phase. That
+/// sum is too large if `shift` is 15. With an even number of taps, no tap is in the middle.
 fn low_taps(alloc: Global, filter: &Lowpass) -> Result<Vec<i32>, FilterFault>
     ensures { MatchResult result (λ taps. AreLowTaps filter.now taps.items)
         (λ fault. IsCountFault fault ⊎ IsTapFault fault) }
@@ -81,7 +82,7 @@ fn low_taps(alloc: Global, filter: &Lowpass) -> Result<Vec<i32>, FilterFault>
     }
 }
 
-/// A number of taps, or one more where it is even.
+/// Returns `count`, or one more if it is even.
 fn odd(count: usize) -> Result<usize, FilterFault>
     requires { count ≤ MOST_TAPS }
     ensures odd { IfOk result (λ n. n % 2 ≡ 1) }
@@ -92,8 +93,8 @@ fn odd(count: usize) -> Result<usize, FilterFault>
     Ok(odd)
 }
 
-/// The taps of the high-pass that passes what a low-pass stops: as many as that wants, or one more where that number is
-/// even.
+/// Returns the taps of the high-pass that passes what `filter` stops. Their number is the low-pass's, or one more if
+/// that is even.
 fn high_taps(alloc: Global, filter: &Lowpass) -> Result<Vec<i32>, FilterFault>
     requires { filter.now.up ≡ 1 }
     ensures { MatchResult result (λ taps. AreHighTaps filter.now taps.items)
@@ -104,7 +105,8 @@ fn high_taps(alloc: Global, filter: &Lowpass) -> Result<Vec<i32>, FilterFault>
     Ok(taps)
 }
 
-/// The taps of the band-pass that passes what only the first of two low-passes does: as many as the steeper one wants.
+/// Returns the taps of the band-pass that passes what `wide` passes and `narrow` does not. The steeper low-pass
+/// determines their number.
 fn middle_taps(alloc: Global, wide: &Lowpass, narrow: &Lowpass) -> Result<Vec<i32>, FilterFault>
     requires up { narrow.now.up ≡ wide.now.up }
     requires shift { narrow.now.shift ≡ wide.now.shift }
@@ -118,11 +120,11 @@ fn middle_taps(alloc: Global, wide: &Lowpass, narrow: &Lowpass) -> Result<Vec<i3
     Ok(taps)
 }
 
-/// The taps of a filter: whole numbers of 16 bits. Those of each phase come to `2^shift` where a constant passes, else
-/// to 0.
+/// Returns the taps of a filter: whole numbers of 16 bits. The taps of each phase sum to `2^shift` if a constant
+/// passes, otherwise to 0.
 ///
-/// They are symmetric, so that all frequencies are late by the same time, unless `up` is odd, their number even and
-/// `shift` 0. How near the filter comes to what is asked for no clause says.
+/// They are symmetric, so all frequencies are delayed by the same time, unless `up` is odd, their number even and
+/// `shift` 0. No clause says how close the filter is to its specification.
 pub fn taps_of(alloc: Global, wanted: Wanted) -> Result<Vec<i32>, FilterFault>
     ensures { MatchResult result (λ taps. AreTaps wanted taps.items) (IsFault wanted) }
 {

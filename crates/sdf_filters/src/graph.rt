@@ -29,7 +29,7 @@ pub(crate) enum End {
     Output { channel: u32 },
 }
 
-/// Adds what a channel's actors have behind their names.
+/// Adds the mark after the names of a channel's actors. A single channel has no mark.
 fn push_mark(text: &mut String, channels: u32, channel: u32) -> Result<(), AllocError>
     ensures { OnOk result (string_bytes text.new ≡ string_bytes text.old ++ mark channels channel) }
 {
@@ -46,7 +46,7 @@ pub(crate) fn push_stage_name(text: &mut String, number: usize) -> Result<(), Al
     write!(text, "stage{number}")
 }
 
-/// Adds a word and the mark of a channel.
+/// Adds `word` and the mark of a channel.
 fn push_marked(text: &mut String, word: &str, channels: u32, channel: u32) -> Result<(), AllocError>
     ensures { OnOk result (string_bytes text.new ≡ string_bytes text.old ++ (word.now ++ mark channels channel)) }
 {
@@ -148,7 +148,7 @@ fn push_keys(text: &mut String, number: usize, stage: Stage) -> Result<(), Alloc
     text.push_str(".toml\"\n")
 }
 
-/// Adds the stage at a place of a channel.
+/// Adds the stage at `place` of a channel.
 fn push_stage(
     text: &mut String,
     channels: u32,
@@ -181,7 +181,7 @@ fn push_stages(
     Ok(())
 }
 
-/// Adds the first channel's samples with gain 0.
+/// Adds the actor that passes on the first channel's samples with gain 0.
 #[tactic(auto, unfolding(crate::specs::Graphs::silence_text))]
 fn push_silence(text: &mut String, channels: u32, channel: u32) -> Result<(), AllocError>
     ensures { OnOk result (string_bytes text.new ≡ string_bytes text.old ++ silence_text channels channel) }
@@ -190,7 +190,7 @@ fn push_silence(text: &mut String, channels: u32, channel: u32) -> Result<(), Al
     text.push_str("gain = 0\nshift = 0\n")
 }
 
-/// Adds what adds them to a channel.
+/// Adds the actor that adds these silent samples to a channel.
 #[tactic(auto, unfolding(crate::specs::Graphs::sum_text))]
 fn push_sum(text: &mut String, channels: u32, channel: u32) -> Result<(), AllocError>
     ensures { OnOk result (string_bytes text.new ≡ string_bytes text.old ++ sum_text channels channel) }
@@ -199,7 +199,7 @@ fn push_sum(text: &mut String, channels: u32, channel: u32) -> Result<(), AllocE
     text.push_str("ways = 2\n")
 }
 
-/// Adds what joins a channel to the first one.
+/// Adds the actors that join a channel to the first one.
 fn push_join(text: &mut String, channels: u32, channel: u32) -> Result<(), AllocError>
     ensures { OnOk result (string_bytes text.new ≡ string_bytes text.old ++ join_text channels channel) }
 {
@@ -229,7 +229,7 @@ fn push_channel(
     push_channel_key(text, channel)
 }
 
-/// Where the stages of a channel take their samples.
+/// Returns the end from which the stages of a channel take their samples.
 fn source(channels: u32, channel: u32) -> End
     ensures { result ≡ source channels channel }
 {
@@ -268,7 +268,7 @@ fn push_joining(text: &mut String, channels: u32, channel: u32) -> Result<(), Al
     )
 }
 
-/// What stands behind so many stages of a channel.
+/// Returns the end after `number` stages of a channel.
 fn behind(channels: u32, channel: u32, number: usize) -> End
     ensures { result ≡ behind channels channel number }
 {
@@ -298,7 +298,7 @@ fn push_steps(
     Ok(())
 }
 
-/// Adds the links of a channel with so many stages.
+/// Adds the links of a channel with `stages` stages.
 #[tactic(auto, unfolding(crate::specs::Graphs::channel_links))]
 fn push_links(
     text: &mut String,
@@ -350,7 +350,7 @@ fn push_all_links(text: &mut String, channels: u32, stages: usize) -> Result<(),
     Ok(())
 }
 
-/// Adds a line of what was asked for.
+/// Adds a comment line with `word` and `number`.
 #[tactic(auto, unfolding(crate::specs::Graphs::note))]
 fn push_note(text: &mut String, word: &str, number: u32) -> Result<(), AllocError>
     ensures { OnOk result (string_bytes text.new ≡ string_bytes text.old ++ note word.now number) }
@@ -359,7 +359,7 @@ fn push_note(text: &mut String, word: &str, number: u32) -> Result<(), AllocErro
     Ok(())
 }
 
-/// Adds between which rates.
+/// Adds the comment lines with the two rates.
 #[tactic(auto, unfolding(crate::specs::Graphs::rates_text))]
 fn push_rates(text: &mut String, from: u32, to: u32) -> Result<(), AllocError>
     ensures { OnOk result (string_bytes text.new ≡ string_bytes text.old ++ rates_text from to) }
@@ -368,7 +368,7 @@ fn push_rates(text: &mut String, from: u32, to: u32) -> Result<(), AllocError>
     push_note(text, "to", to)
 }
 
-/// Adds the first lines.
+/// Adds the first lines of the file.
 #[tactic(auto, unfolding(crate::specs::Graphs::title))]
 fn push_title(text: &mut String, from: u32, to: u32, channels: u32) -> Result<(), AllocError>
     ensures { OnOk result (string_bytes text.new ≡ string_bytes text.old ++ title from to channels) }
@@ -378,8 +378,8 @@ fn push_title(text: &mut String, from: u32, to: u32, channels: u32) -> Result<()
     text.push_str("format = 1\n")
 }
 
-/// The graph file of a converter with these stages. A graph must be connected, so to each channel but the first one the
-/// samples of that are added with gain 0.
+/// Returns the graph file of a converter with `stages`. A graph must be connected, so the samples of the first channel
+/// are added to each other channel, with gain 0.
 pub(crate) fn graph_text(
     alloc: Global,
     from: u32,

@@ -1,13 +1,13 @@
-//! Filters made by formula: the whole numbers of a low-pass, high-pass or band-pass, and designs that convert between
+//! Filters made by formula: the integer taps of a low-pass, high-pass or band-pass, and designs that convert between
 //! two rates.
 //!
-//! It depends on `sdf_limits` alone. Begin at `wanted`, what one asks for in plain numbers, `filter`, the taps that
-//! come, and `texts`, what is printed of them by `sdfw fir`; these use `lowpass`, `settling`, which makes each phase's
-//! sum exact by the steps of `phases`, in the `order` of taps, `differences`, high-passes and band-passes, and
-//! `coefficients`, the text of taps. A conversion is split into stages by `split`, and `converter` makes its design of
-//! them for `sdfw resample`, the graph file by `graph`. `sinc`, `cost` and `measure` compute with floats, of which no
-//! clause says anything. The definitions are in `specs/Wanted.antt`, `specs/Phases.antt` (what the taps of a phase come
-//! to), `specs/Stages.antt` and `specs/Converters.antt`. `rounds` has the one test that calls a private function.
+//! It depends on `sdf_limits` alone. Begin at `wanted` (a filter in plain numbers), `filter` (its taps) and `texts`
+//! (what `sdfw fir` prints of them). These use `lowpass`, `differences` (high-passes and band-passes), `coefficients`
+//! (the text of taps) and `settling`. `settling` makes the sum of each phase exact by the steps of `phases`, in the
+//! `order` of taps. `split` splits a conversion into stages. `converter` makes their design for `sdfw resample`, with
+//! the graph file from `graph`. `sinc`, `cost` and `measure` compute with floats, and no clause says anything of their
+//! values. The definitions are in `specs/Wanted.antt`, `specs/Phases.antt` (the sums of phases), `specs/Stages.antt`
+//! and `specs/Converters.antt`. `rounds` has the one test that calls a private function.
 #![tactic(auto)]
 
 mod coefficients;

@@ -1,4 +1,4 @@
-//! Low-passes.
+//! Low-pass filters.
 
 ghost use Rattle.std.specs.Prelude.{◌≡◌, ◌<◌, ◌≤◌, ◌%◌, ◌^◌, pos, MatchResult};
 ghost use Rattle.sdf_limits.specs.declared.TheConstants.{MOST_FACTOR};
@@ -15,13 +15,13 @@ use sdf_limits::{MOST_FACTOR, MOST_SHIFT, MOST_TAPS};
 use std::alloc::Global;
 use std::marker::Model;
 
-/// The attenuation of what is stopped, in dB: taps of 16 bits reach about half of this.
+/// The greatest attenuation of stopped frequencies, in dB. Taps of 16 bits reach about half of it.
 pub const MOST_ATTENUATION: u32 = 200;
 
-/// A low-pass that can be asked for.
+/// A low-pass whose values are within their limits.
 ///
-/// It is a sinc under Kaiser's window (Kaiser 1974; Oppenheim and Schafer), for an actor of kind `fir` with its `up`
-/// and `shift`. Its rate is the one that it works at: that of the actor's input times `up`.
+/// It is a sinc under Kaiser's window (Kaiser 1974; Oppenheim and Schafer), for an actor of kind `fir` with this `up`
+/// and `shift`. It works at `rate`, the rate of the actor's input times `up`.
 #[derive(Drop)]
 pub struct Lowpass {
     rate: u32,
@@ -43,7 +43,7 @@ impl Model for Lowpass {
 }
 
 impl Lowpass {
-    /// What passes up to `pass` Hz and is down by `attenuation` dB from `stop` Hz on.
+    /// Makes a low-pass: frequencies up to `pass` Hz pass, and from `stop` Hz on they are down by `attenuation` dB.
     pub fn new(
         rate: u32,
         pass: u32,
@@ -75,7 +75,7 @@ impl Lowpass {
         })
     }
 
-    /// How many phases its taps have.
+    /// Returns the number of phases of its taps.
     pub(crate) fn up(&self) -> u32
         ensures value { result ≡ self.now.up }
         ensures some { 1 ≤ result }
@@ -84,9 +84,9 @@ impl Lowpass {
         self.up
     }
 
-    /// How many taps Kaiser's formula asks for, made up to whole phases.
+    /// Returns the number of taps that Kaiser's formula asks for, rounded up to whole phases.
     ///
-    /// That the number is the formula's no clause says.
+    /// No clause says that the number is the formula's.
     pub fn count(&self) -> Result<usize, FilterFault>
         ensures { MatchResult result (IsCount self.now.up) IsCountFault }
     {
@@ -95,10 +95,11 @@ impl Lowpass {
         whole_phases(count, self.up as usize)
     }
 
-    /// So many taps, whole numbers of 16 bits, of which each phase's come to `2^shift`: so a constant stays what it is.
+    /// Returns `count` taps, whole numbers of 16 bits. The taps of each phase sum to `2^shift`, so a constant is left
+    /// unchanged.
     ///
-    /// They are the sinc's values rounded. If a phase's sum is not exact, the taps that rounding moved most the other
-    /// way are moved, in pairs that keep them symmetric. That they are near the sinc's no clause says.
+    /// They are the rounded values of the sinc. If the sum of a phase is not exact, the taps that rounding moved most
+    /// the other way are moved, in pairs that keep them symmetric. No clause says that they are close to the sinc.
     pub fn taps(&self, alloc: Global, count: usize) -> Result<Vec<i32>, FilterFault>
         requires some { 0 < count }
         requires few { count ≤ MOST_TAPS }
@@ -118,8 +119,8 @@ impl Lowpass {
         Ok(taps)
     }
 
-    /// The high-pass that passes what this stops, and stops what this passes: `2^shift` at the middle less this one's
-    /// taps. Its taps come to 0, so of a constant nothing is left.
+    /// Returns the taps of the high-pass that passes what this one stops, and stops what it passes. They are `2^shift`
+    /// at the middle minus this one's taps, and sum to 0, so nothing is left of a constant.
     pub fn highpass(&self, alloc: Global, count: usize) -> Result<Vec<i32>, FilterFault>
         requires few { count ≤ MOST_TAPS }
         requires odd { count % 2 ≡ 1 }
@@ -132,8 +133,8 @@ impl Lowpass {
         Ok(taps)
     }
 
-    /// The band-pass of what this passes and a narrower low-pass doesn't: this one's taps less that one's. Each phase's
-    /// come to 0, so of a constant nothing is left.
+    /// Returns the taps of the band-pass that passes what this one passes and `narrow` does not: this one's taps minus
+    /// the taps of `narrow`. The taps of each phase sum to 0, so nothing is left of a constant.
     pub fn bandpass(
         &self,
         alloc: Global,
@@ -153,7 +154,7 @@ impl Lowpass {
         Ok(taps)
     }
 
-    /// The sinc whose values are the taps.
+    /// Returns the sinc whose values are the taps before they are rounded.
     fn sinc(&self, count: usize) -> Sinc {
         let edge = f64::from(self.pass) + f64::from(self.stop);
         Sinc::new(
@@ -166,14 +167,14 @@ impl Lowpass {
     }
 }
 
-/// Whether a value is one of 1 to 64.
+/// Checks whether `up` is one of 1 to 64.
 fn is_factor(up: u32) -> bool
     ensures { result ≡ is_factor up }
 {
     1 <= up && up <= MOST_FACTOR
 }
 
-/// What each phase's taps come to.
+/// Returns the sum of the taps of a phase.
 fn height(shift: u32) -> i32
     requires { shift ≤ MOST_SHIFT }
     ensures { result ≡ pos (2 ^ shift) }
@@ -181,7 +182,7 @@ fn height(shift: u32) -> i32
     1i32 << shift
 }
 
-/// A number of taps, at least one, made up to whole phases.
+/// Rounds a number of taps, at least one, up to whole phases.
 pub(crate) fn whole_phases(count: usize, up: usize) -> Result<usize, FilterFault>
     requires some { 1 ≤ up }
     requires few { up ≤ MOST_FACTOR }
@@ -194,7 +195,7 @@ pub(crate) fn whole_phases(count: usize, up: usize) -> Result<usize, FilterFault
     Ok(whole)
 }
 
-/// Whether a filter may have so many taps.
+/// Tests whether a filter may have `taps` taps.
 pub(crate) fn test_few(taps: usize) -> Result<(), FilterFault>
     ensures { MatchResult result (λ _. taps ≤ MOST_TAPS) IsCountFault }
 {

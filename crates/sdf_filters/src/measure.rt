@@ -1,27 +1,28 @@
-//! What taps do, measured in floats: no clause says anything of it.
+//! Measures of taps, in floats. No clause says anything of them.
 
 use std::f64::consts::TAU;
 use std::num::saturating_f64_to_u64;
 use std::simd::prelude::*;
 
-/// At how many frequencies more than one a band is looked at.
+/// The number of steps across a band. It is measured at one frequency more.
 const STEPS: u32 = 2048;
 
-/// Frequencies in one pass over the taps. Fewer wait for the sums of the tap before, and more are out of registers.
+/// The number of frequencies in one pass over the taps. With fewer, a pass waits for the sums of the tap before. With
+/// more, registers run out.
 const SIDE: usize = 16;
 
 /// A number for each frequency of one pass.
 type Lanes = Simd<f64, SIDE>;
 
-/// A magnitude below this is taken for it: -240 dB.
+/// The least magnitude, -240 dB. Smaller ones are raised to it.
 const LEAST_MAGNITUDE: f64 = 1e-12;
 
-/// What a filter does to what passes and to what is stopped.
+/// The measures of a filter in the bands that it passes and stops.
 #[derive(Debug, Clone, Copy, PartialEq, Eq)]
 pub struct Measured {
-    /// How far a magnitude is from the unit at most, in ten-thousandths of a dB.
+    /// The greatest deviation of a passed magnitude from the unit, in ten-thousandths of a dB.
     pub ripple: u64,
-    /// How far each magnitude is below the unit at least, in tenths of a dB.
+    /// The least distance of a stopped magnitude below the unit, in tenths of a dB.
     pub attenuation: u64,
 }
 
@@ -32,14 +33,14 @@ pub(crate) struct Range {
     pub(crate) to: f64,
 }
 
-/// The magnitudes that a filter has in a range, as parts of the unit.
+/// The least and the greatest magnitude of a filter in a range, as parts of the unit.
 #[derive(Clone, Copy)]
 struct Magnitudes {
     least: f64,
     greatest: f64,
 }
 
-/// A filter at work: its taps, the rate that it works at and what the taps of what passes come to.
+/// A filter at work: its taps, its rate, and the `unit`, to which taps sum if a constant passes.
 #[derive(Clone, Copy)]
 pub(crate) struct Response<'a> {
     taps: &'a [i32],
@@ -60,7 +61,7 @@ fn doubled_cosines(angles: [f64; SIDE]) -> Lanes {
     Lanes::from_array(angles.map(|angle| 2.0 * angle.cos()))
 }
 
-/// Goes over `taps` by Goertzel's recurrence, at angles whose doubled cosines are `turns`.
+/// Runs Goertzel's recurrence over `taps`, at angles whose doubled cosines are `turns`.
 fn last_sums(taps: &[i32], turns: Lanes) -> Sums {
     let mut last = Lanes::splat(0.0);
     let mut before = Lanes::splat(0.0);
@@ -72,7 +73,7 @@ fn last_sums(taps: &[i32], turns: Lanes) -> Sums {
     Sums { last, before }
 }
 
-/// Returns the magnitudes of `taps` at `angles` for each sample.
+/// Returns the magnitudes of `taps` at `angles`, in radians a sample.
 fn magnitudes_at(taps: &[i32], angles: [f64; SIDE]) -> [f64; SIDE] {
     let turns = doubled_cosines(angles);
     let Sums { last, before } = last_sums(taps, turns);
@@ -101,13 +102,13 @@ fn are_mirrored(taps: &[i32]) -> bool {
         .all(|(tap, other)| *tap == *other)
 }
 
-/// A magnitude in dB.
+/// Returns a magnitude in dB.
 fn decibels(magnitude: f64) -> f64 {
     20.0 * magnitude.max(LEAST_MAGNITUDE).log10()
 }
 
 impl<'a> Response<'a> {
-    /// Returns `taps` at work at `rate` samples a second. Taps that let a constant pass come to `unit`.
+    /// Returns `taps` at work at `rate` samples a second. Taps that let a constant pass sum to `unit`.
     pub(crate) fn new(taps: &'a [i32], rate: f64, unit: f64) -> Response<'a> {
         Response {
             taps,
@@ -117,7 +118,7 @@ impl<'a> Response<'a> {
         }
     }
 
-    /// The angle for each sample of a frequency of a range.
+    /// Returns the angle, in radians a sample, of frequency `step` of `range`.
     fn angle(self, range: Range, step: u32) -> f64 {
         let part = f64::from(step) / f64::from(STEPS);
         let frequency = range.from + (range.to - range.from) * part;
@@ -138,7 +139,7 @@ impl<'a> Response<'a> {
         }
     }
 
-    /// The magnitudes of a range.
+    /// Returns the least and the greatest magnitude of `range`.
     fn magnitudes(self, range: Range) -> Magnitudes {
         let mut magnitudes = Magnitudes {
             least: f64::INFINITY,
@@ -156,7 +157,7 @@ impl<'a> Response<'a> {
         magnitudes
     }
 
-    /// The greatest magnitude of all these ranges.
+    /// Returns the greatest magnitude in all of `ranges`.
     fn loudest(self, ranges: &[Range]) -> f64 {
         let mut loudest = 0.0f64;
         for range in ranges {
@@ -165,7 +166,7 @@ impl<'a> Response<'a> {
         loudest
     }
 
-    /// What it does to the range that passes and to those that are stopped.
+    /// Measures the range that passes and the ranges that are stopped.
     pub(crate) fn measured(self, passed: Range, stopped: &[Range]) -> Measured {
         let passed = self.magnitudes(passed);
         let ripple = decibels(passed.greatest)

@@ -1,4 +1,4 @@
-//! Which tap of a phase is moved next. No clause says more of it than that it is one of the phase.
+//! The choice of the tap of a phase that is moved next. Clauses say only that it is one of the phase.
 
 ghost use Rattle.std.specs.Prelude.{◌≡◌, ◌<◌, ◌≤◌, ◌+◌, ◌*◌, ◌/◌, ◌%◌, ◌⊎◌, length};
 ghost use Rattle.std.specs.List.{All};
@@ -7,10 +7,10 @@ ghost use Rattle.sdf_filters.specs.declared.order.TheConstants.{NODES};
 use crate::sinc::beyond;
 use sdf_limits::MOST_TAPS;
 
-/// How many nodes a tree of the taps of a phase has at most, with the taps themselves.
+/// The greatest number of nodes in a tree of the taps of a phase, the taps included.
 const NODES: usize = 2 * MOST_TAPS;
 
-/// A phase, the number of its first taps that are moved, and whether they are moved up.
+/// A phase, the number of its first taps that can be moved, and whether they are moved up.
 #[derive(Clone, Copy)]
 pub(crate) struct Way {
     pub(crate) up: usize,
@@ -19,8 +19,8 @@ pub(crate) struct Way {
     pub(crate) rise: bool,
 }
 
-/// What of a tap says when it is moved: how far it stands beyond its real value in the direction of the step, how far
-/// it is from the middle, in half places, and its turn.
+/// The rank of a tap in the order of moves: how far it is beyond its real value in the direction of the step, its
+/// distance from the middle in half places, and its turn.
 #[derive(Clone, Copy)]
 struct Rank {
     late: f64,
@@ -28,7 +28,7 @@ struct Rank {
     turn: usize,
 }
 
-/// The place of a tap among `count` taps, by its turn.
+/// Returns the place of the tap with this `turn` among `count` taps.
 pub(crate) fn place_of(count: usize, way: Way, turn: usize) -> usize
     requires phase { way.phase < way.up }
     requires turn { turn < count / way.up }
@@ -39,7 +39,7 @@ pub(crate) fn place_of(count: usize, way: Way, turn: usize) -> usize
     turn * way.up + way.phase
 }
 
-/// The rank of a tap, by its turn.
+/// Returns the rank of the tap with this `turn`.
 fn rank_of(taps: &[i32], reals: &[f64], way: Way, turn: usize) -> Rank
     requires same { length reals.now ≡ length taps.now }
     requires few { length taps.now ≤ MOST_TAPS }
@@ -54,8 +54,8 @@ fn rank_of(taps: &[i32], reals: &[f64], way: Way, turn: usize) -> Rank
     Rank { late, away, turn }
 }
 
-/// The rank of the tap that is moved before the other: the less late one, of two as late the one nearer to the middle,
-/// and of two as near the earlier one.
+/// Returns the rank of the tap that is moved before the other: the less late one. Of two that are equally late, it is
+/// the one nearer to the middle, and of two that are equally near, the earlier one.
 fn sooner(one: Rank, other: Rank) -> Rank
     ensures { (result.turn ≡ one.turn) ⊎ (result.turn ≡ other.turn) }
 {
@@ -67,7 +67,7 @@ fn sooner(one: Rank, other: Rank) -> Rank
     if is_before { one } else { other }
 }
 
-/// The turn of the tap that is moved first.
+/// Returns the turn of the tap that is moved first.
 pub(crate) fn first_turn(taps: &[i32], reals: &[f64], way: Way) -> usize
     requires same { length reals.now ≡ length taps.now }
     requires few { length taps.now ≤ MOST_TAPS }
@@ -83,8 +83,8 @@ pub(crate) fn first_turn(taps: &[i32], reals: &[f64], way: Way) -> usize
     first.turn
 }
 
-/// Returns whether each tap of a phase is less late now than any of them is one step on. Each is then moved once before
-/// any is moved twice. That can be so too if this is not.
+/// Returns whether each tap of a phase is less late now than any of them is after one more step. Each is then moved
+/// once before any is moved twice. That can also be true if this function returns false.
 pub(crate) fn is_round(taps: &[i32], reals: &[f64], way: Way) -> bool
     requires same { length reals.now ≡ length taps.now }
     requires phase { way.phase < way.up }
@@ -102,7 +102,7 @@ pub(crate) fn is_round(taps: &[i32], reals: &[f64], way: Way) -> bool
     latest < soonest
 }
 
-/// Lets the taps of a node's two branches meet: the turn of the one that is moved first stands at the node.
+/// Compares the taps of the two branches of `node`, and puts the turn of the sooner one at the node.
 fn meet(tree: &mut [usize], taps: &[i32], reals: &[f64], way: Way, node: usize)
     requires room { length tree.old ≡ NODES }
     requires same { length reals.now ≡ length taps.now }
@@ -118,7 +118,8 @@ fn meet(tree: &mut [usize], taps: &[i32], reals: &[f64], way: Way, node: usize)
     tree[node] = sooner(one, other).turn;
 }
 
-/// The tree of the taps of a phase: the turns stand behind its nodes, and the first one at node 1.
+/// Returns a tournament tree of the taps of a phase. Its leaves are the turns, after the inner nodes. At node 1 is the
+/// turn of the tap that is moved first.
 pub(crate) fn tree_of(taps: &[i32], reals: &[f64], way: Way) -> [usize; NODES]
     requires same { length reals.now ≡ length taps.now }
     requires few { length taps.now ≤ MOST_TAPS }
@@ -138,7 +139,7 @@ pub(crate) fn tree_of(taps: &[i32], reals: &[f64], way: Way) -> [usize; NODES]
     tree
 }
 
-/// Lets a tap that was moved meet the others once more, by its turn.
+/// Updates the tree after the tap with this `turn` was moved.
 pub(crate) fn renew(tree: &mut [usize], taps: &[i32], reals: &[f64], way: Way, turn: usize)
     requires room { length tree.old ≡ NODES }
     requires same { length reals.now ≡ length taps.now }

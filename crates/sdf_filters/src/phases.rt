@@ -1,4 +1,4 @@
-//! The taps of phases, what they come to, and steps that move them: of each tap and of its mirror image.
+//! The taps of phases, their sums, and steps that move a tap and its mirror image.
 
 ghost use Rattle.std.specs.Prelude.{◌≡◌, ◌<◌, ◌≤◌, ◌+◌, ◌-◌, ◌*◌, ◌/◌, ◌%◌, ◌⊎◌, ◌+ℤ◌, ℕ, length, slice_set};
 ghost use Rattle.std.specs.Prelude.{unsigned_abs, OnOk, IfErr, MatchResult};
@@ -10,15 +10,15 @@ use crate::fault::FilterFault;
 use crate::order::{Way, first_turn, is_round, place_of, renew, tree_of};
 use sdf_limits::MOST_TAPS;
 
-/// A tap is moved no further than this.
+/// The greatest absolute value of a tap that can still be moved.
 const FARTHEST: u32 = 65_536;
 
-/// So few steps look at all taps each, and so few taps are looked at by each step.
+/// Up to this number of steps, or up to `FEW_TAPS` taps, each step looks at all taps.
 const FEW_STEPS: u64 = 8;
 
 const FEW_TAPS: usize = 64;
 
-/// A tap where its place is one of the phase, else 0.
+/// Returns `tap` if its place is one of the phase, otherwise 0.
 fn counted(up: usize, phase: usize, place: usize, tap: i32) -> i32
     requires { 0 < up }
     ensures { result ≡ counted up phase place tap }
@@ -26,7 +26,7 @@ fn counted(up: usize, phase: usize, place: usize, tap: i32) -> i32
     if place % up == phase { tap } else { 0 }
 }
 
-/// What the taps of a phase come to.
+/// Returns the sum of the taps of `phase`.
 pub(crate) fn phase_sum(taps: &[i32], up: usize, phase: usize) -> i64
     requires up { 0 < up }
     requires few { length taps.now ≤ MOST_TAPS }
@@ -39,14 +39,14 @@ pub(crate) fn phase_sum(taps: &[i32], up: usize, phase: usize) -> i64
     sum
 }
 
-/// Whether a tap is one of -32768 to 32767.
+/// Checks whether `tap` is one of -32768 to 32767.
 fn has_16_bits(tap: i32) -> bool
     ensures { result ≡ has_16_bits tap }
 {
     i16::try_from(tap).is_ok()
 }
 
-/// The first tap that has over 16 bits is a fault.
+/// Returns the fault of the first tap of over 16 bits, if there is one.
 pub(crate) fn test_16_bits(taps: &[i32]) -> Result<(), FilterFault>
     ensures { MatchResult result (λ _. Have16Bits taps.now) IsTapFault }
 {
@@ -58,7 +58,7 @@ pub(crate) fn test_16_bits(taps: &[i32]) -> Result<(), FilterFault>
     Ok(())
 }
 
-/// The fault of a tap.
+/// Returns the fault of a tap of over 16 bits.
 fn past_16_bits(tap: i32) -> FilterFault
     requires { 32768 ≤ unsigned_abs tap }
     ensures { IsTapFault result }
@@ -68,7 +68,7 @@ fn past_16_bits(tap: i32) -> FilterFault
     }
 }
 
-/// A tap, one step on.
+/// Returns `tap` moved by one step, up if `rise`.
 fn stepped(tap: i32, rise: bool) -> i32
     requires { unsigned_abs tap ≤ 65536 }
     ensures { result ≡ tap +ℤ steps rise 1 }
@@ -76,7 +76,7 @@ fn stepped(tap: i32, rise: bool) -> i32
     if rise { tap + 1 } else { tap - 1 }
 }
 
-/// Moves a tap by one step.
+/// Moves the tap at `place` by one step.
 pub(crate) fn step_tap(taps: &mut [i32], place: usize, rise: bool) -> Result<(), FilterFault>
     requires { place < length taps.old }
     ensures moves { OnOk result (taps.new ≡ slice_set taps.old place (tap taps.old place +ℤ steps rise 1)) }
@@ -90,7 +90,7 @@ pub(crate) fn step_tap(taps: &mut [i32], place: usize, rise: bool) -> Result<(),
     Ok(())
 }
 
-/// Moves a tap of a phase and its mirror image by one step, by its turn.
+/// Moves the tap with this `turn`, and its mirror image, by one step.
 fn step_turn(taps: &mut [i32], way: Way, turn: usize) -> Result<(), FilterFault>
     requires turns { AreTurns way (length taps.old) }
     requires turn { turn < way.turns }
@@ -103,7 +103,7 @@ fn step_turn(taps: &mut [i32], way: Way, turn: usize) -> Result<(), FilterFault>
     Ok(())
 }
 
-/// Moves each tap of some turns by one step.
+/// Moves each tap of a way's turns, and its mirror image, by one step.
 fn move_each(taps: &mut [i32], way: Way) -> Result<(), FilterFault>
     requires turns { AreTurns way (length taps.old) }
     ensures moves { OnOk result (AreMovedBy way way.turns taps.old taps.new) }
@@ -115,7 +115,7 @@ fn move_each(taps: &mut [i32], way: Way) -> Result<(), FilterFault>
     Ok(())
 }
 
-/// Moves taps by `times` steps, each with its mirror image. Each step looks at all of them.
+/// Moves taps by `times` steps, each with its mirror image. Each step looks at all of the way's taps.
 fn move_few(taps: &mut [i32], reals: &[f64], way: Way, times: u64) -> Result<(), FilterFault>
     requires same { length reals.now ≡ length taps.old }
     requires few { length taps.old ≤ MOST_TAPS }
@@ -165,7 +165,7 @@ fn move_soonest(taps: &mut [i32], reals: &[f64], way: Way, times: u64) -> Result
     }
 }
 
-/// Moves taps by as many steps as there are turns: each once, if none is moved before all others were.
+/// Moves taps by one round: one step for each turn. Each tap moves once, if none is moved twice before all others were.
 fn move_round(taps: &mut [i32], reals: &[f64], way: Way) -> Result<(), FilterFault>
     requires same { length reals.now ≡ length taps.old }
     requires few { length taps.old ≤ MOST_TAPS }
@@ -181,7 +181,7 @@ fn move_round(taps: &mut [i32], reals: &[f64], way: Way) -> Result<(), FilterFau
     }
 }
 
-/// Moves taps by `times` steps: whole rounds, in which each tap moves once, and then single steps.
+/// Moves taps by `times` steps: whole rounds, and then single steps.
 pub(crate) fn move_rounds(
     taps: &mut [i32],
     reals: &[f64],

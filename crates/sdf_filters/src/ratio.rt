@@ -1,4 +1,4 @@
-//! Ratios of rates, and the stages that may be the first ones of them.
+//! Ratios of rates, and the stages that can be their first ones.
 
 ghost use Rattle.std.specs.Prelude.{◌≡◌, ◌<◌, ◌+◌, ◌/◌, IfSome};
 ghost use Rattle.std.specs.Int.{IsGcd};
@@ -7,7 +7,7 @@ ghost use Rattle.sdf_filters.specs.Stages.{IsLowest, IsPart};
 use crate::stage::Stage;
 use sdf_limits::MOST_FACTOR;
 
-/// How many places there are for stages: each `up` with each `down`.
+/// The number of places for stages: each `up` with each `down`.
 const PLACES: u32 = MOST_FACTOR * MOST_FACTOR;
 
 /// A ratio: `up` samples for `down`.
@@ -17,7 +17,7 @@ pub(crate) struct Ratio {
     pub(crate) down: u32,
 }
 
-/// The greatest common divisor.
+/// Returns the greatest common divisor.
 fn gcd(a: u32, b: u32) -> u32
     requires { 0 < a }
     ensures some { 0 < result }
@@ -33,7 +33,7 @@ fn gcd(a: u32, b: u32) -> u32
     x
 }
 
-/// The ratio of two rates, in lowest terms.
+/// Returns the ratio of two rates, in lowest terms.
 pub(crate) fn lowest(from: u32, to: u32) -> Ratio
     requires from { 0 < from }
     requires to { 0 < to }
@@ -47,14 +47,14 @@ pub(crate) fn lowest(from: u32, to: u32) -> Ratio
 }
 
 impl Ratio {
-    /// The sum of its terms: 2 where the ratio is 1.
+    /// Returns the sum of its terms, which is 2 if the ratio is 1.
     pub(crate) fn sum(self) -> u64
         ensures { result ≡ self.up + self.down }
     {
         u64::from(self.up) + u64::from(self.down)
     }
 
-    /// What is left of it behind a stage.
+    /// Returns the ratio that is left after a stage.
     pub(crate) fn after(self, stage: Stage) -> Ratio
         ensures up { result.up ≡ self.up / stage.up }
         ensures down { result.down ≡ self.down / stage.down }
@@ -65,7 +65,7 @@ impl Ratio {
         }
     }
 
-    /// The stage at a place, where it is a part of the ratio. At place 0 is the stage that does nothing.
+    /// Returns the stage at `place` if it is a part of the ratio. Place 0 is for the stage that does nothing.
     pub(crate) fn part(self, place: u32) -> Option<Stage>
         ensures { IfSome result (IsPart self.up self.down) }
     {

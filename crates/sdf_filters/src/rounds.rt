@@ -12,7 +12,7 @@ const ROWS: &[([f64; 4], i64, [i32; 4])] = &[
     ([0.0, 0.75, 0.75, 0.0], 4, [1, 1, 1, 1]),
 ];
 
-/// Refuses a round that moves each tap once although the next step of one is sooner than the first step of another.
+/// Tests that a round does not move each tap once if the next step of one is sooner than the first step of another.
 #[test]
 fn taps_move_twice(_rt: HostRuntime) -> Result<(), Fail> {
     for &(reals, total, wanted) in ROWS {

@@ -1,4 +1,5 @@
-//! Making the taps of each phase come to one total: in whole numbers, whatever rounding gave. Taps stay symmetric.
+//! Settling: the taps of each phase are moved until they have an exact sum, whatever rounding gave. They stay
+//! symmetric.
 
 ghost use Rattle.std.specs.Prelude.{◌≡◌, ◌<◌, ◌≤◌, ◌+◌, ◌-◌, ◌*◌, ◌/◌, ◌%◌, ◌⊎◌, ℕ, length, OnOk, IfErr};
 ghost use Rattle.sdf_filters.specs.Phases.{phase_sum, AreMoved, IsSumMoved, IsSymmetric, IsEven};
@@ -9,7 +10,7 @@ use crate::order::{Way, first_turn, place_of};
 use crate::phases::{move_rounds, phase_sum, step_tap};
 use sdf_limits::MOST_TAPS;
 
-/// Moves taps of a phase until they come to the total, with those of its mirror image, which is another phase.
+/// Moves taps of `phase` until they sum to `total`. Their mirror images, which are in another phase, move with them.
 fn settle_phase(
     taps: &mut [i32],
     reals: &[f64],
@@ -57,7 +58,8 @@ fn move_middle(taps: &mut [i32], up: usize, rise: bool, times: u64) -> Result<()
     Ok(())
 }
 
-/// How often the middle one of an odd number of taps moves: once in each round, and once more if an odd number is left.
+/// Returns how many of `times` steps the middle one of `many` taps makes, if `many` is odd. It moves once in each
+/// round, and once more if an odd number of steps is left.
 fn middle_times(times: u64, many: u64) -> u64
     requires { many % 2 ≡ 1 }
     ensures few { result ≤ times }
@@ -67,7 +69,7 @@ fn middle_times(times: u64, many: u64) -> u64
     times / many + times % many % 2
 }
 
-/// Moves taps of the phase around the middle by `times` steps, an odd number of taps: they stay symmetric.
+/// Moves the sum of the phase around the middle by `times` steps, if its number of taps is odd. They stay symmetric.
 fn move_odd(taps: &mut [i32], reals: &[f64], way: Way, times: u64) -> Result<(), FilterFault>
     requires same { length reals.now ≡ length taps.old }
     requires few { length taps.old ≤ MOST_TAPS }
@@ -88,8 +90,8 @@ fn move_odd(taps: &mut [i32], reals: &[f64], way: Way, times: u64) -> Result<(),
     Ok(())
 }
 
-/// Moves taps of the phase around the middle by `times` steps, an even number of taps. Of an odd number of steps the
-/// last one moves one tap alone.
+/// Moves the sum of the phase around the middle by `times` steps, if its number of taps is even. If `times` is odd, the
+/// last step moves one tap alone.
 fn move_even(taps: &mut [i32], reals: &[f64], way: Way, times: u64) -> Result<(), FilterFault>
     requires same { length reals.now ≡ length taps.old }
     requires few { length taps.old ≤ MOST_TAPS }
@@ -111,7 +113,7 @@ fn move_even(taps: &mut [i32], reals: &[f64], way: Way, times: u64) -> Result<()
     Ok(())
 }
 
-/// Moves taps of the phase around the middle until they come to the total.
+/// Moves taps of the phase around the middle until they sum to `total`.
 fn settle_middle(taps: &mut [i32], reals: &[f64], up: usize, total: i64) -> Result<(), FilterFault>
     requires same { length reals.now ≡ length taps.old }
     requires few { length taps.old ≤ MOST_TAPS }
@@ -143,7 +145,7 @@ fn settle_middle(taps: &mut [i32], reals: &[f64], up: usize, total: i64) -> Resu
     }
 }
 
-/// Makes each tap behind the middle the one before it at the same distance.
+/// Sets each tap after the middle to the tap at the same distance before the middle.
 fn mirror(taps: &mut [i32])
     ensures { IsSymmetric taps.new }
 {
@@ -153,7 +155,7 @@ fn mirror(taps: &mut [i32])
     }
 }
 
-/// Moves taps until those of each phase whose mirror image is another come to the total.
+/// Moves taps until each phase whose mirror image is another phase sums to `total`.
 fn settle_outer(taps: &mut [i32], reals: &[f64], up: usize, total: i64) -> Result<(), FilterFault>
     requires same { length reals.now ≡ length taps.old }
     requires few { length taps.old ≤ MOST_TAPS }
@@ -171,8 +173,8 @@ fn settle_outer(taps: &mut [i32], reals: &[f64], up: usize, total: i64) -> Resul
     Ok(())
 }
 
-/// Moves taps until those of each phase come to the total. They are made symmetric first, and stay so unless a phase
-/// around the middle has an even number of them and an odd total.
+/// Moves taps until each phase sums to `total`. They are made symmetric first. They stay so unless the phase around the
+/// middle has an even number of taps and `total` is odd.
 pub(crate) fn settle(
     taps: &mut [i32],
     reals: &[f64],

@@ -6,14 +6,14 @@ use std::alloc::{AllocError, Global};
 use std::f64::consts::{PI, TAU};
 use std::num::{nearest_usize_to_f64, saturating_f64_to_i32, saturating_f64_to_usize};
 
-/// A sinc under Kaiser's window, times `up` and `2^shift`, about the middle of its places.
+/// A sinc under Kaiser's window, about the middle of its places, times `up` and `2^shift`.
 #[derive(Clone, Copy)]
 pub(crate) struct Sinc {
-    /// Half of what passes, as a part of the rate.
+    /// The frequency at which the filter has half its height, as a part of the rate.
     edge: f64,
     /// The window's parameter.
     beta: f64,
-    /// The window's height at its middle, before it is made 1.
+    /// The window's height at its middle, before it is scaled to 1.
     peak: f64,
     up: f64,
     unit: f64,
@@ -21,7 +21,7 @@ pub(crate) struct Sinc {
 }
 
 impl Sinc {
-    /// So many places, of a filter that has half its height at `edge` times the rate.
+    /// Makes a sinc of `count` places, for a filter that has half its height at `edge` times the rate.
     pub(crate) fn new(edge: f64, attenuation: u32, up: f64, unit: f64, count: usize) -> Sinc {
         let last = count.saturating_sub(1);
         let beta = shape(f64::from(attenuation));
@@ -35,7 +35,7 @@ impl Sinc {
         }
     }
 
-    /// Its value at a place.
+    /// Returns its value at `place`.
     fn at(&self, place: usize) -> f64 {
         let from_middle = nearest_usize_to_f64(place) - self.middle;
         let part = if self.middle == 0.0 {
@@ -49,7 +49,7 @@ impl Sinc {
     }
 }
 
-/// The sinc of a low-pass of unit height, `from_middle` places from its middle.
+/// Returns the sinc of a low-pass of unit height, `from_middle` places from its middle.
 fn sine_over(edge: f64, from_middle: f64) -> f64 {
     if from_middle == 0.0 {
         2.0 * edge
@@ -58,7 +58,7 @@ fn sine_over(edge: f64, from_middle: f64) -> f64 {
     }
 }
 
-/// Kaiser's formula for the window's parameter, by the attenuation in dB.
+/// Returns the window's parameter for an attenuation in dB, by Kaiser's formula.
 fn shape(attenuation: f64) -> f64 {
     if attenuation > 50.0 {
         0.1102 * (attenuation - 8.7)
@@ -69,7 +69,8 @@ fn shape(attenuation: f64) -> f64 {
     }
 }
 
-/// The modified Bessel function of order 0, by its series: the terms of an argument up to 22 are small after 60.
+/// Returns the modified Bessel function of order 0, by its series. For arguments up to 22, the terms after 60 are
+/// small.
 fn bessel(x: f64) -> f64 {
     let mut total = 1.0;
     let mut term = 1.0;
@@ -84,15 +85,15 @@ fn bessel(x: f64) -> f64 {
     total
 }
 
-/// Kaiser's formula for the number of taps, by the attenuation in dB, and by the Hz between what passes and what is
-/// stopped.
+/// Returns the number of taps, by Kaiser's formula, for an attenuation in dB. `band` is the width in Hz between passed
+/// and stopped frequencies.
 pub(crate) fn kaiser_length(attenuation: u32, band: f64, rate: f64) -> usize {
     let width = TAU * band / rate;
     let order = (f64::from(attenuation) - 7.95) / (2.285 * width);
     saturating_f64_to_usize(order.ceil()).saturating_add(1)
 }
 
-/// The values at all places; the second half is the first one turned round.
+/// Returns the values at all places. The second half mirrors the first one.
 pub(crate) fn real_taps(alloc: Global, sinc: Sinc, count: usize) -> Result<Vec<f64>, AllocError>
     ensures { IfOk result (λ reals. length reals.items ≡ count) }
 {
@@ -109,7 +110,7 @@ pub(crate) fn real_taps(alloc: Global, sinc: Sinc, count: usize) -> Result<Vec<f
     Ok(reals)
 }
 
-/// The nearest whole numbers, of two as near the even one.
+/// Returns the nearest whole numbers, and the even one of two that are equally near.
 pub(crate) fn rounded_taps(alloc: Global, reals: &[f64]) -> Result<Vec<i32>, AllocError>
     ensures { IfOk result (λ taps. length taps.items ≡ length reals.now) }
 {
@@ -120,7 +121,7 @@ pub(crate) fn rounded_taps(alloc: Global, reals: &[f64]) -> Result<Vec<i32>, All
     Ok(taps)
 }
 
-/// How far a tap stands beyond its real value, in the direction of a step.
+/// Returns how far `tap` is beyond its real value in the direction of a step, up if `rise`.
 pub(crate) fn beyond(tap: f64, real: f64, rise: bool) -> f64 {
     let over = tap - real;
     if rise { over } else { -over }

@@ -11,11 +11,11 @@ use crate::stage::Stage;
 use sdf_limits::MOST_FACTOR;
 use std::alloc::{AllocError, Global};
 
-/// The stages of a conversion between two rates, in order: their product is the ratio of the rates exactly.
+/// Returns the stages of a conversion between two rates, in order. Their product is exactly the ratio of the rates.
 ///
-/// Of the splits into at most three stages the cheapest one is taken, in products a second for that attenuation in dB
-/// (`cost` says how they are counted); where there is none, the least factor is taken first, and what is left is split
-/// so. That the split is cheap no clause says.
+/// They are the cheapest split into at most three stages, in products a second for this `attenuation` in dB (see
+/// `cost`). If there is none, the first stage is the least factor, and the rest is split in the same way. No clause
+/// says that the split is cheap.
 pub fn stages(
     alloc: Global,
     from: u32,
@@ -35,7 +35,7 @@ pub fn stages(
     Ok(stages)
 }
 
-/// The stages of a ratio, from a rate on.
+/// Returns the stages of `ratio`, from the rate `from` on.
 fn split(
     alloc: Global,
     ratio: Ratio,
@@ -60,7 +60,7 @@ fn split(
     Ok(stages)
 }
 
-/// One stage more.
+/// Adds a stage.
 fn add_stage(stages: &mut Vec<Stage>, stage: Stage) -> Result<(), AllocError>
     ensures { OnOk result (stages.new.items ≡ stages.old.items ++ stage ∷ []) }
 {
@@ -68,7 +68,7 @@ fn add_stage(stages: &mut Vec<Stage>, stage: Stage) -> Result<(), AllocError>
     Ok(())
 }
 
-/// The next stage of a ratio.
+/// Returns the next stage of the ratio `left`.
 fn next_stage(left: Ratio, weights: Weights, rate: f64) -> Result<Stage, FilterFault>
     requires up { 0 < left.up }
     requires down { 0 < left.down }
@@ -81,7 +81,7 @@ fn next_stage(left: Ratio, weights: Weights, rate: f64) -> Result<Stage, FilterF
     }
 }
 
-/// The stage of the least factor.
+/// Returns the stage of the least factor.
 fn least_part(left: Ratio) -> Result<Stage, FilterFault>
     requires up { 0 < left.up }
     requires down { 0 < left.down }
@@ -100,7 +100,7 @@ fn least_part(left: Ratio) -> Result<Stage, FilterFault>
     Err(FilterFault::FactorTooLarge { factor: left.down })
 }
 
-/// The least factor of a number from 2 to 64.
+/// Returns the least factor of `number` from 2 to 64.
 fn least_factor(number: u32) -> Option<u32>
     ensures { MatchOption result (HasNoFactor number) (IsLeastFactor number) }
 {

@@ -3,7 +3,7 @@
 ghost use Rattle.std.specs.Prelude.{◌≤◌};
 ghost use Rattle.sdf_limits.specs.declared.TheConstants.{MOST_FACTOR};
 
-/// A filter between two rates: `up / down` times as many samples, each key within the limits of an actor of kind `fir`.
+/// A filter that multiplies the rate by `up / down`. Each key is within the limits of an actor of kind `fir`.
 #[derive(Debug, Clone, Copy, PartialEq, Eq)]
 pub struct Stage {
     pub up: u32,

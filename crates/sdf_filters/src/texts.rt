@@ -1,4 +1,4 @@
-//! What is printed of a filter.
+//! The texts that are printed of a filter.
 
 ghost use Rattle.std.specs.Prelude.{◌≡◌, ◌++◌, OnOk, MatchResult, string_bytes};
 ghost use Rattle.sdf_filters.specs.Wanted.{IsFault};
@@ -12,14 +12,14 @@ use crate::measure::Measured;
 use crate::wanted::{Band, Wanted};
 use std::alloc::{AllocError, Global};
 
-/// What is printed of a filter: the coefficient file, and the line of what its taps do.
+/// The texts that are printed of a filter: the coefficient file, and the line with the measures of its taps.
 #[derive(Drop)]
 pub struct FilterTexts {
     pub file: String,
     pub told: String,
 }
 
-/// Adds which frequencies pass.
+/// Adds the kind of a filter and the edges of its bands.
 fn push_band(text: &mut String, band: Band) -> Result<(), AllocError>
     ensures { OnOk result (string_bytes text.new ≡ string_bytes text.old ++ band_text band) }
 {
@@ -49,7 +49,7 @@ fn push_wanted(text: &mut String, wanted: Wanted) -> Result<(), AllocError>
     writeln!(text, " Hz at {rate} Hz, {attenuation} dB")
 }
 
-/// Adds so many ten-thousandths.
+/// Adds `number` ten-thousandths, with four digits after the point.
 fn push_places(text: &mut String, number: u64) -> Result<(), AllocError>
     ensures { OnOk result (string_bytes text.new ≡ string_bytes text.old ++ with_places number) }
 {
@@ -61,7 +61,7 @@ fn push_places(text: &mut String, number: u64) -> Result<(), AllocError>
     write!(text, "{whole}.{first}{second}{third}{fourth}")
 }
 
-/// Adds so many tenths.
+/// Adds `number` tenths, with one digit after the point.
 fn push_place(text: &mut String, number: u64) -> Result<(), AllocError>
     ensures { OnOk result (string_bytes text.new ≡ string_bytes text.old ++ with_place number) }
 {
@@ -70,7 +70,7 @@ fn push_place(text: &mut String, number: u64) -> Result<(), AllocError>
     write!(text, "{whole}.{tenths}")
 }
 
-/// Adds the line of what so many taps do.
+/// Adds the line with the measures of `count` taps.
 #[tactic(auto, unfolding(crate::specs::Filters::told_text))]
 fn push_told(text: &mut String, count: usize, measured: Measured) -> Result<(), AllocError>
     ensures { OnOk result (string_bytes text.new ≡ string_bytes text.old ++ told_text count measured) }
@@ -82,7 +82,7 @@ fn push_told(text: &mut String, count: usize, measured: Measured) -> Result<(), 
     text.push_str(" dB down\n")
 }
 
-/// The coefficient file of the taps of a filter, and the line of what they do, which is measured.
+/// Returns the coefficient file of the taps of a filter, and the line with their measures.
 pub fn filter_texts(alloc: Global, wanted: Wanted) -> Result<FilterTexts, FilterFault>
     ensures { MatchResult result
         (λ texts. AreFilterTexts wanted (string_bytes texts.file) (string_bytes texts.told)) (IsFault wanted) }

@@ -1,22 +1,22 @@
-//! What one asks for, in plain numbers.
+//! Filters, specified in plain numbers.
 
 use crate::measure::{Measured, Range, Response};
 
-/// The frequencies that a filter passes, in Hz; the others are stopped.
+/// The frequencies that a filter passes and stops, in Hz.
 #[derive(Debug, Clone, Copy, PartialEq, Eq)]
 pub enum Band {
-    /// A low-pass: what is up to `pass` passes, what is from `stop` on is stopped.
+    /// A low-pass: frequencies up to `pass` pass, frequencies from `stop` on are stopped.
     Low {
         pass: u32,
         stop: u32,
     },
-    /// A high-pass: what is up to `stop` is stopped, what is from `pass` on passes.
+    /// A high-pass: frequencies up to `stop` are stopped, frequencies from `pass` on pass.
     High {
         stop: u32,
         pass: u32,
     },
-    /// A band-pass: what is up to `low_stop` is stopped, what is from `low_pass` to `pass` passes, and what is from
-    /// `stop` on is stopped.
+    /// A band-pass: frequencies from `low_pass` to `pass` pass. Frequencies up to `low_stop` and from `stop` on are
+    /// stopped.
     Middle {
         low_stop: u32,
         low_pass: u32,
@@ -25,15 +25,15 @@ pub enum Band {
     },
 }
 
-/// A filter in plain numbers.
+/// A filter, specified in plain numbers.
 #[derive(Debug, Clone, Copy, PartialEq, Eq)]
 pub struct Wanted {
-    /// Samples a second at the filter: those of the actor's input times `up`.
+    /// The rate of the filter in samples a second: the rate of the actor's input times `up`.
     pub rate: u32,
     pub band: Band,
-    /// Of what is stopped, in dB.
+    /// The attenuation of stopped frequencies, in dB.
     pub attenuation: u32,
-    /// The actor's keys.
+    /// The actor's keys `up` and `shift`.
     pub up: u32,
     pub shift: u32,
 }
@@ -46,7 +46,8 @@ fn range(from: u32, to: u32) -> Range {
 }
 
 impl Wanted {
-    /// What taps do to what passes and to what is stopped, where those of each phase of what passes come to `2^shift`.
+    /// Measures the ripple and the attenuation of `taps`. The unit is `up` times `2^shift`: the taps of each phase of a
+    /// low-pass sum to `2^shift`.
     pub(crate) fn measured(self, taps: &[i32]) -> Measured {
         let unit = f64::from(self.up) * f64::from(self.shift).exp2();
         let response = Response::new(taps, f64::from(self.rate), unit);

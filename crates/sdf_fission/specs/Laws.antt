@@ -13,8 +13,9 @@ use Rattle.sdf_answer.specs.Periods.{HasPeriod}
 use Rattle.sdf_fission.specs.Warm.{IsWarm}
 use Rattle.sdf_fission.specs.WarmUps.{WarmsIn}
 
--- V is the history of net n where each node a has fired k a times, whole periods of it, and then m a times. U is that
--- of the same net where each has fired m a times on the input of these alone, which is enough for it to be warm
+-- V is the history of net n after each node a has fired k a times, in whole periods, and then m a times. U is the
+-- history of the same net after each node has fired only these m a times, on their input alone. They are enough for it
+-- to be warm.
 pub record StartsLate {A S T : Type 0} (s : Steps A S T) (n : Netlist A T) (first later all : List (List T))
     (k m memory since : ℕ → ℕ) (w : List ℕ) (V U : ℕ → List T) : Type 0 where
   pub net : IsNet s n
@@ -27,15 +28,15 @@ pub record StartsLate {A S T : Type 0} (s : Steps A S T) (n : Netlist A T) (firs
   pub long : IsHistoryOf s n all (λ a. k a + m a) V
   pub short : IsHistoryOf s n later m U
 
--- both leave the same
+-- both histories leave the same state
 abbrev pub RestsForget : {A S T : Type 0} → Steps A S T → Type 0
 RestsForget {A} {S} {T} s =
     (n : Netlist A T) (first later all : List (List T)) (k m memory since : ℕ → ℕ) (w : List ℕ) (V U : ℕ → List T)
     (rest : Rest T S) → StartsLate s n first later all k m memory since w V U →
     Leaves s n m U rest → Leaves s n (λ a. k a + m a) V rest
 
--- a run of net n on the last periods of the input of another one, enough of them for the net to be warm: that one made
--- these outputs
+-- a run of net n on the last periods of the input of a longer run, enough of them for the net to be warm; the longer
+-- run made `outputs`
 pub record RunsLate {A S T : Type 0} (s : Steps A S T) (n : Netlist A T) (p : Schedule) (few warm : ℕ)
     (first later all outputs : List (List T)) (rest : Rest T S) : Type 0 where
   pub period : HasPeriod s n p
@@ -45,13 +46,13 @@ pub record RunsLate {A S T : Type 0} (s : Steps A S T) (n : Netlist A T) (p : Sc
   pub given : HasInputs n p.repetitions few first
   pub full : AreFull n p.repetitions few first
   pub joined : AreJoined first later all
-  -- what it makes is let go
+  -- the outputs of the short run are dropped
   pub made : List (List T)
   pub short : HasRun s n later (periods_of p.repetitions warm) made rest
   pub other : Rest T S
   pub long : HasRun s n all (periods_of p.repetitions (few + warm)) outputs other
 
--- what it leaves is what the long run leaves
+-- the short run leaves what the long run leaves
 abbrev pub WarmRunsLeave : {A S T : Type 0} → Steps A S T → Type 0
 WarmRunsLeave {A} {S} {T} s =
     (n : Netlist A T) (p : Schedule) (few warm : ℕ) (first later all outputs : List (List T)) (rest : Rest T S) →
@@ -70,8 +71,8 @@ WarmRunsGoOn {A} {S} {T} s =
     AreJoined front later all → AreJoined outputs on joined → length joined ≡ length outputs →
     HasRun s n all (periods_of p.repetitions (few + warm + more)) joined last
 
--- A run goes on from a rest by some periods, and makes these lists. Another one is started late, on the last `warm` of
--- these periods alone, and goes on from what it has left there, on the lists after them
+-- A run goes on from a rest by some periods, and makes the lists `on`. A second run starts late, on the last `warm` of
+-- these periods alone, and goes on from there with the lists after them
 pub record ArePartsOf {A S T : Type 0} (s : Steps A S T) (n : Netlist A T) (p : Schedule) (spare warm more : ℕ)
     (before tail front after on next : List (List T)) (rest last end : Rest T S) : Type 0 where
   pub period : HasPeriod s n p
@@ -86,7 +87,7 @@ pub record ArePartsOf {A S T : Type 0} (s : Steps A S T) (n : Netlist A T) (p : 
   pub short : HasRun s n tail (periods_of p.repetitions warm) made back
   pub late : GoesOnBy s n p.repetitions back more after next end
 
--- the lists of both, joined, are what one run makes that goes on from the rest by all these periods
+-- the lists of both, joined, are the outputs of one run that goes on from the rest by all these periods
 abbrev pub PartsGoOn : {A S T : Type 0} → Steps A S T → Type 0
 PartsGoOn {A} {S} {T} s =
     (n : Netlist A T) (p : Schedule) (spare warm more : ℕ) (before tail front after all on next joined : List (List T))
@@ -104,19 +105,20 @@ pub record WasLeft {A S T : Type 0} (s : Steps A S T) (n : Netlist A T) (q : Lis
   pub full : AreFull n q periods inputs
   pub run : HasRun s n inputs (periods_of q periods) outputs rest
 
--- what any history leaves after whole periods is left by such a run, since what a source has not read makes no sample
+-- what any history leaves after whole periods is also left by a run that read all of its input, since unread input
+-- makes no sample
 abbrev pub RestsWereLeft : {A S T : Type 0} → Steps A S T → Type 0
 RestsWereLeft {A} {S} {T} s =
     (n : Netlist A T) (p : Schedule) (periods : ℕ) (inputs : List (List T)) (rest : Rest T S) →
     HasPeriod s n p → IsRest s n inputs (periods_of p.repetitions periods) rest → WasLeft s n p.repetitions rest
 
--- a run that goes on from there, by as many periods as its input has, leaves such a rest again
+-- a run that goes on from there by all periods of its input again leaves a rest like this
 abbrev pub RunsLeaveRests : {A S T : Type 0} → Steps A S T → Type 0
 RunsLeaveRests {A} {S} {T} s =
     (n : Netlist A T) (q : List ℕ) (more : ℕ) (later on : List (List T)) (rest last : Rest T S) →
     WasLeft s n q rest → GoesOnBy s n q rest more later on last → AreFull n q more later → WasLeft s n q last
 
--- a run goes on from a rest, and another one from what it leaves: the lists of both, joined, are what one run makes
+-- a run goes on from a rest, and another one from what it leaves: the lists of both, joined, are the outputs of one run
 -- that goes on by the periods of both
 abbrev pub RunsGoOnTwice : {A S T : Type 0} → Steps A S T → Type 0
 RunsGoOnTwice {A} {S} {T} s =

@@ -1,4 +1,4 @@
--- How many periods of warm-up a net needs.
+-- The warm-up periods that a net needs.
 use Rattle.std.specs.Prelude.{◌≡◌, ℕ, ◌+◌, ◌*◌, ◌≤◌, ◌<◌, ◌⊎◌, List, [], ◌∷◌, length, set, slice_index}
 use Rattle.sdf_limits.specs.declared.TheConstants.{MOST_INITIAL}
 use Rattle.sdf_graph.specs.Rates.{Rates, Shape, Edge, rates, channel, rate_at, sum_to, IsCycle}
@@ -11,23 +11,23 @@ use Rattle.sdf_fission.specs.declared.warm_up.Move.{Move}
 use Rattle.sdf_fission.specs.declared.warm_up.Move.TheVariants.{Stays, MovesOn, TooFar}
 use Rattle.sdf_fission.specs.Warm.{NodeForgets, IsLeast, IsWarm, StaysCold, HasLoop}
 
--- this many periods of repetition vector q are enough for a net to be warm
+-- this number of periods of repetition vector q is enough for a net to be warm
 pub record WarmsIn {A S T : Type 0} (s : Steps A S T) (n : Netlist A T) (q : List ℕ) (periods : ℕ) : Type 0 where
   pub memory : ℕ → ℕ
   pub since : ℕ → ℕ
   pub is : IsWarm s n (periods_of q periods) memory since
 
--- numbers of firings, one for each actor, none of them great
+-- numbers of firings, one for each actor, each at most MAX_FIRINGS
 pub record AreFirings (actors : ℕ) (firings : List ℕ) : Type 0 where
   pub all : length firings ≡ actors
   pub few : (a : ℕ) → a < actors → slice_index firings a ≤ MAX_FIRINGS
 
--- what each node remembers
+-- the memory of each node, in firings
 abbrev pub AreMemories : {A S T : Type 0} → Steps A S T → Netlist A T → List ℕ → Type 0
 AreMemories s n memory =
     (a : ℕ) → a < length n.nodes → IsLeast (NodeForgets s (node n a)) (slice_index memory a)
 
--- a channel of a graph of this many actors
+-- a channel of a graph with this number of actors
 pub record IsChannel (actors : ℕ) (e : Edge) : Type 0 where
   pub from_in : e.from < actors
   pub to_in : e.to < actors
@@ -35,12 +35,12 @@ pub record IsChannel (actors : ℕ) (e : Edge) : Type 0 where
   pub take : (n : ℕ) × IsCycle n e.take
   pub initial_small : e.initial ≤ MOST_INITIAL
 
--- how many samples of a channel come before those that its source puts once it has forgotten what it took before its
--- firing since
+-- the number of cold samples of a channel, initial samples included: its source puts them before it has forgotten what
+-- it took before its firing since
 abbrev pub cold : Edge → (ℕ → ℕ) → (ℕ → ℕ) → ℕ
 cold e memory since = e.initial + sum_to (rate_at e.put) (since e.from + memory e.from)
 
--- its target takes none of these from its firing since on
+-- a channel is late: its target takes no cold sample from its firing since on
 abbrev pub IsLate : Edge → (ℕ → ℕ) → (ℕ → ℕ) → Type 0
 IsLate e memory since = cold e memory since ≤ sum_to (rate_at e.take) (since e.to)
 
@@ -53,11 +53,11 @@ abbrev pub AreEarly : Shape → (ℕ → ℕ) → List ℕ → Type 0
 AreEarly g memory firings =
     (since : ℕ → ℕ) → AreLate g memory since → (a : ℕ) → a < g.actors → slice_index firings a ≤ since a
 
--- an actor has this amount of samples behind it only after too many firings
+-- an actor has moved this amount of samples only after more than MAX_FIRINGS firings
 abbrev pub AreFar : List ℕ → ℕ → Type 0
 AreFar rates amount = (i : ℕ) → amount ≤ sum_to (rate_at rates) i → MAX_FIRINGS < i
 
--- no firings of at most `most` are late
+-- no firings up to `most` make all channels late
 abbrev pub NoneIsLate : Shape → (ℕ → ℕ) → ℕ → Type 0
 NoneIsLate g memory most =
     (since : ℕ → ℕ) → AreLate g memory since → ((a : ℕ) → a < g.actors → since a ≤ most) → ⊥
@@ -93,25 +93,25 @@ IsMove e memory old new Stays = (new ≡ old) × IsLate e memory (slice_index ol
 IsMove e memory old new MovesOn = IsMovedOn e memory old new
 IsMove e memory old new TooFar = (new ≡ old) × AreFar e.take (cold e memory (slice_index old))
 
--- and those of all channels. Each pass that moves one on has seen longer walks
+-- how a pass over all channels moved their targets on; each pass that moves one has seen longer walks
 abbrev pub IsPass : Shape → (ℕ → ℕ) → List ℕ → List ℕ → Move → Type 0
 IsPass g memory old new Stays = AreLate g memory (slice_index new)
 IsPass g memory old new MovesOn =
     (n : ℕ) → AreBehind g memory old n → AreBehind g memory new (n + 1) × ((a : ℕ) × EndsWalk (rates g) (n + 1) a)
 IsPass g memory old new TooFar = NoneIsLate g memory MAX_FIRINGS
 
--- what is known after many passes, the last of which moved in this way
+-- what is known after many passes, by the move of the last one
 abbrev pub IsEnd : Shape → (ℕ → ℕ) → List ℕ → Move → Type 0
 IsEnd g memory new Stays = AreLate g memory (slice_index new)
 IsEnd g memory new MovesOn = HasLoop (rates g)
 IsEnd g memory new TooFar = NoneIsLate g memory MAX_FIRINGS
 
--- within this many periods each actor has fired since times, and then as often as it remembers
+-- in this number of periods each actor fires since times, and then memory times
 abbrev pub AreWithin : List ℕ → ℕ → List ℕ → List ℕ → Type 0
 AreWithin q periods memory since =
     (a : ℕ) → a < length q → slice_index since a + slice_index memory a ≤ periods * slice_index q a
 
--- Why a net has no warm-up: samples go round in a loop, or each net that is warm has had more firings of an actor. (An
--- actor that keeps samples for ever stays cold.)
+-- Why a net has no warm-up: samples go round in a loop, or a warm net has had more than MAX_FIRINGS firings of some
+-- node. (An actor that keeps samples for ever stays cold.)
 abbrev pub IsLasting : {A S T : Type 0} → Steps A S T → Netlist A T → Type 0
 IsLasting s n = HasLoop (rates (graph_of s n)) ⊎ StaysCold s n MAX_FIRINGS

@@ -1,4 +1,4 @@
-//! What actors remember.
+//! The memory of actors: the firings that they remember.
 
 ghost use Rattle.std.specs.Prelude.{◌≡◌, ℕ, MatchOption};
 ghost use Rattle.sdf_kit.specs.Kit.{kit_steps};
@@ -10,9 +10,9 @@ use sdf_kit::Kit;
 use sdf_kit::delay::Delay;
 use sdf_kit::fir::Fir;
 
-/// An actor that tells its memory.
+/// An actor that reports its memory.
 pub trait Forgetful: Actor {
-    /// Returns the number of its last firings that the actor remembers, unless it keeps samples for ever.
+    /// Returns the number of last firings that the actor remembers, or `None` if it keeps samples for ever.
     fn memory(&self) -> Option<u32>
         ensures { MatchOption result ((m : ℕ) → Forgets Self.steps self.now m → ⊥)
             (IsLeast (Forgets Self.steps self.now)) };
@@ -28,7 +28,7 @@ impl Forgetful for Kit {
     }
 }
 
-/// Returns the memory of a filter: the firings that take the last of its inputs that it keeps.
+/// Returns the memory of a filter: the number of firings in which it takes all inputs that it keeps.
 fn fir_memory(fir: &Fir) -> u32
     ensures { IsLeast (Forgets kit_steps (kits.Fir fir.now)) result }
 {
@@ -36,7 +36,7 @@ fn fir_memory(fir: &Fir) -> u32
     fir.kept_len().div_ceil(rate) as u32
 }
 
-/// Returns the memory of a delay: a firing for each sample that it keeps.
+/// Returns the memory of a delay: one firing for each sample that it keeps.
 fn delay_memory(delay: &Delay) -> u32
     ensures { IsLeast (Forgets kit_steps (kits.Delay delay.now)) result }
 {

@@ -1,4 +1,4 @@
-//! How many periods of warm-up a net needs until it has forgotten where it began.
+//! The warm-up periods that a net needs until it has forgotten where it began.
 
 ghost use Rattle.std.specs.Prelude.{◌≡◌, ◌+◌, ◌*◌, ◌≤◌, ◌<◌, ℕ, List, length, slice_index};
 ghost use Rattle.std.specs.Prelude.{◌⊎◌, IfOk, IfSome, IfNone, MatchOption};
@@ -15,10 +15,10 @@ use sdf_actor::{Net, Node};
 use sdf_graph::{Channel, Graph};
 use std::alloc::{AllocError, Global};
 
-/// The most firings of an actor that are looked at. A longer warm-up would take more time than it saves.
+/// The greatest number of firings of an actor that is considered. A longer warm-up would take more time than it saves.
 pub const MAX_FIRINGS: u32 = 1_048_576;
 
-/// How the firing from which a target is looked at changes.
+/// The change of a target's firing in a list `since`.
 #[derive(Clone, Copy)]
 enum Move {
     Stays,
@@ -27,7 +27,7 @@ enum Move {
     TooFar,
 }
 
-/// Returns what a node remembers, unless it keeps samples for ever.
+/// Returns the number of last firings that `node` remembers, or `None` if it keeps samples for ever.
 fn node_memory<A: Forgetful>(node: &Node<A>) -> Option<u32>
     ensures { MatchOption result ((m : ℕ) → NodeForgets A.steps node.now m → ⊥)
         (IsLeast (NodeForgets A.steps node.now)) }
@@ -38,7 +38,7 @@ fn node_memory<A: Forgetful>(node: &Node<A>) -> Option<u32>
     }
 }
 
-/// Returns what each node remembers, if none remembers too much.
+/// Returns the memory of each node in firings, or `None` if one exceeds `MAX_FIRINGS`.
 fn memories_of<A: Forgetful>(alloc: Global, net: &Net<A>) -> Result<Option<Vec<u32>>, AllocError>
     ensures { IfOk result (λ r. MatchOption r (StaysCold A.steps net.now MAX_FIRINGS)
         (λ v. AreFirings (length net.now.nodes) v.items × AreMemories A.steps net.now v.items)) }
@@ -53,8 +53,8 @@ fn memories_of<A: Forgetful>(alloc: Global, net: &Net<A>) -> Result<Option<Vec<u
     Ok(Some(memories))
 }
 
-/// Returns how many samples of a channel come before those that its source puts once it has forgotten what it took
-/// before its firing `since`.
+/// Returns the number of cold samples of `channel`, initial samples included. Its source puts them before it has
+/// forgotten what it took before its firing in `since`.
 fn cold_samples(channel: &Channel, memory: &[u32], since: &[u32]) -> u64
     requires channel { IsChannel (length since.now) channel.now }
     requires memory { AreFirings (length since.now) memory.now }
@@ -64,7 +64,8 @@ fn cold_samples(channel: &Channel, memory: &[u32], since: &[u32]) -> u64
     channel.initial as u64 + moved_by(&channel.put, since[channel.from] + memory[channel.from])
 }
 
-/// Finds the first firing that has `amount` samples of a list of rates behind it, by halves, if it is not too far.
+/// Finds by bisection the first firing before which at least `amount` samples are moved, if it is at most
+/// `MAX_FIRINGS`.
 #[tactic(auto, using(sdf_graph::proofs::Theorems::sums_rise))]
 fn first_past(rates: &[u32], amount: u64) -> Option<u32>
     requires { (n : ℕ) × IsCycle n rates.now }
@@ -89,7 +90,8 @@ fn first_past(rates: &[u32], amount: u64) -> Option<u32>
     }
 }
 
-/// Moves the firing of a channel's target on to where the channel is late.
+/// Moves the firing of the channel's target in `since` on to the first that takes no cold sample, if it is earlier.
+/// From there on the channel is late.
 #[tactic(auto, using(sdf_graph::proofs::Theorems::sums_rise))]
 fn move_target(channel: &Channel, memory: &[u32], since: &mut [u32]) -> Move
     requires channel { IsChannel (length since.old) channel.now }
@@ -108,7 +110,7 @@ fn move_target(channel: &Channel, memory: &[u32], since: &mut [u32]) -> Move
     }
 }
 
-/// Moves the firings `since` of targets on to where their channels are late, each channel once.
+/// Moves the firings of targets in `since` on until their channels are late, each channel once.
 fn move_on(graph: &Graph, memory: &[u32], since: &mut [u32]) -> Move
     requires all { length since.old ≡ graph.now.actors }
     requires memory { AreFirings (length since.old) memory.now }
@@ -129,8 +131,8 @@ fn move_on(graph: &Graph, memory: &[u32], since: &mut [u32]) -> Move
     moves
 }
 
-/// Moves the firings `since` on until all channels are late. Without a loop each pass but the last moves an actor that
-/// is one channel further from the first ones.
+/// Moves the firings in `since` on until all channels are late. In a graph without a loop, each pass except the last
+/// moves an actor that is one channel further from the first ones.
 fn settle(graph: &Graph, memory: &[u32], since: &mut [u32]) -> Move
     requires all { length since.old ≡ graph.now.actors }
     requires memory { AreFirings (length since.old) memory.now }
@@ -152,8 +154,8 @@ fn settle(graph: &Graph, memory: &[u32], since: &mut [u32]) -> Move
     Move::MovesOn
 }
 
-/// Returns the first firing of each actor from which on it does what it does in a run from the start, if there are such
-/// firings and none is too far.
+/// Returns, for each actor, the first firing from which on it does what it does in a run from the start. Returns `None`
+/// if the graph has no firings like these, or if one is too far.
 fn since_of(alloc: Global, graph: &Graph, memory: &[u32]) -> Result<Option<Vec<u32>>, AllocError>
     requires memory { AreFirings graph.now.actors memory.now }
     ensures { IfOk result (λ r. MatchOption r
@@ -168,7 +170,7 @@ fn since_of(alloc: Global, graph: &Graph, memory: &[u32]) -> Result<Option<Vec<u
     }
 }
 
-/// Returns `periods`, or more if `firings` firings need more.
+/// Returns `periods`, or more if `firings` firings need more, with `in_period` firings in each.
 fn periods_with(periods: u32, firings: u32, in_period: u32) -> u32
     requires { 0 < in_period }
     ensures enough { firings ≤ result * in_period }
@@ -180,7 +182,7 @@ fn periods_with(periods: u32, firings: u32, in_period: u32) -> u32
     if wanted > periods { wanted } else { periods }
 }
 
-/// Returns the least number of periods in which each actor has fired `since` times, and then as often as it remembers.
+/// Returns the least number of periods in which each actor fires `since` times and then `memory` times.
 fn periods_for(repetitions: &[u32], memory: &[u32], since: &[u32]) -> u32
     requires some { (a : ℕ) → a < length repetitions.now → 0 < slice_index repetitions.now a }
     requires memory { AreFirings (length repetitions.now) memory.now }
@@ -195,18 +197,18 @@ fn periods_for(repetitions: &[u32], memory: &[u32], since: &[u32]) -> u32
     periods
 }
 
-/// Returns how many periods of warm-up a net needs: a run that is started this much earlier, on nothing before, leaves
-/// what the run from the start leaves.
+/// Returns the number of warm-up periods that `net` needs. A run that starts this number of periods earlier, without
+/// any samples from before, leaves what the run from the start leaves.
 pub fn warm_up<A: Forgetful>(alloc: Global, net: &Net<A>) -> Result<Option<u32>, AllocError>
     // These periods are enough.
     ensures warms { IfOk result (λ r. IfSome r (λ periods. (q : List ℕ) →
         IsLeastPeriod (rates (graph_of A.steps net.now)) q → WarmsIn A.steps net.now q periods)) }
 
-    // Fewer are not.
+    // Fewer periods are not enough.
     ensures least { IfOk result (λ r. IfSome r (λ periods. (q : List ℕ) (fewer : ℕ) →
         IsLeastPeriod (rates (graph_of A.steps net.now)) q → WarmsIn A.steps net.now q fewer → periods ≤ fewer)) }
 
-    // They are few.
+    // The periods are few.
     ensures few { IfOk result (λ r. IfSome r (λ periods. periods ≤ 2 * MAX_FIRINGS)) }
 
     // A net without a warm-up keeps samples for ever, or for too long.

@@ -14,6 +14,6 @@ add ways = record {
   formula = λ x p n. saturated (sum_below ways (λ q. sample (x q) n));
 }
 
--- the sum of firing n, where the blocks of firings stand one after another
+-- the sum of firing n, if the blocks of firings follow one another
 abbrev pub sum_at : ℕ → List ℤ → ℕ → ℤ
 sum_at ways xs n = saturated (sum_below ways (λ q. sample xs (n * ways + q)))

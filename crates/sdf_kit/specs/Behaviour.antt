@@ -6,16 +6,16 @@ use Rattle.sdf_kit.specs.declared.ports.Ports.{Ports}
 
 pub record Behaviour : Type 0 where
   pub ports : Ports
-  -- how many samples it keeps from one firing to the next, zeros at the start
+  -- the number of samples kept from one firing to the next, zeros at the start
   pub kept : ℕ
   -- what it keeps after a firing, by the samples kept and those taken at all ports, port after port
   pub next : List ℤ → List ℤ → List ℤ
-  -- and what the firing puts, port after port, with its phase first
+  -- what a firing puts, port after port, by its phase, the samples kept and those taken
   pub puts : ℕ → List ℤ → List ℤ → List ℤ
-  -- formula x p n: sample n of all that it puts at output port p, where x q is all that it takes at input port q
+  -- formula x p n: sample n of all that it puts at output port p, if x q is all that it takes at input port q
   pub formula : (ℕ → List ℤ) → ℕ → ℕ → ℤ
 
--- the ports, rates and steps of actors that behave so
+-- the ports, rates and steps of actors, by their behaviours
 abbrev pub steps_of : {A : Type 0} → (A → Behaviour) → Steps A (List ℤ) ℤ
 steps_of of = record {
   inputs = λ x. count (of x).ports.inputs;

@@ -9,7 +9,7 @@ use Rattle.sdf_kit.specs.Samples.{sample}
 use Rattle.sdf_kit.specs.Ports.{steady}
 use Rattle.sdf_kit.specs.Behaviour.{Behaviour}
 
--- the least sample that is put, and the greatest
+-- the least and the greatest sample that is put
 pub record Limits : Type 0 where
   pub least : ℤ
   pub greatest : ℤ
@@ -28,7 +28,7 @@ clip c = record {
   formula = λ x p n. clipped c (sample (x 0) n);
 }
 
--- its values are within their limits
+-- both limits have 16 bits and are in order
 pub record AreLimits (c : Limits) : Type 0 where
   pub least : FitsSigned w16 c.least
   pub greatest : FitsSigned w16 c.greatest

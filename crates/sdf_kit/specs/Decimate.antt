@@ -1,4 +1,4 @@
--- One sample of each few.
+-- One sample of every few.
 use Rattle.std.specs.Prelude.{ℕ, ◌*◌, [], ◌∷◌}
 use Rattle.sdf_kit.specs.Samples.{sample}
 use Rattle.sdf_kit.specs.Ports.{steady}

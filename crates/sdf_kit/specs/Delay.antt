@@ -1,4 +1,4 @@
--- Samples that come later.
+-- Delayed samples.
 use Rattle.std.specs.Prelude.{ℕ, ◌-◌, ◌≤◌, nat_lt, nat_le, cond, pos, ◌++◌, take, Result, Ok}
 use Rattle.sdf_limits.specs.declared.TheConstants.{MOST_DELAY}
 use Rattle.sdf_kit.specs.declared.fault.KitFault.{KitFault}
@@ -20,7 +20,7 @@ delay length = record {
   formula = λ x p n. cond (nat_lt n length) (pos 0) (sample (x 0) (n - length));
 }
 
--- its value is within its limits
+-- the length of a delay is within its limits
 abbrev pub IsDelay : ℕ → Type 0
 IsDelay length = length ≤ MOST_DELAY
 

@@ -5,7 +5,7 @@ use Rattle.std.specs.Int.{int_wrap, Width, w32}
 use Rattle.std.specs.Simd.Lanes.{Each1, zip2}
 use Rattle.sdf_kit.specs.Samples.{sample}
 
--- z within 32 bits: what differs by a multiple of 2^32
+-- z wrapped to 32 bits: it changes by a multiple of 2^32
 abbrev pub wrap : ℤ → ℤ
 wrap z = int_wrap w32 z
 
@@ -15,7 +15,7 @@ neighbours [] = []
 neighbours (x ∷ []) = []
 neighbours (x ∷ y ∷ xs) = wrap (x +ℤ y) ∷ neighbours xs
 
--- n numbers of so many bits
+-- n numbers of width w
 pub record AreLanes (w : Width) (n : ℕ) (xs : List ℤ) : Type 0 where
   pub many : length xs ≡ n
   pub fits : Each1 (FitsSigned w) xs
@@ -24,7 +24,7 @@ abbrev pub total : List ℤ → ℤ
 total [] = pos 0
 total (x ∷ xs) = x +ℤ total xs
 
--- the sum of the products of what stands at one place
+-- the sum of the products, place by place
 abbrev pub dot : List ℤ → List ℤ → ℤ
 dot [] x = pos 0
 dot (h ∷ hs) [] = pos 0
@@ -35,20 +35,20 @@ abbrev pub total_abs : List ℤ → ℕ
 total_abs [] = 0
 total_abs (x ∷ xs) = unsigned_abs x + total_abs xs
 
--- none is further from 0
+-- no number is further from 0 than m
 abbrev pub AreWithin : ℕ → List ℤ → Type 0
 AreWithin m xs = (k : ℕ) → k < length xs → unsigned_abs (sample xs k) ≤ m
 
--- numbers by their upper bits and their lowest eight
+-- numbers from their upper bits and their lowest eight
 abbrev pub joined : List ℤ → List ℤ → List ℤ
 joined high low = zip2 (λ a b. (pos 256 *ℤ a) +ℤ b) high low
 
--- a sum that wraps on the way comes out right where the numbers are within a peak that the taps allow
+-- a sum that wraps on the way is exact if the numbers are within a peak that the taps allow
 abbrev pub QuietSumsAreExact : Type 0
 QuietSumsAreExact = (taps x : List ℤ) (peak : ℕ) → AreWithin peak x → total_abs taps * peak ≤ 2147483647 →
     wrap (dot taps x) ≡ dot taps x
 
--- so do two such sums, one of upper bits and one of lowest ones
+-- two sums that wrap, of upper and of lowest bits, are exact together if both are within the peak
 abbrev pub SplitSumsAreExact : Type 0
 SplitSumsAreExact =
     (taps high low : List ℤ) (peak : ℕ) → length high ≡ length low → AreWithin peak high → AreWithin peak low →

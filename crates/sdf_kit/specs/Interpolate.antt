@@ -5,7 +5,7 @@ use Rattle.sdf_kit.specs.Samples.{upsampled}
 use Rattle.sdf_kit.specs.Ports.{steady}
 use Rattle.sdf_kit.specs.Behaviour.{Behaviour}
 
--- y[n] = x[n / factor] where factor divides n, else 0
+-- y[n] = x[n / factor] if factor divides n, otherwise 0
 abbrev pub interpolate : ℕ → Behaviour
 interpolate factor = record {
   ports = steady 1 1 1 factor;

@@ -23,7 +23,7 @@ offset value = record {
   formula = λ x p n. raised value (sample (x 0) n);
 }
 
--- its value is within its limits
+-- the value of an offset is within its limits
 abbrev pub IsOffset : ℤ → Type 0
 IsOffset value = FitsSigned w16 value
 

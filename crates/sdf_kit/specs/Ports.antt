@@ -5,7 +5,7 @@ use Rattle.sdf_kit.specs.declared.ports.PortRates.{PortRates}
 use Rattle.sdf_kit.specs.declared.ports.PortRates.TheVariants.{Every, InTurn}
 use Rattle.sdf_kit.specs.declared.ports.Ports.{Ports}
 
--- how many ports a side has
+-- the number of ports of a side
 abbrev pub count : PortRates → ℕ
 count (Every ports rate) = ports
 count (InTurn ports rate) = ports
@@ -19,7 +19,7 @@ moved (InTurn ports rate) p j = cond (p == j) rate 0
 abbrev pub steady : ℕ → ℕ → ℕ → ℕ → Ports
 steady inputs take outputs put = record { cycle = 1; inputs = Every inputs take; outputs = Every outputs put }
 
--- the samples that a port moves where it moves any
+-- the number of samples that a port moves when it moves any
 abbrev pub rate : PortRates → ℕ
 rate (Every ports r) = r
 rate (InTurn ports r) = r

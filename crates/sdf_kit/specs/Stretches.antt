@@ -1,4 +1,4 @@
--- Stretches of taps: as many sixteens as no lane of their products with 16-bit samples needs more than 32 bits for.
+-- Stretches of taps: runs of sixteens whose products with any 16-bit samples sum up within 32 bits in each lane.
 use Rattle.std.specs.Prelude.{ℕ, zero, suc, ◌≡◌, ◌<◌, ◌≤◌, ◌+◌, ◌-◌, ◌*◌, ◌/◌, max, List, [], ◌∷◌, ℤ, unsigned_abs}
 use Rattle.std.specs.Prelude.{length}
 use Rattle.std.specs.Prelude.{take, drop, ◌%◌, ◌^◌, slice_index_or, FitsSigned, Bool, true, ◌&&◌, ◌||◌, nat_lt, nat_le}
@@ -25,61 +25,62 @@ weight_of (suc n) h = weight_of n h + weight (take 16 (drop (16 * n) h))
 abbrev pub IsStretch : ℕ → List ℤ → Type 0
 IsStretch n h = weight_of n h ≤ 65535
 
--- a stretch of so many sixteens is at the front of the taps
+-- the taps begin with a stretch of n sixteens
 pub record IsReach (n : ℕ) (h : List ℤ) : Type 0 where
   pub within : 16 * n ≤ length h
   pub stretch : IsStretch n h
 
--- how many stretches sums go by after the next n sixteens, if the stretch from each sixteen on has so many: each begins
--- where the last one ends
+-- the number of stretches that a sum is made of after the next n sixteens, by the length of the stretch at each
+-- sixteen: each begins where the last one ends
 abbrev pub walked : ℕ → List ℕ → ℕ
 walked n [] = 0
 walked zero (x ∷ xs) = 1 + walked (x - 1) xs
 walked (suc n) (x ∷ xs) = walked n xs
 
--- whether sums of loud samples of 16 bits go by stretches: one begins at each sixteen, and if samples of up branches
--- can be split, the stretches after the first one of each branch cost less than a second pass over the sixteens
+-- whether 16-bit samples above the peak are summed by stretches: one begins at each sixteen. If samples of `up`
+-- branches can be split, the stretches after the first of each branch cost no more than a second pass over the
+-- sixteens.
 abbrev pub is_wide : List ℕ → ℕ → ℕ → Bool
 is_wide lens up peak = list_all (λ n. nat_lt 0 n) lens
     && (nat_lt peak LEAST_PEAK_TO_SPLIT
     || nat_le (STRETCH_COST * walked 0 lens) (length lens + STRETCH_COST * up))
 
--- how many sixteens the stretch from each sixteen on has, at least itself
+-- the length of the stretch at each sixteen, in sixteens and at least 1
 pub record AreStretches (h : List ℤ) (lens : List ℕ) : Type 0 where
   pub many : length lens ≡ length h / 16
   pub some : (k : ℕ) → k < length lens → 1 ≤ slice_index_or lens k 0
   pub each : (k : ℕ) → k < length lens → IsReach (slice_index_or lens k 0) (drop (16 * k) h)
 
--- taps of a branch that vectors of sixteen can be used on
+-- taps of a branch that can be summed with vectors of sixteen
 pub record AreVectors (h : List ℤ) : Type 0 where
   pub whole : length h % 16 ≡ 0
   pub few : length h ≤ 1024
   pub short : Each1 (FitsSigned w16) h
 
--- samples of 16 bits for each tap
+-- one 16-bit sample for each tap
 pub record AreSeen (h x : List ℤ) : Type 0 where
   pub many : length x ≡ length h
   pub short : Each1 (FitsSigned w16) x
 
--- sums far from 64 bits
+-- sums far below 64 bits
 pub record AreSmall (sums : FourDots) : Type 0 where
   pub a : unsigned_abs sums.a ≤ 2 ^ 50
   pub b : unsigned_abs sums.b ≤ 2 ^ 50
   pub c : unsigned_abs sums.c ≤ 2 ^ 50
   pub d : unsigned_abs sums.d ≤ 2 ^ 50
 
--- lanes that are no further from 0
+-- no lane is further from 0 than m
 abbrev pub AreLanesWithin : ℕ → List ℤ → Type 0
 AreLanesWithin m sums = Each1 (λ z. unsigned_abs z ≤ m) sums
 
--- lanes whose total is a dot product, but for a multiple of 2^32, and none at all where the taps are a stretch
+-- lanes whose total is a dot product, up to a multiple of 2^32, and exactly if the taps are a stretch
 pub record AreSums (h x sums : List ℤ) : Type 0 where
   pub lanes : AreLanes w32 8 sums
   pub value : wrap (total sums) ≡ wrap (dot h x)
   pub exact : IsStretch (length h / 16) h → total sums ≡ dot h x
 
--- taps that stay within 32 bits on samples within the peak, also where half of 2^15 is added to round, and on any
--- samples of 16 bits a stretch at a time
+-- taps whose sums fit in 32 bits: on samples within the peak, rounding included, and if the limits are wide, on any
+-- 16-bit samples a stretch at a time
 pub record IsBranch (limits : Limits) (h : List ℤ) (lens : List ℕ) : Type 0 where
   pub vectors : AreVectors h
   pub quiet : total_abs h * limits.peak ≤ 2147467263

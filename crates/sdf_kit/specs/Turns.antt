@@ -11,7 +11,7 @@ pub record Turns : Type 0 where
   pub ways : ℕ
   pub run : ℕ
 
--- their values are within their limits
+-- the values of turns are within their limits
 pub record AreTurns (t : Turns) : Type 0 where
   pub ways : AreWays t.ways
   pub run : (1 ≤ t.run) × (t.run ≤ MOST_RUN)

@@ -14,13 +14,13 @@ pub record Held : Type 0 where
   pub samples : List ℤ
   pub limits : Limits
 
--- the first n of the numbers themselves, or of those that upper bits and lowest ones make
+-- the first n samples: the numbers themselves, or those joined from upper and lowest bits
 abbrev pub held : Way → List ℤ → List ℤ → ℕ → List ℤ
 held Quiet high low n = take n high
 held Wide high low n = take n high
 held Split high low n = joined (take n high) (take n low)
 
--- none is past the peak, or any samples of 16 bits will do
+-- no number exceeds the peak, or any 16-bit numbers are allowed
 abbrev pub AreWithinLimits : Way → List ℤ → List ℤ → Limits → Type 0
 AreWithinLimits Quiet high low limits = AreWithin limits.peak high
 AreWithinLimits Wide high low limits = (limits.is_wide ≡ true) × Each1 (FitsSigned w16) high
@@ -47,6 +47,6 @@ part_as Whole x = x
 part_as High x = int_shr x 8
 part_as Low x = x -ℤ (pos 256 *ℤ int_shr x 8)
 
--- these parts have 16 bits
+-- these parts of samples have 16 bits
 abbrev pub AreFit : Part → List ℤ → Type 0
 AreFit part xs = (k : ℕ) → k < length xs → FitsSigned w16 (part_as part (sample xs k))

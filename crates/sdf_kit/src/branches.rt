@@ -1,4 +1,4 @@
-//! The branches of a polyphase filter: the taps of each phase in one piece of memory.
+//! The branches of a polyphase filter: the taps of each phase, contiguous in memory.
 
 ghost use Rattle.std.specs.Prelude.{ℕ, ◌≡◌, ◌+◌, ◌-◌, ◌*◌, ◌/◌, ◌%◌, ◌<◌, ◌≤◌, length, map, take, drop, true};
 ghost use Rattle.std.specs.Prelude.{slice_index_or, nat_lt};
@@ -12,42 +12,42 @@ ghost use Rattle.sdf_kit.specs.Stretches.{IsReach, is_wide, walked};
 use crate::arithmetic::MOST_SUM;
 use crate::stretches::{Branch, reach};
 
-/// Places of a table: the taps of a filter, and fewer than sixteen zeros for each branch.
+/// The number of places in a table: the taps of a filter, and fewer than sixteen zeros for each branch.
 pub(crate) const PLACES: usize = 2048;
 
-/// The sixteens of a table.
+/// The number of sixteens in a table: groups of sixteen taps, each of which fills a vector.
 const SIXTEENS: usize = PLACES / 16;
 
-/// Sixteens of a second pass that cost as much as one stretch after the first of its branch.
+/// The cost of a stretch that is not the first of its branch, counted in sixteens of a second pass.
 ///
 /// Sketches of both loops measured 3 on x86-64-v2 and 6 with AVX2.
 const STRETCH_COST: usize = 6;
 
-/// The taps of each phase, the last one first, after zeros that make them a multiple of sixteen.
+/// The taps of each phase, the last one first, after zeros that pad them to a multiple of sixteen.
 #[derive(Drop)]
 pub(crate) struct Branches {
     pub(crate) table: [i16; PLACES],
-    /// How many sixteens the stretch from each sixteen on has within its branch.
+    /// The length of the stretch at each sixteen, in sixteens. It ends within its branch.
     pub(crate) stretches: [u8; SIXTEENS],
-    /// The taps of a branch.
+    /// The number of taps in a branch, padding included.
     pub(crate) width: usize,
     pub(crate) limits: Limits,
 }
 
-/// The lowest eight bits of a sample are at most this, so samples can be split only if the peak is no lower.
+/// The greatest value of the lowest eight bits of a sample. Samples can be split only if the peak is no lower.
 pub(crate) const LEAST_PEAK_TO_SPLIT: u32 = 255;
 
-/// The samples that the branches of a filter may meet.
+/// The samples that the branches of a filter can be summed with.
 #[derive(Clone, Copy)]
 pub(crate) struct Limits {
-    /// Where no sample passes this, no sum of products passes 32 bits.
+    /// The absolute value that no sample may exceed, so that each sum of products fits in 32 bits.
     pub(crate) peak: u32,
-    /// Whether any samples of 16 bits will do, a stretch at a time.
+    /// Whether any 16-bit samples can be summed, a stretch at a time.
     pub(crate) is_wide: bool,
 }
 
 impl Branches {
-    /// The branches of a filter.
+    /// Lays out the taps of a filter as `up` branches.
     pub(crate) fn new(taps: &[i32], up: u32) -> Branches
         requires taps { AreTaps taps.now }
         requires some { 1 ≤ length taps.now }
@@ -71,7 +71,7 @@ impl Branches {
         }
     }
 
-    /// The branch of a phase.
+    /// Returns the branch of `phase`.
     pub(crate) fn get(&self, phase: usize) -> Branch
         requires few { phase ≤ 64 }
         requires width { self.now.width ≤ 1024 }
@@ -88,7 +88,7 @@ impl Branches {
     }
 }
 
-/// The taps of each phase, branch after branch.
+/// Returns the taps of each phase, branch after branch.
 fn table_of(taps: &[i32], up: u32, width: usize) -> [i16; PLACES]
     requires taps { AreTaps taps.now }
     requires up { up ≤ 64 }
@@ -106,7 +106,7 @@ fn table_of(taps: &[i32], up: u32, width: usize) -> [i16; PLACES]
     table
 }
 
-/// The tap at a place, and zero where there is none.
+/// Returns the tap at place `at`, or zero if there is none.
 fn tap_at(taps: &[i32], at: usize) -> i16
     requires { AreTaps taps.now }
     ensures { result ≡ sample taps.now at }
@@ -114,7 +114,7 @@ fn tap_at(taps: &[i32], at: usize) -> i16
     if at < taps.len() { taps[at] as i16 } else { 0 }
 }
 
-/// How far the stretch from each sixteen on reaches within its branch, or one sixteen at most if none begins there.
+/// Returns the length of the stretch at each sixteen of a branch, in sixteens, or at most 1 if no stretch begins there.
 fn stretches_of(table: &[i16], up: u32, width: usize) -> [u8; SIXTEENS]
     requires up { up ≤ 64 }
     requires whole { width % 16 ≡ 0 }
@@ -139,8 +139,8 @@ fn stretches_of(table: &[i16], up: u32, width: usize) -> [u8; SIXTEENS]
     stretches
 }
 
-/// Returns how many sixteens the stretch from the first tap on has. It looks past the first sixteen only if a stretch
-/// of the branch `begins` there, so that each sixteen is looked at a fixed number of times.
+/// Returns the length of the stretch from the first tap on, in sixteens. It looks past the first sixteen only if a
+/// stretch of the branch `begins` there. So each sixteen is looked at a bounded number of times.
 fn reach_from(taps: &[i16], begins: bool) -> u8
     requires whole { length taps.now % 16 ≡ 0 }
     requires few { length taps.now ≤ 1024 }
@@ -154,9 +154,10 @@ fn reach_from(taps: &[i16], begins: bool) -> u8
     }
 }
 
-/// Returns whether loud samples of 16 bits are summed by stretches.
+/// Returns whether 16-bit samples above the peak are summed by stretches.
 ///
-/// One has to begin at each sixteen. If the peak also lets samples be split, they have to cost less than a second pass.
+/// A stretch must begin at each sixteen. If `peak` also lets samples be split, the stretches must cost no more than a
+/// second pass.
 fn is_wide(stretches: &[u8], up: u32, peak: u32) -> bool
     requires up { up ≤ 64 }
     requires few { length stretches.now ≤ 128 }
@@ -167,14 +168,14 @@ fn is_wide(stretches: &[u8], up: u32, peak: u32) -> bool
         && (peak < LEAST_PEAK_TO_SPLIT || STRETCH_COST * walked(stretches) <= spared)
 }
 
-/// Returns whether none is 0.
+/// Returns whether no stretch has length 0.
 fn are_some(stretches: &[u8]) -> bool
     ensures { result ≡ list_all (λ n. nat_lt 0 n) stretches.now }
 {
     stretches.iter().all(|sixteens| 0 < *sixteens)
 }
 
-/// Counts the stretches that sums go by: each begins where the last one ends.
+/// Counts the stretches that sums are made of: each begins where the last one ends.
 fn walked(stretches: &[u8]) -> usize
     ensures counted { result ≡ walked 0 stretches.now }
     ensures few { result ≤ length stretches.now }
@@ -192,7 +193,7 @@ fn walked(stretches: &[u8]) -> usize
     walked
 }
 
-/// The greatest sum of absolute values of a branch.
+/// Returns the gain of the loudest branch: its sum of absolute values.
 fn gain(table: &[i16], up: u32, width: usize) -> u32
     requires up { up ≤ 64 }
     requires few { width ≤ 1024 }
@@ -207,7 +208,7 @@ fn gain(table: &[i16], up: u32, width: usize) -> u32
     gain
 }
 
-/// The sum of absolute values.
+/// Returns the sum of the absolute values.
 fn total(taps: &[i16]) -> u32
     requires few { length taps.now ≤ 1024 }
     ensures is { result ≡ total_abs taps.now }
@@ -219,7 +220,8 @@ fn total(taps: &[i16]) -> u32
     total
 }
 
-/// The greatest peak at which a filter of this gain stays within 32 bits, also where it rounds.
+/// Returns the greatest peak, up to 32,767, at which sums of a filter with this `gain` fit in 32 bits, rounding
+/// included.
 fn peak_of(gain: u32) -> u32
     ensures quiet { gain * result ≤ 2147467263 }
     ensures small { result ≤ 32767 }

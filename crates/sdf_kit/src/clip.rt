@@ -9,7 +9,7 @@ use crate::ports::Ports;
 use sdf_kinds::{Key, Kind};
 use std::marker::Model;
 
-/// Puts each sample, but `least` where it is below that, and `greatest` where it is above that.
+/// A clipper: it puts each sample, `least` if the sample is below that, and `greatest` if it is above that.
 #[derive(Drop)]
 pub struct Clip {
     least: i32,
@@ -39,7 +39,7 @@ impl Clip {
         Ok(Clip { least, greatest })
     }
 
-    /// Its ports and rates.
+    /// Returns the actor's ports and rates.
     pub fn ports(&self) -> Ports
         ensures is { result ≡ (clip self.now).ports }
         ensures limits { ArePorts result }
@@ -58,7 +58,7 @@ impl Clip {
     }
 }
 
-/// A sample between two limits.
+/// Clamps `sample` to the limits.
 fn between(least: i32, greatest: i32, sample: i32) -> i32
     requires { least ≤ℤ greatest }
     ensures { result ≡ clipped (record { least = least; greatest = greatest }) sample }

@@ -12,7 +12,7 @@ use crate::turns::Turns;
 use sdf_kinds::Kind;
 use std::marker::Model;
 
-/// Deals its input out to its output ports, `run` samples to each in turn:
+/// A dealer that gives `run` samples to each of its output ports in turn:
 /// `y_j[n] = x[(n / run * ways + j) * run + n % run]` at port `j`.
 #[derive(Drop)]
 pub struct Deal {
@@ -35,7 +35,7 @@ impl Deal {
         Ok(Deal { turns })
     }
 
-    /// Its input port, and its output ports, one for each way.
+    /// Returns its input port, and its output ports, one for each way.
     pub fn ports(&self) -> Ports
         ensures is { result ≡ (deal self.now).ports }
         ensures limits { ArePorts result }
@@ -47,7 +47,7 @@ impl Deal {
         }
     }
 
-    /// One firing or many, at any phase: the samples of each go to the one port whose block is not empty.
+    /// Fires once or many times, at any phase. Each firing writes to the one port whose block is not empty.
     pub fn run(&self, taken: &[i32], put: &mut [i32])
         requires { length put.old ≡ length taken.now }
         ensures { put.new ≡ taken.now }

@@ -9,7 +9,7 @@ ghost use Rattle.sdf_kit.specs.Stretches.{weight, IsStretch, AreLanesWithin, Are
 
 use std::simd::prelude::*;
 
-/// The products of lanes, each two neighbours' summed. One `vpmaddwd`, or two `pmaddwd`.
+/// Multiplies lane by lane and sums each two neighbours. One `vpmaddwd`, or two `pmaddwd`.
 fn products(x: i16x16, h: i16x16) -> i32x8
     requires x { AreLanes w16 16 x }
     requires h { AreLanes w16 16 h }
@@ -19,7 +19,7 @@ fn products(x: i16x16, h: i16x16) -> i32x8
     products.swizzle([0, 2, 4, 6, 8, 10, 12, 14]) + products.swizzle([1, 3, 5, 7, 9, 11, 13, 15])
 }
 
-/// The sums of neighbours, of one vector and then of the other. One `phaddd`.
+/// Returns the sums of neighbours, of `a` and then of `b`. One `phaddd`.
 fn pairs(a: i32x4, b: i32x4) -> i32x4
     requires a { AreLanes w32 4 a }
     requires b { AreLanes w32 4 b }
@@ -28,7 +28,7 @@ fn pairs(a: i32x4, b: i32x4) -> i32x4
     a.shuffle(b, [0, 2, 4, 6]) + a.shuffle(b, [1, 3, 5, 7])
 }
 
-/// The sums lane by lane. One `vpaddd`, or two `paddd`.
+/// Returns the sums lane by lane. One `vpaddd`, or two `paddd`.
 fn plus(a: i32x8, b: i32x8) -> i32x8
     requires a { AreLanes w32 8 a }
     requires b { AreLanes w32 8 b }
@@ -37,7 +37,7 @@ fn plus(a: i32x8, b: i32x8) -> i32x8
     a + b
 }
 
-/// The lower lanes and the upper ones, summed lane by lane.
+/// Adds the upper lanes to the lower ones, lane by lane.
 fn folded(a: i32x8) -> i32x4
     requires { AreLanes w32 8 a }
     ensures { result ≡ zip2 (λ x y. wrap (x +ℤ y)) (take 4 a) (drop 4 a) }
@@ -45,7 +45,7 @@ fn folded(a: i32x8) -> i32x4
     a.swizzle([0, 1, 2, 3]) + a.swizzle([4, 5, 6, 7])
 }
 
-/// The upper sixteen bits of each lane.
+/// Returns the upper sixteen bits of each lane, with their sign.
 fn upper(a: i32x8) -> i32x8
     requires { AreLanes w32 8 a }
     ensures lanes { AreLanes w32 8 result }
@@ -54,7 +54,7 @@ fn upper(a: i32x8) -> i32x8
     a >> i32x8::splat(16)
 }
 
-/// The lowest sixteen bits of each lane.
+/// Returns the lowest sixteen bits of each lane.
 fn lower(a: i32x8) -> i32x8
     requires { AreLanes w32 8 a }
     ensures lanes { AreLanes w32 8 result }
@@ -63,7 +63,7 @@ fn lower(a: i32x8) -> i32x8
     a & i32x8::splat(65_535)
 }
 
-/// The totals of four vectors.
+/// Returns the totals of four vectors, wrapped to 32 bits.
 #[tactic(auto, using(crate::proofs::LaneTotals::passed))]
 fn totals(a: i32x8, b: i32x8, c: i32x8, d: i32x8) -> i32x4
     requires a { AreLanes w32 8 a }
@@ -75,7 +75,7 @@ fn totals(a: i32x8, b: i32x8, c: i32x8, d: i32x8) -> i32x4
     pairs(pairs(folded(a), folded(b)), pairs(folded(c), folded(d)))
 }
 
-/// Sixteen samples from a place on.
+/// Returns sixteen samples from place `at` on.
 fn load(x: &[i16], at: usize) -> i16x16
     requires room { at + 16 ≤ length x.now }
     requires short { Each1 (FitsSigned w16) x.now }
@@ -85,7 +85,7 @@ fn load(x: &[i16], at: usize) -> i16x16
     i16x16::from_slice(&x[at..])
 }
 
-/// Sixteen products more.
+/// Adds sixteen products to `sums`.
 #[tactic(auto, using(crate::proofs::LaneTotals::passed))]
 fn more(sums: i32x8, h: i16x16, x: i16x16) -> i32x8
     requires sums { AreLanes w32 8 sums }
@@ -99,9 +99,9 @@ fn more(sums: i32x8, h: i16x16, x: i16x16) -> i32x8
     plus(sums, products(h, x))
 }
 
-// The loops over sixteens go by their places: by their numbers, each turn would take more instructions.
+// The loops over sixteens count places: to count sixteens would take more instructions in each turn.
 
-/// The products of taps and samples, summed lane by lane.
+/// Returns the products of taps and samples, summed lane by lane.
 #[tactic(auto, using(crate::proofs::LaneTotals::passed))]
 #[inline(always)]
 fn sums(h: &[i16], x: &[i16]) -> i32x8
@@ -120,7 +120,7 @@ fn sums(h: &[i16], x: &[i16]) -> i32x8
     a
 }
 
-/// The sums of the same taps' products with samples of four places, lane by lane.
+/// The products of the same taps with the samples of four places, summed lane by lane.
 #[derive(Clone, Copy)]
 struct FourSums {
     a: i32x8,
@@ -138,7 +138,7 @@ pub(crate) struct FourDots {
     pub(crate) d: i64,
 }
 
-/// The products of the same taps and samples of four places, summed lane by lane.
+/// Returns the products of the taps `h` with the samples of four places, summed lane by lane.
 #[tactic(auto, using(crate::proofs::LaneTotals::passed))]
 #[inline(always)]
 fn four_sums(h: &[i16], x: &[i16], y: &[i16], z: &[i16], w: &[i16]) -> FourSums
@@ -173,7 +173,7 @@ fn four_sums(h: &[i16], x: &[i16], y: &[i16], z: &[i16], w: &[i16]) -> FourSums
     FourSums { a, b, c, d }
 }
 
-/// Four dot products with the same taps, each within 32 bits.
+/// Returns four dot products with the same taps, each wrapped to 32 bits.
 #[tactic(auto, using(crate::proofs::LaneTotals::passed))]
 pub(crate) fn dots(h: &[i16], x: &[i16], y: &[i16], z: &[i16], w: &[i16]) -> i32x4
     requires whole { length h.now % 16 ≡ 0 }
@@ -193,7 +193,7 @@ pub(crate) fn dots(h: &[i16], x: &[i16], y: &[i16], z: &[i16], w: &[i16]) -> i32
     totals(sums.a, sums.b, sums.c, sums.d)
 }
 
-/// A dot product within 32 bits.
+/// Returns a dot product, wrapped to 32 bits.
 #[tactic(auto, using(crate::proofs::LaneTotals::passed))]
 pub(crate) fn dot(h: &[i16], x: &[i16]) -> i32
     requires whole { length h.now % 16 ≡ 0 }
@@ -206,14 +206,14 @@ pub(crate) fn dot(h: &[i16], x: &[i16]) -> i32
     totals(a, a, a, a).to_array()[0]
 }
 
-/// The number of which these are the totals of the upper halves and of the lower ones.
+/// Joins the total of upper halves, `high`, and the total of lower halves, `low`.
 fn join(high: i32, low: i32) -> i64
     ensures { result ≡ (pos 65536 *ℤ high) +ℤ low }
 {
     65_536 * i64::from(high) + i64::from(low)
 }
 
-/// The totals of four vectors, of more than 32 bits.
+/// Returns the totals of four vectors, which can exceed 32 bits.
 #[tactic(auto, using(crate::proofs::LaneTotals::passed))]
 #[inline(always)]
 fn wide_totals(a: i32x8, b: i32x8, c: i32x8, d: i32x8) -> FourDots
@@ -236,7 +236,7 @@ fn wide_totals(a: i32x8, b: i32x8, c: i32x8, d: i32x8) -> FourDots
     }
 }
 
-/// Four dot products with the taps of a stretch.
+/// Returns four exact dot products with the taps of a stretch.
 #[tactic(auto, using(crate::proofs::LaneTotals::passed))]
 #[inline(always)]
 pub(crate) fn stretch_dots(h: &[i16], x: &[i16], y: &[i16], z: &[i16], w: &[i16]) -> FourDots
@@ -260,7 +260,7 @@ pub(crate) fn stretch_dots(h: &[i16], x: &[i16], y: &[i16], z: &[i16], w: &[i16]
     wide_totals(sums.a, sums.b, sums.c, sums.d)
 }
 
-/// A dot product with the taps of a stretch.
+/// Returns the exact dot product with the taps of a stretch.
 #[tactic(auto, using(crate::proofs::LaneTotals::passed))]
 pub(crate) fn stretch_dot(h: &[i16], x: &[i16]) -> i64
     requires whole { length h.now % 16 ≡ 0 }

@@ -12,8 +12,8 @@ use crate::turns::Turns;
 use sdf_kinds::Kind;
 use std::marker::Model;
 
-/// Gathers its input ports, `run` samples from each in turn:
-/// `y[n] = x_j[n / (ways * run) * run + n % run]`, where `x_j` is taken at port `j = n / run % ways`.
+/// A merger that takes `run` samples from each of its input ports in turn:
+/// `y[n] = x_j[n / (ways * run) * run + n % run]`. Here `x_j` is what it takes at port `j = n / run % ways`.
 #[derive(Drop)]
 pub struct Gather {
     turns: Turns,
@@ -35,7 +35,7 @@ impl Gather {
         Ok(Gather { turns })
     }
 
-    /// Its input ports, one for each way, and its output port.
+    /// Returns its input ports, one for each way, and its output port.
     pub fn ports(&self) -> Ports
         ensures is { result ≡ (gather self.now).ports }
         ensures limits { ArePorts result }
@@ -47,7 +47,7 @@ impl Gather {
         }
     }
 
-    /// One firing or many, at any phase: the samples of each are of the one port whose block is not empty.
+    /// Fires once or many times, at any phase. Each firing reads the one port whose block is not empty.
     pub fn run(&self, taken: &[i32], put: &mut [i32])
         requires { length put.old ≡ length taken.now }
         ensures { put.new ≡ taken.now }

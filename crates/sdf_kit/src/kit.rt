@@ -1,8 +1,8 @@
 //! The kinds of actor as one type, which only dispatches.
 //!
-//! A new kind, beside its row (see `row.rt` of `sdf_kinds`), is:
+//! To add a kind, beside its row (see `row.rt` of `sdf_kinds`), write:
 //! 1. a file in `specs/` with its values, their limits, its ports, its step and its formula, as a `Behaviour`;
-//! 2. a module here with its struct, whose `new`, `ports` and `run` have that as their contracts; `run` fires once or
+//! 2. a module here with its struct, whose `new`, `ports` and `run` have these as their contracts; `run` fires once or
 //!   many times;
 //! 3. a variant, a constructor and an arm of each `match` below, and a row of `specs/Kit.antt`;
 //! 4. a case in `specs/PutsFit.antt` (its blocks have their lengths) and in `proofs/Formulas.antt` (it puts its
@@ -46,7 +46,7 @@ use std::alloc::{AllocError, Global};
 
 /// An actor of one of the kinds, on 32-bit samples.
 ///
-/// Each constructor refuses the first value, in the order of its kind's keys, that is outside its limits.
+/// Each constructor errs with the first key whose value is outside its limits, in the order of the kind's keys.
 #[derive(Drop)]
 pub enum Kit {
     Fir(Fir),
@@ -64,91 +64,91 @@ pub enum Kit {
 }
 
 impl Kit {
-    /// A filter: `up` and `down` 1 to 64, `shift` at most 15, 1 to 1,024 taps of 16 bits.
+    /// Makes a filter: `up` and `down` 1 to 64, `shift` at most 15, and 1 to 1,024 `taps` of 16 bits.
     pub fn fir(up: u32, down: u32, taps: Vec<i32>, shift: u32) -> Result<Kit, KitFault>
         ensures { result ≡ kit_of kits.Fir (filter_of up down taps.items shift) }
     {
         Ok(Kit::Fir(Fir::new(up, down, taps, shift)?))
     }
 
-    /// One sample in `factor`, 1 to 64.
+    /// Makes a downsampler, which keeps one sample in `factor`, 1 to 64.
     pub fn decimate(factor: u32) -> Result<Kit, KitFault>
         ensures { result ≡ kit_of kits.Decimate (factor_of kinds.Decimate factor) }
     {
         Ok(Kit::Decimate(Decimate::new(factor)?))
     }
 
-    /// Each sample and `factor - 1` zeros, `factor` 1 to 64.
+    /// Makes an upsampler, which puts `factor - 1` zeros after each sample; `factor` is 1 to 64.
     pub fn interpolate(factor: u32) -> Result<Kit, KitFault>
         ensures { result ≡ kit_of kits.Interpolate (factor_of kinds.Interpolate factor) }
     {
         Ok(Kit::Interpolate(Interpolate::new(factor)?))
     }
 
-    /// The sum of 2 to 16 ways.
+    /// Makes a sum of 2 to 16 `ways`.
     pub fn add(ways: usize) -> Result<Kit, KitFault>
         ensures { result ≡ kit_of kits.Add (ways_of kinds.Add ways) }
     {
         Ok(Kit::Add(Add::new(ways)?))
     }
 
-    /// Each sample on 2 to 16 ways.
+    /// Makes a fork, which puts each sample on each of 2 to 16 `ways`.
     pub fn fork(ways: usize) -> Result<Kit, KitFault>
         ensures { result ≡ kit_of kits.Fork (ways_of kinds.Fork ways) }
     {
         Ok(Kit::Fork(Fork::new(ways)?))
     }
 
-    /// Each sample times `gain` of 16 bits, divided by `2^shift`, `shift` at most 15.
+    /// Makes a gain, which multiplies by `gain`, of 16 bits, and divides by `2^shift`, `shift` at most 15.
     pub fn gain(gain: i32, shift: u32) -> Result<Kit, KitFault>
         ensures { result ≡ kit_of kits.Gain (scale_of gain shift) }
     {
         Ok(Kit::Gain(Gain::new(gain, shift)?))
     }
 
-    /// Each sample `length` firings later, `length` at most 65,536.
+    /// Makes a delay, which puts each sample `length` firings later, at most 65,536.
     pub fn delay(length: usize) -> Result<Kit, KitFault>
         ensures { result ≡ kit_of kits.Delay (length_of length) }
     {
         Ok(Kit::Delay(Delay::new(length)?))
     }
 
-    /// The value at each sample plus `offset`, of 1 to 65,536 values.
+    /// Makes a table of 1 to 65,536 `values`, which puts the value at place sample plus `offset`.
     pub fn table(offset: i32, values: Vec<i32>) -> Result<Kit, KitFault>
         ensures { result ≡ kit_of kits.Table (lookup_of offset values.items) }
     {
         Ok(Kit::Table(Lookup::new(offset, values)?))
     }
 
-    /// One way dealt out to 2 to 16 `ways`, `run` samples, 1 to 64, to each in turn.
+    /// Makes a dealer, which deals one way out to 2 to 16 `ways`, `run` samples, 1 to 64, to each in turn.
     pub fn deal(ways: usize, run: u32) -> Result<Kit, KitFault>
         ensures { result ≡ kit_of kits.Deal (turns_of kinds.Deal ways run) }
     {
         Ok(Kit::Deal(Deal::new(ways, run)?))
     }
 
-    /// 2 to 16 `ways` gathered into one, `run` samples, 1 to 64, from each in turn.
+    /// Makes a merger, which gathers 2 to 16 `ways` into one, `run` samples, 1 to 64, from each in turn.
     pub fn gather(ways: usize, run: u32) -> Result<Kit, KitFault>
         ensures { result ≡ kit_of kits.Gather (turns_of kinds.Gather ways run) }
     {
         Ok(Kit::Gather(Gather::new(ways, run)?))
     }
 
-    /// Each sample between `least` and `greatest`, both of 16 bits, `least` at most `greatest`.
+    /// Makes a clipper, which clamps to `least` and `greatest`, both of 16 bits, `least` at most `greatest`.
     pub fn clip(least: i32, greatest: i32) -> Result<Kit, KitFault>
         ensures { result ≡ kit_of kits.Clip (limits_of least greatest) }
     {
         Ok(Kit::Clip(Clip::new(least, greatest)?))
     }
 
-    /// Each sample plus `value` of 16 bits.
+    /// Makes an offset, which adds `value`, of 16 bits.
     pub fn offset(value: i32) -> Result<Kit, KitFault>
         ensures { result ≡ kit_of kits.Offset (value_of value) }
     {
         Ok(Kit::Offset(Offset::new(value)?))
     }
 
-    /// Its ports and rates.
+    /// Returns the actor's ports and rates.
     pub fn ports(&self) -> Ports
         ensures is { result ≡ (behaviour self.now).ports }
         ensures limits { ArePorts result }
@@ -169,7 +169,7 @@ impl Kit {
         }
     }
 
-    /// How many samples it keeps from one firing to the next.
+    /// Returns the number of samples that it keeps from one firing to the next.
     fn kept_len(&self) -> usize
         ensures is { result ≡ (behaviour self.now).kept }
         ensures few { result ≤ MOST_DELAY }
@@ -242,7 +242,7 @@ impl Actor for Kit {
         taken: &[i32],
         put: &mut [i32],
     ) -> bool {
-        // By its ports, its rates are 1 at least.
+        // The contract of `ports` says that each rate is at least 1.
         self.ports();
         if state.items().len() != self.kept_len() {
             return false;

@@ -9,7 +9,7 @@ use crate::ports::Ports;
 use sdf_kinds::{Key, Kind};
 use std::marker::Model;
 
-/// Adds `value` to each sample and clamps the sum.
+/// An offset: it adds `value` to each sample and clamps the sum.
 #[derive(Drop)]
 pub struct Offset {
     value: i32,
@@ -34,7 +34,7 @@ impl Offset {
         Ok(Offset { value })
     }
 
-    /// Its ports and rates.
+    /// Returns the actor's ports and rates.
     pub fn ports(&self) -> Ports
         ensures is { result ≡ (offset self.now).ports }
         ensures limits { ArePorts result }
@@ -53,7 +53,7 @@ impl Offset {
     }
 }
 
-/// A sample plus a value.
+/// Adds `value` to `sample` and clamps the sum.
 fn raise(value: i32, sample: i32) -> i32
     ensures { result ≡ raised value sample }
 {

@@ -1,4 +1,4 @@
-//! Outputs of many firings, branch by branch.
+//! The outputs of many firings, branch by branch.
 
 ghost use Rattle.std.specs.Prelude.{ℕ, ◌≡◌, ◌≢◌, ◌+◌, ◌-◌, ◌*◌, ◌/◌, ◌%◌, ◌<◌, ◌≤◌, length, map, take, drop, set};
 ghost use Rattle.std.specs.Prelude.{slice_index};
@@ -12,7 +12,7 @@ use crate::branches::Branches;
 use crate::stretches::Branch;
 use crate::window::Window;
 
-/// So many firings of a filter between rates.
+/// A number of firings, `many`, of a filter between two rates.
 #[derive(Clone, Copy)]
 pub struct Firings {
     pub up: u32,
@@ -21,7 +21,7 @@ pub struct Firings {
     pub many: u32,
 }
 
-/// The outputs of many firings on a window.
+/// Puts the outputs of `firings` on the samples of `window`.
 pub(crate) fn put_branches(branches: &Branches, window: &Window, firings: Firings, put: &mut [i32])
     requires branches { AreQuiet firings.up branches.now }
     requires limits { window.now.limits ≡ branches.now.limits }
@@ -40,7 +40,7 @@ pub(crate) fn put_branches(branches: &Branches, window: &Window, firings: Firing
     }
 }
 
-/// One output of each firing: those whose place leaves `at` when divided by `up`.
+/// Puts one output of each firing: the outputs whose place has the remainder `at` when divided by `up`.
 fn put_branch(
     branch: Branch,
     window: &Window,
@@ -77,7 +77,7 @@ fn put_branch(
     }
 }
 
-/// Puts four samples, so many places apart.
+/// Puts four samples, `step` places apart, the first at `at`.
 fn put_four(put: &mut [i32], at: usize, step: usize, samples: [i32; 4])
     requires room { at + 3 * step < length put.old }
     ensures { put.new ≡ set (set (set (set put.old at (sample samples 0)) (at + step) (sample samples 1))

@@ -1,9 +1,9 @@
-//! Ports, and how many samples a firing moves at each.
+//! Ports, and the number of samples that a firing moves at each.
 
 ghost use Rattle.std.specs.Prelude.{◌≡◌, ◌<◌};
 ghost use Rattle.sdf_kit.specs.Ports.{count, moved, steady};
 
-/// The ports of an actor on one side. They are numbered from 0.
+/// The ports on one side of an actor, numbered from 0.
 #[derive(Clone, Copy)]
 pub enum PortRates {
     /// Each firing moves `rate` samples at every port.
@@ -13,7 +13,7 @@ pub enum PortRates {
 }
 
 impl PortRates {
-    /// How many ports there are.
+    /// Returns the number of ports.
     pub fn count(self) -> usize
         ensures { result ≡ count self }
     {
@@ -22,7 +22,7 @@ impl PortRates {
         }
     }
 
-    /// How many samples a firing at a phase moves at a port.
+    /// Returns the number of samples that a firing at `phase` moves at `port`.
     pub fn moved(self, port: usize, phase: u32) -> u32
         ensures { result ≡ moved self port phase }
     {
@@ -34,7 +34,7 @@ impl PortRates {
     }
 }
 
-/// The ports of an actor, and how many phases its cycle has.
+/// The ports of an actor, and the number of phases in its cycle.
 #[derive(Clone, Copy)]
 pub struct Ports {
     pub cycle: u32,
@@ -43,7 +43,7 @@ pub struct Ports {
 }
 
 impl Ports {
-    /// So many ports on each side, at each of which every firing moves as much.
+    /// Returns ports with the same rate in every firing: `take` at each of `inputs`, `put` at each of `outputs`.
     pub fn steady(inputs: usize, take: u32, outputs: usize, put: u32) -> Ports
         ensures { result ≡ steady inputs take outputs put }
     {

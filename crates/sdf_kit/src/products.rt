@@ -1,4 +1,4 @@
-//! Products that are counted.
+//! Counted products.
 
 ghost use Rattle.std.specs.Prelude.{◌≡◌, ◌+◌, ◌<◌, ◌≤◌, ◌*ℤ◌, unsigned_abs, FitsSigned};
 ghost use Rattle.std.specs.Int.{w16};
@@ -7,7 +7,7 @@ use crate::arithmetic::product;
 use std::marker::Model;
 use std::sync::ledger::{Blank, Book, Ledger, Share};
 
-/// How many products were made. It takes no bytes, and only a product changes it.
+/// The number of products made so far. It takes no bytes, and only a product changes it.
 #[derive(Drop)]
 pub struct Products<G: Ledger> {
     book: Book<G>,
@@ -25,7 +25,7 @@ impl<G: Ledger> Model for Products<G> {
 }
 
 impl<G: Ledger> Products<G> {
-    /// None yet, of a ledger with parts.
+    /// Opens a ledger from `blank`, with no products yet.
     pub fn open(blank: Blank) -> Products<G>
         requires name { blank.name ≡ G.name }
         requires parts { blank.parts ≡ G.parts }
@@ -36,7 +36,7 @@ impl<G: Ledger> Products<G> {
         Products { book, share }
     }
 
-    /// A factor of 16 bits times a sample, which counts one.
+    /// Multiplies a sample by a 16-bit `factor`, and counts one product.
     pub(crate) fn multiply(&mut self, factor: i32, sample: i32) -> i64
         requires { FitsSigned w16 factor }
         ensures value { result ≡ factor *ℤ sample }

@@ -1,4 +1,4 @@
-//! Dot products with any samples of 16 bits, a stretch of taps at a time.
+//! Dot products with any 16-bit samples, a stretch of taps at a time.
 
 ghost use Rattle.std.specs.Prelude.{◌≡◌, ◌≤◌, ◌%◌, ◌+ℤ◌, length};
 ghost use Rattle.sdf_kit.specs.Dots.{dot};
@@ -9,14 +9,14 @@ use crate::dots::{FourDots, stretch_dot, stretch_dots};
 /// The greatest weight of a stretch: 65,535 times 32,768 is less than 2^31.
 const MOST_WEIGHT: u32 = 65_535;
 
-/// The taps of a branch, and how many sixteens the stretch from each sixteen on has.
+/// The taps of a branch, and the length of the stretch at each sixteen, in sixteens.
 #[derive(Clone, Copy)]
 pub(crate) struct Branch<'a> {
     pub(crate) taps: &'a [i16],
     pub(crate) stretches: &'a [u8],
 }
 
-/// Returns how many sixteens a stretch from the first tap on has. That it is the longest no clause says.
+/// Returns the length of the stretch from the first tap on, in sixteens. It is the longest, though no clause says so.
 pub(crate) fn reach(taps: &[i16]) -> u8
     requires whole { length taps.now % 16 ≡ 0 }
     requires few { length taps.now ≤ 1024 }
@@ -35,7 +35,7 @@ pub(crate) fn reach(taps: &[i16]) -> u8
     reached
 }
 
-/// The greatest sum of the absolute values of two neighbours.
+/// Returns the greatest sum of the absolute values of two neighbours.
 fn weight(taps: &[i16]) -> u32
     requires { length taps.now ≡ 16 }
     ensures is { result ≡ weight_is taps.now }
@@ -50,7 +50,7 @@ fn weight(taps: &[i16]) -> u32
     most
 }
 
-/// Four dot products with the taps of a branch.
+/// Returns four dot products with the taps of `branch`.
 pub(crate) fn wide_dots(branch: Branch, x: &[i16], y: &[i16], z: &[i16], w: &[i16]) -> FourDots
     requires taps { AreVectors branch.taps.now }
     requires stretches { AreStretches branch.taps.now branch.stretches.now }
@@ -87,7 +87,7 @@ pub(crate) fn wide_dots(branch: Branch, x: &[i16], y: &[i16], z: &[i16], w: &[i1
     sums
 }
 
-/// A dot product with the taps of a branch.
+/// Returns the dot product with the taps of `branch`.
 pub(crate) fn wide_dot(branch: Branch, x: &[i16]) -> i64
     requires taps { AreVectors branch.taps.now }
     requires stretches { AreStretches branch.taps.now branch.stretches.now }
@@ -105,7 +105,7 @@ pub(crate) fn wide_dot(branch: Branch, x: &[i16]) -> i64
     sum
 }
 
-/// The sums of four and four.
+/// Adds `more` to `sums`, dot product by dot product.
 fn plus(sums: FourDots, more: FourDots) -> FourDots
     requires sums { AreSmall sums }
     requires more { AreSmall more }

@@ -11,7 +11,7 @@ use sdf_kinds::{Key, Kind};
 use sdf_limits::{LEAST_WAYS, MOST_RUN, MOST_WAYS};
 use std::marker::Model;
 
-/// How many ways there are, and how many samples a turn of one has.
+/// The number of ways, and the number of samples in a turn of one.
 #[derive(Drop)]
 pub struct Turns {
     ways: usize,
@@ -42,7 +42,7 @@ impl Turns {
         Ok(Turns { ways, run })
     }
 
-    /// How many firings serve each way once.
+    /// Returns the number of firings that serve each way once.
     pub fn cycle(&self) -> u32
         ensures is { result ≡ self.now.ways }
         ensures some { 1 ≤ result }
@@ -50,7 +50,7 @@ impl Turns {
         self.ways as u32
     }
 
-    /// The ports of the ways.
+    /// Returns the ports of the ways.
     pub fn ways(&self) -> PortRates
         ensures is { result ≡ InTurn self.now.ways self.now.run }
         ensures limits { ArePortRates result }
@@ -61,7 +61,7 @@ impl Turns {
         }
     }
 
-    /// The one port on the other side.
+    /// Returns the one port on the other side.
     pub fn one(&self) -> PortRates
         ensures is { result ≡ Every 1 self.now.run }
         ensures limits { ArePortRates result }

@@ -1,4 +1,4 @@
-//! The samples that a block of firings sees, as 16-bit numbers.
+//! The samples that a block of firings reads, as 16-bit numbers.
 
 ghost use Rattle.std.specs.Prelude.{ℕ, ◌≡◌, ◌+◌, ◌*◌, ◌%◌, ◌<◌, ◌≤◌, ℤ, pos, true, [], ◌∷◌, ◌++◌, length, take, drop};
 ghost use Rattle.std.specs.Prelude.{replicate, FitsSigned, ◌*ℤ◌, ◌+ℤ◌, ◌≤ℤ◌, map};
@@ -16,10 +16,10 @@ use crate::stretches::{Branch, wide_dot, wide_dots};
 use sdf_limits::MOST_SHIFT;
 use std::marker::Model;
 
-/// Samples of a window.
+/// The number of samples that a window can hold.
 pub(crate) const ROOM: usize = 2048;
 
-/// The samples of a window: themselves, or their upper bits and their lowest eight.
+/// Samples in 16-bit numbers: whole in `high`, or split into upper bits in `high` and the lowest eight in `low`.
 #[derive(Drop)]
 pub(crate) struct Window {
     high: [i16; ROOM],
@@ -29,14 +29,14 @@ pub(crate) struct Window {
     way: Way,
 }
 
-/// How samples are held.
+/// The form in which samples are held.
 #[derive(Clone, Copy)]
 enum Way {
-    /// Themselves, none past the peak.
+    /// Whole, and none above the peak of the limits in absolute value.
     Quiet,
-    /// Themselves, of 16 bits.
+    /// Whole, any 16-bit numbers.
     Wide,
-    /// By their upper bits and their lowest eight.
+    /// Split into their upper bits and their lowest eight.
     Split,
 }
 
@@ -51,7 +51,7 @@ impl Model for Window {
 }
 
 impl Window {
-    /// A window of no samples.
+    /// Returns a window without samples.
     pub(crate) fn new() -> Window {
         Window {
             high: [0; ROOM],
@@ -65,7 +65,7 @@ impl Window {
         }
     }
 
-    /// Takes in so many zeros, the samples kept and those taken. It answers false where a sample is too large.
+    /// Loads `pad` zeros, then `kept`, then `taken`. Returns false if a sample is too large for `limits`.
     pub(crate) fn load(&mut self, pad: usize, kept: &[i32], taken: &[i32], limits: Limits) -> bool
         requires room { pad + (length kept.now + length taken.now) ≤ 2048 }
         requires peak { limits.peak ≤ 32767 }
@@ -99,7 +99,7 @@ impl Window {
         false
     }
 
-    /// The outputs of a branch at four places.
+    /// Returns the outputs of `branch` at four places, `step` samples apart, the first at `at`.
     pub(crate) fn four(&self, branch: Branch, at: usize, step: usize, shift: u32) -> [i32; 4]
         requires branch { IsBranch self.now.limits branch.taps.now branch.stretches.now }
         requires room { at + 3 * step + length branch.taps.now ≤ length self.now.samples }
@@ -142,7 +142,7 @@ impl Window {
         }
     }
 
-    /// The output of a branch at a place.
+    /// Returns the output of `branch` at place `at`.
     pub(crate) fn one(&self, branch: Branch, at: usize, shift: u32) -> i32
         requires branch { IsBranch self.now.limits branch.taps.now branch.stretches.now }
         requires room { at + length branch.taps.now ≤ length self.now.samples }
@@ -162,7 +162,7 @@ impl Window {
     }
 }
 
-/// Four dot products with the same taps, so many samples apart.
+/// Returns the dot products of `h` with four pieces of `x`, `step` samples apart, each wrapped to 32 bits.
 fn four_dots(h: &[i16], x: &[i16], at: usize, step: usize) -> [i32; 4]
     requires lanes { length h.now % 16 ≡ 0 }
     requires short { Each1 (FitsSigned w16) h.now }
@@ -184,7 +184,7 @@ fn four_dots(h: &[i16], x: &[i16], at: usize, step: usize) -> [i32; 4]
     sums.to_array()
 }
 
-/// The same of samples of 16 bits that are past the peak.
+/// Returns four exact dot products of `branch` with any 16-bit samples, `step` samples apart.
 fn four_wide_dots(branch: Branch, x: &[i16], at: usize, step: usize) -> FourDots
     requires taps { AreVectors branch.taps.now }
     requires stretches { AreStretches branch.taps.now branch.stretches.now }
@@ -205,7 +205,7 @@ fn four_wide_dots(branch: Branch, x: &[i16], at: usize, step: usize) -> FourDots
     )
 }
 
-/// A dot product.
+/// Returns the dot product of `h` with the samples of `x` from `at` on, wrapped to 32 bits.
 fn one_dot(h: &[i16], x: &[i16], at: usize) -> i32
     requires lanes { length h.now % 16 ≡ 0 }
     requires short { Each1 (FitsSigned w16) h.now }
@@ -216,7 +216,7 @@ fn one_dot(h: &[i16], x: &[i16], at: usize) -> i32
     dot(h, piece(x, at, h.len()))
 }
 
-/// So many from a place on.
+/// Returns `len` numbers from place `at` on.
 fn piece(numbers: &[i16], at: usize, len: usize) -> &[i16]
     requires { at + len ≤ length numbers.now }
     ensures { result.now ≡ take len (drop at numbers.now) }
@@ -224,7 +224,7 @@ fn piece(numbers: &[i16], at: usize, len: usize) -> &[i16]
     &numbers[at..at + len]
 }
 
-/// The first so many.
+/// Returns the first `len` numbers.
 fn front(numbers: &[i16], len: usize) -> &[i16]
     requires { len ≤ length numbers.now }
     ensures { result.now ≡ take len numbers.now }
@@ -232,7 +232,7 @@ fn front(numbers: &[i16], len: usize) -> &[i16]
     &numbers[..len]
 }
 
-/// The output of the sums of upper bits and of the lowest eight.
+/// Returns the output from `high`, the sum of upper bits, and `low`, the sum of the lowest eight.
 fn join(high: i32, low: i32, shift: u32) -> i32
     requires shift { shift ≤ MOST_SHIFT }
     ensures { result ≡ settled ((pos 256 *ℤ high) +ℤ low) shift }
@@ -240,7 +240,7 @@ fn join(high: i32, low: i32, shift: u32) -> i32
     settle(256 * i64::from(high) + i64::from(low), shift)
 }
 
-/// Whether none of samples of at most 32,768 is that.
+/// Checks whether no sample exceeds 32,767. `load` has checked before that none is below -32,768.
 fn are_short(samples: &[i32]) -> bool
     ensures { result ≡ true → (k : ℕ) → k < length samples.now → sample samples.now k ≤ℤ pos 32767 }
 {
@@ -251,7 +251,7 @@ fn are_short(samples: &[i32]) -> bool
     greatest <= 32_767
 }
 
-/// What is written of a sample: all of it, its upper bits or its lowest eight.
+/// The part of a sample to write: all of it, its upper bits or its lowest eight.
 #[derive(Clone, Copy, Drop)]
 enum Part {
     Whole,
@@ -259,7 +259,7 @@ enum Part {
     Low,
 }
 
-/// A part of a sample.
+/// Returns a part of `sample`.
 fn part_of(part: Part, sample: i32) -> i16
     requires { FitsSigned w16 (part_as part sample) }
     ensures { result ≡ part_as part sample }
@@ -272,7 +272,7 @@ fn part_of(part: Part, sample: i32) -> i16
     value as i16
 }
 
-/// Writes parts of samples from a place on.
+/// Writes parts of the samples in `from`, beginning at place `at`.
 fn write(to: &mut [i16], part: Part, at: usize, from: &[i32])
     requires room { at + length from.now ≤ length to.old }
     requires fit { AreFit part from.now }
@@ -285,7 +285,7 @@ fn write(to: &mut [i16], part: Part, at: usize, from: &[i32])
     }
 }
 
-/// Writes zeros.
+/// Writes `len` zeros.
 fn clear(to: &mut [i16], len: usize)
     requires { len ≤ length to.old }
     ensures len { length to.new ≡ length to.old }
@@ -296,7 +296,7 @@ fn clear(to: &mut [i16], len: usize)
     }
 }
 
-/// Writes zeros, and parts of the samples kept and taken.
+/// Writes `pad` zeros, then parts of the samples in `kept` and in `taken`.
 fn write_all(to: &mut [i16], part: Part, pad: usize, kept: &[i32], taken: &[i32])
     requires room { pad + (length kept.now + length taken.now) ≤ length to.old }
     requires kept { AreFit part kept.now }

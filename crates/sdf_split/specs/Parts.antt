@@ -22,7 +22,8 @@ use Rattle.sdf_split.specs.declared.part.Split.{Split}
 use Rattle.sdf_split.specs.declared.workers.Done.{Done}
 use Rattle.sdf_split.specs.declared.workers.Worker.{Worker}
 
--- a period of a net, inputs that hold the periods of the run and no more, a warm-up, and parts that are no shorter
+-- a schedule of the net, inputs that hold exactly the periods of the run, a warm-up, and parts that are no shorter than
+-- it
 pub record IsSplit {A S T : Type 0} (s : Steps A S T) (inputs : List (List T)) (w : Split A T S) : Type 0 where
   pub period : IsPeriodOf (rates (graph_of s w.net.now)) w.period.now
   pub given : HasInputs w.net.now w.period.now.repetitions w.periods inputs
@@ -37,13 +38,13 @@ pub record IsSplit {A S T : Type 0} (s : Steps A S T) (inputs : List (List T)) (
 abbrev pub read_by : {A T : Type 0} → Netlist A T → List ℕ → List (List T) → ℕ → ℕ → List (List T)
 read_by n q inputs from to = cut (from * period_samples n.nodes Inputs q) (to * period_samples n.nodes Inputs q) inputs
 
--- what the periods of warm-up before a period, run alone, leave
+-- the state that the `warm` periods before period `from`, run alone, leave
 abbrev pub IsWarmedUp : {A S T : Type 0} → Steps A S T → Netlist A T → List ℕ → List (List T) → ℕ → ℕ → Rest T S →
     Type 0
 IsWarmedUp {A} {S} {T} s n q inputs warm from back =
     (made : List (List T)) × HasRun s n (read_by n q inputs (from - warm) from) (periods_of q warm) made back
 
--- a run of some periods goes on from a rest, and its outputs become this
+-- a run of the periods from `from` to `to` goes on from `begin`, and its outputs become `made`
 pub record IsFinished {A S T M : Type 0} (s : Steps A S T) (n : Netlist A T) (q : List ℕ) (inputs : List (List T))
     (makes : ℕ → List (List T) → M → Type 0) (begin : Rest T S) (from to : ℕ) (made : M) (last : Rest T S) :
     Type 0 where
@@ -51,7 +52,7 @@ pub record IsFinished {A S T M : Type 0} (s : Steps A S T) (n : Netlist A T) (q 
   pub goes : GoesOnBy s n q begin (to - from) (read_by n q inputs from to) outputs last
   pub becomes : makes (to - from) outputs made
 
--- The stretches of a part, one behind the other: each one goes on from what the one before it leaves.
+-- The stretches of a part, in order: each one goes on from what the one before it leaves.
 pub data AreStretches {A S T M : Type 0} (s : Steps A S T) (n : Netlist A T) (q : List ℕ) (inputs : List (List T))
     (makes : ℕ → List (List T) → M → Type 0) (begin : Rest T S) (from : ℕ) : ℕ → List M → Rest T S → Type 0 where
   first : (to : ℕ) (m : M) (last : Rest T S) → from ≤ to → IsFinished s n q inputs makes begin from to m last →
@@ -74,11 +75,11 @@ pub record IsPart {A S T M : Type 0} (s : Steps A S T) (n : Netlist A T) (q : Li
 abbrev pub end_of : ℕ → ℕ → ℕ → ℕ
 end_of size periods from = from + min size (periods - from)
 
--- how many parts there are
+-- the number of parts
 abbrev pub part_count : {A S T : Type 0} → Split A T S → ℕ
 part_count w = max (div_ceil w.periods w.size) 1
 
--- what was made of part i, or why it was not
+-- the result of part i, or the fault
 abbrev pub IsMade : {A S T M : Type 0} → Steps A S T → List (List T) → (ℕ → List (List T) → M → Type 0) →
     Split A T S → Rest T S → ℕ → Result (Made M T S) RunFault → Type 0
 IsMade s inputs makes w rest i r =
@@ -87,32 +88,32 @@ IsMade s inputs makes w rest i r =
     (end_of w.size w.periods (i * w.size)) m.made.items m.rest)
     (λ fault. fault ≡ OutOfMemory)
 
--- and of each of the first parts
+-- the results of the first parts, or their faults
 abbrev pub AreMade : {A S T M : Type 0} → Steps A S T → List (List T) → (ℕ → List (List T) → M → Type 0) →
     Split A T S → Rest T S → List (Result (Made M T S) RunFault) → Type 0
 AreMade {A} {S} {T} {M} s inputs makes w rest places =
     (i : ℕ) (d : Result (Made M T S) RunFault) → i < length places →
     IsMade s inputs makes w rest i (slice_index_or places i d)
 
--- this is a part, and what was made of it
+-- a part of the run, with its result
 abbrev pub IsDone : {A S T M : Type 0} → Steps A S T → List (List T) → (ℕ → List (List T) → M → Type 0) →
     Split A T S → Rest T S → Done M T S → Type 0
 IsDone s inputs makes w rest d = (d.number < part_count w) × IsMade s inputs makes w rest d.number d.made
 
--- and so of each that a worker ran
+-- the parts that a worker ran, with their results
 abbrev pub AreDone : {A S T M : Type 0} → Steps A S T → List (List T) → (ℕ → List (List T) → M → Type 0) →
     Split A T S → Rest T S → List (Done M T S) → Type 0
 AreDone s inputs makes w rest done = All (IsDone s inputs makes w rest) done
 
--- and of each worker
+-- the parts that all workers ran, with their results
 abbrev pub AllAreDone : {A S T M : Type 0} → Steps A S T → List (List T) → (ℕ → List (List T) → M → Type 0) →
     Split A T S → Rest T S → List (Worker M T S) → Type 0
 AllAreDone {A} {S} {T} {M} s inputs makes w rest workers =
     (i : ℕ) (d : Worker M T S) → i < length workers →
     AreDone s inputs makes w rest (slice_index_or workers i d).done.items
 
--- What the outputs of stretches became, one behind the other: by the periods up to the end of each stretch, a run goes
--- on from the rest, and its outputs are those of the stretches before with the stretch's own behind them.
+-- What the outputs of stretches became, in order. A run goes on from the rest by the periods up to the end of each
+-- stretch. Its outputs are the outputs of the stretches before, joined with the stretch's own.
 pub data HasParts {A S T M : Type 0} (s : Steps A S T) (n : Netlist A T) (q : List ℕ) (inputs : List (List T))
     (makes : ℕ → List (List T) → M → Type 0) (rest : Rest T S) : ℕ → List (List T) → List M → Type 0 where
   none : (blank : List (List T)) → length blank ≡ list_count Outputs n.nodes →

@@ -1,8 +1,8 @@
--- How long the parts of a run are.
+-- The length of the parts of a run.
 use Rattle.std.specs.Prelude.{ℕ, ◌*◌, ◌-◌, ◌^◌, ◌≤◌, ◌<◌, min}
 
--- at most this many parts of this size hold the periods, and each is at least eight of its warm-ups long, so that less
--- than an eighth of the work is done twice (or as long as a number can say)
+-- at most `parts` parts of this size hold the periods; each is at least eight warm-ups long (or 2^32 - 1 periods), so
+-- that less than an eighth of the work is done twice
 pub record IsPartSize (periods parts warm size : ℕ) : Type 0 where
   pub some : 0 < size
   pub few : periods ≤ parts * size

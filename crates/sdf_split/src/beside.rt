@@ -1,7 +1,7 @@
-//! Calls that are made at once, beside another one.
+//! Parallel calls, beside another one.
 //!
-//! `thread::for_each_mut` halves a list, so that threads start threads. Here one thread starts all others and then does
-//! work of its own: where a new thread shares its maker's processor at first, the last worker begins sooner.
+//! `thread::for_each_mut` halves a list, so threads start threads. Here one thread starts all others and then does work
+//! of its own. If a new thread at first shares the processor of the thread that made it, the last worker begins sooner.
 
 ghost use Rattle.std.specs.Prelude.{◌≡◌, ◌+◌, ◌<◌, ◌^◌, length};
 ghost use denote.Param.Send.{IsSync, IsSend};
@@ -10,8 +10,8 @@ ghost use Rattle.sdf_split.specs.Beside.{AcceptsFrom, ChangesFrom};
 
 use std::thread::{Threads, join_mut};
 
-/// Calls `f` with each number and element of `s`, each in a thread of its own if one can be made, and `meanwhile` in
-/// this one.
+/// Calls `f` with each number and element of `s`, each in a thread of its own if one can be made. Calls `meanwhile` in
+/// this thread.
 pub(crate) fn for_each_beside<
     R: Threads + Sync,
     T: Send,
@@ -27,7 +27,7 @@ pub(crate) fn for_each_beside<
     from_place(rt, f, 0, s, meanwhile)
 }
 
-/// Calls `f` with one element.
+/// Calls `f` with the element `it`, whose number is `i`.
 fn call_with<T, F: Fn(usize, &mut T)>(f: &F, i: usize, it: &mut T)
     requires { AcceptsAt F.Fn f.now i it.old }
     ensures { ChangesAt F.Fn f.now i it.old it.new }
@@ -35,7 +35,7 @@ fn call_with<T, F: Fn(usize, &mut T)>(f: &F, i: usize, it: &mut T)
     f(i, it);
 }
 
-/// Calls `f` with the one element of `s`.
+/// Calls `f` with the one element of `s`, whose number is `i`.
 fn call_at<T, F: Fn(usize, &mut T)>(f: &F, i: usize, s: &mut [T])
     requires one { length s.old ≡ 1 }
     requires accepts { AcceptsFrom F.Fn f.now i s.old }
@@ -44,7 +44,7 @@ fn call_at<T, F: Fn(usize, &mut T)>(f: &F, i: usize, s: &mut [T])
     call_with(f, i, &mut s[0]);
 }
 
-/// Calls `f` with each element of `s`, the first of which has number `i`, and `meanwhile` beside them.
+/// Calls `f` with each element of `s`, numbered from `i`, and `meanwhile` beside them.
 #[cycle(places)]
 fn from_place<R: Threads + Sync, T: Send, F: Fn(usize, &mut T) + Sync, G: FnMut() -> B, B>(
     rt: &R,

@@ -1,4 +1,4 @@
-//! What the parts of a run read, and what becomes of what they make.
+//! The inputs that the parts of a run read, and what their outputs become.
 
 ghost use Rattle.std.specs.Prelude.{◌≡◌, ◌≤◌, ◌<◌, ℕ, List, [], length, slice_index_or, IfOk};
 ghost use Rattle.sdf_actor.specs.Wires.{lists};
@@ -6,8 +6,8 @@ ghost use Rattle.sdf_split.specs.Cuts.{cut};
 
 use std::alloc::{AllocError, Global};
 
-/// Where the parts of a run get their inputs, and what becomes of their outputs. Each worker calls both functions for
-/// each stretch of its own part, while others do the same.
+/// The source of the inputs of a run's parts, and the use of their outputs. Workers call both functions in parallel,
+/// for each stretch of their own parts.
 pub trait Ends<T>: Sync {
     /// What the outputs of a stretch become.
     type Made: Send + Drop;
@@ -15,10 +15,10 @@ pub trait Ends<T>: Sync {
     /// The input lists of the whole run.
     ghost inputs: { Self → List (List T) };
 
-    /// Whether output lists of this many periods become this.
+    /// The relation between a number of periods, their output lists and what these become.
     ghost makes: { Self → ℕ → List (List T) → Self.Made → Type 0 };
 
-    /// Reads the samples from `from` to `to` of each input list, in the memory of `spares`.
+    /// Reads the samples from `from` to `to` of each input list, and reuses the memory of `spares`.
     fn read(
         &self,
         alloc: Global,
@@ -31,7 +31,7 @@ pub trait Ends<T>: Sync {
             to ≤ length (slice_index_or (inputs self.now) e []) }
         ensures { IfOk result (λ v. lists v.items ≡ cut from to (inputs self.now)) };
 
-    /// Makes what the output lists of `periods` periods become, in the memory of `spare`.
+    /// Makes what `outputs`, the output lists of `periods` periods, become. Reuses the memory of `spare`.
     fn finish(
         &self,
         alloc: Global,

@@ -18,9 +18,9 @@ use sdf_sched::Period;
 use std::alloc::Global;
 use std::mem;
 
-/// A run of `periods` periods of a net in parts of `size` periods, each after `warm` periods of warm-up except the
-/// first, by up to `workers` workers at once. A part is run in stretches of up to `stretch` periods, so that its lists
-/// need no more memory.
+/// A run of `periods` periods of a net, in parts of `size` periods on up to `workers` workers. Each part except the
+/// first is run after `warm` periods of warm-up. A part is run in stretches of up to `stretch` periods, which limits
+/// the length of its lists.
 #[derive_where(Clone, Copy)]
 pub struct Split<'a, A: Actor> {
     pub net: &'a Net<A>,
@@ -42,7 +42,7 @@ impl<'a, A: Actor> Split<'a, A> {
     }
 }
 
-/// The periods from one number to another.
+/// The periods from number `from` up to number `to`, which is not included.
 #[derive(Clone, Copy)]
 struct Stretch {
     from: u32,
@@ -73,13 +73,13 @@ impl<T: Copy> RunMemory<T> {
     }
 }
 
-/// The memory of a part, which the parts after it use again. The warm-up is shorter than the part, so each of the two
-/// runs has its own.
+/// The memory of a part, which later parts reuse. A warm-up and a stretch can have different lengths, so each run has
+/// memory of its own.
 #[derive(Drop)]
 pub(crate) struct Memory<M, T> {
     warming: RunMemory<T>,
     own: RunMemory<T>,
-    /// What the outputs of earlier stretches became, once they are given back.
+    /// What the outputs of earlier stretches became, given back for reuse.
     pub(crate) spares: Vec<M>,
 }
 
@@ -94,7 +94,7 @@ impl<M: Drop, T: Copy> Memory<M, T> {
     }
 }
 
-/// Runs the periods of `stretch`, which go on from `begin`, and returns their output lists and what they leave.
+/// Runs the periods of `stretch` from the state `begin`. Returns their output lists and the state after them.
 fn go_on<A: Actor, E: Ends<A::Token>>(
     alloc: Global,
     ends: &E,
@@ -158,7 +158,7 @@ fn warmed_up<A: Actor, E: Ends<A::Token>>(
     Ok(rest)
 }
 
-/// Runs a stretch of a part, which goes on from `begin`, and makes what its outputs become.
+/// Runs a stretch of a part from the state `begin`, and makes what its outputs become.
 fn finished<A: Actor, E: Ends<A::Token>>(
     alloc: Global,
     ends: &E,
@@ -183,7 +183,7 @@ fn finished<A: Actor, E: Ends<A::Token>>(
     Ok((made, rest))
 }
 
-/// Runs the part at the period `from`, which goes on from `begin`, a stretch behind the other.
+/// Runs the part at the period `from` from the state `begin`, one stretch after another.
 fn stretches<A: Actor, E: Ends<A::Token>>(
     alloc: Global,
     ends: &E,
@@ -221,7 +221,7 @@ fn stretches<A: Actor, E: Ends<A::Token>>(
     Ok(Made { made: all, rest })
 }
 
-/// Runs the part that begins at the period `from`, after its warm-up unless it is the first one.
+/// Runs the part that begins at the period `from`, after its warm-up unless it is the first part.
 pub(crate) fn part<A: Actor, E: Ends<A::Token>>(
     alloc: Global,
     ends: &E,

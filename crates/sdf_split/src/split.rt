@@ -18,7 +18,7 @@ use std::alloc::{AllocError, Global};
 use std::mem;
 use std::thread::Threads;
 
-/// Returns a place for each part. Each is `OutOfMemory` until what a worker made of the part is put there.
+/// Returns a place for the result of each part. Each holds `OutOfMemory` until a worker's result is put there.
 fn empty_places<A: Actor, E: Ends<A::Token>>(
     alloc: Global,
     ends: &E,
@@ -37,7 +37,7 @@ fn empty_places<A: Actor, E: Ends<A::Token>>(
     Ok(places)
 }
 
-/// Moves what a worker made of parts to their places.
+/// Moves the results in `done`, of one worker, to the places of their parts.
 fn place<A: Actor, E: Ends<A::Token>>(
     ends: &E,
     split: Split<'_, A>,
@@ -58,7 +58,7 @@ fn place<A: Actor, E: Ends<A::Token>>(
     }
 }
 
-/// Moves what all workers made of parts to their places.
+/// Moves the results of all workers to the places of their parts.
 fn place_all<A: Actor, E: Ends<A::Token>>(
     ends: &E,
     split: Split<'_, A>,
@@ -77,7 +77,7 @@ fn place_all<A: Actor, E: Ends<A::Token>>(
     }
 }
 
-/// Takes out what the stretches of all parts made, in order, and the state in which the last one leaves the net.
+/// Takes out what the outputs of all stretches became, in order, and the state in which the last part leaves the net.
 fn taken<A: Actor, E: Ends<A::Token>>(
     alloc: Global,
     ends: &E,
@@ -105,7 +105,7 @@ fn taken<A: Actor, E: Ends<A::Token>>(
     Ok((all, last.unwrap()))
 }
 
-/// Puts what all workers made of the parts in order, and returns the state in which the last part leaves the net.
+/// Collects what the outputs of all stretches became, in order, and the state in which the last part leaves the net.
 fn gather<A: Actor, E: Ends<A::Token>>(
     alloc: Global,
     ends: &E,
@@ -125,7 +125,7 @@ fn gather<A: Actor, E: Ends<A::Token>>(
     taken(alloc, ends, split, rest, &mut places)
 }
 
-/// Runs all parts by workers at once, and `meanwhile` beside them. Returns what the parts made.
+/// Runs all parts on `workers` in parallel, and `meanwhile` beside them. Returns the results of both.
 fn run_parts<R: Threads + Sync, A: Actor, E: Ends<A::Token>, G: FnMut() -> B, B>(
     rt: &R,
     alloc: Global,
@@ -162,12 +162,13 @@ fn run_parts<R: Threads + Sync, A: Actor, E: Ends<A::Token>, G: FnMut() -> B, B>
     (gather(alloc, ends, split, rest, workers), done)
 }
 
-/// Goes on from a rest as `resume_one` does, in parts that up to `split.workers` workers run at once. Each part except
-/// the first is run after a warm-up on the periods before it, and in stretches. Returns what the outputs of the
-/// stretches became, in order, and what the run leaves. The memory of `workers` is used again.
+/// Resumes a net from its state `rest` as `resume_one` does, in parts that up to `split.workers` workers run in
+/// parallel. Each part is run in stretches, and each except the first after a warm-up on the periods before it. Returns
+/// what the outputs of the stretches became, in order, and the state that the run leaves. Reuses the memory of
+/// `workers`.
 ///
-/// Each worker has a thread of its own if one can be made. It takes one part after the other, so that a worker whose
-/// processor is slow runs fewer. `meanwhile` is run once in this thread, also if memory is refused.
+/// Each worker has a thread of its own if one can be made. It takes one part after another, so a worker on a slow
+/// processor runs fewer. `meanwhile` is run once in this thread, even if memory is refused.
 pub fn resume_split<R: Threads + Sync, A: Actor, E: Ends<A::Token>, G: FnMut() -> B, B>(
     rt: &R,
     ends: &E,

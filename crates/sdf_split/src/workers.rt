@@ -11,7 +11,7 @@ use sdf_answer::RunFault;
 use std::alloc::{AllocError, Global};
 use std::sync::atomic::{AtomicUsize, Ordering};
 
-/// The parts of a split run, of which workers take one after the other.
+/// A queue of the parts of a split run, from which workers take one part after another.
 #[derive(Drop)]
 pub(crate) struct Line {
     taken: AtomicUsize,
@@ -34,14 +34,14 @@ impl Line {
     }
 }
 
-/// A part that was run: its number, and what was made of it.
+/// A part that was run: its number and its result.
 #[derive(Drop)]
 pub(crate) struct Done<M, T, S> {
     pub(crate) number: usize,
     pub(crate) made: Result<Made<M, T, S>, RunFault>,
 }
 
-/// A worker: its memory, and the parts that it ran of a piece.
+/// A worker: its memory, and the parts of a piece that it ran.
 #[derive(Drop)]
 pub(crate) struct Worker<M, T, S> {
     memory: Memory<M, T>,
@@ -57,7 +57,7 @@ impl<M: Drop, T: Copy, S: Drop> Worker<M, T, S> {
         }
     }
 
-    /// Tops up its spares to `most` from `spares`.
+    /// Tops up its own spares from `spares`, to at most `most`.
     fn stock(&mut self, spares: &mut Vec<M>, most: usize) -> Result<(), AllocError> {
         for _ in self.memory.spares.len()..most {
             if let Some(spare) = spares.pop() {
@@ -68,8 +68,8 @@ impl<M: Drop, T: Copy, S: Drop> Worker<M, T, S> {
     }
 }
 
-/// Runs parts of a split run, one after the other, until none is left. A part is taken only if memory to keep what is
-/// made of it is there.
+/// Runs parts of a split run, one after another, until none is left. It takes a part only after it has reserved memory
+/// for the result.
 pub(crate) fn work<A: Actor, E: Ends<A::Token>>(
     alloc: Global,
     ends: &E,
@@ -101,12 +101,12 @@ pub(crate) fn work<A: Actor, E: Ends<A::Token>>(
 pub struct Workers<M, T, S> {
     pub(crate) alloc: Global,
     pub(crate) all: Vec<Worker<M, T, S>>,
-    /// What the outputs of stretches became, given back.
+    /// What the outputs of stretches became, given back for reuse.
     spares: Vec<M>,
 }
 
 impl<M: Drop, T: Copy, S: Drop> Workers<M, T, S> {
-    /// Begins with no worker, and takes no memory. Runs take it from `alloc`.
+    /// Begins without workers, and takes no memory. Runs take it from `alloc`.
     pub fn none(alloc: Global) -> Workers<M, T, S> {
         Workers {
             alloc,
@@ -115,12 +115,12 @@ impl<M: Drop, T: Copy, S: Drop> Workers<M, T, S> {
         }
     }
 
-    /// Keeps the memory of what the outputs of stretches became. The parts of the next piece use it again.
+    /// Keeps the memory of what the outputs of stretches became. The parts of the next piece reuse it.
     pub fn give_back(&mut self, made: Vec<M>) {
         self.spares = made;
     }
 
-    /// Takes on workers until there are `count`, and hands them the memory that was given back, for up to `most`
+    /// Adds workers until there are at least `count`. Hands them the memory that was given back, for up to `most`
     /// stretches each.
     pub(crate) fn take_on(&mut self, count: usize, most: usize) -> Result<(), AllocError>
         ensures { OnOk result (count ≤ length self.new.all.items) }

@@ -8,7 +8,7 @@ use Rattle.sdf_actor.specs.Nets.{Wire}
 abbrev pub edges : List (ℕ × Bor (List ℕ) × Bor (List ℕ) × ℕ × ℕ) → List Edge
 edges rows = map (λ row. record { from = row.0; put = row.1.now; to = row.3; take = row.2.now; initial = row.4 }) rows
 
--- wires by their ends, each a node and a port, that begin with no samples
+-- wires without initial samples, by their ends, each a node and a port
 abbrev pub empty_wires : {T : Type 0} → List (List ℕ) → List (Wire T)
 empty_wires ends = map (λ e. record {
   from = (slice_index e 0, slice_index e 1);

@@ -18,7 +18,7 @@ abbrev pub twice_puts : ℕ → ℤ → List ℤ
 twice_puts zero s = []
 twice_puts (suc j) s = s ∷ s ∷ []
 
--- what it puts has its length
+-- what it puts has the length that its rates give
 pub twice_fits : (j : ℕ) (s : ℤ) → length (twice_puts j s) ≡ sum_by (λ p. twice_put j) (range_with_len 0 1)
 twice_fits zero s = refl
 twice_fits (suc j) s = refl

@@ -1,4 +1,4 @@
-//! The actors: each is as small as what a test wants of it.
+//! Test actors, each as small as its tests allow.
 
 ghost use Rattle.std.specs.Prelude.{[], ◌∷◌, ◌≡◌, ◌+◌, ◌==◌, ◌+ℤ◌, ◌%◌, length, pos, refl, slice_index, slice_index_or};
 ghost use Rattle.std.specs.Prelude.{if◌then◌else◌};
@@ -8,7 +8,7 @@ ghost use Rattle.sdf_actor.specs.Steps.{total_in, total_out};
 use sdf_actor::Actor;
 use std::alloc::{AllocError, Global};
 
-/// Puts the total of all that it has taken, which wraps.
+/// An actor that puts the total of all that it has taken. The total wraps.
 #[derive(Drop)]
 pub struct Sum;
 
@@ -65,7 +65,7 @@ impl Actor for Sum {
     ghost puts_fit = { λ _ _ _ _ _. refl };
 }
 
-/// Turns each pair round.
+/// An actor that swaps the two bytes of each pair.
 #[derive(Drop)]
 pub struct Swap;
 
@@ -121,7 +121,7 @@ impl Actor for Swap {
     ghost puts_fit = { λ _ _ _ _ _. refl };
 }
 
-/// Keeps a sample at its first phase, and puts it twice at its second.
+/// An actor that keeps a sample at its first phase and puts it twice at its second.
 #[derive(Drop)]
 pub struct Twice;
 
@@ -182,8 +182,8 @@ impl Actor for Twice {
     ghost puts_fit = { λ x past now blocks e. twice_fits (length past % 2) _ };
 }
 
-/// At phase 0 of its cycle it takes `first + middle` and `last` samples, and puts them on as `first` and `middle +
-/// last`. At its other phases it moves none.
+/// An actor that regroups samples. At phase 0 of its cycle it takes `first + middle` and `last` samples, and puts them
+/// as `first` and `middle + last`. At its other phases it moves none.
 #[derive(Drop)]
 pub struct Regroup {
     pub cycle: u32,

@@ -1,20 +1,20 @@
-//! Gates: they count the firings that pass, and hold some of them.
+//! Gates that count the firings that pass, and hold some of them.
 //!
-//! None hangs: a firing that is held goes on after so many turns, and counts as missed then.
+//! None hangs: a held firing goes on after a number of turns, and then counts as missed.
 
 use sdf_node::{ActorId, Gate};
 use std::alloc::{AllocError, Global};
 use std::sync::atomic::{AtomicU64, Ordering};
 use std::thread;
 
-/// Turns of a firing that is held until others have begun: they come sooner, however busy the machine is.
+/// The most turns of a firing that is held until others have begun. They begin sooner, however busy the machine is.
 pub const MANY_TURNS: u32 = 2_000_000;
 
-/// Turns of a firing that is held in vain.
+/// The turns of a firing that is held in vain.
 const FEW_TURNS: u32 = 20_000;
 
-/// Which firings are held, and until when: firing `first` of each actor that is held, and the `many` from there on,
-/// until each actor that is awaited has begun its firing of that number, `ahead` more, or for so many turns.
+/// The firings to hold: `many` of each actor in `held`, from firing `first` on. Each is held until all actors in
+/// `awaited` have begun their firing of its number plus `ahead`. It waits up to `turns` turns for each of them.
 #[derive(Drop, Clone, Copy)]
 pub struct Hold<'a> {
     pub held: &'a [ActorId],
@@ -26,7 +26,7 @@ pub struct Hold<'a> {
 }
 
 impl<'a> Hold<'a> {
-    /// Holds nothing.
+    /// A hold of no firings.
     pub const NONE: Hold<'static> = Hold {
         held: &[],
         first: 0,
@@ -36,7 +36,8 @@ impl<'a> Hold<'a> {
         turns: 0,
     };
 
-    /// The first firings of some actors, each held until all of them have begun theirs of its number.
+    /// Makes a hold of the first `many` firings of each of `actors`, each until all of them have begun their firing of
+    /// that number.
     pub fn meeting(actors: &'a [ActorId], many: u64) -> Hold<'a> {
         Hold {
             held: actors,
@@ -48,7 +49,7 @@ impl<'a> Hold<'a> {
         }
     }
 
-    /// The same in a run where those that are awaited do not begin: it is given up soon.
+    /// Makes a hold that is given up soon, for a run in which the awaited actors do not begin.
     pub fn in_vain(self) -> Hold<'a> {
         Hold {
             turns: FEW_TURNS,
@@ -61,20 +62,20 @@ impl<'a> Hold<'a> {
     }
 }
 
-/// What passes a gate: counts, each of its firings by processor and actor, and those that pass out of turn.
+/// A gate that counts firings by processor and actor, and the firings that pass out of turn.
 #[derive(Drop)]
 pub struct Watch<'a> {
     hold: Hold<'a>,
-    /// By processor, then by actor.
+    /// Firings that have passed, by processor, then by actor.
     passed: Vec<Vec<AtomicU64>>,
-    /// By actor, in the run that is watched.
+    /// Firings begun in the run that is watched, by actor.
     begun: Vec<AtomicU64>,
     fired: Vec<AtomicU64>,
     odd: AtomicU64,
     missed: AtomicU64,
 }
 
-/// So many counts of nothing.
+/// Returns `many` counts of 0.
 fn counts(alloc: Global, many: usize) -> Result<Vec<AtomicU64>, AllocError> {
     let mut counts = Vec::new(alloc);
     for _ in 0..many {
@@ -83,14 +84,14 @@ fn counts(alloc: Global, many: usize) -> Result<Vec<AtomicU64>, AllocError> {
     Ok(counts)
 }
 
-/// Sets counts to nothing.
+/// Sets `counts` to 0.
 fn clear(counts: &[AtomicU64]) {
     for count in counts {
         count.store(0, Ordering::SeqCst);
     }
 }
 
-/// The count at a place, before one is added to it. Beside the counts it is none that a run has.
+/// Adds 1 to the count at `place`, and returns the count before. Outside `counts`, returns a count that no run reaches.
 fn add(counts: &[AtomicU64], place: usize) -> u64 {
     match counts.get(place) {
         Some(count) => count.fetch_add(1, Ordering::SeqCst),
@@ -98,7 +99,7 @@ fn add(counts: &[AtomicU64], place: usize) -> u64 {
     }
 }
 
-/// The count at a place, or nothing beside the counts.
+/// Returns the count at `place`, or 0 outside `counts`.
 fn count(counts: &[AtomicU64], place: usize) -> u64 {
     match counts.get(place) {
         Some(count) => count.load(Ordering::SeqCst),
@@ -107,7 +108,7 @@ fn count(counts: &[AtomicU64], place: usize) -> u64 {
 }
 
 impl<'a> Watch<'a> {
-    /// For a run of so many actors on so many processors.
+    /// Makes a gate for runs of `actors` actors on `processors` processors.
     pub fn new(
         alloc: Global,
         processors: usize,
@@ -128,13 +129,13 @@ impl<'a> Watch<'a> {
         })
     }
 
-    /// Another run begins, whose firings are numbered anew. What is counted by processor goes on.
+    /// Begins another run, whose firings are numbered from 0 again. Counts by processor go on.
     pub fn anew(&self) {
         clear(&self.begun);
         clear(&self.fired);
     }
 
-    /// How many firings of an actor have passed on a processor.
+    /// Returns the number of firings of `actor` that have passed on `processor`.
     pub fn passed(&self, processor: usize, actor: ActorId) -> u64 {
         match self.passed.get(processor) {
             Some(counts) => count(counts, actor),
@@ -142,25 +143,25 @@ impl<'a> Watch<'a> {
         }
     }
 
-    /// How many firings did not pass in the order of their numbers, or passed on a processor that there is not, or
-    /// fired before they passed.
+    /// Returns the number of odd firings: they passed out of order or on a processor that does not exist, or fired
+    /// before they passed.
     pub fn odd(&self) -> u64 {
         self.odd.load(Ordering::SeqCst)
     }
 
-    /// How many firings were held in vain.
+    /// Returns the number of firings that were held in vain.
     pub fn missed(&self) -> u64 {
         self.missed.load(Ordering::SeqCst)
     }
 
-    /// Is told by an actor that it fires.
+    /// Notes that `actor` fires.
     pub fn fires(&self, actor: ActorId) {
         if add(&self.fired, actor) >= count(&self.begun, actor) {
             self.odd.fetch_add(1, Ordering::SeqCst);
         }
     }
 
-    /// Whether an actor begins a firing within the turns.
+    /// Waits until `actor` begins its firing number `firing`. Returns false if it does not within the turns.
     fn begins(&self, actor: ActorId, firing: u64) -> bool {
         for _ in 0..self.hold.turns {
             if count(&self.begun, actor) > firing {
@@ -171,7 +172,8 @@ impl<'a> Watch<'a> {
         false
     }
 
-    /// Whether all that are awaited begin a firing within the turns of each.
+    /// Waits until all awaited actors begin their firing number `firing`. Returns false if one does not within its
+    /// turns.
     fn all_begin(&self, firing: u64) -> bool {
         for actor in self.hold.awaited {
             if !self.begins(*actor, firing) {
@@ -181,7 +183,7 @@ impl<'a> Watch<'a> {
         true
     }
 
-    /// Counts a firing, and tells whether it is in its turn.
+    /// Counts a firing, and returns whether it is in its turn.
     fn passes(&self, processor: usize, actor: ActorId, firing: u64) -> bool {
         let Some(counts) = self.passed.get(processor) else {
             return false;
@@ -204,13 +206,13 @@ impl<'a> Gate for Watch<'a> {
     }
 }
 
-/// Holds a processor for `turns` turns before each firing whose number is a multiple of `every`.
+/// A gate that holds `processor` for `turns` turns before each firing whose number is a multiple of `every`.
 #[derive(Drop)]
 pub struct Delay {
     processor: usize,
     every: u64,
     turns: u32,
-    /// Is read once a turn.
+    /// A number that is read once a turn.
     read: AtomicU64,
 }
 

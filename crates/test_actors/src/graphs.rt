@@ -1,4 +1,4 @@
-//! Graphs by rows.
+//! Graphs from rows.
 
 ghost use Rattle.std.specs.Prelude.{◌≡◌, IfOk};
 ghost use Rattle.test_actors.specs.Rows.{edges};
@@ -26,7 +26,7 @@ fn channels(alloc: Global, rows: &[Row]) -> Result<Vec<Channel>, AllocError>
     Ok(channels)
 }
 
-/// A graph of so many actors, with a channel for each row.
+/// Makes a graph of `actors` actors, with a channel for each row.
 pub fn graph(alloc: Global, actors: usize, rows: &[Row]) -> Result<Graph, GraphFault>
     ensures { IfOk result (λ g. g ≡ record { actors = actors; channels = edges rows.now }) }
 {

@@ -1,7 +1,7 @@
-//! Actors of the tests, gates that count firings and hold some, and makers of small nets and graphs.
+//! Actors for tests, gates that count firings and hold some of them, and makers of small nets and graphs.
 //!
-//! It depends on `sdf_actor`, `sdf_node` and `sdf_graph`, and has no tests: the crates of tests above it use it, so
-//! that each actor is proved once. Begin at `actors`, then `gates`.
+//! It depends on `sdf_actor`, `sdf_node` and `sdf_graph`, and has no tests of its own. The test crates above it share
+//! it, so that each actor is proved once. Begin at `actors`, then read `gates`.
 #![tactic(auto)]
 
 pub mod actors;

@@ -9,21 +9,21 @@ use crate::actors::Regroup;
 use sdf_actor::{Link, Node};
 use std::alloc::{AllocError, Global};
 
-/// A source of an input list.
+/// Makes a source of input list `ext`.
 pub fn source<A>(ext: u8, block: u32) -> Node<A>
     ensures { result ≡ Source ext block }
 {
     Node::Source { ext, block }
 }
 
-/// A sink to an output list.
+/// Makes a sink to output list `ext`.
 pub fn sink<A>(ext: u8, block: u32) -> Node<A>
     ensures { result ≡ Sink ext block }
 {
     Node::Sink { ext, block }
 }
 
-/// An actor of so many phases.
+/// Makes a `Regroup` of `cycle` phases.
 pub fn turning(cycle: u32, first: u16, middle: u16, last: u16) -> Node<Regroup>
     ensures { result ≡ Inner (record { cycle = cycle; first = first; middle = middle; last = last }) }
 {
@@ -35,7 +35,8 @@ pub fn turning(cycle: u32, first: u16, middle: u16, last: u16) -> Node<Regroup>
     })
 }
 
-/// Links by their ends, each a node and a port, that begin with no samples.
+/// Makes links without initial samples. Each row of `ends` is a node and its output port, then a node and its input
+/// port.
 #[tactic(auto, using(std::proofs::lemmas::List::map_push, std::proofs::lemmas::List::map_more))]
 pub fn links<T: Drop>(alloc: Global, ends: &[[usize; 4]]) -> Result<Vec<Link<T>>, AllocError>
     ensures { IfOk result (λ links. wires links.items ≡ empty_wires ends.now) }

@@ -1,4 +1,4 @@
-//! An actor that tells a gate when it fires.
+//! An actor that reports to a gate when it fires.
 
 ghost use Rattle.std.specs.Prelude.{◌≡◌, if◌then◌else◌};
 ghost use Rattle.sdf_actor.specs.Steps.{total_in, total_out};
@@ -8,7 +8,7 @@ use sdf_actor::Actor;
 use sdf_node::ActorId;
 use std::alloc::{AllocError, Global};
 
-/// Takes a sample at each port and puts it on, at each phase of its cycle: at one port, or at two.
+/// An actor that passes on a sample at each port, at each phase of its cycle. It has one port on each side, or two.
 #[derive(Drop)]
 pub struct Watched<'a> {
     pub cycle: u32,
