@@ -22,7 +22,7 @@ pub struct Faulty<D> {
     pub device: D,
     /// Maximum bytes that a call moves.
     pub most: usize,
-    /// What it does at the call number `at`.
+    /// What it does at call number `at`.
     pub slip: Slip,
     /// The number of the call that slips, counted from 1; 0 for none.
     pub at: usize,
