@@ -1,6 +1,6 @@
 -- The ring machine: actors that fire when they can, over channels of bounded capacity. A block is what one firing moves
 -- at one channel, and its length is the rate of that firing. If the rate is 0 the block is empty, and moves all the
--- same. Blocks move one at a time and in any order that is allowed: an actor takes one block from each channel into it,
+-- same. Blocks move one at a time, in any order that is allowed. An actor takes one block from each channel into it,
 -- computes, and puts one on each channel out of it.
 --
 -- What an actor is doing follows from how many blocks have moved at its channels. It has completed i firings when i
@@ -64,8 +64,8 @@ HasPut f s a i = (c : ℕ) → c < f.rates.channels → f.rates.source c ≡ a �
 abbrev pub HasKept : {A : Type 0} → Wiring A → Machine A → ℕ → ℕ → Type 0
 HasKept f s a i = (c : ℕ) → c < f.rates.channels → f.rates.source c ≡ a → f.rates.target c ≡ a → i ≤ s.gave c
 
--- the target of channel c, which has taken fewer than its k blocks there, takes the next one: it has completed all
--- earlier firings, and the block is there. From itself it takes last of all, as it computes
+-- the target of channel c takes its next block there: it has taken fewer than its k blocks, completed all earlier
+-- firings, and finds the block. From itself it takes last of all, as it computes
 pub record CanTake {A : Type 0} (f : Wiring A) (k : ℕ → ℕ) (s : Machine A) (c : ℕ) : Type 0 where
   pub known : c < f.rates.channels
   pub left : s.took c < k (f.rates.target c)
@@ -75,7 +75,7 @@ pub record CanTake {A : Type 0} (f : Wiring A) (k : ℕ → ℕ) (s : Machine A)
   pub own : f.rates.source c ≡ f.rates.target c → HasReceived f s (f.rates.target c) (s.took c + 1)
 
 -- the source of channel c puts its next block there: it has taken all blocks of this firing, completed all earlier
--- ones, and there is room. To itself it puts first of all, as it computes
+-- ones, and finds room. To itself it puts first of all, as it computes
 pub record CanPut {A : Type 0} (f : Wiring A) (k cap : ℕ → ℕ) (s : Machine A) (c : ℕ) : Type 0 where
   pub known : c < f.rates.channels
   pub left : s.gave c < k (f.rates.source c)

@@ -45,7 +45,7 @@ IsRunOf s n inputs p b es = IsRun (wiring s n) (answers s n inputs) (firings p b
 abbrev pub reached : {A S T : Type 0} → Steps A S T → Netlist A T → List (List T) → List Event → Machine T
 reached s n inputs es = after (wiring s n) (answers s n inputs) (at_start (wiring s n)) es
 
--- what a run has put on each channel is a prefix of the history at the counts of all blocks, and as long as its blocks
+-- what a run has put on each channel is as long as its blocks, and a prefix of the history at all blocks' counts
 abbrev pub RunsPutPrefixes : {A S T : Type 0} → Steps A S T → Type 0
 RunsPutPrefixes {A} {S} {T} s =
     (n : Netlist A T) (inputs : List (List T)) (p : MachinePlan) (b : ℕ) (V : ℕ → List T) (es : List Event) →
@@ -100,8 +100,8 @@ RunsEndInHistories {A} {S} {T} s =
     IsOver s n (firings p b) (reached s n inputs es) →
     (c : ℕ) → c < length n.wires → (reached s n inputs es).lists c ≡ V c
 
--- a channel from an actor to itself is never waited for: once the turn of a block has come, its samples are there for
--- the take, and the room for the put
+-- an actor never waits for a channel to itself. Once the turn of a block has come, its samples are there for the take,
+-- and the room for the put
 abbrev pub OwnNeverWaits : {A S T : Type 0} → Steps A S T → Type 0
 OwnNeverWaits {A} {S} {T} s =
     (n : Netlist A T) (p : MachinePlan) (b : ℕ) (m : Machine T) (c : ℕ) →
@@ -158,7 +158,7 @@ abbrev pub taken_on : {A : Type 0} → Wiring A → (ℕ → List A) → ℕ →
 taken_on f V a i zero = []
 taken_on f V a i (suc j) = taken_on f V a i j ++ taken f V a (i + j) ∷ []
 
--- from x to y each node has put what its steps make of the whole blocks that it took, and knows no more than its own
+-- from x to y each node has put what its steps make of the whole blocks that it took. It knows no more than its own
 -- channels
 pub record HasGrown {A S T : Type 0} (s : Steps A S T) (n : Netlist A T) (inputs : List (List T))
     (x y : Idle S T) : Type 0 where
@@ -183,7 +183,7 @@ pub record IsLike {A T : Type 0} (n : Netlist A T) (d e : Machine T) : Type 0 wh
   pub gave : (c : ℕ) → c < length n.wires → d.gave c ≡ e.gave c
   pub lists : (c : ℕ) → c < length n.wires → d.lists c ≡ e.lists c
 
--- from a quiescent state, what each node knows of itself suffices for the next one to be quiescent, and a run of the
+-- if a state is quiescent, what each node knows of itself suffices for the next state to be quiescent. A run of the
 -- machine leads to it
 abbrev pub QuiescentReached : {A S T : Type 0} → Steps A S T → Type 0
 QuiescentReached {A} {S} {T} s =

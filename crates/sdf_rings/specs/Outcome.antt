@@ -37,7 +37,7 @@ pub record HasGoneOn {A S T : Type 0} (s : Steps A S T) (n : Netlist A T) (q : L
   pub rounds_few : rounds ≤ blocks * (j * sum q)
   pub rounds_some : 0 < blocks → 0 < rounds
 
--- after the rounds of a run over rings, if no test fails: nothing is left of the blocks of the table, and all ends are
+-- after the rounds of a run, if no test fails: nothing is left of the blocks of the table, and all ends are
 -- synchronized
 pub record HasEnded {A S T : Type 0} (s : Steps A S T) (n : Netlist A T) (q : List ℕ) (j : ℕ) (t : Tabled)
     (blocks : ℕ) (inputs : List (List T)) (patience : ℕ) (r : InHand A S T) (rounds : ℕ) : Type 0 where

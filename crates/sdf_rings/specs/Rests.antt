@@ -53,8 +53,8 @@ module _ {A S T : Type 0} (n : Netlist A T) (seats : List (Seat A T S)) (places 
         (y : Producer T Global AnyItems) → c < length n.wires →
         IsPair (producer_of n seats places e d y c) (consumer_of n seats places e d x c)
 
--- at rest after done a firings of each node a: what was put is the history, each ring holds what is left of it, and
--- each node has the state after what it took
+-- at rest after done a firings of each node a: what was put is the history, and each ring holds what is left of it.
+-- Each node has the state after what it took
 pub record StandAtRest {A S T : Type 0} (s : Steps A S T) (n : Netlist A T) (inputs : List (List T))
     (seats : List (Seat A T S)) (places : List (ℕ × ℕ)) (done : ℕ → ℕ) : Type 0 where
   pub history : ℕ → List T

@@ -1,5 +1,5 @@
-//! What a run over rings holds before its first firing: rings with the initial samples of their channels, and a seat
-//! for each worker with its nodes and its firing list.
+//! What a run over rings holds before its first firing: rings with their initial samples, and seats. Each worker has a
+//! seat, with its nodes and its firing list.
 
 pub(crate) mod asked;
 pub(crate) mod openings;

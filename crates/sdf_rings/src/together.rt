@@ -122,8 +122,8 @@ fn fire_run_blocks<A: Actor>(
     );
 }
 
-/// Returns how many firings of `stand` in a row are known to be possible, at most `most`. They must be of a kind that
-/// can be batched.
+/// Returns how many firings of `stand` in a row are known to be possible, at most `most`. Its node must have one phase
+/// and no channel to itself.
 fn possible<A: Actor>(
     net: &Net<A>,
     inputs: &[Vec<A::Token>],

@@ -58,8 +58,8 @@ fn greatest_put(channel: &Channel) -> u32
     greatest(&channel.put)
 }
 
-/// Returns the room in the ring of channel `c`, in samples: the capacity in `table`, and another block if the channel
-/// leads from an actor to itself. Fails with `AllocError` if this does not fit into a `usize`.
+/// Returns the room in the ring of channel `c` in samples: the capacity in `table`, and another block from an actor to
+/// itself. Fails with `AllocError` if this does not fit into a `usize`.
 fn room_of<A: Actor>(net: &Net<A>, table: &Table, c: usize) -> Result<usize, AllocError>
     requires known { c < length net.now.wires }
     requires caps { length table.now.caps ≡ length net.now.wires }
