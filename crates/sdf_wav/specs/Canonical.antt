@@ -29,8 +29,8 @@ sample_bytes samples = flat_map (λ z. little_bytes 2 (cast_unsigned w16 z)) sam
 abbrev pub canonical_wav : Sound → List ℕ
 canonical_wav s = header s.rate s.channels (2 * length s.samples) ++ sample_bytes s.samples
 
--- why no file has this rate and these numbers of channels and samples, if there is none: the bytes a second, or the
--- bytes of the file behind its first eight, exceed 32 bits
+-- why no file has this rate and these numbers of channels and samples, if there is none. The bytes a second exceed 32
+-- bits, or the bytes of the file behind its first eight do
 abbrev pub size_fault : ℕ → ℕ → ℕ → Option FormatFault
 size_fault rate channels samples =
     if nat_lt 4294967295 (rate * (2 * channels)) then Some RateTooLarge
@@ -55,7 +55,7 @@ IsWritingFault faults.Write = Unit {0}
 IsWritingFault faults.Read = ⊥
 IsWritingFault faults.OutOfMemory = ⊥
 
--- What a call did that should write this file, unless this fault forbids it: it wrote all of it, or nothing at a fault
+-- What a call did that should write this file, unless this fault forbids it. It wrote all of it, or nothing at a fault
 -- of the sound, or a front of it if the device failed. It never fails with a fault of memory or of a reader.
 abbrev pub Writes : {X : Type 0} → Option (List ℕ) → Option (List ℕ) → Option FormatFault → List ℕ → Result X WavFault →
     Type 0

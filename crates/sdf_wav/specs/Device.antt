@@ -8,13 +8,12 @@ use Rattle.sdf_wav.specs.declared.fault.ReadFault.TheVariants as read_faults
 use Rattle.sdf_wav.specs.declared.fault.WavFault.{WavFault}
 use Rattle.sdf_wav.specs.declared.fault.WavFault.TheVariants as faults
 
--- a reader: the bytes that it has still to give, if they are known, and how many of its calls failed, up to the
--- greatest u64
+-- a reader: the bytes that it has still to give, if known, and how many of its calls failed, up to the greatest u64
 pub record ReaderState : Type 0 where
   pub remaining : Option (List ℕ)
   pub failures : ℕ
 
--- a writer: the bytes that it has taken, if they are known, and how many of its calls failed, up to the greatest u64
+-- a writer: the bytes that it has taken, if known, and how many of its calls failed, up to the greatest u64
 pub record WriterState : Type 0 where
   pub contents : Option (List ℕ)
   pub failures : ℕ

@@ -74,7 +74,7 @@ pub data HasFault (bytes : List ℕ) : FormatFault → Type 0 where
       → Place bytes cs seen rest → PlaceFault seen (length cs) rest f
       → HasFault bytes f
 
--- What the result of a reading says of the bytes before it and after it, if they are known: these are a file and the
+-- What the result of a reading says of the bytes before it and after it, if they are known. They are a file and the
 -- rest behind it, or the input has the fault and lost a front, or only a front is gone. It never fails with a fault of
 -- a writer.
 abbrev pub Answers : Option (List ℕ) → Option (List ℕ) → Result Sound WavFault → Type 0

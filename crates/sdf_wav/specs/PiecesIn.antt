@@ -41,8 +41,7 @@ pub record Opens (bytes : List ℕ) (format : Format) (size : ℕ) (rest : List 
   pub size_is : little_number 4 size_bytes ≡ size
   pub whole : size ≢ 0xFFFFFFFF → size % (2 * format.channels) ≡ 0
 
--- this number of bytes of a content can be gone: not past a known size, nor past the maximum of a size that is not
--- known
+-- this number of bytes of a content can be gone: not past a known size, nor past the maximum of an unknown size
 abbrev pub IsWithin : ℕ → ℕ → ℕ → Type 0
 IsWithin align size gone =
     ((size ≢ 0xFFFFFFFF) × (size % align ≡ 0) × (gone ≤ size)) ⊎ ((size ≡ 0xFFFFFFFF) × (gone ≤ 4294967294))
@@ -57,7 +56,7 @@ pub record IsReading (r : Reading) : Type 0 where
   pub within : IsWithin (2 * r.channels) r.size r.gone
   pub fault : IfSome r.fault IsReadingFault
 
--- An input was read up to here: it opens, these are the samples of the bytes of its content that are gone, and then
+-- An input was read up to here. It opens, these are the samples of the bytes of its content that are gone, and then
 -- comes the rest.
 pub record IsReadTo (input : List ℕ) (r : Reading) (samples : List ℤ) (rest : List ℕ) : Type 0 where
   pub gone : List ℕ
@@ -86,16 +85,16 @@ open_piece align gone n bytes =
     else (if not (n % align == 0) then Err PartialFrame
     else Ok (pcm_samples (take n bytes), drop n bytes))
 
--- the samples of the next frames and the bytes behind them, or the fault among these frames: all frames that were asked
--- for, or all up to the content's end
+-- the samples of the next frames and the bytes behind them, or the fault among them. These are all frames asked for, or
+-- all up to the content's end
 unfoldable pub next_at : Reading → ℕ → List ℕ → Result (List ℤ × List ℕ) FormatFault
 next_at r frames bytes =
     let asked = 2 * (frames * r.channels) in
     if r.size == 0xFFFFFFFF then open_piece (2 * r.channels) r.gone (min asked (length bytes)) bytes
     else sized_piece (min asked (r.size - r.gone)) bytes
 
--- This number of samples can be read as the next frames, whatever is known of the bytes: at most what was asked for,
--- and of a known size exactly what was asked for or all that is left.
+-- This number of samples can be read as the next frames, whatever is known of the bytes. It is at most what was asked
+-- for. For a known size it is exactly that, or all that is left if this is less.
 pub record IsPiece (r : Reading) (frames samples : ℕ) : Type 0 where
   pub most : samples ≤ frames * r.channels
   pub whole : samples % r.channels ≡ 0
@@ -115,9 +114,9 @@ pub record OpensAs (input : List ℕ) (s : Sound) : Type 0 where
   pub opens : Opens input (record { rate = s.rate; channels = s.channels }) size rest
   pub sized : size ≢ 0xFFFFFFFF → size ≡ 2 * length s.samples
 
--- What a call returned, seen by view, is what `read` gives for the bytes before it, and the bytes after it are what
--- `read` leaves, if the bytes are known and unless memory or the reader failed. It never fails with a fault of a
--- writer.
+-- What a call returned, seen by view, is what `read` gives for the bytes before it. The bytes after it are what `read`
+-- leaves. Both are said if the bytes are known, and unless memory or the reader failed. It never fails with a fault of
+-- a writer.
 abbrev pub AnswersBy : {X Y : Type 0} → (X → Y) → Option (List ℕ) → Option (List ℕ) →
     (List ℕ → Result (Y × List ℕ) FormatFault) → Result X WavFault → Type 0
 AnswersBy view old new read (Ok x) = Known old new
@@ -133,7 +132,7 @@ pub record FailsToOpen (input : List ℕ) (f : FormatFault) : Type 0 where
   pub has : HasFault input f
   pub opens_not : (format : Format) (size : ℕ) (rest : List ℕ) → Opens input format size rest → ⊥
 
--- What the result of an opening says of the bytes before it and after it, if they are known: the input opens and its
+-- What the result of an opening says of the bytes before it and after it, if they are known. The input opens and its
 -- content is before the reader, or it fails to open and lost a front, or only a front is gone.
 abbrev pub AnswersOpening : Option (List ℕ) → Option (List ℕ) → Result Reading WavFault → Type 0
 AnswersOpening old new (Ok r) = Known old new (λ input left. IsReadTo input r [] left × LosesFront input left)
