@@ -1,6 +1,6 @@
 //! How a test compares: the text of what was made, and the text expected.
 //!
-//! It depends on std alone, and has no tests: the crates of tests use it, so that the comparison is proved once, and a
+//! It depends on std alone, and has no tests. The crates of tests use it, so that the comparison is proved once, and a
 //! test holds no text of its own. Begin at `says`.
 #![tactic(auto)]
 
