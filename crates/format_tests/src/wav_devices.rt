@@ -122,8 +122,8 @@ fn slips_anywhere(alloc: Global, reading: &Reading, slip: Slip) -> Result<(), Fa
     Ok(())
 }
 
-/// How the file of `FRAMES` is written, the maximum bytes that a call takes, how many calls that takes, and how many
-/// bytes are written before each call. The last list is empty if a call takes one byte.
+/// How the file of `FRAMES` is written: whole or in pieces, by at most `most` bytes a call, in `calls` calls. `fronts`
+/// has the bytes written before each call, and is empty if a call takes one byte.
 #[derive(Clone, Copy)]
 struct Writing {
     in_pieces: bool,

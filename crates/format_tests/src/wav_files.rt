@@ -93,8 +93,8 @@ const FILES: &[(&[u8], &[u8], &str)] = &[
 /// The header of a list of 5,001 bytes.
 const LIST: &[u8] = b"LIST\x89\x13\0\0";
 
-/// Tests files of chunks, files that are not WAV files, the maximum number of chunks before the data, and a list that
-/// is cut off or whole.
+/// Tests files of chunks, files that are not WAV files, and the maximum number of chunks before the data. Also tests a
+/// list that is cut off or whole.
 #[test]
 fn files(rt: HostRuntime) -> Result<(), Fail> {
     let alloc = rt.alloc();
@@ -127,8 +127,8 @@ fn files(rt: HostRuntime) -> Result<(), Fail> {
     )
 }
 
-/// Reads `bytes` and writes the sound again. Returns the rate, the channels, the frames and the samples, the bytes left
-/// behind the file, how often the writer failed, and whether it took `CANONICAL`.
+/// Reads `bytes` and writes the sound again. Returns the rate, the channels, the frames, the samples and the bytes left
+/// behind the file. Then come how often the writer failed, and whether it took `CANONICAL`.
 fn both_ways(alloc: Global, bytes: &[u8]) -> Result<String, Fail> {
     let mut reader = FromRead::new(bytes);
     let wav = read_wav(alloc, &mut reader)?;

@@ -80,8 +80,8 @@ fn three_puts<W: Writer>(alloc: Global, writer: &mut W, samples: &[i16]) -> Resu
     Ok(format!(in alloc; "{first:?} {missing} {second:?} {third:?}")?)
 }
 
-/// Returns the text of `three_puts` for a writer that is full at its call 56, how often it failed, how many bytes it
-/// took, and how many calls it had.
+/// Returns the text of `three_puts` for a writer that is full at its call 56. It is followed by how often the writer
+/// failed, how many bytes it took, and how many calls it had.
 fn puts_of_full(alloc: Global) -> Result<String, Fail> {
     let device = Faulty::slipping(alloc, Vec::new(alloc), 1, Slip::MovesNothing, 56);
     let mut writer = ToWrite::new(device);
