@@ -1,5 +1,5 @@
 //! Prints what `read_wav` returns for each WAV file that is named: the rate, the channels, the frames and the SHA-256
-//! of the samples' bytes, or the fault.
+//! of the samples, or the fault.
 //!
 //! It depends on `sdf_wav`. Begin at `main`.
 #![tactic(auto)]
