@@ -14,7 +14,7 @@ use sdf_answer::many_blocks::whole_blocks;
 use sdf_answer::parts::{deal_row, gather_row};
 use std::alloc::Global;
 
-/// Returns how many blocks each port is known to hold, at most `most`.
+/// Returns how many blocks every port is known to hold, at most `most`.
 pub(crate) fn blocks_held<T>(sizes: &[usize], ends: &[Consumer<T, Global>], most: usize) -> usize
     requires { length ends.now ≡ length sizes.now }
     ensures within { result ≤ most }
@@ -27,7 +27,7 @@ pub(crate) fn blocks_held<T>(sizes: &[usize], ends: &[Consumer<T, Global>], most
     many
 }
 
-/// Returns for how many blocks each port is known to have room, at most `most`.
+/// Returns for how many blocks every port is known to have room, at most `most`.
 pub(crate) fn blocks_free<T>(sizes: &[usize], ends: &[Producer<T, Global>], most: usize) -> usize
     requires { length ends.now ≡ length sizes.now }
     ensures within { result ≤ most }
