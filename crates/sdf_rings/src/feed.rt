@@ -40,8 +40,8 @@ pub fn feed_rings<R: Threads + AllocGlobal + Sync, A: Actor, G: Gate>(
     Ok((Ran { outputs, rounds }, rest))
 }
 
-/// Resumes `net` from `rest`, the state that earlier runs left after reading all their samples. It runs `blocks`
-/// further blocks on further `inputs`. Its outputs, joined to the earlier ones, are what one run on all inputs returns.
+/// Resumes `net` from `rest`, the state that earlier runs left, and runs `blocks` further blocks on further `inputs`.
+/// If the earlier runs read all their samples, its outputs joined to theirs are what one run on all inputs returns.
 pub fn resume_rings<R: Threads + AllocGlobal + Sync, A: Actor, G: Gate>(
     workers: Workers<'_, R, G>,
     net: &Net<A>,
