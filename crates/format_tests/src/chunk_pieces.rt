@@ -1,5 +1,5 @@
-//! How much is asked for at a time of a chunk that is skipped and of a content, and of memory where less comes than is
-//! announced, or no size is known.
+//! How many bytes are asked for at a time when a chunk is skipped and when a content is read. How much memory is taken
+//! when less arrives than is announced, or when no size is known.
 
 use crate::wav_answers::{Part, file_of};
 use crate::wav_files::{FORMAT, RIFF};
@@ -10,17 +10,17 @@ use std::test::Fail;
 use test_devices::Faulty;
 use test_texts::says;
 
-/// The front of a list of 10,000 bytes.
+/// The header of a list of 10,000 bytes.
 const LIST: Part = (b"LIST\x10\x27\0\0", 1);
 
-/// How many frames a file has, and how many bytes each call asks for.
+/// Returns how many frames a file has, and how many bytes each call asks for.
 fn asked(alloc: Global, bytes: &[u8]) -> Result<String, Fail> {
     let mut reader = FromRead::new(Faulty::moving(alloc, bytes, usize::MAX));
     let frames = read_wav(alloc, &mut reader)?.frames();
     Ok(format!(in alloc; "{frames} {:?}", reader.into_inner().asked)?)
 }
 
-/// The same of 40,000 bytes of data behind the list.
+/// Returns the text of `asked` for a file of a list and then 40,000 bytes of data.
 fn asked_of_much(alloc: Global) -> Result<String, Fail> {
     let data: Part = (b"data\x40\x9C\0\0", 1);
     let parts = [
@@ -34,7 +34,7 @@ fn asked_of_much(alloc: Global) -> Result<String, Fail> {
     asked(alloc, &file_of(alloc, &parts)?)
 }
 
-/// How many pages of memory this program has, as its system says.
+/// Returns how many pages of memory this program has, as the system reports, or 0 if it does not.
 fn pages(rt: &HostRuntime) -> u64 {
     match fs::read_to_string(rt, "/proc/self/statm") {
         Ok(text) => match text.split(' ').next().map(|word| word.parse::<u64>()) {
@@ -45,7 +45,7 @@ fn pages(rt: &HostRuntime) -> u64 {
     }
 }
 
-/// Sees the most memory that the program has at any call.
+/// A reader that records the maximum memory of the program at any call, in pages.
 #[derive(Drop)]
 struct Watching<'a, R> {
     reader: R,
@@ -62,7 +62,7 @@ impl<R: Reader> Reader for Watching<'_, R> {
     }
 }
 
-/// How many frames a file of these parts has, or the fault, and whether fewer than 4,096 pages are asked for.
+/// Reads a file of `parts`. Returns its frames or the fault, and whether the program took fewer than 4,096 pages more.
 fn memory(rt: &HostRuntime, parts: &[Part]) -> Result<String, Fail> {
     let bytes = file_of(rt.alloc(), parts)?;
     let before = pages(rt);
@@ -79,8 +79,8 @@ fn memory(rt: &HostRuntime, parts: &[Part]) -> Result<String, Fail> {
     Ok(format!(in rt.alloc(); "{frames:?} {few}")?)
 }
 
-/// A chunk is skipped by 4,096 bytes, and a content read by 16,384. Four bytes come where no size is known, and where
-/// 4,294,967,294 are announced.
+/// Tests that a chunk is skipped by 4,096 bytes, and a content read by 16,384. Tests the memory when four bytes arrive
+/// and no size is known, or 4,294,967,294 bytes are announced.
 #[test]
 fn pieces_of_chunks(rt: HostRuntime) -> Result<(), Fail> {
     says(

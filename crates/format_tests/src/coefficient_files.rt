@@ -1,4 +1,4 @@
-//! Coefficient files of documents: which are wanted, what they say, and their faults.
+//! Coefficient files of documents: which ones are named, what they say, and their faults.
 
 use crate::documents::{GAIN, GRAPH, read};
 use crate::readings::{files, told};
@@ -9,13 +9,13 @@ use test_texts::{row_says, says};
 
 const FILED: &str = "kind = \"fir\"\nshift = 15\nfile = \"h.toml\"";
 
-/// What the graph says with this kind in the place of its gain, beside files of these names and texts.
+/// Reads the graph with `kind` in place of its gain, and with files of the names and texts in `rows`.
 fn read_beside(alloc: Global, rows: &[(&str, &str)], kind: &str) -> Result<String, Fail> {
     let files = files(alloc, rows)?;
     read(alloc, GRAPH, GAIN, kind, files.as_slice())
 }
 
-/// Files by their names and texts, a kind, and what it is beside them, or the fault.
+/// Files as names and texts, a kind, and what is read with them, or the fault.
 const FILES: &[(&[(&str, &str)], &str, &str)] = &[
     (
         &[
@@ -84,7 +84,7 @@ const FILES: &[(&[(&str, &str)], &str, &str)] = &[
     ),
 ];
 
-/// Two filters of one file and a table of another.
+/// A graph with two filters that name one file, and a table that names another.
 const WANTING: &str = "format = 1
 [[actor]]
 name = \"in\"

@@ -1,17 +1,17 @@
-//! The kinds that format 2 has more, in documents of formats 1 and 2.
+//! The kinds that only format 2 has, in documents of formats 1 and 2.
 
 use crate::documents::{GAIN, GRAPH, read};
 use std::alloc::Global;
 use std::test::Fail;
 use test_texts::row_says;
 
-/// What the graph in format 2 says with this kind in the place of its gain.
+/// Reads the graph in format 2, with `kind` in place of its gain.
 fn read_second(alloc: Global, kind: &str) -> Result<String, Fail> {
     let text = GRAPH.replace(alloc, "format = 1", "format = 2")?;
     read(alloc, text.as_str(), GAIN, kind, &[])
 }
 
-/// A kind of format 2 alone, and what it is.
+/// A kind that only format 2 has, and what is read.
 const KINDS: &[(&str, &str)] = &[
     ("kind = \"deal\"\nways = 2", "Deal { ways: 2, run: 1 }"),
     (

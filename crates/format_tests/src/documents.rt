@@ -32,10 +32,10 @@ to = \"out\"
 initial = [1, -2]
 ";
 
-/// The kind of its gain.
+/// The kind of the gain in `GRAPH`.
 pub(crate) const GAIN: &str = "kind = \"gain\"\ngain = -32768\nshift = 15";
 
-/// What the second actor of a document is, or the fault.
+/// Returns the kind of the second actor of a document as text, or the fault.
 fn told(alloc: Global, answer: Result<Document, ReadFault>) -> Result<String, Fail> {
     let document = match answer {
         Ok(document) => document,
@@ -47,7 +47,8 @@ fn told(alloc: Global, answer: Result<Document, ReadFault>) -> Result<String, Fa
     }
 }
 
-/// The same of a graph with one text in the place of another, beside these files.
+/// Reads `graph` with `new` in place of `old`, and with `files`. Returns the kind of the second actor as text, or the
+/// fault.
 pub(crate) fn read(
     alloc: Global,
     graph: &str,
@@ -59,8 +60,8 @@ pub(crate) fn read(
     told(alloc, read_document(alloc, text.as_bytes(), files))
 }
 
-/// A text of the graph, what stands in its place, and what the second actor is then, or the fault: first kinds at their
-/// limits, and last whole graphs.
+/// A text in the graph, its replacement, and the second actor that is read then, or the fault. Kinds at their limits
+/// come first, and whole graphs last.
 const READ: &[(&str, &str, &str)] = &[
     (GAIN, GAIN, "Gain { gain: -32768, shift: 15 }"),
     (
@@ -234,7 +235,7 @@ fn says_what_a_graph_is_or_its_fault(rt: HostRuntime) -> Result<(), Fail> {
     Ok(())
 }
 
-/// How many actors the graph has, and its second link.
+/// Returns the number of actors of the graph, and its second link.
 fn second_link(alloc: Global) -> Result<String, Fail> {
     let document = read_document(alloc, GRAPH.as_bytes(), &[])?;
     let Some(link) = document.links.get(1) else {
@@ -249,7 +250,7 @@ fn second_link(alloc: Global) -> Result<String, Fail> {
     )?)
 }
 
-/// The fault of a graph of so many actors and links, none of them a table.
+/// Returns the fault of a graph of `actors` actors and `links` links, none of which is a table.
 fn fault_of_counts(alloc: Global, actors: usize, links: usize) -> Result<String, Fail> {
     let actors = "0, ".repeat(alloc, actors)?;
     let links = "0, ".repeat(alloc, links)?;
@@ -257,7 +258,7 @@ fn fault_of_counts(alloc: Global, actors: usize, links: usize) -> Result<String,
     told(alloc, read_document(alloc, text.as_bytes(), &[]))
 }
 
-/// How many actors and links, and the fault.
+/// Numbers of actors and links, and the fault.
 const COUNTS: &[(usize, usize, &str)] = &[
     (0, 257, "2 ActorCount"),
     (65, 257, "2 ActorCount"),
@@ -265,7 +266,7 @@ const COUNTS: &[(usize, usize, &str)] = &[
     (64, 256, "53 WrongType actor 0 key actor"),
 ];
 
-/// Links, counts, bytes that are no text, and a refusal of memory, which is no fault of a lawful graph.
+/// Tests links, counts, bytes that are not text, and a refusal of memory, which is not a fault of a lawful graph.
 #[test]
 fn reads_links_and_counts(rt: HostRuntime) -> Result<(), Fail> {
     let alloc = rt.alloc();

@@ -1,8 +1,8 @@
-//! What no clause says of files: worked WAV files, whole and in pieces, over devices that fail, and worked documents.
+//! Tests of what no contract says of files: WAV files, whole and in pieces and over devices that fail, and documents.
 //!
-//! It depends on `sdf_wav`, `sdf_document`, `test_devices` and `test_texts`, and has no functions: tests are in a crate
-//! of their own, since a crate's functions are proved once more with its tests. Designs are tested with filters, since
-//! this crate would hold the drops of all kinds of actor for them. Begin at `wav_files` and `documents`.
+//! It depends on `sdf_wav`, `sdf_document`, `test_devices` and `test_texts`, and has no functions. Tests are in a crate
+//! of their own, since a crate's functions are proved once more with its tests. Designs are tested with the filters,
+//! since this crate would hold the drops of all kinds of actor for them. Begin at `wav_files` and `documents`.
 #![tactic(auto)]
 
 #[cfg(test)]

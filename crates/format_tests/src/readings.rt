@@ -1,4 +1,4 @@
-//! Files of the tests, and what readings answer.
+//! Files for the tests, and the texts of what readings return.
 
 use std::alloc::Global;
 use std::fmt;
@@ -7,7 +7,7 @@ use std::test::Fail;
 /// A name and bytes, as a coefficient file is given.
 pub(crate) type File = (String, Vec<u8>);
 
-/// Files of these names and texts.
+/// Returns files of the names and texts in `rows`.
 pub(crate) fn files(alloc: Global, rows: &[(&str, &str)]) -> Result<Vec<File>, Fail> {
     let mut files = Vec::new(alloc);
     for (name, text) in rows {
@@ -17,7 +17,7 @@ pub(crate) fn files(alloc: Global, rows: &[(&str, &str)]) -> Result<Vec<File>, F
     Ok(files)
 }
 
-/// What a reading gives, or the text of its fault.
+/// Returns the text of what a reading gives, or of its fault.
 pub(crate) fn told<T: fmt::Debug + Drop, F: fmt::Display + Drop>(
     alloc: Global,
     answer: Result<T, F>,

@@ -1,14 +1,14 @@
-//! What each way of reading a WAV file answers, and the files of the tests by their parts.
+//! The results of each way of reading a WAV file, and test files that are made of parts.
 
 use sdf_wav::{FromRead, Reader, Wav, WavFault, WavIn, read_wav};
 use std::alloc::{AllocError, Global};
 use std::test::Fail;
 use test_devices::Faulty;
 
-/// Bytes, and how often they stand one behind another.
+/// Bytes, and how often they are repeated.
 pub(crate) type Part<'a> = (&'a [u8], usize);
 
-/// These parts one behind another.
+/// Returns the `parts` joined.
 pub(crate) fn file_of(alloc: Global, parts: &[Part]) -> Result<Vec<u8>, AllocError> {
     let mut bytes = Vec::new(alloc);
     for (part, many) in parts {
@@ -21,16 +21,16 @@ pub(crate) fn file_of(alloc: Global, parts: &[Part]) -> Result<Vec<u8>, AllocErr
 #[derive(Clone, Copy, Debug)]
 pub(crate) enum Way {
     Whole,
-    /// In pieces of so many frames.
+    /// In pieces of this number of frames.
     Pieces(usize),
 }
 
 pub(crate) const WAYS: [Way; 3] = [Way::Whole, Way::Pieces(1), Way::Pieces(2)];
 
-/// The bytes that a call moves at most: what is asked for, or one.
+/// Maximum bytes that a call moves: what is asked for, or one.
 const MOVES: [usize; 2] = [usize::MAX, 1];
 
-/// Reads a file in pieces up to its end.
+/// Reads a file in pieces of `frames` frames, up to its end.
 fn read_pieces<R: Reader>(alloc: Global, reader: &mut R, frames: usize) -> Result<Wav, WavFault> {
     let mut input = WavIn::open(alloc, reader)?;
     let mut samples = Vec::new(alloc);
@@ -46,7 +46,7 @@ fn read_pieces<R: Reader>(alloc: Global, reader: &mut R, frames: usize) -> Resul
     Wav::new(input.rate(), input.channels(), samples)
 }
 
-/// Reads a file.
+/// Reads a file whole or in pieces.
 pub(crate) fn read_by<R: Reader>(alloc: Global, reader: &mut R, way: Way) -> Result<Wav, WavFault> {
     match way {
         Way::Whole => read_wav(alloc, reader),
@@ -54,7 +54,7 @@ pub(crate) fn read_by<R: Reader>(alloc: Global, reader: &mut R, way: Way) -> Res
     }
 }
 
-/// The rate and the samples of a file, as one text, or its fault.
+/// Returns the rate and the samples of a file as one text, or the text of its fault.
 pub(crate) fn text_of(alloc: Global, answer: Result<Wav, WavFault>) -> Result<String, Fail> {
     match answer {
         Ok(wav) => Ok(format!(in alloc; "{} {:?}", wav.rate(), wav.samples())?),
@@ -62,7 +62,7 @@ pub(crate) fn text_of(alloc: Global, answer: Result<Wav, WavFault>) -> Result<St
     }
 }
 
-/// Whether a file has this answer, read so, where a call gives at most so many bytes.
+/// Checks that reading `bytes` by `way` gives the text `answer`, if a call gives at most `most` bytes.
 fn answers_at(
     alloc: Global,
     way: Way,
@@ -81,7 +81,7 @@ fn answers_at(
     )))
 }
 
-/// Whether a file has this answer, also where a call gives one byte.
+/// Checks that reading `bytes` by `way` gives the text `answer`, also if a call gives one byte.
 pub(crate) fn answers_by(alloc: Global, way: Way, bytes: &[u8], answer: &str) -> Result<(), Fail> {
     for most in MOVES {
         answers_at(alloc, way, bytes, most, answer)?;
@@ -89,7 +89,7 @@ pub(crate) fn answers_by(alloc: Global, way: Way, bytes: &[u8], answer: &str) ->
     Ok(())
 }
 
-/// Whether a file of these parts has this answer, however it is read.
+/// Checks that reading a file of `parts` gives the text `answer`, whole and in pieces.
 pub(crate) fn answers(alloc: Global, parts: &[Part], answer: &str) -> Result<(), Fail> {
     let bytes = file_of(alloc, parts)?;
     for way in WAYS {

@@ -1,11 +1,11 @@
-//! WAV files of which a front is kept, and sizes that lie.
+//! WAV files that are cut off, and sizes that lie.
 
 use crate::wav_answers::{WAYS, Way, answers_by};
 use std::alloc::Global;
 use std::test::Fail;
 use test_devices::files::{Answer, FILES, LIES, Whole};
 
-/// Whether a file has this answer.
+/// Checks that reading `bytes` by `way` has the result `answer`.
 fn has(alloc: Global, way: Way, bytes: &[u8], answer: Option<Answer>) -> Result<(), Fail> {
     let text = match answer {
         Some(Ok(samples)) => format!(in alloc; "44100 {samples:?}")?,
@@ -15,7 +15,7 @@ fn has(alloc: Global, way: Way, bytes: &[u8], answer: Option<Answer>) -> Result<
     answers_by(alloc, way, bytes, text.as_str())
 }
 
-/// Whether each front of a file has its answer.
+/// Checks that each front of `file` has its result.
 fn fronts_of(alloc: Global, way: Way, file: &Whole) -> Result<(), Fail> {
     for kept in 0..=file.bytes.len() {
         has(alloc, way, file.front(kept), file.answer(kept))?;
@@ -23,7 +23,7 @@ fn fronts_of(alloc: Global, way: Way, file: &Whole) -> Result<(), Fail> {
     Ok(())
 }
 
-/// The fronts of each file, and each file whose sizes lie.
+/// Tests the fronts of each file, and each file whose sizes lie.
 #[test]
 fn damaged_files(rt: HostRuntime) -> Result<(), Fail> {
     for way in WAYS {

@@ -10,7 +10,7 @@ use test_devices::files::{self, Whole};
 use test_devices::{Faulty, Slip};
 use test_texts::{row_says, says};
 
-/// A file, how it is read, how many bytes a call gives, and how many calls that takes.
+/// A file, how it is read, the maximum bytes that a call gives, and how many calls that takes.
 #[derive(Clone, Copy)]
 struct Reading {
     file: Whole,
@@ -94,8 +94,8 @@ const READINGS: &[Reading] = &[
     },
 ];
 
-/// Whether a reading that slips at this call blames its reader, and asks it no more. Past the last call the file is
-/// read.
+/// Checks that a reading that slips at call `at` fails with `Read`, and does not call its reader again. Past the last
+/// call the file is read.
 fn slips_once(alloc: Global, reading: &Reading, slip: Slip, at: usize) -> Result<(), Fail> {
     let device = Faulty::slipping(alloc, reading.file.bytes, reading.most, slip, at);
     let mut reader = FromRead::new(device);
@@ -114,7 +114,7 @@ fn slips_once(alloc: Global, reading: &Reading, slip: Slip, at: usize) -> Result
     Err(Fail::new(format_args!("{way:?}, {slip:?} at {at}: {fault:?} {failed} {calls}")))
 }
 
-/// Whether it is so at each call and past the last one.
+/// Checks `slips_once` at each call and past the last one.
 fn slips_anywhere(alloc: Global, reading: &Reading, slip: Slip) -> Result<(), Fail> {
     for at in 1..reading.calls.saturating_add(3) {
         slips_once(alloc, reading, slip, at)?;
@@ -122,8 +122,8 @@ fn slips_anywhere(alloc: Global, reading: &Reading, slip: Slip) -> Result<(), Fa
     Ok(())
 }
 
-/// How the file of `FRAMES` is written, how many bytes a call takes, how many calls that takes, and how many bytes
-/// stand before each call that takes what it is given.
+/// How the file of `FRAMES` is written: whole or in pieces, by at most `most` bytes a call, in `calls` calls. `fronts`
+/// has the bytes written before each call, and is empty if a call takes one byte.
 #[derive(Clone, Copy)]
 struct Writing {
     in_pieces: bool,
@@ -159,7 +159,7 @@ const WRITINGS: &[Writing] = &[
     },
 ];
 
-/// Writes the file of `FRAMES`.
+/// Writes the file of `FRAMES`, whole or in pieces.
 fn write_by<W: Writer>(writer: &mut W, wav: &Wav, in_pieces: bool) -> Result<(), WavFault> {
     if in_pieces {
         put_pieces(writer, FRAMES.as_slice())
@@ -168,7 +168,7 @@ fn write_by<W: Writer>(writer: &mut W, wav: &Wav, in_pieces: bool) -> Result<(),
     }
 }
 
-/// How many of the 68 bytes stand before a call.
+/// Returns how many of the 68 bytes are written before call `at`.
 fn front_before(writing: &Writing, at: usize) -> usize {
     if writing.most == 1 {
         return at.min(69).saturating_sub(1);
@@ -179,8 +179,8 @@ fn front_before(writing: &Writing, at: usize) -> usize {
     }
 }
 
-/// Whether a writing that slips at this call blames its writer, which took what it was given before, and asks it no
-/// more. Past the last call the file is written.
+/// Checks that a writing that slips at call `at` fails with `Write`, and does not call its writer again. The writer has
+/// taken what it was given before. Past the last call the file is written.
 fn writes_until(alloc: Global, writing: &Writing, slip: Slip, at: usize) -> Result<(), Fail> {
     let wav = Wav::new(8_000, 2, FRAMES.as_slice().to_vec(alloc)?)?;
     let device = Faulty::slipping(alloc, Vec::new(alloc), writing.most, slip, at);
@@ -201,7 +201,7 @@ fn writes_until(alloc: Global, writing: &Writing, slip: Slip, at: usize) -> Resu
     Err(Fail::new(format_args!("{slip:?} at {at}: {answer:?} {failed} {calls} {is_front} {taken}")))
 }
 
-/// Whether it is so at each call and past the last one.
+/// Checks `writes_until` at each call and past the last one.
 fn writes_anywhere(alloc: Global, writing: &Writing, slip: Slip) -> Result<(), Fail> {
     for at in 1..writing.calls.saturating_add(3) {
         writes_until(alloc, writing, slip, at)?;
@@ -223,8 +223,8 @@ fn devices_that_fail(rt: HostRuntime) -> Result<(), Fail> {
     Ok(())
 }
 
-/// What two readings of four bytes answer, the first of which slips, with how often the reader failed before and after
-/// the second, and what it was asked for.
+/// Reads four bytes twice: the first call slips. Returns both results, each with how often the reader has failed
+/// then, whether the bytes are right, and how many bytes each call asked for.
 fn read_twice(alloc: Global, slip: Slip) -> Result<String, Fail> {
     let text = CANONICAL.as_slice();
     let mut reader = FromRead::new(Faulty::slipping(alloc, text, usize::MAX, slip, 1));
@@ -238,7 +238,8 @@ fn read_twice(alloc: Global, slip: Slip) -> Result<String, Fail> {
     Ok(format!(in alloc; "{first:?} {failed} {second:?} {both} {same} {asked:?}")?)
 }
 
-/// The same of two writings.
+/// Writes four bytes twice: the first call slips. Returns both results, each with how often the writer has failed
+/// then, whether the bytes are right, and how many bytes each call gave.
 fn write_twice(alloc: Global, slip: Slip) -> Result<String, Fail> {
     let taken = Vec::new(alloc);
     let mut writer = ToWrite::new(Faulty::slipping(alloc, taken, usize::MAX, slip, 1));
@@ -252,7 +253,7 @@ fn write_twice(alloc: Global, slip: Slip) -> Result<String, Fail> {
     Ok(format!(in alloc; "{first:?} {failed} {second:?} {both} {same} {asked:?}")?)
 }
 
-/// A slip at the first call of four bytes, what a reader of std does then, and what a writer does.
+/// A slip at the first call, the text of `read_twice`, and the text of `write_twice`.
 const ADAPTED: &[(Slip, &str, &str)] = &[
     (
         Slip::Fails,
@@ -271,7 +272,8 @@ const ADAPTED: &[(Slip, &str, &str)] = &[
     ),
 ];
 
-/// An adapter asks once a call, whatever comes, and goes on at the next.
+/// Tests that an adapter calls its device once for each of its own calls, whatever the result, and goes on at the next
+/// one. Also tests the texts of faults.
 #[test]
 fn adapters_ask_once(rt: HostRuntime) -> Result<(), Fail> {
     let alloc = rt.alloc();

@@ -10,7 +10,7 @@ use test_texts::says;
 pub(crate) const CANONICAL: &[u8; 48] =
     b"RIFF\x28\0\0\0WAVEfmt \x10\0\0\0\x01\0\x01\0\x44\xAC\0\0\x88\x58\x01\0\x02\0\x10\0data\x04\0\0\0\x03\0\xFE\xFF";
 
-/// The front of a file, whatever its size is.
+/// The first twelve bytes of a file, with an arbitrary size.
 pub(crate) const RIFF: &[u8] = b"RIFF\x01\x02\x03\x04WAVE";
 
 /// A list of odd size with its pad byte, and the extensible format of mono at 44,100.
@@ -25,7 +25,7 @@ pub(crate) const FORMAT: &[u8] =
 /// Data of two samples.
 const DATA: &[u8] = b"data\x04\0\0\0\x01\0\xFE\xFF";
 
-/// Chunks, what stands behind them, and what the file is.
+/// Chunks, the bytes behind them, and the result of reading the file.
 const FILES: &[(&[u8], &[u8], &str)] = &[
     (
         EXTENSIBLE,
@@ -90,10 +90,11 @@ const FILES: &[(&[u8], &[u8], &str)] = &[
     ),
 ];
 
-/// The front of a list of 5,001 bytes.
+/// The header of a list of 5,001 bytes.
 const LIST: &[u8] = b"LIST\x89\x13\0\0";
 
-/// Files by their chunks, files without, most chunks before the data, and a list that ends early or is whole.
+/// Tests files of chunks, files that are not WAV files, and the maximum number of chunks before the data. Also tests a
+/// list that is cut off or whole.
 #[test]
 fn files(rt: HostRuntime) -> Result<(), Fail> {
     let alloc = rt.alloc();
@@ -126,8 +127,8 @@ fn files(rt: HostRuntime) -> Result<(), Fail> {
     )
 }
 
-/// The rate, the channels, the frames and the samples of a file, what is left behind it, how often a writer of its
-/// sound failed, and whether it took the canonical file.
+/// Reads `bytes` and writes the sound again. Returns the rate, the channels, the frames, the samples and the bytes left
+/// behind the file. Then come how often the writer failed, and whether it took `CANONICAL`.
 fn both_ways(alloc: Global, bytes: &[u8]) -> Result<String, Fail> {
     let mut reader = FromRead::new(bytes);
     let wav = read_wav(alloc, &mut reader)?;
@@ -143,12 +144,12 @@ fn both_ways(alloc: Global, bytes: &[u8]) -> Result<String, Fail> {
     )?)
 }
 
-/// The same of a file before a list.
+/// Returns the text of `both_ways` for `CANONICAL` in front of a list.
 fn before_a_list(alloc: Global) -> Result<String, Fail> {
     both_ways(alloc, &file_of(alloc, &[(CANONICAL, 1), (LIST, 1)])?)
 }
 
-/// A sound that is written, as its frames, its channels and a sample, or the fault.
+/// Writes a sound. Returns its frames, its channels and a sample, or the fault.
 fn sound(alloc: Global, rate: u32, channels: u16, samples: &[i16]) -> Result<String, Fail> {
     let wav = match Wav::new(rate, channels, samples.to_vec(alloc)?) {
         Ok(wav) => wav,
@@ -164,7 +165,7 @@ fn sound(alloc: Global, rate: u32, channels: u16, samples: &[i16]) -> Result<Str
     Ok(format!(in alloc; "{frames} {channels} {}", wav.sample(1, 0))?)
 }
 
-/// A rate, channels, samples, and the sound.
+/// A rate, channels, samples, and the text of `sound`.
 const SOUNDS: &[(u32, u16, &[i16], &str)] = &[
     (8_000, 3, &[1, 2, 3, -4, 5, 6], "2 3 -4"),
     (44_100, 0, &[1, 2, 3], "39 Channels"),
@@ -177,7 +178,7 @@ const SOUNDS: &[(u32, u16, &[i16], &str)] = &[
     (268_435_456, 8, &[], "46 RateTooLarge"),
 ];
 
-/// The file of these samples.
+/// Returns the file of `samples`.
 pub(crate) fn written(
     alloc: Global,
     rate: u32,
@@ -189,7 +190,7 @@ pub(crate) fn written(
     Ok(writer.into_inner())
 }
 
-/// 20,000 samples and their bytes.
+/// Returns 20,000 samples and their bytes.
 fn long_sound(alloc: Global) -> Result<(Vec<i16>, Vec<u8>), AllocError> {
     let mut samples = Vec::new(alloc);
     let mut bytes = Vec::new(alloc);
@@ -200,7 +201,8 @@ fn long_sound(alloc: Global) -> Result<(Vec<i16>, Vec<u8>), AllocError> {
     Ok((samples, bytes))
 }
 
-/// How long the file of more samples is than are written at a time, and whether it ends with their bytes.
+/// Writes more samples than are converted at a time. Returns the length of the file, and whether it ends with their
+/// bytes.
 fn long_file(alloc: Global) -> Result<String, Fail> {
     let (samples, bytes) = long_sound(alloc)?;
     let file = written(alloc, 44_100, 1, samples)?;

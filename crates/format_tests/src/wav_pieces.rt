@@ -14,12 +14,12 @@ use test_texts::says;
 /// Six frames of two channels.
 pub(crate) const FRAMES: [i16; 12] = [1, -1, 2, -2, 3, -3, 4, -4, 5, -5, 6, -6];
 
-/// Their file at 8,000.
+/// The file of `FRAMES` at 8,000 frames a second.
 pub(crate) const SIX: &[u8] =
     b"RIFF\x3C\0\0\0WAVEfmt \x10\0\0\0\x01\0\x02\0\x40\x1F\0\0\0\x7D\0\0\x04\0\x10\0data\x18\0\0\0\
     \x01\0\xFF\xFF\x02\0\xFE\xFF\x03\0\xFD\xFF\x04\0\xFC\xFF\x05\0\xFB\xFF\x06\0\xFA\xFF";
 
-/// Writes six frames as pieces of one, two and three.
+/// Writes six frames in pieces of one, two and three.
 pub(crate) fn put_pieces<W: Writer>(writer: &mut W, samples: &[i16]) -> Result<(), WavFault>
     requires { length samples.now ≡ 12 }
 {
@@ -30,7 +30,7 @@ pub(crate) fn put_pieces<W: Writer>(writer: &mut W, samples: &[i16]) -> Result<(
     out.end()
 }
 
-/// Whether the file of these frames is written whole, and in pieces.
+/// Writes `FRAMES` whole and in pieces. Returns for each whether the file is `SIX`.
 fn both_files(alloc: Global) -> Result<String, Fail> {
     let whole = written(alloc, 8_000, 2, FRAMES.as_slice().to_vec(alloc)?)?;
     let mut writer = ToWrite::new(Vec::new(alloc));
@@ -39,7 +39,7 @@ fn both_files(alloc: Global) -> Result<String, Fail> {
     Ok(format!(in alloc; "{} {}", whole.as_slice() == SIX, pieces.as_slice() == SIX)?)
 }
 
-/// How many bytes a header has, or the fault, and what stands before it.
+/// Starts a file. Returns how many bytes were written, and the fault if there is one.
 fn header(alloc: Global, rate: u64, channels: u16, frames: u64) -> Result<String, Fail> {
     let mut writer = ToWrite::new(Vec::new(alloc));
     let fault = WavOut::start(&mut writer, rate, channels, frames).err();
@@ -50,7 +50,7 @@ fn header(alloc: Global, rate: u64, channels: u16, frames: u64) -> Result<String
     }
 }
 
-/// A rate, channels, frames, and how many bytes the header has.
+/// A rate, channels, frames, and the text of `header`.
 const HEADERS: &[(u64, u16, u64, &str)] = &[
     (0, 0, u64::MAX, "0 bytes, 39 Channels"),
     (0, 9, 0, "0 bytes, 39 Channels"),
@@ -64,7 +64,8 @@ const HEADERS: &[(u64, u16, u64, &str)] = &[
     (268_435_455, 8, 268_435_453, "44 bytes"),
 ];
 
-/// What three puts of two frames each answer, the last two of the same samples, and what is missing after the first.
+/// Puts two frames three times, the last two times the same ones. Returns the three results, and the frames missing
+/// after the first, or an empty text if the second put succeeds.
 fn three_puts<W: Writer>(alloc: Global, writer: &mut W, samples: &[i16]) -> Result<String, Fail>
     requires { length samples.now ≡ 12 }
 {
@@ -79,7 +80,8 @@ fn three_puts<W: Writer>(alloc: Global, writer: &mut W, samples: &[i16]) -> Resu
     Ok(format!(in alloc; "{first:?} {missing} {second:?} {third:?}")?)
 }
 
-/// The same where the writer is full, how often it failed, what it took and how often it was asked.
+/// Returns the text of `three_puts` for a writer that is full at its call 56. It is followed by how often the writer
+/// failed, how many bytes it took, and how many calls it had.
 fn puts_of_full(alloc: Global) -> Result<String, Fail> {
     let device = Faulty::slipping(alloc, Vec::new(alloc), 1, Slip::MovesNothing, 56);
     let mut writer = ToWrite::new(device);
@@ -93,7 +95,8 @@ fn puts_of_full(alloc: Global) -> Result<String, Fail> {
     )?)
 }
 
-/// The last two puts are of a writer that is full: it fails once, and is left alone from then on.
+/// Tests files and headers that are written in pieces, and a writer that is full: it fails once, and is not called
+/// again.
 #[test]
 fn written_in_pieces(rt: HostRuntime) -> Result<(), Fail> {
     let alloc = rt.alloc();
@@ -107,14 +110,15 @@ fn written_in_pieces(rt: HostRuntime) -> Result<(), Fail> {
     )
 }
 
-/// The parts before the data of a file of one channel at 8,000.
+/// The parts before the data of a file of one channel at 8,000 frames a second.
 const MONO: &[u8] =
     b"RIFF\0\0\0\0WAVEfmt \x10\0\0\0\x01\0\x01\0\x40\x1F\0\0\x80\x3E\0\0\x02\0\x10\0";
 
-/// Data of three samples and a pad byte that is not theirs.
+/// Data of three samples, and two bytes that are not part of it.
 const THREE: &[u8] = b"data\x06\0\0\0\x01\0\xFF\xFF\x02\0LI";
 
-/// The rate, the channels and the frames of a file, and six pieces of so many frames, each with its samples or a fault.
+/// Opens a file and reads six pieces of `frames` frames. Returns the rate, the channels and the frames, and for each
+/// piece its samples or a fault.
 fn six_pieces<R: Reader>(alloc: Global, reader: &mut R, frames: usize) -> Result<String, Fail> {
     let mut input = match WavIn::open(alloc, reader) {
         Ok(input) => input,
@@ -131,7 +135,7 @@ fn six_pieces<R: Reader>(alloc: Global, reader: &mut R, frames: usize) -> Result
     Ok(text)
 }
 
-/// The same of a front of a file and its data, of which a call gives at most so many bytes.
+/// Returns the text of `six_pieces` for a file of `front` and `data`, if a call gives at most `most` bytes.
 fn read(
     alloc: Global,
     front: &[u8],
@@ -144,7 +148,7 @@ fn read(
     six_pieces(alloc, &mut reader, frames)
 }
 
-/// A front of a file, its data, the frames of a piece, and what comes.
+/// A front of a file, its data, the frames of a piece, and the text of `six_pieces`.
 const PIECES: &[(&[u8], &[u8], usize, &str)] = &[
     (MONO, THREE, 1, "8000 1 Some(3): [1] [-1] [2] [] [] []"),
     (MONO, THREE, 2, "8000 1 Some(3): [1, -1] [2] [] [] [] []"),
@@ -238,8 +242,8 @@ const PIECES: &[(&[u8], &[u8], usize, &str)] = &[
     ),
 ];
 
-/// The same of three samples whose reader fails at this call, or at none by 0; how often it failed and was asked, and
-/// what is left.
+/// Returns the text of `six_pieces` for three samples and a reader that fails at call `at`, or never if it is 0. It is
+/// followed by how often the reader failed and was called, and by the bytes left.
 fn read_until(alloc: Global, frames: usize, at: usize) -> Result<String, Fail> {
     let bytes = file_of(alloc, &[(MONO, 1), (THREE, 1)])?;
     let device = Faulty::slipping(alloc, bytes.as_slice(), usize::MAX, Slip::Fails, at);
@@ -254,8 +258,8 @@ fn read_until(alloc: Global, frames: usize, at: usize) -> Result<String, Fail> {
     )?)
 }
 
-/// A call gives all bytes, or up to 7. What stands behind the content stays, and a reader that fails once is left alone
-/// from then on.
+/// Tests reading in pieces when a call gives all bytes, or at most 1 to 7. The bytes behind the content are left, and a
+/// reader that has failed is not called again.
 #[test]
 fn read_in_pieces(rt: HostRuntime) -> Result<(), Fail> {
     let alloc = rt.alloc();

@@ -1,4 +1,4 @@
--- A firing sequence dealt out to seats, and the places that rings have for it.
+-- A firing sequence dealt out to seats, and the room that rings have for it.
 use Rattle.std.specs.Prelude.{ℕ, ◌≡◌, ◌≢◌, ◌+◌, ◌-◌, ◌≤◌, ◌<◌, ◌==◌, List, length, map, filter, slice_index_or}
 use Rattle.std.specs.Global.{Global}
 use Rattle.rtrb.specs.Ring.{producer_capacity}
@@ -13,7 +13,7 @@ use Rattle.sdf_rings.specs.declared.seat.Seat.{Seat}
 use Rattle.sdf_rings.specs.Seats.{HasFirst}
 use Rattle.sdf_rings.specs.Rests.{stand_of, producer_of}
 
--- the firings of a sequence whose actor stands on seat i, in order
+-- the firings of a sequence whose actor is on seat i, in order
 abbrev pub dealt : List (ℕ × ℕ) → List ℕ → ℕ → List ℕ
 dealt places order i = filter (λ a. (slice_index_or places a (0, 0)).0 == i) order
 
@@ -22,8 +22,8 @@ pub record IsGreatestPut (r : Rates) (c m : ℕ) : Type 0 where
   pub above : (k : ℕ) → r.produced c (k + 1) - r.produced c k ≤ m
   pub reached : (k : ℕ) × (r.produced c (k + 1) - r.produced c k ≡ m)
 
--- how many samples the ring of channel c takes: as many as the channel may hold. From an actor to itself it has room
--- for one more block, since an actor looks for room before it has taken
+-- the room in the ring of channel c, in samples: the capacity of the channel. From an actor to itself there is room for
+-- one more block, since an actor looks for room before it has taken
 pub record IsRoomOf (r : Rates) (cap : ℕ → ℕ) (c room : ℕ) : Type 0 where
   pub between_two : r.source c ≢ r.target c → room ≡ cap c
   pub own : r.source c ≡ r.target c → (m : ℕ) × IsGreatestPut r c m × (room ≡ cap c + m)
@@ -36,7 +36,7 @@ module _ {A S T : Type 0} (n : Netlist A T) (seats : List (Seat A T S)) (places 
     pub asked : (a : ℕ) (e : Seat A T S) (d : Stand A T S) → a < length n.nodes →
         (stand_of n seats places e d a).asked ≡ times order a
 
-  -- each ring takes as many samples as the capacity of its channel says
+  -- each ring has the room that belongs to the capacity of its channel
   abbrev pub HaveCapacities : Steps A S T → (ℕ → ℕ) → Type 0
   HaveCapacities s cap =
       (c : ℕ) (e : Seat A T S) (d : Stand A T S) (y : Producer T Global AnyItems) → c < length n.wires →

@@ -20,24 +20,24 @@ use Rattle.sdf_rings.specs.Asks.{dealt}
 use Rattle.sdf_rings.specs.Openings.{end_at}
 use Rattle.sdf_rings.specs.Stands.{IsStand}
 
--- where each node stands: its seat, and its place there
+-- the place of node a: its seat, and its index there
 abbrev pub place : List (ℕ × ℕ) → ℕ → ℕ × ℕ
 place places a = slice_index_or places a (0, 0)
 
--- how many of these stand on a seat
+-- how many of the places are on a seat
 abbrev pub standing : List (ℕ × ℕ) → ℕ → ℕ
 standing places seat = count_by (λ p. p.0 == seat) places
 
--- each node has the next place on its seat
+-- each node has the next index on its seat
 abbrev pub AreNext : List (ℕ × ℕ) → Type 0
 AreNext places = (a : ℕ) → a < length places → (place places a).1 ≡ standing (take a places) (place places a).0
 
--- each firing is one of a node that stands somewhere
+-- each firing is of a node that has a place
 abbrev pub IsRoster : Roster → Type 0
 IsRoster r = (i : ℕ) → i < length r.order.now → slice_index r.order.now i < length r.places.now
 
--- each node can do the firings that are asked of it, where a sink has so much room, and there are samples to fill
--- blocks with where any is asked
+-- each node can do the firings that are asked of it if a sink has this room. If any firing is asked, there is a sample
+-- to fill working blocks with
 pub record CanStart {A S T : Type 0} (s : Steps A S T) (n : Netlist A T) (inputs : List (List T)) (asked : ℕ → ℕ)
     (room : ℕ) (filler : Option T) : Type 0 where
   pub net : IsNet s n
@@ -66,7 +66,7 @@ pub record HasOuts {A S T : Type 0} (s : Steps A S T) (n : Netlist A T) (a : ℕ
 module _ {A S T : Type 0} (s : Steps A S T) (n : Netlist A T) (inputs : List (List T)) (asked : ℕ → ℕ)
     (producers : List (Option (Producer T Global AnyItems)))
     (consumers : List (Option (Consumer T Global AnyItems))) where
-  -- node a has not fired, and so many firings are asked of it. It has its ends of these rings
+  -- node a has not fired, and the firings asked of it are those given. It has its ends of these rings
   pub record HasBegun (a : ℕ) (x : Stand A T S) : Type 0 where
     pub is : IsStand s n inputs x
     pub actor_is : x.actor ≡ a
@@ -77,7 +77,7 @@ module _ {A S T : Type 0} (s : Steps A S T) (n : Netlist A T) (inputs : List (Li
     pub outs_are : (c : ℕ) (d : Producer T Global AnyItems) → c < length n.wires → (wire n c).from.0 ≡ a →
         end_at producers c ≡ Some (slice_index_or x.outs.items (wire n c).from.1 d)
 
-  -- the nodes of seat i stand there, each at its place, and nothing else does
+  -- the nodes of seat i are there, each at its index, and nothing else is
   pub record AreBegun (places : List (ℕ × ℕ)) (i : ℕ) (stands : List (Stand A T S)) : Type 0 where
     pub known : (a : ℕ) → a < length n.nodes → (place places a).0 ≡ i → (place places a).1 < length stands
     pub here : (a : ℕ) (d : Stand A T S) → a < length n.nodes → (place places a).0 ≡ i →
@@ -92,7 +92,7 @@ module _ {A S T : Type 0} (s : Steps A S T) (n : Netlist A T) (inputs : List (Li
     pub stands_are : AreBegun places i x.stands.items
     pub left_is : x.left ≡ map (λ a. (place places a).1) (dealt places order i)
 
-  -- the first so many seats before their first firing
+  -- the first `many` seats before their first firing
   abbrev pub HaveBegun : List (ℕ × ℕ) → List ℕ → ℕ → List (Seat A T S) → Type 0
   HaveBegun places order many seats = (i : ℕ) (e : Seat A T S) → i < many →
       IsBegun places order i (slice_index_or seats i e)

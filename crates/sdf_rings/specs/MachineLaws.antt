@@ -13,7 +13,7 @@ use Rattle.sdf_actor.specs.Histories.{Wiring, put, taken, taken_before}
 use Rattle.sdf_actor.specs.Nets.{Netlist, node, answers, wiring, IsNet, IsHistoryOf, InputsReach}
 use Rattle.sdf_rings.specs.Machine.{Machine, Event, put_on, taken_from, at_start, IsAllowed, IsRun, after}
 
--- a period of a graph, how many periods make a block, and a table of a block's firings with so many columns
+-- a repetition vector of a graph, how many periods make a block, and a table of a block's firings on `width` processors
 pub record MachinePlan : Type 0 where
   pub rates : Rates
   pub period : List ℕ
@@ -21,8 +21,7 @@ pub record MachinePlan : Type 0 where
   pub width : ℕ
   pub table : Tabled
 
--- the graph is the net's, and the table is valid. Where its actors are at home is not asked: the laws hold of each
--- valid table
+-- the graph is the net's, and the table is valid. Its actors need not have homes: the laws are true of each valid table
 pub record IsMachinePlan {A S T : Type 0} (s : Steps A S T) (n : Netlist A T) (p : MachinePlan) : Type 0 where
   pub net : IsNet s n
   pub alike : IsAlike p.rates (wiring s n).rates
@@ -46,7 +45,7 @@ IsRunOf s n inputs p b es = IsRun (wiring s n) (answers s n inputs) (firings p b
 abbrev pub reached : {A S T : Type 0} → Steps A S T → Netlist A T → List (List T) → List Event → Machine T
 reached s n inputs es = after (wiring s n) (answers s n inputs) (at_start (wiring s n)) es
 
--- what a run has put on each channel begins the history at the counts of all blocks, and is as long as its blocks
+-- what a run has put on each channel is as long as its blocks, and a prefix of the history at all blocks' counts
 abbrev pub RunsPutPrefixes : {A S T : Type 0} → Steps A S T → Type 0
 RunsPutPrefixes {A} {S} {T} s =
     (n : Netlist A T) (inputs : List (List T)) (p : MachinePlan) (b : ℕ) (V : ℕ → List T) (es : List Event) →
@@ -79,13 +78,13 @@ RunsGoOn {A} {S} {T} s =
     IsOver s n (firings p b) (reached s n inputs es)
     ⊎ ((e : Event) × IsAllowed (wiring s n) (firings p b) (capacity p) (reached s n inputs es) e)
 
--- how many blocks of k firings have still to move at the first so many channels
+-- how many blocks of k firings have still to move at the first channels, up to the given number
 abbrev pub blocks_left : {A : Type 0} → Wiring A → (ℕ → ℕ) → Machine A → ℕ → ℕ
 blocks_left f k m zero = 0
 blocks_left f k m (suc c) = blocks_left f k m c + ((k (f.rates.target c) - m.took c)
     + (k (f.rates.source c) - m.gave c))
 
--- each event moves one of them, so no run has more events than there are blocks
+-- each event moves one block, so no run has more events than there are blocks
 abbrev pub RunsMoveBlocks : {A S T : Type 0} → Steps A S T → Type 0
 RunsMoveBlocks {A} {S} {T} s =
     (n : Netlist A T) (inputs : List (List T)) (p : MachinePlan) (b : ℕ) (es : List Event) → IsMachinePlan s n p →
@@ -93,7 +92,7 @@ RunsMoveBlocks {A} {S} {T} s =
     length es + blocks_left (wiring s n) (firings p b) (reached s n inputs es) (length n.wires) ≡
     blocks_left (wiring s n) (firings p b) (at_start (wiring s n)) (length n.wires)
 
--- where all have moved, each channel was given its history
+-- when all blocks have moved, each channel was given its history
 abbrev pub RunsEndInHistories : {A S T : Type 0} → Steps A S T → Type 0
 RunsEndInHistories {A} {S} {T} s =
     (n : Netlist A T) (inputs : List (List T)) (p : MachinePlan) (b : ℕ) (V : ℕ → List T) (es : List Event) →
@@ -101,8 +100,8 @@ RunsEndInHistories {A} {S} {T} s =
     IsOver s n (firings p b) (reached s n inputs es) →
     (c : ℕ) → c < length n.wires → (reached s n inputs es).lists c ≡ V c
 
--- a channel from an actor to itself is never waited for: once the turn of a block has come, its samples are there for
--- the take, and the room for the put
+-- an actor never waits for a channel to itself. Once the turn of a block has come, its samples are there for the take,
+-- and the room for the put
 abbrev pub OwnNeverWaits : {A S T : Type 0} → Steps A S T → Type 0
 OwnNeverWaits {A} {S} {T} s =
     (n : Netlist A T) (p : MachinePlan) (b : ℕ) (m : Machine T) (c : ℕ) →
@@ -119,7 +118,7 @@ pub record Idle (S T : Type 0) : Type 0 where
   pub states : ℕ → S
   pub lists : ℕ → List T
 
--- the machine there: what was taken is the blocks of the firings that are done
+-- the machine when all actors are idle: what was taken and put is the blocks of the firings that are done
 abbrev pub resting : {A S T : Type 0} → Steps A S T → Netlist A T → Idle S T → Machine T
 resting s n x = record {
   took = λ c. x.done ((wiring s n).rates.target c);
@@ -159,8 +158,8 @@ abbrev pub taken_on : {A : Type 0} → Wiring A → (ℕ → List A) → ℕ →
 taken_on f V a i zero = []
 taken_on f V a i (suc j) = taken_on f V a i j ++ taken f V a (i + j) ∷ []
 
--- from x to y each node has made of the whole blocks that it took what its steps make of them, and knows no more than
--- its own channels
+-- from x to y each node has put what its steps make of the whole blocks that it took. It knows no more than its own
+-- channels
 pub record HasGrown {A S T : Type 0} (s : Steps A S T) (n : Netlist A T) (inputs : List (List T))
     (x y : Idle S T) : Type 0 where
   pub more : (a : ℕ) → a < length n.nodes → x.done a ≤ y.done a
@@ -184,7 +183,7 @@ pub record IsLike {A T : Type 0} (n : Netlist A T) (d e : Machine T) : Type 0 wh
   pub gave : (c : ℕ) → c < length n.wires → d.gave c ≡ e.gave c
   pub lists : (c : ℕ) → c < length n.wires → d.lists c ≡ e.lists c
 
--- from a quiescent state, what each node knows of itself suffices for the next one to be quiescent, and a run of the
+-- if a state is quiescent, what each node knows of itself suffices for the next state to be quiescent. A run of the
 -- machine leads to it
 abbrev pub QuiescentReached : {A S T : Type 0} → Steps A S T → Type 0
 QuiescentReached {A} {S} {T} s =

@@ -1,4 +1,4 @@
--- Before the first firing: rings that are opened, and what stands where once their ends are dealt out.
+-- Before the first firing: rings that are opened, and where their ends are once they are dealt out.
 use Rattle.std.specs.Prelude.{ℕ, ◌≡◌, ◌<◌, ◌≤◌, List, [], length, slice_index, slice_index_or, Option, Some, None}
 use Rattle.std.specs.Global.{Global}
 use Rattle.rtrb.specs.Ring.{sent, received, producer_capacity, IsPair}
@@ -10,14 +10,14 @@ use Rattle.sdf_actor.specs.Nets.{Netlist, wire, wiring}
 use Rattle.sdf_rings.specs.Asks.{IsRoomOf}
 use Rattle.sdf_rings.specs.Ends.{IsMet}
 
--- both ends of a ring know all that is in it: samples that nobody has taken
+-- both ends of a ring know all that is in it: samples of which nothing was taken
 pub record IsOpened {T : Type 0} (p : Producer T Global AnyItems) (x : Consumer T Global AnyItems)
     (samples : List T) : Type 0 where
   pub met : IsMet p x
   pub put : sent p ≡ samples
   pub untaken : received x ≡ []
 
--- m is the greatest of some numbers
+-- m is the greatest of the numbers xs
 pub record IsGreatestOf (xs : List ℕ) (m : ℕ) : Type 0 where
   pub above : (i : ℕ) → i < length xs → slice_index xs i ≤ m
   pub reached : (i : ℕ) × (i < length xs) × (slice_index xs i ≡ m)
@@ -42,7 +42,7 @@ pub record HasRing {A S T : Type 0} (s : Steps A S T) (n : Netlist A T) (cap : �
   pub opened : IsOpened producer consumer (wire n c).initial
   pub room : IsRoomOf (wiring s n).rates cap c (producer_capacity producer)
 
--- so are those of all channels
+-- the rings of all channels are open
 pub record HaveRings {A S T : Type 0} (s : Steps A S T) (n : Netlist A T) (cap : ℕ → ℕ)
     (producers : List (Option (Producer T Global AnyItems)))
     (consumers : List (Option (Consumer T Global AnyItems))) : Type 0 where
@@ -50,7 +50,7 @@ pub record HaveRings {A S T : Type 0} (s : Steps A S T) (n : Netlist A T) (cap :
   pub consumers_all : length consumers ≡ length n.wires
   pub each : (c : ℕ) → c < length n.wires → HasRing s n cap c producers consumers
 
--- the ends at node a are there still, and as they were opened
+-- the ends at node a are still there, and as they were opened
 pub record HasEnds {A T : Type 0} (n : Netlist A T) (a : ℕ) (producers : List (Option (Producer T Global AnyItems)))
     (consumers : List (Option (Consumer T Global AnyItems))) : Type 0 where
   pub into : (c : ℕ) → c < length n.wires → (wire n c).to.0 ≡ a →

@@ -1,4 +1,4 @@
--- What a run over rings is given and gives.
+-- What a run over rings is given, and what it returns.
 use Rattle.std.specs.Prelude.{ℕ, ◌≡◌, ◌*◌, ◌≤◌, ◌<◌, List, slice_index, sum}
 use Rattle.sdf_limits.specs.declared.TheConstants.{MOST_PATIENCE}
 use Rattle.sdf_graph.specs.Sequences.{repeated}
@@ -16,7 +16,7 @@ use Rattle.sdf_answer.specs.declared.fault.RunFault.{RunFault}
 use Rattle.sdf_answer.specs.declared.fault.RunFault.TheVariants.{OutOfMemory, InputLength, NotHomed, Patience, NoWorker}
 use Rattle.sdf_answer.specs.declared.fault.RunFault.TheVariants.{SessionFailed}
 
--- what the run gives, where no test fails: the outputs, and in how many rounds. Each round does some firing
+-- what a run returns if no test fails: the outputs and the number of rounds. Each round does some firing
 pub record HasRunInRounds {A S T : Type 0} (s : Steps A S T) (n : Netlist A T) (q : List ℕ) (j : ℕ)
     (t : Tabled) (blocks : ℕ)
     (inputs : List (List T)) (patience : ℕ) (outputs : List (List T)) (rounds : ℕ) : Type 0 where
@@ -27,7 +27,7 @@ pub record HasRunInRounds {A S T : Type 0} (s : Steps A S T) (n : Netlist A T) (
   pub rounds_few : rounds ≤ blocks * (j * sum q)
   pub rounds_some : 0 < blocks → 0 < rounds
 
--- what a run gives that goes on from a rest, where no test fails. Its rounds are as many as those of any run
+-- what a resumed run returns if no test fails. Its rounds have the bounds of any run
 pub record HasGoneOn {A S T : Type 0} (s : Steps A S T) (n : Netlist A T) (q : List ℕ) (j : ℕ) (t : Tabled)
     (rest : Rest T S) (blocks : ℕ) (inputs : List (List T)) (patience : ℕ) (outputs : List (List T)) (rounds : ℕ)
     (last : Rest T S) : Type 0 where
@@ -37,8 +37,8 @@ pub record HasGoneOn {A S T : Type 0} (s : Steps A S T) (n : Netlist A T) (q : L
   pub rounds_few : rounds ≤ blocks * (j * sum q)
   pub rounds_some : 0 < blocks → 0 < rounds
 
--- after the rounds of a run over rings, where no test fails: nothing is left of the blocks of the table, and all ends
--- have met
+-- after the rounds of a run, if no test fails: nothing is left of the blocks of the table, and all ends are
+-- synchronized
 pub record HasEnded {A S T : Type 0} (s : Steps A S T) (n : Netlist A T) (q : List ℕ) (j : ℕ) (t : Tabled)
     (blocks : ℕ) (inputs : List (List T)) (patience : ℕ) (r : InHand A S T) (rounds : ℕ) : Type 0 where
   pub homed : IsHomed t
@@ -53,7 +53,7 @@ pub record HasEnded {A S T : Type 0} (s : Steps A S T) (n : Netlist A T) (q : Li
   pub rounds_few : rounds ≤ blocks * (j * sum q)
   pub rounds_some : 0 < blocks → 0 < rounds
 
--- the first test that fails, of a table, a patience, and inputs
+-- the fault of the first test that fails, for a table, a spin limit and inputs
 abbrev pub IsRingsFault : {A T : Type 0} → Netlist A T → List ℕ → ℕ → List (List T) → Tabled → ℕ → RunFault → Type 0
 IsRingsFault n q periods inputs t patience OutOfMemory = Unit {0}
 IsRingsFault n q periods inputs t patience NotHomed = IsHomed t → ⊥

@@ -10,7 +10,7 @@ use Rattle.sdf_rings.specs.MachineLaws.{MachinePlan, IsMachinePlan, IsRunOf, fir
 abbrev pub pair : {A T : Type 0} → Netlist A T
 pair = record { nodes = Source 0 2 ∷ Sink 0 3 ∷ []; wires = record { from = (0, 0); to = (1, 0); initial = [] } ∷ [] }
 
--- the block fires `in` three times in the first column and then `out` twice in the second
+-- the block fires `in` three times on the first processor and then `out` twice on the second
 abbrev pub first : ℕ → List (Option Firing)
 first i = Some (record { actor = 0; number = i }) ∷ None ∷ []
 
@@ -41,7 +41,7 @@ three_puts = Put 0 ∷ Put 0 ∷ Put 0 ∷ []
 abbrev pub and_a_take : List Event
 and_a_take = Put 0 ∷ Put 0 ∷ Put 0 ∷ Take 0 ∷ []
 
--- over two blocks three puts are allowed from the start, and no fourth
+-- in a run of two blocks three puts are allowed from the start, and a fourth is not
 pub record ThreePutsFill {A S T : Type 0} (s : Steps A S T) (inputs : List (List T)) : Type 0 where
   pub run : IsRunOf s pair inputs (plan s) 2 three_puts
   pub full : held s (reached s pair inputs three_puts) ≡ 6

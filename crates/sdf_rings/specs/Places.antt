@@ -1,4 +1,4 @@
--- Where ends of rings stand.
+-- The places of ring ends.
 use Rattle.std.specs.Prelude.{ℕ, ◌≡◌, ◌<◌, List, length, vec_len, slice_index_or}
 use Rattle.std.specs.Vec.{with_item}
 use Rattle.std.specs.declared.vec.Vec.{Vec}
@@ -20,18 +20,18 @@ module _ {A T S : Type 0} where
   abbrev pub HasStand : List (Seat A T S) → ℕ → ℕ → Type 0
   HasStand seats i k = (e : Seat A T S) → k < vec_len (slice_index_or seats i e).stands
 
-  -- P holds of stand k of seat i
+  -- P is true of stand k of seat i
   abbrev pub HoldsOfStand : (Stand A T S → Type 0) → List (Seat A T S) → ℕ → ℕ → Type 0
   HoldsOfStand P seats i k = (e : Seat A T S) (d : Stand A T S) → P (stand_at seats i k e d)
 
-  -- all but what is on the stands
+  -- two seats differ at most in what is on their stands
   pub record SameSeat (s t : Seat A T S) : Type 0 where
     pub processor_same : t.processor ≡ s.processor
     pub left_same : t.left ≡ s.left
     pub next_same : t.next ≡ s.next
     pub stands_same : vec_len t.stands ≡ vec_len s.stands
 
-  -- the stand k of seat i is now x, and nothing else is changed
+  -- stand k of seat i is now x, and nothing else is changed
   pub record IsUpdated (old new : List (Seat A T S)) (i k : ℕ) (x : Stand A T S) : Type 0 where
     pub len : length new ≡ length old
     pub seats : (j : ℕ) (e : Seat A T S) → SameSeat (slice_index_or old j e) (slice_index_or new j e)
@@ -39,11 +39,11 @@ module _ {A T S : Type 0} where
     pub others : (j l : ℕ) (e : Seat A T S) (d : Stand A T S) → ((j ≡ i) × (l ≡ k) → ⊥) →
         stand_at new j l e d ≡ stand_at old j l e d
 
-  -- nothing but stand k of seat i is changed
+  -- only stand k of seat i is changed
   abbrev pub OnlyStand : List (Seat A T S) → List (Seat A T S) → ℕ → ℕ → Type 0
   OnlyStand old new i k = HoldsOfStand (IsUpdated old new i k) new i k
 
-  -- nothing but the consumers of stand k of seat i is changed, and they are v now
+  -- only the consumers of stand k of seat i are changed, and they are v now
   abbrev pub OnlyIns : List (Seat A T S) → List (Seat A T S) → ℕ → ℕ → Vec (Consumer T Global AnyItems) Global → Type 0
   OnlyIns old new i k v = HoldsOfStand (λ x. IsUpdated old new i k (record x { ins = v })) old i k
 
@@ -55,12 +55,12 @@ module _ {A T S : Type 0} where
       Producer T Global AnyItems
   producer_at seats q e d x = slice_index_or (stand_at seats q.seat q.stand e d).outs.items q.port x
 
-  -- P holds of the consumer at a place
+  -- P is true of the consumer at a place
   abbrev pub HoldsOfConsumer : (Consumer T Global AnyItems → Type 0) → List (Seat A T S) → Spot → Type 0
   HoldsOfConsumer P seats q = (e : Seat A T S) (d : Stand A T S) (x : Consumer T Global AnyItems) →
       P (consumer_at seats q e d x)
 
-  -- P holds of the producer at a place
+  -- P is true of the producer at a place
   abbrev pub HoldsOfProducer : (Producer T Global AnyItems → Type 0) → List (Seat A T S) → Spot → Type 0
   HoldsOfProducer P seats q = (e : Seat A T S) (d : Stand A T S) (y : Producer T Global AnyItems) →
       P (producer_at seats q e d y)
@@ -70,14 +70,14 @@ module _ {A T S : Type 0} where
   ProducerLookedAt old new q = (e : Seat A T S) (d : Stand A T S) (y : Producer T Global AnyItems) →
       ProducerLooked (producer_at old q e d y) (producer_at new q e d y)
 
-  -- nothing but the producer at a place is changed
+  -- only the producer at a place is changed
   abbrev pub OnlyProducer : List (Seat A T S) → List (Seat A T S) → Spot → Type 0
   OnlyProducer old new q = (e : Seat A T S) (d : Stand A T S) (y : Producer T Global AnyItems) →
       IsUpdated old new q.seat q.stand (record (stand_at old q.seat q.stand e d) {
         outs = with_item (stand_at old q.seat q.stand e d).outs q.port (producer_at new q e d y);
       })
 
-  -- all but the ends
+  -- two stands differ at most in their ends
   pub record SameStand (s t : Stand A T S) : Type 0 where
     pub actor_same : t.actor ≡ s.actor
     pub state_same : t.state ≡ s.state
@@ -109,7 +109,7 @@ module _ {A T S : Type 0} where
     pub pair_there : (e : Seat A T S) (d : Stand A T S) (x : Consumer T Global AnyItems)
         (y : Producer T Global AnyItems) → IsPair (producer_at seats from e d y) (consumer_at seats to e d x)
 
-  -- the ends of one ring were told, and nothing else is changed
+  -- the ends of one ring were synchronized, and nothing else is changed
   pub record IsTold (old new : List (Seat A T S)) (from to : Spot) : Type 0 where
     pub told_len : length new ≡ length old
     pub told_seats : (j : ℕ) (e : Seat A T S) → SameSeat (slice_index_or old j e) (slice_index_or new j e)
@@ -127,7 +127,7 @@ module _ {A T S : Type 0} where
         ((q.seat ≡ from.seat) × (q.stand ≡ from.stand) × (q.port ≡ from.port) → ⊥) →
         producer_at new q e d y ≡ producer_at old q e d y
 
-  -- all but the ends is as it was
+  -- everything except the ends is as it was
   pub record SameButEnds (old new : List (Seat A T S)) : Type 0 where
     pub all_same : length new ≡ length old
     pub each_seat : (j : ℕ) (e : Seat A T S) → SameSeat (slice_index_or old j e) (slice_index_or new j e)

@@ -14,8 +14,8 @@ use Rattle.sdf_rings.specs.Asks.{IsPlanned}
 use Rattle.sdf_rings.specs.MachineLaws.{MachinePlan, IsMachinePlan, firings}
 use Rattle.sdf_rings.specs.Begun.{place}
 
--- there is a seat for each column of the table and each node stands at home. Nothing has fired, all ends have met, so
--- many blocks of the table are asked, and the rings take its capacities
+-- there is a seat for each processor of the table, and each node is on the seat of its home. Nothing has fired, all
+-- ends are synchronized, this number of blocks of the table is asked, and the rings have room for its capacities
 pub record IsPrepared {A S T : Type 0} (s : Steps A S T) (n : Netlist A T) (inputs : List (List T)) (t : Tabled)
     (blocks : ℕ) (r : InHand A S T) : Type 0 where
   pub net_is : r.net ≡ n
@@ -29,7 +29,7 @@ pub record IsPrepared {A S T : Type 0} (s : Steps A S T) (n : Netlist A T) (inpu
   pub met : HaveMet n r.seats r.places
   pub planned : IsPlanned s n r.seats r.places (repeated blocks t.order) (slice_index t.caps)
 
--- the table is one of a plan of the net, and so many blocks of it are asked
+-- the table belongs to a plan of the net, and the firings of this number of blocks are asked
 pub record IsAsked {A S T : Type 0} (s : Steps A S T) (n : Netlist A T) (t : Tabled) (blocks : ℕ)
     (asked : ℕ → ℕ) : Type 0 where
   pub plan : MachinePlan
@@ -37,7 +37,7 @@ pub record IsAsked {A S T : Type 0} (s : Steps A S T) (n : Netlist A T) (t : Tab
   pub table_is : plan.table ≡ t
   pub asked_are : (a : ℕ) → a < length n.nodes → asked a ≡ firings plan blocks a
 
--- a fault is true of what was given. That an actor has no home is tested first
+-- a fault is true of the arguments. An actor without a home is tested for first
 abbrev pub IsPrepareFault : {A T : Type 0} → Netlist A T → List ℕ → ℕ → List (List T) → Tabled → RunFault → Type 0
 IsPrepareFault n q periods inputs t OutOfMemory = Unit {0}
 IsPrepareFault n q periods inputs t NotHomed = IsHomed t → ⊥

@@ -1,4 +1,4 @@
--- The state of the ring machine that is made of the stands.
+-- The state of the ring machine that the stands make up.
 use Rattle.std.specs.Prelude.{ℕ, ◌≡◌, ◌<◌, List, length, Some}
 use Rattle.std.specs.Global.{Global}
 use Rattle.rtrb.specs.Ring.{sent}
@@ -25,7 +25,7 @@ pub record IsMadeOf {A S T : Type 0} (n : Netlist A T) (seats : List (Seat A T S
   pub lists : (c : ℕ) (e : Seat A T S) (d : Stand A T S) (y : Producer T Global AnyItems) → c < length n.wires →
       x.lists c ≡ sent (producer_of n seats places e d y c)
 
--- where so many blocks of a valid table are asked, it is quiescent, and a run of the machine from the start leads to it
+-- if b blocks of a valid table are asked, the state is quiescent, and a run of the machine from the start leads to it
 abbrev pub AreQuiescent : {A S T : Type 0} → Steps A S T → InHand A S T → Type 0
 AreQuiescent {A} {S} {T} s r =
     (p : MachinePlan) (b : ℕ) (x : Idle S T) → IsMachinePlan s r.net p →

@@ -1,4 +1,4 @@
--- All ends in one hand: each node stands on one seat, and both ends of each ring know all of it.
+-- All ends in one hand: each node is on one seat, and both ends of each ring know all of it.
 use Rattle.std.specs.Prelude.{ℕ, ◌≡◌, ◌<◌, List, [], All, length, drop, vec_len, slice_index_or, Option, Some, None}
 use Rattle.std.specs.declared.vec.Vec.{Vec}
 use Rattle.std.specs.Global.{Global}
@@ -53,8 +53,8 @@ module _ {A S T : Type 0} (n : Netlist A T) (seats : List (Seat A T S)) (places 
         (y : Producer T Global AnyItems) → c < length n.wires →
         IsPair (producer_of n seats places e d y c) (consumer_of n seats places e d x c)
 
--- at rest after done a firings of each node a: what was put is the history, each ring holds what is left of it, and
--- each node's state is the one after what it took
+-- at rest after done a firings of each node a: what was put is the history, and each ring holds what is left of it.
+-- Each node has the state after what it took
 pub record StandAtRest {A S T : Type 0} (s : Steps A S T) (n : Netlist A T) (inputs : List (List T))
     (seats : List (Seat A T S)) (places : List (ℕ × ℕ)) (done : ℕ → ℕ) : Type 0 where
   pub history : ℕ → List T
@@ -70,7 +70,7 @@ pub record StandAtRest {A S T : Type 0} (s : Steps A S T) (n : Netlist A T) (inp
       IsAt s inputs (stand_of n seats places e d a).asked (node n a) (taken_before (wiring s n) history a (done a))
       (stand_of n seats places e d a).state
 
--- the same at whatever counts are those of the firings done, read by any seat, stand and ends
+-- the stands are at rest at the counts of their firings done, whatever seat, stand and ends are read
 abbrev pub AreAtRest : {A S T : Type 0} → Steps A S T → Netlist A T → List (List T) → List (Seat A T S) → List (ℕ × ℕ) →
     Type 0
 AreAtRest {A} {S} {T} s n inputs seats places =
@@ -90,12 +90,12 @@ pub record AreRings {A S T : Type 0} (s : Steps A S T) (r : InHand A S T) : Type
   pub placed : IsPlaced r.net r.seats r.places
   pub paired : HavePairs r.net r.seats r.places
 
--- node a has done so many firings
+-- node a has done this number of firings
 abbrev pub HasDone : {A S T : Type 0} → InHand A S T → ℕ → ℕ → Type 0
 HasDone {A} {S} {T} r a many = (e : Seat A T S) (d : Stand A T S) →
     many ≡ (stand_of r.net r.seats r.places e d a).done
 
--- channel c holds so many samples, by what the end that takes them knows
+-- channel c holds this number of samples, as known to the end that takes them
 abbrev pub HoldsSamples : {A S T : Type 0} → InHand A S T → ℕ → ℕ → Type 0
 HoldsSamples {A} {S} {T} r c many = (e : Seat A T S) (d : Stand A T S) (x : Consumer T Global AnyItems) →
     many ≡ length (known_items (consumer_of r.net r.seats r.places e d x c))
@@ -114,7 +114,7 @@ state_in (Source next) = None
 state_in (Sink list) = None
 state_in (Inner j state) = Some state
 
--- the lists of the sinks among the first m nodes stand among the outputs, each at its number
+-- the lists of the sinks among the first m nodes are in the outputs, each at its number
 abbrev pub AreGiven : {A S T : Type 0} → Netlist A T → List (Seat A T S) → List (ℕ × ℕ) → ℕ → List (Vec T Global) →
     Type 0
 AreGiven {A} {S} {T} n seats places m outputs =
@@ -133,7 +133,7 @@ HoldItems {A} {S} {T} n seats places items =
     (c : ℕ) (e : Seat A T S) (d : Stand A T S) (x : Consumer T Global AnyItems) → c < length n.wires →
     slice_index_or items c [] ≡ known_items (consumer_of n seats places e d x c)
 
--- a rest of what the seats hold: each actor's state, and the items that are known of each ring
+-- a net state of what the seats hold: the state of each actor, and the items that are known of each ring
 pub record HoldRest {A S T : Type 0} (n : Netlist A T) (seats : List (Seat A T S)) (places : List (ℕ × ℕ))
     (rest : Rest T S) : Type 0 where
   pub nodes : length rest.states.items ≡ length n.nodes

@@ -1,18 +1,18 @@
--- The blocks of a run of a node's firings, at its ports and in one list.
+-- The blocks of a batch of a node's firings, at its ports and in one list.
 use Rattle.std.specs.Prelude.{◌≡◌, ℕ, ◌*◌, List, length, slice_index}
 use Rattle.sdf_node.specs.Many.{nth_block, joined}
 use Rattle.sdf_rings.specs.declared.run_ends.RunBlocks.{RunBlocks}
 use Rattle.sdf_rings.specs.Blocks.{start_at, block_of}
 
--- there are so many ports, and a firing moves at all of them what it moves at each
+-- there is this number of ports, and a firing moves at all of them together the sum of its sizes
 pub record HasPorts (r : RunBlocks) (ports : ℕ) : Type 0 where
   pub all : ports ≡ length r.sizes.now
   pub size_is : r.size ≡ start_at (slice_index r.sizes.now) ports
 
--- how many samples the whole run moves at a port
+-- how many samples the whole batch moves at a port
 abbrev pub sizes_of_run : RunBlocks → ℕ → ℕ
 sizes_of_run r p = r.many * slice_index r.sizes.now p
 
--- those of a port out of a list that has the blocks of one firing behind those of another
+-- the blocks of a port, out of a list that has the blocks of one firing behind the blocks of another
 abbrev pub port_blocks : {T : Type 0} → RunBlocks → List T → ℕ → List T
 port_blocks r xs p = joined (λ i. block_of (slice_index r.sizes.now) p (nth_block r.size xs i)) r.many

@@ -8,12 +8,12 @@ use Rattle.sdf_rings.specs.declared.stand.Stand.{Stand}
 use Rattle.sdf_rings.specs.declared.seat.Seat.{Seat}
 use Rattle.sdf_rings.specs.Stands.{IsStand, CanFire, HasMoved}
 
--- how often the number k stands between two places of a list
+-- how often the number k occurs between two places of a list
 abbrev pub times_between : ℕ → List ℕ → ℕ → ℕ → ℕ
 times_between k xs from to = times (slice_range xs from to) k
 
 module _ {A S T : Type 0} (s : Steps A S T) (n : Netlist A T) where
-  -- its list names its stands, and has just the firings that are still to be done of each
+  -- its list names its stands, and from next on has exactly the firings that are still to be done of each
   pub record IsSeat (inputs : List (List T)) (x : Seat A T S) : Type 0 where
     pub next_fits : x.next ≤ length x.left
     pub names : (j : ℕ) → j < length x.left → slice_index x.left j < vec_len x.stands
@@ -43,8 +43,8 @@ module _ {A S T : Type 0} (s : Steps A S T) (n : Netlist A T) where
   abbrev pub HasIdled : Seat A T S → Seat A T S → Type 0
   HasIdled x y = HasWorked x y × (y.next ≡ x.next)
 
-  -- one worker's round: it ends where its list is empty or by what its ends know its first firing lacks samples or
-  -- room, and does that where it was known to be possible
+  -- one worker's round: it ends when its list is empty, or its ends do not know samples or room for its next firing. It
+  -- does its first firing if that was known to be possible
   pub record HasRounded (inputs : List (List T)) (x y : Seat A T S) : Type 0 where
     pub seat : IsSeat inputs y
     pub worked : HasWorked x y

@@ -21,23 +21,23 @@ use Rattle.sdf_answer.specs.Sizes.{sizes, AreRows}
 -- channels from node a to itself, by its ends of rings
 module _ {A T : Type 0} (n : Netlist A T) (a : ℕ) (ins : List (Consumer T Global AnyItems))
     (outs : List (Producer T Global AnyItems)) where
-  -- what holds of the two ends of each
+  -- R is true of the two ends of each
   abbrev HoldsOfOwn : (Consumer T Global AnyItems → Producer T Global AnyItems → Type 0) → Type 0
   HoldsOfOwn R = (c : ℕ) (d : Consumer T Global AnyItems) (e : Producer T Global AnyItems) → c < length n.wires →
       (wire n c).from.0 ≡ a → (wire n c).to.0 ≡ a →
       R (slice_index_or ins (wire n c).to.1 d) (slice_index_or outs (wire n c).from.1 e)
 
-  -- both ends of each are one ring's
+  -- both ends of each belong to one ring
   abbrev pub OwnArePairs : Type 0
   OwnArePairs = HoldsOfOwn (λ x y. IsPair y x)
 
-  -- what was taken of each is the beginning of what was put there
+  -- what was taken from each is the beginning of what was put there
   abbrev pub OwnBegin : Type 0
   OwnBegin = HoldsOfOwn (λ x y. IsPrefix (received x) (sent y))
 
 module _ {A S T : Type 0} (s : Steps A S T) (n : Netlist A T) where
-  -- it has its ends of rings by port, and what went through them is what it knows of its own channels: its firings done
-  -- answer what they took, and its state is the one after them
+  -- it has its ring ends by port, and what went through them is what it knows of its own channels. Its firings done put
+  -- their answers to what they took, and its state is the one after them
   pub record IsStand (inputs : List (List T)) (x : Stand A T S) : Type 0 where
     pub known : x.actor < length n.nodes
     pub own_pairs : OwnArePairs n x.actor x.ins.items x.outs.items
@@ -56,8 +56,8 @@ module _ {A S T : Type 0} (s : Steps A S T) (n : Netlist A T) where
     pub phases : 0 < cycle_of s (node n x.actor)
     pub takes : AreRows s Input (node n x.actor) (lists x.takes.items)
     pub puts : AreRows s Output (node n x.actor) (lists x.puts.items)
-    -- its working blocks are long enough while firings are left. Where none was asked there may be no sample to fill
-    -- them with
+    -- its working blocks are long enough while firings are left. If none was asked there may be no sample to fill them
+    -- with
     pub taken_long : x.done < x.asked → (k : ℕ) → takes_of s (node n x.actor) (k % cycle_of s (node n x.actor)) ≤
         length x.taken.items
     pub put_long : x.done < x.asked → (k : ℕ) → puts_of s (node n x.actor) (k % cycle_of s (node n x.actor)) ≤
@@ -68,7 +68,7 @@ module _ {A S T : Type 0} (s : Steps A S T) (n : Netlist A T) where
     pub holds : HoldsEach (sizes s Input (node n x.actor) x.done) x.ins.items
     pub has_room : HasRoomEach (sizes s Output (node n x.actor) x.done) x.outs.items
 
-  -- at each port as many samples were taken and put as its firings since then take and put
+  -- at each port exactly the samples of the firings since then were taken and put
   pub record HasMoved (x y : Stand A T S) : Type 0 where
     pub actor_kept : y.actor ≡ x.actor
     pub asked_kept : y.asked ≡ x.asked

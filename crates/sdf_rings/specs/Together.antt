@@ -1,4 +1,4 @@
--- Runs of firings of one node: when they go in one piece of work.
+-- Batched firings of one node: when they are possible.
 use Rattle.std.specs.Prelude.{◌≡◌, ℕ, ◌+◌, ◌*◌, ◌≤◌, ◌<◌, length}
 use Rattle.sdf_actor.specs.Steps.{Steps}
 use Rattle.sdf_actor.specs.Nets.{Netlist, wire, node, cycle_of}
@@ -13,8 +13,8 @@ pub record GoesInRuns {A S T : Type 0} (s : Steps A S T) (n : Netlist A T) (a : 
   pub one_phase : cycle_of s (node n a) ≡ 1
   pub apart : (c : ℕ) → c < length n.wires → (wire n c).from.0 ≡ a → (wire n c).to.0 ≡ a → ⊥
 
--- so many firings are left of it, their samples and the room for what they put are known at its ends, and its working
--- blocks hold all of that
+-- this number of firings is left of it, and its working blocks hold them. The samples and the room for all of them are
+-- known at its ends
 pub record CanRun {A S T : Type 0} (s : Steps A S T) (n : Netlist A T) (x : Stand A T S) (many : ℕ) : Type 0 where
   pub goes : GoesInRuns s n x.actor
   pub left : x.done + many ≤ x.asked

@@ -1,4 +1,4 @@
-//! Work at each element of a slice, with a thread for each that has work left.
+//! Calls at each element of a slice, with a thread for each element that has work left.
 
 ghost use Rattle.std.specs.Prelude.{◌<◌, ◌↔◌, length, IsTrue};
 ghost use Rattle.std.specs.Fork.{AcceptsAt, ChangesAt};
@@ -12,12 +12,12 @@ pub trait Busy {
     /// What it means that work is left.
     ghost busy: { Self → Type 0 };
 
-    /// Returns whether it has work left.
+    /// Checks whether it has work left.
     fn is_busy(&self) -> bool
         ensures { IsTrue result ↔ busy self.now };
 }
 
-/// Returns whether an element has work left.
+/// Checks whether an element of `s` has work left.
 fn some_busy<T: Busy>(s: &[T]) -> bool
     ensures { IsTrue result ↔ SomeHolds T.busy s.now }
 {
@@ -75,7 +75,8 @@ pub fn for_each_busy<R: Threads + Sync, T: Send + Busy, F: Fn(usize, &mut T) + S
     }
 }
 
-/// Calls `f` at each element of two slices, which run at once.
+/// Calls `f` at each element of `front` and of `back`, both slices at once. Their first elements are numbers `base` and
+/// `up`.
 #[cycle(halves)]
 fn both_halves<R: Threads + Sync, T: Send + Busy, F: Fn(usize, &mut T) + Sync>(
     rt: &R,

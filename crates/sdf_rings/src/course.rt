@@ -1,4 +1,4 @@
-//! The list of a worker's firings.
+//! A worker's firing list.
 
 ghost use Rattle.std.specs.Prelude.{◌≡◌, ◌+◌, ◌<◌, ◌≤◌, ℕ, length, slice_index, IfOk};
 ghost use Rattle.sdf_graph.specs.Sequences.{repeated};
@@ -6,8 +6,8 @@ ghost use Rattle.sdf_graph.specs.Sequences.{repeated};
 use std::alloc::AllocError;
 use std::marker::Model;
 
-/// The stands whose firings a worker does, in order: those of a block, so many times over. It takes the room of one
-/// block.
+/// A worker's firing list: the stands to fire, in order. It repeats the list of one block `blocks` times, but stores it
+/// once.
 #[derive(Drop)]
 pub struct Course {
     block: Vec<usize>,
@@ -27,7 +27,8 @@ impl Model for Course {
 }
 
 impl Course {
-    /// So many blocks of a list. More firings than there are numbers for are more than there is memory for.
+    /// Returns `blocks` repetitions of the list `block`. Fails with `AllocError` if their length does not fit into a
+    /// `usize`.
     #[tactic(auto, using(crate::proofs::Courses::long))]
     pub(crate) fn new(block: Vec<usize>, blocks: u32) -> Result<Course, AllocError>
         ensures { IfOk result (λ course. course ≡ repeated blocks block.items) }
@@ -45,7 +46,7 @@ impl Course {
         self.len
     }
 
-    /// The stand of a firing.
+    /// Returns the stand of the firing at `place`.
     #[tactic(auto, using(crate::proofs::Courses::some, crate::proofs::Courses::here))]
     pub(crate) fn stand(&self, place: usize) -> usize
         requires { place < length self.now }
@@ -54,7 +55,8 @@ impl Course {
         self.block[place % self.block.len()]
     }
 
-    /// How often the stand at a place stands there and in the next places of its block, up to a limit.
+    /// Returns how many firings in a row, from `place` on, are of the stand there: within one block, and at most
+    /// `most`.
     #[tactic(auto, using(crate::proofs::Courses::some, crate::proofs::Courses::row, crate::proofs::Courses::inside))]
     pub(crate) fn in_a_row(&self, place: usize, most: usize) -> usize
         requires { place < length self.now }

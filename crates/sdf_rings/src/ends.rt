@@ -1,4 +1,4 @@
-//! The blocks of one firing at the ends of rings. The sizes of the blocks are by port.
+//! The blocks of one firing at the ends of rings. The `sizes` of the blocks are in samples, by port.
 
 ghost use Rattle.std.specs.Prelude.{◌≡◌, ◌≤◌, ◌+◌, length, ℕ, [], take, slice_range, slice_index, IsTrue, IsFalse, ◌↔◌};
 ghost use Rattle.rtrb.specs.Ring.{known_items, known_free, ConsumerLooked, ProducerLooked};
@@ -8,7 +8,7 @@ ghost use Rattle.sdf_rings.specs.Ends.{Drew, Gave, DrewEach, GaveEach, HoldsEach
 use rtrb::{Consumer, Producer};
 use std::alloc::Global;
 
-/// Takes a whole block that is known to be there.
+/// Fills `block` from `end`, which is known to hold enough.
 pub(crate) fn take_block<T: Copy>(end: &mut Consumer<T, Global>, block: &mut [T])
     requires { length block.old ≤ length (known_items end.old) }
     ensures { Drew end.old end.new block.new }
@@ -16,7 +16,7 @@ pub(crate) fn take_block<T: Copy>(end: &mut Consumer<T, Global>, block: &mut [T]
     end.pop_partial_slice(block);
 }
 
-/// Puts a whole block for which room is known.
+/// Puts all of `block`, for which `end` is known to have room.
 pub(crate) fn put_block<T: Copy>(end: &mut Producer<T, Global>, block: &[T])
     requires { length block.now ≤ known_free end.old }
     ensures { Gave end.old end.new block.now }
@@ -24,7 +24,7 @@ pub(crate) fn put_block<T: Copy>(end: &mut Producer<T, Global>, block: &[T])
     let _ = end.push_entire_slice(block);
 }
 
-/// Takes a block into the part of `taken` that begins at `at`.
+/// Takes `size` samples into `taken`, from offset `at` on.
 fn take_at<T: Copy>(end: &mut Consumer<T, Global>, taken: &mut [T], at: usize, size: usize)
     requires inside { at + size ≤ length taken.old }
     requires known { size ≤ length (known_items end.old) }
@@ -34,7 +34,7 @@ fn take_at<T: Copy>(end: &mut Consumer<T, Global>, taken: &mut [T], at: usize, s
     take_block(end, &mut taken[at..at + size]);
 }
 
-/// Puts the block that begins at `at`.
+/// Puts `size` samples of `put`, from offset `at` on.
 fn put_at<T: Copy>(end: &mut Producer<T, Global>, put: &[T], at: usize, size: usize)
     requires inside { at + size ≤ length put.now }
     requires room { size ≤ known_free end.old }
@@ -43,7 +43,7 @@ fn put_at<T: Copy>(end: &mut Producer<T, Global>, put: &[T], at: usize, size: us
     put_block(end, &put[at..at + size]);
 }
 
-/// Takes a block at each port.
+/// Takes a block at each port into `taken`, in the order of the ports.
 #[tactic(auto, using(crate::proofs::Blocks::block_in))]
 pub(crate) fn take_each<T: Copy>(sizes: &[usize], ends: &mut [Consumer<T, Global>], taken: &mut [T])
     requires ports { length ends.old ≡ length sizes.now }
@@ -59,7 +59,7 @@ pub(crate) fn take_each<T: Copy>(sizes: &[usize], ends: &mut [Consumer<T, Global
     }
 }
 
-/// Puts a block at each port.
+/// Puts a block of `put` at each port, in the order of the ports.
 #[tactic(auto, using(crate::proofs::Blocks::block_in))]
 pub(crate) fn put_each<T: Copy>(sizes: &[usize], ends: &mut [Producer<T, Global>], put: &[T])
     requires ports { length ends.old ≡ length sizes.now }
@@ -75,7 +75,7 @@ pub(crate) fn put_each<T: Copy>(sizes: &[usize], ends: &mut [Producer<T, Global>
     }
 }
 
-/// Whether the end is known to hold that many items. It looks at the other end only where it has to.
+/// Checks whether `end` is known to hold `size` items. It looks at the other end only if it has to.
 fn holds<T>(end: &mut Consumer<T, Global>, size: usize) -> bool
     ensures looked { ConsumerLooked end.old end.new }
     ensures value { IsTrue result ↔ (size ≤ length (known_items end.new)) }
@@ -83,7 +83,7 @@ fn holds<T>(end: &mut Consumer<T, Global>, size: usize) -> bool
     size <= end.cached_slots() || size <= end.slots()
 }
 
-/// Whether the end is known to have room for that many items. It looks at the other end only where it has to.
+/// Checks whether `end` is known to have room for `size` items. It looks at the other end only if it has to.
 fn has_room<T>(end: &mut Producer<T, Global>, size: usize) -> bool
     ensures looked { ProducerLooked end.old end.new }
     ensures value { IsTrue result ↔ (size ≤ known_free end.new) }
@@ -91,7 +91,7 @@ fn has_room<T>(end: &mut Producer<T, Global>, size: usize) -> bool
     size <= end.cached_slots() || size <= end.slots()
 }
 
-/// Whether each port is known to hold its block.
+/// Checks whether each port is known to hold its block.
 pub(crate) fn hold_each<T>(sizes: &[usize], ends: &mut [Consumer<T, Global>]) -> bool
     requires { length ends.old ≡ length sizes.now }
     ensures looked { DrewEach ends.old ends.new (λ _. []) }
@@ -106,7 +106,7 @@ pub(crate) fn hold_each<T>(sizes: &[usize], ends: &mut [Consumer<T, Global>]) ->
     true
 }
 
-/// Whether each port is known to have room for its block.
+/// Checks whether each port is known to have room for its block.
 pub(crate) fn have_room_each<T>(sizes: &[usize], ends: &mut [Producer<T, Global>]) -> bool
     requires { length ends.old ≡ length sizes.now }
     ensures looked { GaveEach ends.old ends.new (λ _. []) }

@@ -1,4 +1,4 @@
-//! A run over rings that another one goes on from.
+//! Runs over rings that another run can resume.
 
 ghost use Rattle.std.specs.Prelude.{◌*◌, ℕ, List, MatchResult};
 ghost use Rattle.sdf_graph.specs.Rates.{rates};
@@ -19,7 +19,8 @@ use sdf_node::Gate;
 use std::alloc::AllocGlobal;
 use std::thread::Threads;
 
-/// Runs a net as `run_rings` does, and gives what the run leaves beside what it makes. `Net::begun` goes on from there.
+/// Runs `net` as `run_rings` does, and also returns the net state that the run leaves. `Net::begun` makes the resumed
+/// net.
 pub fn feed_rings<R: Threads + AllocGlobal + Sync, A: Actor, G: Gate>(
     workers: Workers<'_, R, G>,
     net: &Net<A>,
@@ -39,8 +40,8 @@ pub fn feed_rings<R: Threads + AllocGlobal + Sync, A: Actor, G: Gate>(
     Ok((Ran { outputs, rounds }, rest))
 }
 
-/// Goes on from where runs of a net left it, with all samples read: by further blocks on further inputs. What it makes,
-/// joined to what they made, is what one run on all inputs makes.
+/// Resumes `net` from `rest`, the state that earlier runs left, and runs `blocks` further blocks on further `inputs`.
+/// If the earlier runs read all their samples, its outputs joined to theirs are what one run on all inputs returns.
 pub fn resume_rings<R: Threads + AllocGlobal + Sync, A: Actor, G: Gate>(
     workers: Workers<'_, R, G>,
     net: &Net<A>,

@@ -1,4 +1,4 @@
-//! The lists of the sinks, when all is done.
+//! Moving out the lists of the sinks when all firings are done.
 
 ghost use Rattle.std.specs.Prelude.{◌≡◌, ◌<◌, ℕ, length};
 ghost use Rattle.sdf_actor.specs.declared.node.Node.TheVariants as kind;
@@ -13,7 +13,7 @@ use sdf_actor::{Actor, Net, Node};
 use sdf_answer::laws::net_facts;
 use sdf_node::collect_at;
 
-/// Takes the list of a node from its stand, where it is a sink, to its number.
+/// Moves the list of `node` from its stand to its number in `outputs`, if the node is a sink.
 fn collect_from<A: Actor>(
     node: &Node<A>,
     seats: &mut [Seat<A>],
@@ -30,7 +30,7 @@ fn collect_from<A: Actor>(
     collect_at(node, &mut seats[seat].stands[stand].state, outputs);
 }
 
-/// Takes the lists of all sinks, each to its number. It takes no memory.
+/// Moves the list of each sink to its number in `outputs`. It takes no memory.
 pub(crate) fn collect<A: Actor>(
     net: &Net<A>,
     seats: &mut [Seat<A>],

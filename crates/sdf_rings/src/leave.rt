@@ -1,4 +1,4 @@
-//! What seats hold, when all is done: the states of their actors, and the samples in their rings.
+//! What the seats hold when all firings are done: the states of the actors, and the samples in the rings.
 
 ghost use Rattle.std.specs.Prelude.{◌≡◌, List, length, IfOk, OnOk};
 ghost use Rattle.rtrb.specs.Ring.{known_items};
@@ -13,7 +13,7 @@ use sdf_actor::{Actor, Net, Rest};
 use sdf_node::kept;
 use std::alloc::{AllocError, Global};
 
-/// Copies of the states of all actors.
+/// Returns copies of the states of all actors.
 fn states_of<A: Actor>(
     alloc: Global,
     net: &Net<A>,
@@ -34,7 +34,7 @@ fn states_of<A: Actor>(
     Ok(states)
 }
 
-/// Takes all items that an end is known to hold.
+/// Takes all items that `end` is known to hold.
 fn empty<T: Copy>(alloc: Global, end: &mut Consumer<T, Global>) -> Result<Vec<T>, AllocError>
     ensures { IfOk result (λ v. v.items ≡ known_items end.old) }
 {
@@ -45,7 +45,7 @@ fn empty<T: Copy>(alloc: Global, end: &mut Consumer<T, Global>) -> Result<Vec<T>
     Ok(items)
 }
 
-/// Takes all items that the end at a place is known to hold.
+/// Takes all items that the consumer at `at` is known to hold.
 fn empty_at<A: Actor>(
     alloc: Global,
     seats: &mut [Seat<A>],
@@ -62,7 +62,7 @@ fn empty_at<A: Actor>(
     Ok(items)
 }
 
-/// Takes the samples that all channels hold.
+/// Takes the samples that each channel is known to hold.
 fn empty_all<A: Actor>(
     alloc: Global,
     net: &Net<A>,
@@ -83,8 +83,8 @@ fn empty_all<A: Actor>(
     Ok(held)
 }
 
-/// What the seats hold: copies of the states of all actors, and the samples on all channels, which are taken out of
-/// their rings.
+/// Returns the net state: copies of the states of all actors, and the samples on all channels. The samples are taken
+/// out of the rings.
 pub(crate) fn leave<A: Actor>(
     alloc: Global,
     net: &Net<A>,

@@ -1,16 +1,18 @@
-//! Bounded rings between actors that fire when they can: what they do, whatever the order of their moves.
+//! Self-timed execution over bounded rings: each actor fires when it can, and the laws cover every order of the moves.
 //!
 //! It depends on `sdf_graph`, `sdf_sched`, `sdf_prec`, `sdf_actor`, `sdf_node`, `sdf_answer` and the rings of `rtrb`.
-//! Begin at `specs/Machine.antt`, the machine; the statements of its laws are in `specs/MachineLaws.antt`, those of
-//! rounds in `specs/Laws.antt`, and a ring at work in `specs/Pair.antt`. The code begins at `seat`, one worker's round
-//! (`work`) through its list (`course`), over `stand`, a node with its ends of rings, and `together`, runs of a node's
-//! firings: `specs/Stands.antt`, `specs/Together.antt` and `specs/Seats.antt` say what a node knows of its own
-//! channels, and when its firings go as runs. `ends` moves the blocks of one firing, `run_ends` those of a run;
-//! `own_rings` is about the channels from a node to itself. `round` has all workers at once (`workers`), with a thread
-//! for each that has firings left (`busy`), `meet` tells all ends, and `rings` has rounds by hand and until nothing is
-//! left. `prepare` makes the seats of a run, `finish` gives out the lists of the sinks and `leave` what else the seats
-//! hold, and `runner` does all of it (`specs/Asks.antt`, `specs/Outcome.antt`). `feed` has runs that another one goes
-//! on from.
+//! Begin at `specs/Machine.antt`, the ring machine. `specs/MachineLaws.antt` states its laws, `specs/Laws.antt` the
+//! laws of rounds, and `specs/Pair.antt` shows one ring at work.
+//!
+//! The code begins at `seat`, where `work` is one worker's round through its firing list (`course`). `stand` is a node
+//! with its ring ends, and `together` fires batches of one node. `specs/Stands.antt`, `specs/Together.antt` and
+//! `specs/Seats.antt` say what a node knows of its own channels, and when its firings are batched. `ends` moves the
+//! blocks of one firing, and `run_ends` the blocks of a batch. `own_rings` is about the channels from a node to itself.
+//!
+//! `round` runs all workers (`workers`) at once, with a thread for each that has firings left (`busy`). `meet`
+//! synchronizes all ends, and `rings` makes rounds by hand or until nothing is left. `prepare` makes the seats of a
+//! run, `finish` moves out the lists of the sinks, and `leave` takes what else the seats hold. `runner` does all of it
+//! (`specs/Asks.antt`, `specs/Outcome.antt`). `feed` makes runs that another run can resume.
 #![tactic(auto)]
 
 pub mod busy;

@@ -1,4 +1,4 @@
-//! Both ends of a ring in one hand.
+//! Synchronizing rings when one owner has both ends.
 
 ghost use Rattle.std.specs.Prelude.{◌≡◌, ◌<◌, length};
 ghost use Rattle.rtrb.specs.Ring.{known_items, IsPair, ConsumerLooked, ProducerLooked};
@@ -16,7 +16,7 @@ use sdf_actor::{Actor, Net};
 use std::alloc::Global;
 use std::mem;
 
-/// A place for an end of a ring: a port of a node on a seat.
+/// The place of a ring end: a port of a node on a seat.
 #[derive(Clone, Copy)]
 pub struct Spot {
     pub seat: usize,
@@ -24,7 +24,7 @@ pub struct Spot {
     pub port: usize,
 }
 
-/// Tells both ends of a ring what is in it, and answers how many items it holds.
+/// Synchronizes both ends of a ring, and returns how many items it holds.
 pub(crate) fn tell<T>(
     consumer: &mut Consumer<T, Global>,
     producer: &mut Producer<T, Global>,
@@ -39,7 +39,7 @@ pub(crate) fn tell<T>(
     consumer.slots_beside(producer)
 }
 
-/// Changes the consumers of a stand for others.
+/// Swaps the consumers of a stand with `ins`.
 pub(crate) fn swap_ins<A: Actor>(
     seats: &mut [Seat<A>],
     seat: usize,
@@ -54,7 +54,7 @@ pub(crate) fn swap_ins<A: Actor>(
     mem::swap(&mut seats[seat].stands[stand].ins, ins);
 }
 
-/// Tells a consumer and the producer at a place.
+/// Synchronizes `consumer` with the producer at `at`.
 fn tell_producer<A: Actor>(
     seats: &mut [Seat<A>],
     at: Spot,
@@ -70,7 +70,7 @@ fn tell_producer<A: Actor>(
     tell(consumer, &mut seats[at.seat].stands[at.stand].outs[at.port]);
 }
 
-/// Tells the two ends of the ring between two places.
+/// Synchronizes the ring from the producer at `from` to the consumer at `to`.
 pub fn tell_at<A: Actor>(alloc: Global, seats: &mut [Seat<A>], from: Spot, to: Spot)
     requires ring { IsRing seats.old from to }
     ensures { IsTold seats.old seats.new from to }
@@ -81,7 +81,7 @@ pub fn tell_at<A: Actor>(alloc: Global, seats: &mut [Seat<A>], from: Spot, to: S
     swap_ins(seats, to.seat, to.stand, &mut ins);
 }
 
-/// The place of an end of a link: a port of a node, and where each node stands.
+/// Returns the place of the ring end at `end`, a node and its port. `places` has the seat and index of each node.
 pub(crate) fn end_at(places: &[(usize, usize)], end: (usize, usize)) -> Spot
     requires { end.0 < length places.now }
     ensures { result ≡ spot_of places.now end }
@@ -94,7 +94,7 @@ pub(crate) fn end_at(places: &[(usize, usize)], end: (usize, usize)) -> Spot
     }
 }
 
-/// Tells both ends of each ring all of it. It takes no memory.
+/// Synchronizes both ends of every ring. It takes no memory.
 pub(crate) fn meet_all<A: Actor>(
     alloc: Global,
     net: &Net<A>,

@@ -1,6 +1,6 @@
-//! Channels from a node to itself. Such a channel is a ring too, and both its ends stand on the node's stand. The room
-//! for what a firing puts is known before it takes, so the ring wants as many places more than the channel's capacity
-//! as the greatest block that is put there.
+//! Channels from a node to itself. Each of them is a ring too, and the node's stand has both its ends. A firing must
+//! know the room for what it puts before it takes. The ring is therefore larger than the channel's capacity, by the
+//! greatest block that is put there.
 
 ghost use Rattle.std.specs.Prelude.{◌≡◌, ◌<◌, [], length};
 ghost use Rattle.sdf_actor.specs.Nets.{IsNet, node, inputs_of, outputs_of};
@@ -13,7 +13,7 @@ use sdf_actor::{Actor, Net};
 use sdf_node::ActorId;
 use std::alloc::Global;
 
-/// Tells both ends of each ring from the node to itself. The ends are by port.
+/// Synchronizes both ends of each ring from node `actor` to itself. `ins` and `outs` are by port.
 pub(crate) fn tell_own<A: Actor>(
     net: &Net<A>,
     actor: ActorId,

@@ -1,4 +1,4 @@
-//! What makes the seats of a run.
+//! Preparation of the seats of a run.
 
 ghost use Rattle.std.specs.Prelude.{◌≡◌, ◌*◌, ◌≤◌, ◌<◌, ℕ, length, slice_index, vec_len, IfOk, MatchResult};
 ghost use Rattle.sdf_graph.specs.Rates.{rates};
@@ -28,7 +28,7 @@ use sdf_answer::{BlockTable, RunFault, Sizes};
 use sdf_prec::Table;
 use std::alloc::{AllocError, Global};
 
-/// The seats of a run of so many blocks of a table.
+/// Returns the seats of a run of `blocks` blocks of `table`.
 fn lay_out<'a, A: Actor>(
     alloc: Global,
     start: &Start<'a, A>,
@@ -52,7 +52,7 @@ fn lay_out<'a, A: Actor>(
     Ok(Rings::new(alloc, start.net, start.inputs, seats, places, outputs))
 }
 
-/// The seats of a run whose table has a home for each actor, and whose inputs fit.
+/// Returns the seats of a run. Each actor must have a home in `table`, and `inputs` must fit the run.
 fn prepare_homed<'a, A: Actor>(
     alloc: Global,
     net: &'a Net<A>,
@@ -79,9 +79,10 @@ fn prepare_homed<'a, A: Actor>(
     lay_out(alloc, &start, &table.table, blocks)
 }
 
-/// What a run of so many blocks holds before its first round: a seat for each column of its table, each
-/// actor at home, each channel with what it begins with, and each seat's list of firings. First of all 30 where an
-/// actor has no home. Each ring takes the table's capacity.
+/// Returns the seats of a run of `blocks` blocks before its first round. Each processor of `table` has a seat with the
+/// actors at home there and their firing list. Each channel has a ring of the table's capacity with its initial
+/// samples. It has room for one more block if it leads from an actor to itself. Fails with 30 NotHomed, tested first,
+/// or 29 InputLength.
 pub fn prepare<'a, A: Actor>(
     alloc: Global,
     net: &'a Net<A>,

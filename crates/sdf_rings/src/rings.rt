@@ -1,4 +1,4 @@
-//! Rounds by hand: the seats of a run, and all their ends in one hand between two rounds.
+//! Rounds by hand: the seats of a run. Between two rounds, one owner has both ends of each ring.
 
 ghost use Rattle.std.specs.Prelude.{◌≡◌, ◌+◌, ◌<◌, ◌≤◌, ◌⊎◌, ◌^◌, ◌-◌, ℕ, List, length, min, HoldsAt, IfOk};
 ghost use Rattle.sdf_rings.specs.Changes.{BecameAt, AllBecame, SameBut};
@@ -27,7 +27,7 @@ use std::alloc::{AllocError, Global};
 use std::marker::Model;
 use std::thread::Threads;
 
-/// The seats of a run, and where each node stands: its seat, and its place there.
+/// The seats of a run, and for each node its seat and its index there.
 #[derive(Drop)]
 pub struct Rings<'a, A: Actor> {
     alloc: Global,
@@ -35,7 +35,7 @@ pub struct Rings<'a, A: Actor> {
     inputs: &'a [Vec<A::Token>],
     seats: Vec<Seat<A>>,
     places: Vec<(usize, usize)>,
-    /// As many lists as the net makes, for which `finish` swaps those of the sinks.
+    /// One list for each output of the net. `finish` and `leave` swap in the lists of the sinks.
     outputs: Vec<Vec<A::Token>>,
 }
 
@@ -65,7 +65,7 @@ impl<'a, A: Actor> Model for Rings<'a, A> {
 }
 
 impl<'a, A: Actor> Rings<'a, A> {
-    /// Seats, where each node stands, and lists for `finish`, as many as the net makes.
+    /// Returns the rings of a run from its `seats`, the `places` of the nodes, and a list in `outputs` for each output.
     pub(crate) fn new(
         alloc: Global,
         net: &'a Net<A>,
@@ -98,21 +98,22 @@ impl<'a, A: Actor> Rings<'a, A> {
         }
     }
 
-    /// Each node stands on one seat and knows its own channels, and the two ends of each channel are of one ring.
+    /// States the invariant. Each node is on one seat and knows its own channels, and the two ends of each channel
+    /// belong to one ring.
     pub fn facts(&self)
         ensures { AreRings A.steps self.now }
     {
         let _ = &self.alloc;
     }
 
-    /// How many seats there are. Seat `i` is processor `i`.
+    /// Returns the number of seats. Seat `i` is processor `i`.
     pub fn seats(&self) -> usize
         ensures { result ≡ length self.now.seats }
     {
         self.seats.len()
     }
 
-    /// How many firings of a node are done.
+    /// Returns how many firings node `actor` has done.
     pub fn done(&self, actor: usize) -> u64
         requires { actor < length self.now.net.nodes }
         ensures { HasDone self.now actor result }
@@ -121,7 +122,8 @@ impl<'a, A: Actor> Rings<'a, A> {
         self.seats[place.0].stands[place.1].done
     }
 
-    /// One worker's round in the caller's thread.
+    /// Runs one round of worker `seat` in the caller's thread, and returns the firings done. `patience` is the spin
+    /// limit.
     pub fn work_one<G: Gate>(&mut self, seat: usize, patience: u32, gate: &G) -> u64
         requires { seat < length self.old.seats }
         ensures worked { BecameAt (HasWorked A.steps self.new.net) self.old.seats self.new.seats seat }
@@ -142,8 +144,8 @@ impl<'a, A: Actor> Rings<'a, A> {
         work(net, inputs, &mut self.seats[seat], patience, gate)
     }
 
-    /// Works all seats at once, each that has firings left in a thread of its own. If all ends have met and firings of
-    /// a plan are left, it does at least one of them.
+    /// Runs one round of all workers at once. Each that has firings left runs in a thread of its own. If all ends are
+    /// synchronized and firings of a plan are left, the round does at least one of them.
     pub fn work_all<R: Threads + Sync, G: Gate>(&mut self, workers: Workers<'_, R, G>)
         ensures rounded { AllBecame (HasRounded A.steps self.new.net self.new.inputs) self.old.seats self.new.seats }
         ensures fires { HaveMet self.old.net self.old.seats self.old.places → (order : List ℕ) (cap : ℕ → ℕ) →
@@ -160,7 +162,7 @@ impl<'a, A: Actor> Rings<'a, A> {
         run_round(workers, net, inputs, &mut self.seats);
     }
 
-    /// How many firings are left in all seats.
+    /// Returns how many firings are left in all seats, at most `u64::MAX`.
     #[tactic(auto, using(std::proofs::lemmas::List::Sums::sum_by_more))]
     pub fn left(&self) -> u64
         ensures { result ≡ min (total_left self.now.seats) (2 ^ 64 - 1) }
@@ -172,7 +174,7 @@ impl<'a, A: Actor> Rings<'a, A> {
         left
     }
 
-    /// How many samples a channel holds, where its ends have met.
+    /// Returns how many samples `channel` holds. All ends must be synchronized.
     pub fn held(&self, channel: usize) -> u64
         requires known { channel < length self.now.net.wires }
         requires met { HaveMet self.now.net self.now.seats self.now.places }
@@ -183,7 +185,7 @@ impl<'a, A: Actor> Rings<'a, A> {
         self.seats[place.0].stands[place.1].ins[to.1].cached_slots() as u64
     }
 
-    /// The end of a round: each end is told what the other did.
+    /// Ends a round: synchronizes the two ends of each ring.
     pub fn meet(&mut self)
         ensures met { HaveMet self.new.net self.new.seats self.new.places }
         ensures rest { AreAtRest A.steps self.new.net self.new.inputs self.new.seats self.new.places }
@@ -201,8 +203,9 @@ impl<'a, A: Actor> Rings<'a, A> {
         self.at_rest();
     }
 
-    /// Where all ends have met, as `prepare` and `meet` leave them, what was put is the history at the firings done,
-    /// and the state of the ring machine that is made of the stands is quiescent and reached by a run.
+    /// States what is true while all ends are synchronized, as `prepare` and `meet` leave them. Each channel was given
+    /// its history at the firings done. The ring machine's state, as the seats give it, is quiescent and reached by a
+    /// run.
     pub fn at_rest(&self)
         requires met { HaveMet self.now.net self.now.seats self.now.places }
         ensures rest { AreAtRest A.steps self.now.net self.now.inputs self.now.seats self.now.places }
@@ -211,7 +214,7 @@ impl<'a, A: Actor> Rings<'a, A> {
         net_facts(self.net);
     }
 
-    /// Makes one round and its end.
+    /// Runs one round of all workers, and then synchronizes the ends.
     fn round<R: Threads + Sync, G: Gate>(&mut self, workers: Workers<'_, R, G>)
         ensures met { HaveMet self.new.net self.new.seats self.new.places }
         ensures planned { (order : List ℕ) (cap : ℕ → ℕ) →
@@ -227,7 +230,7 @@ impl<'a, A: Actor> Rings<'a, A> {
         self.meet();
     }
 
-    /// Rounds until nothing is left of a plan, and how many there were. Each does at least one firing.
+    /// Runs rounds until nothing is left of a plan, and returns their number. Each does at least one firing.
     pub fn run<R: Threads + Sync, G: Gate>(&mut self, workers: Workers<'_, R, G>) -> u64
         requires met { HaveMet self.old.net self.old.seats self.old.places }
         requires planned { (order : List ℕ) × ((cap : ℕ → ℕ)
@@ -273,8 +276,8 @@ impl<'a, A: Actor> Rings<'a, A> {
         outputs
     }
 
-    /// The output lists, and what is left beside them: the states of the actors and the samples on the channels.
-    /// Another run goes on from there.
+    /// Returns the output lists and the net state: the states of the actors and the samples on the channels. Another
+    /// run can resume from it.
     pub fn leave(self) -> Result<(Vec<Vec<A::Token>>, Rest<A::Token, A::State>), AllocError>
         requires left { total_left self.seats ≡ 0 }
         requires met { HaveMet self.net self.seats self.places }

@@ -1,4 +1,4 @@
-//! A round: all seats that have firings left at once.
+//! A round: all workers that have firings left run at once.
 
 ghost use Rattle.std.specs.Prelude.{All};
 ghost use Rattle.sdf_actor.specs.Nets.{IsNet};
@@ -13,7 +13,7 @@ use sdf_actor::{Actor, Net};
 use sdf_node::Gate;
 use std::thread::Threads;
 
-/// Works each seat: those that have firings left at once, each in a thread of its own.
+/// Runs one round of each worker. Those with firings left run at once, each in a thread of its own.
 pub(crate) fn run_round<R: Threads + Sync, A: Actor, G: Gate>(
     workers: Workers<'_, R, G>,
     net: &Net<A>,

@@ -1,5 +1,5 @@
-//! The blocks of many firings at the ends of rings. In a working block those of one firing stand behind those of the
-//! one before it, and within a firing's they are by port; a ring has one port's.
+//! The blocks of a batch of firings at the ends of rings. In a working block they are in the order of the firings, and
+//! within a firing by port. A ring has the blocks of one port.
 
 ghost use Rattle.std.specs.Prelude.{◌≡◌, ◌≤◌, ◌<◌, ◌+◌, ◌*◌, length, ℕ, take, slice_range, slice_index};
 ghost use Rattle.rtrb.specs.Ring.{known_items, known_free};
@@ -14,7 +14,7 @@ use sdf_answer::many_blocks::whole_blocks;
 use sdf_answer::parts::{deal_row, gather_row};
 use std::alloc::Global;
 
-/// How many blocks each port is known to hold, up to a limit.
+/// Returns how many blocks every port is known to hold, at most `most`.
 pub(crate) fn blocks_held<T>(sizes: &[usize], ends: &[Consumer<T, Global>], most: usize) -> usize
     requires { length ends.now ≡ length sizes.now }
     ensures within { result ≤ most }
@@ -27,7 +27,7 @@ pub(crate) fn blocks_held<T>(sizes: &[usize], ends: &[Consumer<T, Global>], most
     many
 }
 
-/// For how many blocks each port is known to have room, up to a limit.
+/// Returns for how many blocks every port is known to have room, at most `most`.
 pub(crate) fn blocks_free<T>(sizes: &[usize], ends: &[Producer<T, Global>], most: usize) -> usize
     requires { length ends.now ≡ length sizes.now }
     ensures within { result ≤ most }
@@ -40,19 +40,19 @@ pub(crate) fn blocks_free<T>(sizes: &[usize], ends: &[Producer<T, Global>], most
     many
 }
 
-/// The blocks of a run of a node's firings at its ports, those into it or those out of it.
+/// The blocks of a batch of a node's firings, at its input ports or at its output ports.
 #[derive(Clone, Copy)]
 pub(crate) struct RunBlocks<'a> {
-    /// The size of a firing's block at each port.
+    /// Samples that one firing moves at each port.
     pub(crate) sizes: &'a [usize],
-    /// How many samples a firing moves at all ports.
+    /// Samples that one firing moves at all ports together.
     pub(crate) size: usize,
-    /// How many firings the run has.
+    /// Firings in the batch.
     pub(crate) many: usize,
 }
 
 impl<'a> RunBlocks<'a> {
-    /// Takes the blocks of one firing, to the part of `taken` that begins at `at`.
+    /// Takes the blocks of one firing into `taken`, from offset `at` on.
     fn take_firing<T: Copy>(&self, ends: &mut [Consumer<T, Global>], taken: &mut [T], at: usize)
         requires ports { HasPorts self.now (length ends.old) }
         requires inside { at + self.now.size ≤ length taken.old }
@@ -64,7 +64,7 @@ impl<'a> RunBlocks<'a> {
         take_each(self.sizes, ends, &mut taken[at..at + self.size]);
     }
 
-    /// Takes the blocks of all firings, those of one firing after those of another.
+    /// Takes the blocks of all firings, one firing after another.
     fn take_by_firing<T: Copy>(&self, ends: &mut [Consumer<T, Global>], taken: &mut [T])
         requires ports { HasPorts self.now (length ends.old) }
         requires length { length taken.old ≡ self.now.size * self.now.many }
@@ -78,7 +78,8 @@ impl<'a> RunBlocks<'a> {
         }
     }
 
-    /// Takes what the run takes at one port, in one call.
+    /// Takes the blocks of one port in one call. In `taken` each firing has `size` samples, and this port's `width` of
+    /// them begin at offset `at`.
     fn take_part<T: Copy>(
         &self,
         end: &mut Consumer<T, Global>,
@@ -102,8 +103,8 @@ impl<'a> RunBlocks<'a> {
         deal_row(row, taken, at, width, self.many, self.size);
     }
 
-    /// Takes all blocks, at each port in one call. A list as long as all of them holds those of a port until they are
-    /// dealt out.
+    /// Takes all blocks with one call for each port. `scratch` holds the blocks of a port until they are dealt out to
+    /// `taken`.
     #[tactic(auto, using(crate::proofs::Blocks::block_in))]
     fn take_by_port<T: Copy>(
         &self,
@@ -125,7 +126,7 @@ impl<'a> RunBlocks<'a> {
         }
     }
 
-    /// Takes all blocks: in one call a port, where the other list has room for them.
+    /// Takes all blocks into `taken`. Each port takes one call if there is only one port or `scratch` has the room.
     fn take<T: Copy>(&self, ends: &mut [Consumer<T, Global>], taken: &mut [T], scratch: &mut [T])
         requires ports { HasPorts self.now (length ends.old) }
         requires length { length taken.old ≡ self.now.size * self.now.many }
@@ -141,7 +142,7 @@ impl<'a> RunBlocks<'a> {
         }
     }
 
-    /// Takes all blocks, to the front of `taken`.
+    /// Takes all blocks into the front of `taken`.
     pub(crate) fn take_front<T: Copy>(
         &self,
         ends: &mut [Consumer<T, Global>],
@@ -158,7 +159,7 @@ impl<'a> RunBlocks<'a> {
         self.take(ends, front, scratch);
     }
 
-    /// Puts the blocks of one firing, which begin at `at`.
+    /// Puts the blocks of one firing, which begin at offset `at` of `put`.
     fn put_firing<T: Copy>(&self, ends: &mut [Producer<T, Global>], put: &[T], at: usize)
         requires ports { HasPorts self.now (length ends.old) }
         requires inside { at + self.now.size ≤ length put.now }
@@ -169,7 +170,7 @@ impl<'a> RunBlocks<'a> {
         put_each(self.sizes, ends, &put[at..at + self.size]);
     }
 
-    /// Puts the blocks of all firings, those of one firing after those of another.
+    /// Puts the blocks of all firings, one firing after another.
     fn put_by_firing<T: Copy>(&self, ends: &mut [Producer<T, Global>], put: &[T])
         requires ports { HasPorts self.now (length ends.old) }
         requires length { length put.now ≡ self.now.size * self.now.many }
@@ -183,7 +184,8 @@ impl<'a> RunBlocks<'a> {
         }
     }
 
-    /// Puts what the run puts at one port, in one call.
+    /// Puts the blocks of one port in one call. In `put` each firing has `size` samples, and this port's `width` of
+    /// them begin at offset `at`.
     fn put_part<T: Copy>(
         &self,
         end: &mut Producer<T, Global>,
@@ -204,7 +206,7 @@ impl<'a> RunBlocks<'a> {
         put_block(end, row);
     }
 
-    /// Puts all blocks, at each port in one call. A list as long as all of them serves to gather them.
+    /// Puts all blocks with one call for each port. The blocks of a port are gathered in `scratch` first.
     #[tactic(auto, using(crate::proofs::Blocks::block_in))]
     fn put_by_port<T: Copy>(&self, ends: &mut [Producer<T, Global>], put: &[T], scratch: &mut [T])
         requires ports { HasPorts self.now (length ends.old) }
@@ -221,7 +223,7 @@ impl<'a> RunBlocks<'a> {
         }
     }
 
-    /// Puts all blocks: in one call a port, where the other list has room to gather them.
+    /// Puts all blocks. Each port takes one call if there is only one port or `scratch` has the room.
     pub(crate) fn put<T: Copy>(
         &self,
         ends: &mut [Producer<T, Global>],

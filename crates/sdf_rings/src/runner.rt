@@ -1,4 +1,4 @@
-//! The runner over rings.
+//! The self-timed runner, over rings.
 
 ghost use Rattle.std.specs.Prelude.{◌*◌, MatchResult};
 ghost use Rattle.sdf_graph.specs.Rates.{rates};
@@ -18,7 +18,8 @@ use sdf_node::Gate;
 use std::alloc::AllocGlobal;
 use std::thread::Threads;
 
-/// The seats of a run after its rounds, and how many rounds there were. The tests come first, in their order.
+/// Runs all rounds, and returns the seats and the number of rounds. The arguments are tested first, in the order of the
+/// faults of `run_rings`.
 pub(crate) fn run_through<'a, R: Threads + AllocGlobal + Sync, A: Actor, G: Gate>(
     workers: Workers<'_, R, G>,
     net: &'a Net<A>,
@@ -45,12 +46,13 @@ pub(crate) fn run_through<'a, R: Threads + AllocGlobal + Sync, A: Actor, G: Gate
     Ok((rings, rounds))
 }
 
-/// Runs a net for a number of blocks. There is a worker for each column of the table, which does the
-/// firings of the actors at home there in the table's order, as samples and room come; each channel has a ring of the
-/// table's capacity. In each round the workers run at once, until their lists are empty or a test has failed more often
-/// than their patience says.
+/// Runs `net` for `blocks` blocks of `table`. Each processor of the table has a worker, which fires the actors at home
+/// there in the table's order, as samples and room arrive. Each channel has a ring of the table's capacity, plus one
+/// block if it leads from an actor to itself. In each round the workers run at once. A worker stops when its list is
+/// empty, or when a check fails and its spin limit (`workers.patience`) is used up.
 ///
-/// All room is taken before the first firing. The faults, in this order: 30 NotHomed, 31 Patience, 29 InputLength.
+/// All memory is taken before the first firing. Faults are tested in this order: 30 NotHomed, 31 Patience, 29
+/// InputLength.
 pub fn run_rings<R: Threads + AllocGlobal + Sync, A: Actor, G: Gate>(
     workers: Workers<'_, R, G>,
     net: &Net<A>,

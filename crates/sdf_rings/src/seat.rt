@@ -14,10 +14,10 @@ use sdf_actor::{Actor, Net};
 use sdf_node::Gate;
 use std::thread;
 
-/// So many firings at most go in one piece of work.
+/// Maximum number of firings in one batch.
 const MOST_AT_ONCE: u64 = 65_536;
 
-/// A worker's nodes, and the list of its firings, of which those from `next` on are still to do. It holds no reference.
+/// A worker's nodes and its firing list. The firings from `next` on are still to do. It holds no reference.
 #[derive(Drop)]
 pub struct Seat<A: Actor> {
     pub processor: usize,
@@ -34,7 +34,7 @@ impl<A: Actor> Busy for Seat<A> {
     }
 }
 
-/// What a worker goes by in a round.
+/// What a worker needs in a round besides its seat.
 #[derive_where(Clone, Copy)]
 struct Orders<'a, A: Actor, G> {
     net: &'a Net<A>,
@@ -43,7 +43,8 @@ struct Orders<'a, A: Actor, G> {
     gate: &'a G,
 }
 
-/// Tests again while tries are left: each test that fails takes one, and lets another thread run.
+/// Checks whether `stand` can fire, and repeats the check while `tries` is above 0. Each repetition uses one try, and
+/// lets another thread run first.
 fn becomes_ready<A: Actor, G: Gate>(
     orders: Orders<'_, A, G>,
     stand: &mut Stand<A>,
@@ -69,7 +70,8 @@ fn becomes_ready<A: Actor, G: Gate>(
     is_ready(orders.net, orders.inputs, stand)
 }
 
-/// Fires the next firings of the list that are one node's and known to be possible, in one batch if there are several.
+/// Fires the node at place `next` of `left`: a batch of its next firings in a row if possible, otherwise one firing.
+/// Returns their number.
 fn fire_known<A: Actor, G: Gate>(
     orders: Orders<'_, A, G>,
     stand: &mut Stand<A>,
@@ -112,7 +114,7 @@ fn fire_known<A: Actor, G: Gate>(
     1
 }
 
-/// The next firings of a node, if the first becomes possible. The answer is their number.
+/// Does the next firings of `stand` if the first is or becomes possible within `tries`. Returns their number.
 fn fire_next<A: Actor, G: Gate>(
     orders: Orders<'_, A, G>,
     stand: &mut Stand<A>,
@@ -141,7 +143,8 @@ fn fire_next<A: Actor, G: Gate>(
     fire_known(orders, stand, left, next)
 }
 
-/// The next firings of the list, if the first becomes possible. The answer is their number.
+/// Does the next firings in the list of `seat` if the first is or becomes possible within `tries`. Returns their
+/// number.
 fn work_next<A: Actor, G: Gate>(
     net: &Net<A>,
     inputs: &[Vec<A::Token>],
@@ -179,8 +182,8 @@ fn work_next<A: Actor, G: Gate>(
     fired
 }
 
-/// One worker's round: fires from its list until it is empty, or a test fails with no try left. The answer is the
-/// number of firings done.
+/// Runs one worker's round: fires from its list until it is empty, or a check fails with no try left. Returns the
+/// number of firings done. `patience` is the spin limit: how many failed checks the worker may repeat in the round.
 pub fn work<A: Actor, G: Gate>(
     net: &Net<A>,
     inputs: &[Vec<A::Token>],

@@ -1,5 +1,5 @@
-//! What a run over rings holds before its first firing: rings with what their channels begin with, a seat for each
-//! worker, and on each seat its nodes and the list of their firings.
+//! What a run over rings holds before its first firing: rings with their initial samples, and seats. Each worker has a
+//! seat, with its nodes and its firing list.
 
 pub(crate) mod asked;
 pub(crate) mod openings;

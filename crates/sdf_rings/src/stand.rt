@@ -17,25 +17,26 @@ use sdf_actor::{Actor, Net, Node};
 use sdf_node::{ActorId, NodeState, puts, step, takes};
 use std::alloc::Global;
 
-/// A node with its state, the ends of its rings by port, and its working blocks. It holds no reference.
+/// A node with its state, its ring ends by port, and its working blocks. It holds no reference.
 #[derive(Drop)]
 pub struct Stand<A: Actor> {
     pub actor: ActorId,
     pub state: NodeState<A::Token, A::State>,
     pub ins: Vec<Consumer<A::Token, Global>>,
     pub outs: Vec<Producer<A::Token, Global>>,
-    /// How many samples its firings take and put: by phase, then by port.
+    /// Samples that a firing takes (`takes`) and puts (`puts`), by phase and then by port.
     pub takes: Vec<Vec<usize>>,
     pub puts: Vec<Vec<usize>>,
-    /// What a firing takes and puts stands at the front of these.
+    /// The working blocks. What a firing or a batch takes is at the front of `taken`, and what it puts at the front of
+    /// `put`.
     pub taken: Vec<A::Token>,
     pub put: Vec<A::Token>,
-    /// Its firings done, and all that are asked of it.
+    /// The firings done, and all that are asked of the node (`asked`).
     pub done: u64,
     pub asked: u64,
 }
 
-/// The row of a phase.
+/// Returns the row of `phase`.
 pub(crate) fn row(rows: &Vec<Vec<usize>>, phase: u32) -> &[usize]
     requires { phase < length (lists rows.now.items) }
     ensures { result.now ≡ at_phase (lists rows.now.items) phase }
@@ -43,7 +44,7 @@ pub(crate) fn row(rows: &Vec<Vec<usize>>, phase: u32) -> &[usize]
     rows[phase as usize].as_slice()
 }
 
-/// Takes a block at each port, to the front of `taken`.
+/// Takes a block at each port into the front of `taken`, `many` samples in all.
 fn take_front<T: Copy>(
     sizes: &[usize],
     ends: &mut [Consumer<T, Global>],
@@ -60,7 +61,7 @@ fn take_front<T: Copy>(
     take_each(sizes, ends, front);
 }
 
-/// Fires a node on the block taken. What it puts stands at the front of the other block.
+/// Fires `node` on the block `taken`, and writes what it puts to the front of `put`, `many` samples.
 fn step_front<A: Actor>(
     node: &Node<A>,
     inputs: &[Vec<A::Token>],
@@ -81,7 +82,7 @@ fn step_front<A: Actor>(
     step(node, inputs, state, taken, front);
 }
 
-/// Puts a block at each port, after the rings from the node to itself were told.
+/// Puts a block at each port, after the rings from the node to itself are synchronized.
 fn put_told<A: Actor>(
     net: &Net<A>,
     actor: ActorId,
@@ -106,7 +107,7 @@ fn put_told<A: Actor>(
     put_each(sizes, outs, put);
 }
 
-/// Takes all blocks, fires and puts all blocks. The firing is still to be counted.
+/// Takes all blocks, fires, and puts all blocks. The caller has to count the firing.
 fn fire_blocks<A: Actor>(net: &Net<A>, inputs: &[Vec<A::Token>], stand: &mut Stand<A>)
     requires net { IsNet A.steps net.now }
     requires stand { IsStand A.steps net.now (lists inputs.now) stand.old }
@@ -144,7 +145,7 @@ fn fire_blocks<A: Actor>(net: &Net<A>, inputs: &[Vec<A::Token>], stand: &mut Sta
     );
 }
 
-/// Takes all blocks, fires and puts all blocks.
+/// Does one firing of `stand` and counts it.
 pub(crate) fn fire_one<A: Actor>(net: &Net<A>, inputs: &[Vec<A::Token>], stand: &mut Stand<A>)
     requires net { IsNet A.steps net.now }
     requires stand { IsStand A.steps net.now (lists inputs.now) stand.old }
@@ -158,7 +159,7 @@ pub(crate) fn fire_one<A: Actor>(net: &Net<A>, inputs: &[Vec<A::Token>], stand: 
     stand.done += 1;
 }
 
-/// Whether the next firing is known to be possible.
+/// Checks whether the next firing of `stand` is known to be possible.
 pub(crate) fn is_ready<A: Actor>(
     net: &Net<A>,
     inputs: &[Vec<A::Token>],

@@ -1,4 +1,4 @@
-//! Runs of firings of one node: as many as its ends know to be possible go in one piece of work.
+//! Batched firings of one node: all that its ring ends and working blocks allow go in one batch.
 
 ghost use Rattle.std.specs.Prelude.{◌≡◌, ◌+◌, ◌*◌, ◌<◌, ◌≤◌, ◌^◌, ◌++◌, ℕ, List, length, take, slice_index, IsTrue};
 ghost use Rattle.sdf_actor.specs.Nets.{answer_of, wire, IsNet};
@@ -14,7 +14,7 @@ use sdf_actor::{Actor, Net, Node};
 use sdf_answer::many_blocks::whole_blocks;
 use sdf_node::{ActorId, Gate, NodeState, puts, step_many, takes};
 
-/// Whether no channel leads from a node to itself.
+/// Checks whether node `actor` has no channel to itself.
 fn is_apart<A: Actor>(net: &Net<A>, actor: ActorId) -> bool
     requires net { IsNet A.steps net.now }
     requires known { actor < length net.now.nodes }
@@ -30,7 +30,7 @@ fn is_apart<A: Actor>(net: &Net<A>, actor: ActorId) -> bool
     true
 }
 
-/// Whether the firings of a node go in runs.
+/// Checks whether the firings of `actor` can be batched: it has one phase and no channel to itself.
 fn goes_in_runs<A: Actor>(net: &Net<A>, actor: ActorId) -> bool
     requires net { IsNet A.steps net.now }
     requires known { actor < length net.now.nodes }
@@ -39,7 +39,7 @@ fn goes_in_runs<A: Actor>(net: &Net<A>, actor: ActorId) -> bool
     net.node(actor).cycle() == 1 && is_apart(net, actor)
 }
 
-/// Passes the gate before each of so many firings, in order.
+/// Passes `gate` before each of `many` firings, in order. The first has number `done`.
 fn pass_gate<G: Gate>(gate: &G, processor: usize, actor: ActorId, done: u64, many: usize)
     requires { done + many < 2 ^ 64 }
 {
@@ -48,7 +48,7 @@ fn pass_gate<G: Gate>(gate: &G, processor: usize, actor: ActorId, done: u64, man
     }
 }
 
-/// Fires a node so often, on the blocks taken. What it puts stands at the front of the other block.
+/// Fires `node` `outs.many` times on the blocks in `taken`, and writes what it puts to the front of `put`.
 fn step_front_many<A: Actor>(
     node: &Node<A>,
     inputs: &[Vec<A::Token>],
@@ -76,7 +76,7 @@ fn step_front_many<A: Actor>(
     step_many(node, inputs, state, outs.many, taken, front);
 }
 
-/// Takes the blocks of so many firings, fires so often and puts all their blocks. The firings are still to be counted.
+/// Takes the blocks of `many` firings, fires, and puts their blocks. The caller has to count the firings.
 fn fire_run_blocks<A: Actor>(
     net: &Net<A>,
     inputs: &[Vec<A::Token>],
@@ -122,7 +122,8 @@ fn fire_run_blocks<A: Actor>(
     );
 }
 
-/// How many firings in a row are known to be possible, up to a limit, where the firings of the node go in runs.
+/// Returns how many firings of `stand` in a row are known to be possible, at most `most`. Its node must have one phase
+/// and no channel to itself.
 fn possible<A: Actor>(
     net: &Net<A>,
     inputs: &[Vec<A::Token>],
@@ -143,7 +144,7 @@ fn possible<A: Actor>(
     blocks_free(row(&stand.puts, 0), stand.outs.as_slice(), many)
 }
 
-/// So many firings of a node in one piece of work, each past the gate first.
+/// Fires `stand` `many` times in one batch. Before that it passes `gate` once for each firing.
 pub(crate) fn fire_run<A: Actor, G: Gate>(
     net: &Net<A>,
     inputs: &[Vec<A::Token>],
@@ -164,7 +165,7 @@ pub(crate) fn fire_run<A: Actor, G: Gate>(
     stand.done += many as u64;
 }
 
-/// How many firings go in one run, up to a limit: none where the node's firings go one by one.
+/// Returns how many firings of `stand` go in one batch, at most `most`: 0 if the node's firings cannot be batched.
 pub(crate) fn in_one_run<A: Actor>(
     net: &Net<A>,
     inputs: &[Vec<A::Token>],

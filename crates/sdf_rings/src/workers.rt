@@ -1,7 +1,7 @@
-//! What the workers of a run have in common.
+//! What the workers of a run share.
 
-/// The workers of a run over rings: where their threads come from, the gate that they pass before each firing, and how
-/// many tests of a firing each may see fail in a round.
+/// The workers of a run over rings: where their threads come from (`rt`), the gate that they pass before each firing,
+/// and their spin limit. `patience` limits how many failed checks of a firing each worker may repeat in a round.
 #[derive_where(Clone, Copy)]
 pub struct Workers<'a, R, G> {
     pub rt: &'a R,

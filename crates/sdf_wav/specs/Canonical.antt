@@ -29,8 +29,8 @@ sample_bytes samples = flat_map (λ z. little_bytes 2 (cast_unsigned w16 z)) sam
 abbrev pub canonical_wav : Sound → List ℕ
 canonical_wav s = header s.rate s.channels (2 * length s.samples) ++ sample_bytes s.samples
 
--- why no file has this rate, so many channels and so many samples, if there is none: the bytes of a second, or those of
--- the file behind its first eight, pass 32 bits
+-- why no file has this rate and these numbers of channels and samples, if there is none. The bytes a second exceed 32
+-- bits, or the bytes of the file behind its first eight do
 abbrev pub size_fault : ℕ → ℕ → ℕ → Option FormatFault
 size_fault rate channels samples =
     if nat_lt 4294967295 (rate * (2 * channels)) then Some RateTooLarge
@@ -48,15 +48,15 @@ pub record IsCanonical (file : List ℕ) : Type 0 where
   pub fits : write_fault sound ≡ None
   pub whole : file ≡ canonical_wav sound
 
--- a fault that writing answers, whatever is known of the bytes
+-- a fault that writing may return, whatever is known of the bytes
 abbrev pub IsWritingFault : WavFault → Type 0
 IsWritingFault (faults.Format f) = (f ≡ RateTooLarge) ⊎ (f ≡ TooLong)
 IsWritingFault faults.Write = Unit {0}
 IsWritingFault faults.Read = ⊥
 IsWritingFault faults.OutOfMemory = ⊥
 
--- What a call did that is to write this file, unless this fault forbids it: the whole of it, or nothing at a fault of
--- the sound, or a front of it where the device failed. It never fails by memory or by a reader.
+-- What a call did that should write this file, unless this fault forbids it. It wrote all of it, or nothing at a fault
+-- of the sound, or a front of it if the device failed. It never fails with a fault of memory or of a reader.
 abbrev pub Writes : {X : Type 0} → Option (List ℕ) → Option (List ℕ) → Option FormatFault → List ℕ → Result X WavFault →
     Type 0
 Writes old new fault file (Ok x) = (fault ≡ None) × Appends old new file

@@ -5,20 +5,20 @@ use Rattle.sdf_wav.specs.declared.fault.FormatFault.{FormatFault}
 use Rattle.sdf_wav.specs.declared.fault.FormatFault.TheVariants.{Truncated, PartialFrame, TooLong}
 use Rattle.sdf_wav.specs.Sound.{pcm_samples}
 
--- the samples of the first bytes, of at most so many, of which there were n
+-- the samples of the first bytes of an input, at most limit of them. There were n
 pub record Holds (input left : List ℕ) (limit n : ℕ) (samples : List ℤ) : Type 0 where
   pub count : n ≡ min limit (length input)
   pub samples_are : samples ≡ pcm_samples (take limit input)
   pub left_is : left ≡ drop limit input
 
--- to the end of the input
+-- data that goes to the end of the input
 abbrev pub open_content_at : ℕ → List ℕ → Result (List ℤ × List ℕ) FormatFault
 open_content_at align bytes =
     if nat_lt 4294967294 (length bytes) then Err TooLong
     else (if not (length bytes % align == 0) then Err PartialFrame
     else Ok (pcm_samples bytes, []))
 
--- of a known size
+-- data of a known size
 abbrev pub sized_content_at : ℕ → ℕ → List ℕ → Result (List ℤ × List ℕ) FormatFault
 sized_content_at align size bytes =
     if not (size % align == 0) then Err PartialFrame

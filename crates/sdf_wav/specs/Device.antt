@@ -8,18 +8,17 @@ use Rattle.sdf_wav.specs.declared.fault.ReadFault.TheVariants as read_faults
 use Rattle.sdf_wav.specs.declared.fault.WavFault.{WavFault}
 use Rattle.sdf_wav.specs.declared.fault.WavFault.TheVariants as faults
 
--- a reader: the bytes that it has still to give, where they are known, and how many of its calls failed, up to the
--- greatest u64
+-- a reader: the bytes that it has still to give, if known, and how many of its calls failed, up to the greatest u64
 pub record ReaderState : Type 0 where
   pub remaining : Option (List ℕ)
   pub failures : ℕ
 
--- a writer: the bytes that it has taken, where they are known, and how many of its calls failed, up to the greatest u64
+-- a writer: the bytes that it has taken, if known, and how many of its calls failed, up to the greatest u64
 pub record WriterState : Type 0 where
   pub contents : Option (List ℕ)
   pub failures : ℕ
 
--- what a device's call answers where the one call of the device inside answered this
+-- what a device's call returns if the one call of the device inside returned this
 abbrev pub answered : {E : Type 0} → Result ℕ E → Result ℕ DeviceFault
 answered (Ok n) = Ok n
 answered (Err e) = Err (record {})
@@ -36,7 +35,7 @@ abbrev pub failures_after_read : {X E : Type 0} → Result X E → ℕ → ℕ
 failures_after_read (Ok x) n = n
 failures_after_read (Err e) n = one_more n
 
--- the count after a write that took so many of the bytes
+-- the count after a write that took this number of the bytes
 abbrev pub failures_after_taking : ℕ → List ℕ → ℕ → ℕ
 failures_after_taking (suc k) bytes n = n
 failures_after_taking zero [] n = n
@@ -64,11 +63,11 @@ abbrev pub widened : {X : Type 0} → Result X ReadFault → Result X WavFault
 widened (Ok x) = Ok x
 widened (Err e) = Err (wav_fault e)
 
--- the device failed in between: its count rose, or stands at the greatest
+-- the device failed in between: its count rose, or is at the greatest
 abbrev pub Failed : ℕ → ℕ → Type 0
 Failed old new = (old < new) ⊎ (new ≡ most_failures)
 
--- what holds of the bytes before and after, where they are known
+-- P is true of the bytes before and after, if they are known
 pub record Known (old new : Option (List ℕ)) (P : List ℕ → List ℕ → Type 0) : Type 0 where
   pub at : (input : List ℕ) → old ≡ Some input → (left : List ℕ) × (new ≡ Some left) × P input left
 
@@ -76,13 +75,13 @@ pub record Known (old new : Option (List ℕ)) (P : List ℕ → List ℕ → Ty
 abbrev pub LosesFront : List ℕ → List ℕ → Type 0
 LosesFront input left = (k : ℕ) × (left ≡ drop k input)
 
--- buf has at its front the first n bytes of the input, as many as fit or as there are
+-- buf has at its front the first n bytes of the input: all that fit, or all that there are
 pub record Fills (input left buf : List ℕ) (n : ℕ) : Type 0 where
   pub count : n ≡ min (length buf) (length input)
   pub bytes : take n buf ≡ take (length buf) input
   pub left_is : left ≡ drop (length buf) input
 
--- what is left of an input behind the first bytes of so many, of which there were n
+-- what is left of an input after its first size bytes, of which there were n
 pub record Skips (input left : List ℕ) (size n : ℕ) : Type 0 where
   pub count : n ≡ min size (length input)
   pub left_is : left ≡ drop size input

@@ -1,5 +1,4 @@
--- Which fault an input has that is no WAV file: one rule for each way, of which no two hold of one input with different
--- faults.
+-- The faults of inputs that are not WAV files: one rule for each way. No two rules give one input different faults.
 use Rattle.std.specs.Prelude.{◌≡◌, ◌≢◌, ◌⊎◌, ℕ, ◌*◌, ◌%◌, ◌≤◌, ◌<◌, min, List, [], ◌++◌, length, take, drop, Option}
 use Rattle.std.specs.Prelude.{Some, None, Result, Ok, Err, codes}
 use Rattle.byteorder.specs.Endian.{little_number}
@@ -20,7 +19,7 @@ pub record IsHeader (rest id size after : List ℕ) : Type 0 where
   pub size_is_four : length size ≡ 4
   pub whole : rest ≡ id ++ (size ++ after)
 
--- The first fault at the place of a chunk, behind so many chunks and with this known of the format.
+-- The first fault at the place of a chunk, behind this number of chunks and with this known of the format.
 pub data PlaceFault (seen : Option Format) (passed : ℕ) (rest : List ℕ) : FormatFault → Type 0 where
   -- the input ends, or has no room for the first eight bytes of a chunk
   ends_early : seen ≡ None → rest ≡ [] → PlaceFault seen passed rest NoFormat
@@ -48,7 +47,7 @@ pub data PlaceFault (seen : Option Format) (passed : ℕ) (rest : List ℕ) : Fo
       (seen ≡ None → id ≢ codes "fmt ") → passed < 65536
       → length after < little_number 4 size
       → PlaceFault seen passed rest Truncated
-  -- data of a known size has no whole frames, or is cut off
+  -- data of a known size is not whole frames, or is cut off
   data_partial : (f : Format) (size after : List ℕ) → IsHeader rest (codes "data") size after → seen ≡ Some f
       → little_number 4 size ≢ 0xFFFFFFFF → little_number 4 size % (2 * f.channels) ≢ 0
       → PlaceFault seen passed rest PartialFrame
@@ -56,7 +55,7 @@ pub data PlaceFault (seen : Option Format) (passed : ℕ) (rest : List ℕ) : Fo
       → little_number 4 size ≢ 0xFFFFFFFF → little_number 4 size % (2 * f.channels) ≡ 0 →
       length after < little_number 4 size
       → PlaceFault seen passed rest Truncated
-  -- data to the end of the input is too long, or has no whole frames
+  -- data to the end of the input is too long, or is not whole frames
   open_long : (f : Format) (size after : List ℕ) → IsHeader rest (codes "data") size after → seen ≡ Some f
       → little_number 4 size ≡ 0xFFFFFFFF → 4294967294 < length after
       → PlaceFault seen passed rest TooLong
@@ -75,8 +74,9 @@ pub data HasFault (bytes : List ℕ) : FormatFault → Type 0 where
       → Place bytes cs seen rest → PlaceFault seen (length cs) rest f
       → HasFault bytes f
 
--- What the answer of a reading says of the bytes before it and after it, where they are known: these are a file and the
--- rest behind it, or the input has the fault and lost a front, or only a front is gone. It never fails by a writer.
+-- What the result of a reading says of the bytes before it and after it, if they are known. They are a file and the
+-- rest behind it, or the input has the fault and lost a front, or only a front is gone. It never fails with a fault of
+-- a writer.
 abbrev pub Answers : Option (List ℕ) → Option (List ℕ) → Result Sound WavFault → Type 0
 Answers old new (Ok s) = Known old new (λ input rest. IsWav input s rest)
 Answers old new (Err (faults.Format f)) = Known old new (λ input left. HasFault input f × LosesFront input left)
@@ -84,18 +84,18 @@ Answers old new (Err faults.OutOfMemory) = Known old new LosesFront
 Answers old new (Err faults.Read) = Known old new LosesFront
 Answers old new (Err faults.Write) = ⊥
 
--- a fault that inputs have: a rate that no header can say is of sounds alone
+-- a fault that inputs have: a rate too large for any header is a fault of sounds alone
 abbrev pub IsInputFault : FormatFault → Type 0
 IsInputFault f = f ≢ RateTooLarge
 
--- a fault that reading answers, whatever is known of the bytes
+-- a fault that reading may return, whatever is known of the bytes
 abbrev pub IsReadingFault : WavFault → Type 0
 IsReadingFault faults.OutOfMemory = Unit {0}
 IsReadingFault (faults.Format f) = IsInputFault f
 IsReadingFault faults.Read = Unit {0}
 IsReadingFault faults.Write = ⊥
 
--- a fault that an opening answers, whatever is known of the bytes: it takes no memory
+-- a fault that an opening may return, whatever is known of the bytes: it takes no memory
 abbrev pub IsOpeningFault : WavFault → Type 0
 IsOpeningFault faults.OutOfMemory = ⊥
 IsOpeningFault (faults.Format f) = IsInputFault f
@@ -106,12 +106,12 @@ IsOpeningFault faults.Write = ⊥
 abbrev pub IsFromOutside : WavFault → Type 0
 IsFromOutside e = (e ≡ faults.OutOfMemory) ⊎ (e ≡ faults.Read)
 
--- the sound is given and the rest left, unless memory or the reader failed
+-- the sound is returned and the rest left, unless memory or the reader failed
 abbrev pub Accepts : Option (List ℕ) → Sound → List ℕ → Result Sound WavFault → Type 0
 Accepts new s rest (Ok t) = (t ≡ s) × (new ≡ Some rest)
 Accepts new s rest (Err e) = IsFromOutside e
 
--- the fault is answered, unless memory or the reader failed
+-- the fault is returned, unless memory or the reader failed
 abbrev pub Refuses : FormatFault → Result Sound WavFault → Type 0
 Refuses f (Ok t) = ⊥
 Refuses f (Err e) = (e ≡ faults.Format f) ⊎ IsFromOutside e

@@ -8,7 +8,7 @@ use Rattle.sdf_wav.specs.Parts.{pcm_guid}
 use Rattle.sdf_wav.specs.Sound.{Sound, pcm_samples}
 use Rattle.sdf_wav.specs.declared.wav.TheConstants.{MOST_CHANNELS}
 
--- an id, a size and a content; behind an odd size one more byte stands
+-- an id, a size and a content; behind a content of odd size there is one more byte
 pub record Chunk : Type 0 where
   pub id : List ℕ
   pub size : List ℕ
@@ -48,7 +48,7 @@ pub record IsFormatChunk (c : Chunk) (f : Format) : Type 0 where
   pub format : c.id ≡ codes "fmt "
   pub content_of : IsContentOf c.content f
 
--- The bytes are these chunks, and then the rest. The byte behind a last odd content may be missing where the bytes end
+-- The bytes are these chunks, and then the rest. The byte behind a last odd content may be missing if the bytes end
 -- there.
 abbrev pub Parts : List ℕ → List Chunk → List ℕ → Type 0
 Parts bytes [] rest = bytes ≡ rest
@@ -63,7 +63,7 @@ Behind cs (Some f) =
     (before : List Chunk) × (format : Chunk) × (between : List Chunk) × (cs ≡ before ++ format ∷ between)
     × AllByRecursion IsOther before × IsFormatChunk format f × AllByRecursion IsNoData between
 
--- The bytes begin as a WAV file does, and go on with whole chunks, at most 65,536 of them; then stands the rest.
+-- The bytes begin as a WAV file does, and go on with whole chunks, at most 65,536 of them. Then comes the rest.
 pub record Place (bytes : List ℕ) (cs : List Chunk) (seen : Option Format) (rest : List ℕ) : Type 0 where
   pub riff_size : List ℕ
   pub body : List ℕ
@@ -73,7 +73,7 @@ pub record Place (bytes : List ℕ) (cs : List Chunk) (seen : Option Format) (re
   pub known : Behind cs seen
   pub few : length cs ≤ 65536
 
--- a content of the size that its chunk gives, or to the end where the size was never filled in
+-- a content of the size that its chunk gives, or to the end of the bytes if the size was never filled in
 abbrev pub Content : ℕ → List ℕ → List ℕ → Type 0
 Content size content rest =
     ((size ≢ 0xFFFFFFFF) × (length content ≡ size))

@@ -14,7 +14,7 @@ use Rattle.sdf_wav.specs.declared.parts.Fields.{Fields}
 use Rattle.sdf_wav.specs.declared.parts.DataStart.{DataStart}
 use Rattle.sdf_wav.specs.declared.wav.TheConstants.{MOST_CHANNELS}
 
--- the first twelve bytes, or all where there are fewer
+-- the first twelve bytes, or all if there are fewer
 abbrev pub riff_of : List ℕ → Result (Unit {0}) FormatFault
 riff_of front =
     if nat_lt (length front) 4 then Err Truncated
@@ -27,7 +27,7 @@ abbrev pub kind_of : List ℕ → ChunkKind
 kind_of id = if bytes_eq id (codes "data") then kinds.Data else
     (if bytes_eq id (codes "fmt ") then kinds.Format else kinds.Other)
 
--- the first eight bytes at the place of a chunk, or all where there are fewer
+-- the first eight bytes at the place of a chunk, or all if there are fewer
 abbrev pub header_of : Bool → List ℕ → Result ChunkHeader FormatFault
 header_of has_format front =
     if length front == 0 then Err (if has_format then NoData else NoFormat)

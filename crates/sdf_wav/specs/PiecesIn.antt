@@ -13,7 +13,7 @@ use Rattle.sdf_wav.specs.Sound.{Sound, pcm_samples}
 use Rattle.sdf_wav.specs.Grammar.{Chunk, Place}
 use Rattle.sdf_wav.specs.Fault.{HasFault, IsReadingFault, IsFromOutside}
 
--- where a file is read on: what its parts say, how many bytes of its content are gone, and the fault that it met
+-- where a file is read on: what its parts say, how many bytes of its content are gone, and the fault that occurred
 pub record Reading : Type 0 where
   pub rate : ℕ
   pub channels : ℕ
@@ -28,11 +28,11 @@ format_read r = record { rate = r.rate; channels = r.channels }
 abbrev pub at_start : Format → ℕ → Reading
 at_start f size = record { rate = f.rate; channels = f.channels; size = size; gone = 0; fault = None }
 
--- how many frames there are, where the size of the data was filled in
+-- how many frames there are, if the size of the data was filled in
 abbrev pub known_frames : Reading → Option ℕ
 known_frames r = if r.size == 0xFFFFFFFF then None else Some (r.size / (2 * r.channels))
 
--- The bytes begin as a WAV file does, up to the size of its data; then stands the rest.
+-- The bytes begin as a WAV file does, up to the size of its data. Then comes the rest.
 pub record Opens (bytes : List ℕ) (format : Format) (size : ℕ) (rest : List ℕ) : Type 0 where
   pub chunks : List Chunk
   pub size_bytes : List ℕ
@@ -41,12 +41,12 @@ pub record Opens (bytes : List ℕ) (format : Format) (size : ℕ) (rest : List 
   pub size_is : little_number 4 size_bytes ≡ size
   pub whole : size ≢ 0xFFFFFFFF → size % (2 * format.channels) ≡ 0
 
--- so many bytes of a content can be gone: not past a known size, nor past the most that a size that is not known allows
+-- this number of bytes of a content can be gone: not past a known size, nor past the maximum of an unknown size
 abbrev pub IsWithin : ℕ → ℕ → ℕ → Type 0
 IsWithin align size gone =
     ((size ≢ 0xFFFFFFFF) × (size % align ≡ 0) × (gone ≤ size)) ⊎ ((size ≡ 0xFFFFFFFF) × (gone ≤ 4294967294))
 
--- a reading that can be
+-- a possible state of a reading
 pub record IsReading (r : Reading) : Type 0 where
   pub some_rate : 1 ≤ r.rate
   pub one_channel : 1 ≤ r.channels
@@ -56,8 +56,8 @@ pub record IsReading (r : Reading) : Type 0 where
   pub within : IsWithin (2 * r.channels) r.size r.gone
   pub fault : IfSome r.fault IsReadingFault
 
--- An input was read as far as this: it opens, these are the samples of the bytes of its content that are gone, and then
--- stands the rest.
+-- An input was read up to here. It opens, these are the samples of the bytes of its content that are gone, and then
+-- comes the rest.
 pub record IsReadTo (input : List ℕ) (r : Reading) (samples : List ℤ) (rest : List ℕ) : Type 0 where
   pub gone : List ℕ
   pub opens : Opens input (format_read r) r.size (gone ++ rest)
@@ -78,23 +78,23 @@ sound_read r samples = record { rate = r.rate; channels = r.channels; samples = 
 abbrev pub sized_piece : ℕ → List ℕ → Result (List ℤ × List ℕ) FormatFault
 sized_piece n bytes = if nat_lt (length bytes) n then Err Truncated else Ok (pcm_samples (take n bytes), drop n bytes)
 
--- the next n bytes of a content that goes to the end of the input, where so many are gone
+-- the next n bytes of a content that goes to the end of the input, after the bytes that are gone
 abbrev pub open_piece : ℕ → ℕ → ℕ → List ℕ → Result (List ℤ × List ℕ) FormatFault
 open_piece align gone n bytes =
     if nat_lt 4294967294 (gone + n) then Err TooLong
     else (if not (n % align == 0) then Err PartialFrame
     else Ok (pcm_samples (take n bytes), drop n bytes))
 
--- the samples of the next frames and the bytes behind them, or the fault that stands among these frames: as many frames
--- as were asked for, or all up to the content's end
+-- the samples of the next frames and the bytes behind them, or the fault among them. These are all frames asked for, or
+-- all up to the content's end
 unfoldable pub next_at : Reading → ℕ → List ℕ → Result (List ℤ × List ℕ) FormatFault
 next_at r frames bytes =
     let asked = 2 * (frames * r.channels) in
     if r.size == 0xFFFFFFFF then open_piece (2 * r.channels) r.gone (min asked (length bytes)) bytes
     else sized_piece (min asked (r.size - r.gone)) bytes
 
--- So many samples are those of the next frames: no more than were asked for, and of a known size exactly as many as are
--- left or were asked for, whatever is known of the bytes.
+-- This number of samples can be read as the next frames, whatever is known of the bytes. It is at most what was asked
+-- for. For a known size it is exactly that, or all that is left if this is less.
 pub record IsPiece (r : Reading) (frames samples : ℕ) : Type 0 where
   pub most : samples ≤ frames * r.channels
   pub whole : samples % r.channels ≡ 0
@@ -107,15 +107,16 @@ IsSizedFault (faults.Format f) = f ≡ Truncated
 IsSizedFault faults.Read = Unit {0}
 IsSizedFault faults.Write = ⊥
 
--- the input opens with the format of a sound, and a size that is filled in is that of its samples
+-- the input opens with the format of a sound, and a size that is filled in is the size of its samples
 pub record OpensAs (input : List ℕ) (s : Sound) : Type 0 where
   pub size : ℕ
   pub rest : List ℕ
   pub opens : Opens input (record { rate = s.rate; channels = s.channels }) size rest
   pub sized : size ≢ 0xFFFFFFFF → size ≡ 2 * length s.samples
 
--- What a call answered, seen by view, is what `read` gives for the bytes before it, and the bytes after it are those
--- that `read` leaves, where the bytes are known; unless memory or the reader failed. It never fails by a writer.
+-- What a call returned, seen by view, is what `read` gives for the bytes before it. The bytes after it are what `read`
+-- leaves. Both are said if the bytes are known, and unless memory or the reader failed. It never fails with a fault of
+-- a writer.
 abbrev pub AnswersBy : {X Y : Type 0} → (X → Y) → Option (List ℕ) → Option (List ℕ) →
     (List ℕ → Result (Y × List ℕ) FormatFault) → Result X WavFault → Type 0
 AnswersBy view old new read (Ok x) = Known old new
@@ -131,8 +132,8 @@ pub record FailsToOpen (input : List ℕ) (f : FormatFault) : Type 0 where
   pub has : HasFault input f
   pub opens_not : (format : Format) (size : ℕ) (rest : List ℕ) → Opens input format size rest → ⊥
 
--- What the answer of an opening says of the bytes before it and after it, where they are known: the input opens and the
--- content stands before the reader, or it fails to open and lost a front, or only a front is gone.
+-- What the result of an opening says of the bytes before it and after it, if they are known. The input opens and its
+-- content is before the reader, or it fails to open and lost a front, or only a front is gone.
 abbrev pub AnswersOpening : Option (List ℕ) → Option (List ℕ) → Result Reading WavFault → Type 0
 AnswersOpening old new (Ok r) = Known old new (λ input left. IsReadTo input r [] left × LosesFront input left)
 AnswersOpening old new (Err (faults.Format f)) =
@@ -146,12 +147,12 @@ abbrev pub OpensTo : Option (List ℕ) → Format → ℕ → List ℕ → Resul
 OpensTo new f size rest (Ok r) = (r ≡ at_start f size) × (new ≡ Some rest)
 OpensTo new f size rest (Err e) = IsFromOutside e
 
--- the fault is answered, unless memory or the reader failed
+-- the fault is returned, unless memory or the reader failed
 abbrev pub RefusesToOpen : FormatFault → Result Reading WavFault → Type 0
 RefusesToOpen f (Ok r) = ⊥
 RefusesToOpen f (Err e) = (e ≡ faults.Format f) ⊎ IsFromOutside e
 
--- why a file did not open, where the bytes are known
+-- why a file did not open, if the bytes are known
 abbrev pub OpenFails : Option (List ℕ) → WavFault → Type 0
 OpenFails old (faults.Format f) = (input : List ℕ) → old ≡ Some input → FailsToOpen input f
 OpenFails old faults.OutOfMemory = Unit {0}

@@ -10,24 +10,24 @@ use Rattle.sdf_wav.specs.declared.wav.TheConstants.{MOST_CHANNELS}
 use Rattle.sdf_wav.specs.Canonical.{header, size_fault}
 use Rattle.sdf_wav.specs.Device.{AppendsFront}
 
--- what a writing owes: so many frames of so many channels, or nothing once its writer failed
+-- what a writing owes: its missing frames, each of this number of channels, or nothing once its writer failed
 pub record Owed : Type 0 where
   pub channels : ℕ
   pub missing : ℕ
   pub spent : Bool
 
--- why no file has this rate, so many channels and so many frames, if there is none
+-- why no file has this rate and these numbers of channels and frames, if there is none
 abbrev pub start_fault : ℕ → ℕ → ℕ → Option FormatFault
 start_fault rate channels frames =
     if (channels == 0) || nat_lt MOST_CHANNELS channels then Some Channels
     else (if rate == 0 then Some RateZero
     else size_fault rate channels (frames * channels))
 
--- the first 44 bytes of the canonical file of so many frames
+-- the first 44 bytes of the canonical file of this number of frames
 abbrev pub file_header : ℕ → ℕ → ℕ → List ℕ
 file_header rate channels frames = header rate channels (2 * (frames * channels))
 
--- What a call did that is to append these bytes: all of them, or a front where the writer failed.
+-- What a call did that should append these bytes: it appended all of them, or a front if the writer failed.
 abbrev pub Puts : {X : Type 0} → Option (List ℕ) → Option (List ℕ) → List ℕ → Result X WavFault → Type 0
 Puts old new bytes (Ok x) = Appends old new bytes
 Puts old new bytes (Err faults.Write) = AppendsFront old new bytes
@@ -35,11 +35,11 @@ Puts old new bytes (Err (faults.Format f)) = ⊥
 Puts old new bytes (Err faults.Read) = ⊥
 Puts old new bytes (Err faults.OutOfMemory) = ⊥
 
--- what is owed behind a call that is to write so many samples
+-- what is owed after a call that should write this number of samples
 abbrev pub owed_after : {X : Type 0} → Owed → ℕ → Result X WavFault → Owed
 owed_after w samples (Ok x) = record w { missing = w.missing - samples / w.channels }
 owed_after w samples (Err e) = record w { spent = true }
 
--- the answer of a call that writes nothing: the fault where there was one
+-- the result of a call that writes nothing: the fault if there was one
 abbrev pub ended : Bool → Result (Unit {0}) WavFault
 ended spent = if spent then Err faults.Write else Ok tt

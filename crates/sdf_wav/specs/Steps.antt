@@ -1,5 +1,5 @@
 -- What each part of the reader gives, for the crate's own functions: a value and the bytes after it, or the first
--- fault. What a file is, and which faults an input has, is said apart from it in Grammar and Fault.
+-- fault. Grammar and Fault say, apart from this, what a file is and which faults an input has.
 use Rattle.std.specs.Prelude.{◌≡◌, ℕ, zero, suc, ◌+◌, ◌*◌, ◌%◌, min, Bool, true, false, not, ◌&&◌, if◌then◌else◌}
 use Rattle.std.specs.Prelude.{nat_lt, ◌==◌, List, length, take, drop, Option, Some, None, Result, Ok, Err}
 use Rattle.sdf_wav.specs.declared.fault.FormatFault.{FormatFault}
@@ -23,20 +23,20 @@ abbrev pub ◌>>=◌ : {A B : Type 0} → Result A FormatFault → (A → Result
 (Ok x) >>= f = f x
 (Err e) >>= f = Err e
 
--- what a fault says of the reading: nothing, where it is of the memory or the device
+-- what a fault says of the reading: nothing if it is a fault of the memory or the device
 abbrev pub Explains : {Y : Type 0} → ReadFault → Result Y FormatFault → Type 0
 Explains read_faults.OutOfMemory read = Unit {0}
 Explains (read_faults.Format f) read = read ≡ Err f
 Explains read_faults.Device read = Unit {0}
 
--- What a call returned, seen by view, is what `read` gives for the bytes before it, and the bytes after it are those
--- that `read` leaves. In any case a front of the bytes is gone.
+-- What a call returned, seen by view, is what `read` gives for the bytes before it, and the bytes after it are what
+-- `read` leaves. In any case a front of the bytes is gone.
 abbrev pub Reads : {X Y : Type 0} → (X → Y) → Option (List ℕ) → Option (List ℕ) →
     (List ℕ → Result (Y × List ℕ) FormatFault) → Result X ReadFault → Type 0
 Reads view old new read (Ok x) = Known old new (λ input left. (read input ≡ Ok (view x, left)) × LosesFront input left)
 Reads view old new read (Err e) = Known old new (λ input left. Explains e (read input) × LosesFront input left)
 
--- what the first k bytes are read as, or all of them where there are fewer
+-- what the first k bytes are read as, or all of them if there are fewer
 abbrev pub field : {A : Type 0} → ℕ → (List ℕ → Result A FormatFault) → List ℕ → Result (A × List ℕ) FormatFault
 field k read bytes = read (take k bytes) >>= λ x. Ok (x, drop k bytes)
 
@@ -69,7 +69,7 @@ looked_at n size bytes = if nat_lt (length bytes) size then Err Truncated else O
 unfoldable pub pcm_at : ℕ → List ℕ → Result (Format × List ℕ) FormatFault
 pcm_at size bytes = looked_at (min size 40) size bytes >>= λ x. format_of x.0 >>= λ format. Ok (format, x.1)
 
--- the same, and the pad byte
+-- a format chunk's content of 16 bytes or more, and the pad byte
 unfoldable pub format_at : ℕ → List ℕ → Result (Format × List ℕ) FormatFault
 format_at size bytes = if nat_lt size 16 then Err ShortFormat else
     (pcm_at size bytes >>= λ x. Ok (x.0, drop (size % 2) x.1))

@@ -14,7 +14,7 @@ writer_name o = o.writer.ghost_name
 abbrev pub owed : {W : Type 0} → WavOut W → Owed
 owed o = o.content
 
--- why a file did not start: the first test that fails, or else the writer
+-- why a file did not start: the first test that fails, otherwise the writer
 abbrev pub StartFails : ℕ → ℕ → ℕ → WavFault → Type 0
 StartFails rate channels frames (faults.Format f) = start_fault rate channels frames ≡ Some f
 StartFails rate channels frames faults.Write = start_fault rate channels frames ≡ None

@@ -15,7 +15,7 @@ use crate::format::Format;
 use crate::moving::{fill, skip};
 use crate::parts::{ChunkHeader, ChunkKind, DataStart, data_start, format_of, header_of, riff_of};
 
-/// The first twelve bytes.
+/// Reads the first twelve bytes and checks them.
 fn read_riff<R: Reader>(reader: &mut R) -> Result<(), ReadFault>
     ensures bytes { Reads (λ x. x) (R.state reader.old).remaining (R.state reader.new).remaining riff_at result }
     ensures counted { (R.state reader.new).failures ≡ failures_after (widened result) (R.state reader.old).failures }
@@ -27,7 +27,7 @@ fn read_riff<R: Reader>(reader: &mut R) -> Result<(), ReadFault>
     Ok(())
 }
 
-/// The first eight bytes at the place of a chunk, or the fault of an input that ends there.
+/// Reads the header of a chunk, eight bytes. Fails if the input ends there: the fault depends on `has_format`.
 fn read_header<R: Reader>(reader: &mut R, has_format: bool) -> Result<ChunkHeader, ReadFault>
     ensures bytes { Reads (λ x. x) (R.state reader.old).remaining (R.state reader.new).remaining
         (header_at has_format) result }
@@ -39,7 +39,7 @@ fn read_header<R: Reader>(reader: &mut R, has_format: bool) -> Result<ChunkHeade
     Ok(header_of(has_format, &front[..n])?)
 }
 
-/// Fills `buf`.
+/// Fills `buf`. Fails with `Truncated` if the input ends.
 fn read_front<R: Reader>(reader: &mut R, buf: &mut [u8]) -> Result<(), ReadFault>
     ensures bytes { Reads (λ _. buf.new) (R.state reader.old).remaining (R.state reader.new).remaining
         (front_at (length buf.old)) result }
@@ -53,7 +53,7 @@ fn read_front<R: Reader>(reader: &mut R, buf: &mut [u8]) -> Result<(), ReadFault
     Ok(())
 }
 
-/// Skips this many bytes.
+/// Skips `size` bytes. Fails with `Truncated` if the input ends.
 fn skip_exactly<R: Reader>(reader: &mut R, size: u64) -> Result<(), ReadFault>
     ensures bytes { Reads (λ x. x) (R.state reader.old).remaining (R.state reader.new).remaining (skip_at size) result }
     ensures counted { (R.state reader.new).failures ≡ failures_after (widened result) (R.state reader.old).failures }
@@ -66,7 +66,7 @@ fn skip_exactly<R: Reader>(reader: &mut R, size: u64) -> Result<(), ReadFault>
     Ok(())
 }
 
-/// Skips the pad byte behind a content of odd size. At the end of the input it may be missing.
+/// Skips the pad byte behind a content of `size` bytes if the size is odd. At the end of the input it may be missing.
 fn skip_pad<R: Reader>(reader: &mut R, size: u32) -> Result<(), ReadFault>
     ensures bytes { Reads (λ x. x) (R.state reader.old).remaining (R.state reader.new).remaining (pad_at size) result }
     ensures counted { (R.state reader.new).failures ≡ failures_after (widened result) (R.state reader.old).failures }
@@ -76,7 +76,7 @@ fn skip_pad<R: Reader>(reader: &mut R, size: u32) -> Result<(), ReadFault>
     Ok(())
 }
 
-/// Skips a content of this size, and its pad byte.
+/// Skips a content of `size` bytes, and its pad byte.
 fn skip_content<R: Reader>(reader: &mut R, size: u32) -> Result<(), ReadFault>
     ensures bytes { Reads (λ x. x) (R.state reader.old).remaining (R.state reader.new).remaining
         (skipped_at size) result }
@@ -87,7 +87,7 @@ fn skip_content<R: Reader>(reader: &mut R, size: u32) -> Result<(), ReadFault>
     skip_pad(reader, size)
 }
 
-/// Reads a content of this size, of which the first bytes are looked at.
+/// Reads a content of `size` bytes. Its first bytes fill `front`, and the others are skipped.
 #[tactic(auto, unfolding(crate::specs::Steps::looked_at))]
 fn read_looked<R: Reader>(reader: &mut R, front: &mut [u8], size: u32) -> Result<(), ReadFault>
     requires { length front.old ≤ size }
@@ -101,7 +101,7 @@ fn read_looked<R: Reader>(reader: &mut R, front: &mut [u8], size: u32) -> Result
     skip_exactly(reader, u64::from(size) - len)
 }
 
-/// How many bytes of a format chunk are looked at.
+/// Maximum bytes of a format chunk that are looked at.
 const LONGEST_FORMAT: u32 = 40;
 
 /// Reads the content of a format chunk.
@@ -137,7 +137,8 @@ fn read_format<R: Reader>(reader: &mut R, size: u32) -> Result<Format, ReadFault
     Ok(format)
 }
 
-/// A chunk before the data: the first format chunk is read, and any other skipped.
+/// Passes a chunk before the data: reads the first format chunk, and skips any other. Returns the format known after
+/// it.
 fn pass<R: Reader>(
     reader: &mut R,
     header: ChunkHeader,
@@ -162,14 +163,14 @@ fn pass<R: Reader>(
     }
 }
 
-/// What stands at the place of a chunk: the data, or another chunk.
+/// What is at the place of a chunk: the data, or another chunk.
 #[derive(Clone, Copy, Debug, PartialEq, Eq)]
 enum Step {
     Data(DataStart),
     Passed(Option<Format>),
 }
 
-/// Reads what stands at the place of a chunk, as far as the samples if it is the data.
+/// Reads what is at the place of a chunk. If it is the data, this stops before the samples.
 #[tactic(auto, unfolding(crate::specs::Steps::step_at))]
 fn next_part<R: Reader>(reader: &mut R, seen: Option<Format>) -> Result<Step, ReadFault>
     requires { IsKnown seen }
@@ -191,7 +192,7 @@ fn next_part<R: Reader>(reader: &mut R, seen: Option<Format>) -> Result<Step, Re
     }
 }
 
-/// The same where no further chunk may stand before the data.
+/// Reads the header of the data at a place where no other chunk is accepted. Fails with `TooLong` at another chunk.
 #[tactic(auto, unfolding(crate::specs::Steps::last_at))]
 fn read_last<R: Reader>(reader: &mut R, seen: Option<Format>) -> Result<DataStart, ReadFault>
     requires { IsKnown seen }
@@ -207,7 +208,7 @@ fn read_last<R: Reader>(reader: &mut R, seen: Option<Format>) -> Result<DataStar
     }
 }
 
-/// How many chunks may stand before the data.
+/// Maximum number of chunks before the data.
 const MAX_CHUNKS: u32 = 65_536;
 
 /// Reads up to the samples.
@@ -228,7 +229,7 @@ fn find_data<R: Reader>(reader: &mut R) -> Result<DataStart, ReadFault>
     read_last(reader, seen)
 }
 
-/// Reads a file up to the size of its data, which is whole frames where it is known.
+/// Reads a file up to the size of its data. A known size must be whole frames.
 #[tactic(auto, unfolding(crate::specs::Steps::open_at))]
 pub(crate) fn open_data<R: Reader>(reader: &mut R) -> Result<DataStart, ReadFault>
     ensures bytes { Reads (λ x. x) (R.state reader.old).remaining (R.state reader.new).remaining open_at result }

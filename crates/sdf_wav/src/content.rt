@@ -15,7 +15,7 @@ use crate::wav::MOST_CHANNELS;
 use byteorder::{ByteOrder, LittleEndian};
 use std::alloc::{AllocError, Global};
 
-/// Appends the samples of these bytes, two for each; an odd last byte gives none.
+/// Appends the samples of `bytes` to `samples`, one for two bytes. An odd last byte gives none.
 fn push_samples(samples: &mut Vec<i16>, bytes: &[u8]) -> Result<(), AllocError>
     ensures ok { OnOk result (samples.new.items ≡ samples.old.items ++ pcm_samples bytes.now) }
     ensures count { OnOk result (length samples.new.items ≡ length samples.old.items + length bytes.now / 2) }
@@ -27,17 +27,18 @@ fn push_samples(samples: &mut Vec<i16>, bytes: &[u8]) -> Result<(), AllocError>
     Ok(())
 }
 
-/// What was read of a content: so many bytes, with their samples.
+/// What was read of a content: the number of bytes, and their samples.
 #[derive(Drop)]
 struct Content {
     samples: Vec<i16>,
     bytes: u64,
 }
 
-/// How many bytes are read at a time.
+/// Bytes read at a time.
 const READ_PIECE: usize = 16_384;
 
-/// Reads at most so many bytes in pieces, fewer only where the input ends. Memory grows with what has come alone.
+/// Reads at most `limit` bytes in pieces, fewer only if the input ends. Memory grows only with the bytes that have
+/// arrived.
 fn read_samples<R: Reader>(alloc: Global, reader: &mut R, limit: u64) -> Result<Content, ReadFault>
     requires { limit % 2 ≡ 0 }
     ensures ok { IfOk result (λ x. Known (R.state reader.old).remaining (R.state reader.new).remaining
@@ -64,16 +65,16 @@ fn read_samples<R: Reader>(alloc: Global, reader: &mut R, limit: u64) -> Result<
     Ok(Content { samples, bytes })
 }
 
-/// The size of data that its writer never filled in: it goes to the end of the input.
+/// The data size that a writer never filled in. The data then goes to the end of the input.
 pub(crate) const UNKNOWN: u32 = 0xFFFF_FFFF;
 
-/// The most bytes of data of a size that is not filled in.
+/// Maximum bytes of data whose size was never filled in.
 const MAX_BYTES: u64 = 4_294_967_294;
 
-/// One sample more than that.
+/// One sample more than `MAX_BYTES`.
 const LIMIT: u64 = 4_294_967_296;
 
-/// Reads at most so many bytes of data that goes to the end of the input and of which so many are gone.
+/// Reads at most `asked` bytes of data that goes to the end of the input. `gone` bytes of it were read before.
 pub(crate) fn read_open<R: Reader>(
     alloc: Global,
     reader: &mut R,
@@ -104,7 +105,7 @@ pub(crate) fn read_open<R: Reader>(
     Ok(content.samples)
 }
 
-/// Reads so many bytes of data of a known size.
+/// Reads `size` bytes of data of a known size.
 pub(crate) fn read_sized<R: Reader>(
     alloc: Global,
     reader: &mut R,

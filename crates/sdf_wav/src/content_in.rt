@@ -20,7 +20,7 @@ use crate::format::Format;
 use std::alloc::Global;
 use std::marker::Model;
 
-/// How far the content of a file was read, and the fault that came. It holds no reader: each call is handed the one
+/// How far the content of a file was read, and the fault that occurred. It holds no reader: each call gets the reader
 /// that the file was opened from.
 #[derive(Debug, Drop)]
 pub struct ContentIn {
@@ -56,13 +56,13 @@ impl Model for ContentIn {
 const MOST_SAMPLES: u64 = 2_147_483_648;
 
 impl ContentIn {
-    /// Reads a file up to the size of its data, and leaves the content unread. Fails by each fault that stands before,
-    /// and by `PartialFrame` where that size is known and no whole number of frames.
+    /// Reads a file up to the size of its data, and leaves the content unread. Fails with any fault before the content,
+    /// and with `PartialFrame` if the size is known and not a whole number of frames.
     pub fn open<R: Reader>(reader: &mut R) -> Result<ContentIn, WavFault>
-        // What is answered is so: the input opens and its content is left, or it has this fault before its content.
+        // The result is true of the input: it opens and its content is left, or it has this fault before its content.
         ensures answers { AnswersOpening (R.state reader.old).remaining (R.state reader.new).remaining result }
 
-        // What is so is answered, unless the reader failed.
+        // Conversely, the opening or the fault of the input is returned, unless the reader failed.
         ensures accepts { (input : List ℕ) (f : Format) (size : ℕ) (rest : List ℕ) →
             (R.state reader.old).remaining ≡ Some input → Opens input f size rest →
             OpensTo (R.state reader.new).remaining f size rest result }
@@ -70,12 +70,13 @@ impl ContentIn {
             HasFault input f →
             ((g : Format) (size : ℕ) (rest : List ℕ) → Opens input g size rest → ⊥) → RefusesToOpen f result }
 
-        // Whatever is known of the bytes, it is at a start, and no other fault comes. It takes no memory.
+        // Whatever is known of the bytes, the content is at its start, and no other fault is returned. It takes no
+        // memory.
         ensures start { IfOk result (λ c. (c.gone ≡ 0) × (c.fault ≡ None)) }
         ensures sound { IfOk result IsReading }
         ensures fault { IfErr result IsOpeningFault }
 
-        // A failure of the reader is answered at once: no other call of it failed.
+        // A failure of the reader is returned at once: no other call of it failed.
         ensures counted { (R.state reader.new).failures ≡ failures_after result (R.state reader.old).failures }
         ensures device { IsErrOf result WavFault.Read →
             Failed (R.state reader.old).failures (R.state reader.new).failures }
@@ -89,7 +90,7 @@ impl ContentIn {
         })
     }
 
-    /// Frames a second.
+    /// Returns the rate in frames a second.
     pub fn rate(&self) -> u32
         ensures value { result ≡ self.now.rate }
         ensures above_0 { 1 ≤ result }
@@ -97,7 +98,7 @@ impl ContentIn {
         self.format.rate
     }
 
-    /// Samples in a frame.
+    /// Returns the number of channels: the samples in a frame.
     pub fn channels(&self) -> u16
         ensures value { result ≡ self.now.channels }
         ensures above_0 { 1 ≤ result }
@@ -106,7 +107,7 @@ impl ContentIn {
         self.format.channels
     }
 
-    /// How many frames the whole content has, where the size of the data was filled in.
+    /// Returns how many frames the whole content has, or `None` if the size of the data was never filled in.
     pub fn frames(&self) -> Option<usize>
         ensures { result ≡ known_frames self.now }
     {
@@ -116,7 +117,7 @@ impl ContentIn {
         Some((self.size / u32::from(2 * self.format.channels)) as usize)
     }
 
-    /// The rate and the number of channels.
+    /// Returns the rate and the number of channels.
     pub(crate) fn format(&self) -> Format
         ensures value { result ≡ record { rate = self.now.rate; channels = self.now.channels } }
         ensures sound { IsReading self.now }
@@ -124,7 +125,7 @@ impl ContentIn {
         self.format
     }
 
-    /// Reads the next frames.
+    /// Reads the next `frames` frames, or all that are left if they are fewer.
     fn read<R: Reader>(
         &self,
         alloc: Global,
@@ -150,28 +151,29 @@ impl ContentIn {
         read_sized(alloc, reader, asked.min(left))
     }
 
-    /// The samples of the next frames, interleaved: fewer than were asked for only at the content's end, and none after
-    /// it. Fails by `Truncated` where the input ends within these frames of a known size; where the size is not known,
-    /// by `TooLong` where a byte of them stands past the 4,294,967,294 that are taken, else by `PartialFrame` where the
-    /// input ends within one of them. After a fault nothing more is read, and the fault comes again.
+    /// Reads the next `frames` frames and returns their samples, interleaved: fewer only at the content's end, and none
+    /// after it. After a fault nothing more is read, and every call fails with that fault.
+    ///
+    /// Fails with `Truncated` if the size of the data is known and the input ends within these frames. If the size is
+    /// not known, it fails with `TooLong` if a byte of these frames is past the first 4,294,967,294 bytes of the
+    /// content. Otherwise it fails with `PartialFrame` if the input ends within one of them.
     pub fn next<R: Reader>(
         &mut self,
         alloc: Global,
         reader: &mut R,
         frames: usize,
     ) -> Result<Vec<i16>, WavFault>
-        // These are the samples before the reader, or the fault that stands among them, and what is behind them is
-        // left.
+        // These are the samples before the reader, or the fault among them. What is behind them is left.
         ensures bytes { self.old.fault ≡ None → AnswersBy (λ v. v.items) (R.state reader.old).remaining
             (R.state reader.new).remaining (next_at self.old frames) result }
         ensures counted { self.old.fault ≡ None → (R.state reader.new).failures ≡
             failures_after result (R.state reader.old).failures }
         ensures piece { IfOk result (λ v. IsPiece self.old frames (length v.items)) }
 
-        // A fault is repeated, and the reader left alone.
+        // A fault is repeated, and the reader is not touched again.
         ensures repeats { (e : WavFault) → self.old.fault ≡ Some e → (result ≡ Err e) × (reader.new ≡ reader.old) }
 
-        // What was read is gone, and a fault stays.
+        // The bytes that were read are gone, and a fault stays.
         ensures goes_on { IfOk result (λ v. self.new ≡ record self.old { gone = self.old.gone + 2 * length v.items }) }
         ensures stops { IfErr result (λ e. self.new ≡ record self.old { fault = Some e }) }
         ensures fault { IfErr result IsReadingFault }

@@ -12,8 +12,8 @@ use crate::wav::MOST_CHANNELS;
 use crate::writing::{MAX_BYTES_A_SECOND, MAX_DATA, header, put_samples};
 use std::marker::Model;
 
-/// What of a file is still to be written behind its header, and whether its writer failed. It holds no writer: each
-/// call is handed the one that took the header.
+/// What is still to be written of a file after its header, and whether its writer failed. It holds no writer: each call
+/// gets the writer that took the header.
 #[derive(Debug, Drop)]
 pub struct ContentOut {
     channels: u16,
@@ -33,9 +33,9 @@ impl Model for ContentOut {
 }
 
 impl ContentOut {
-    /// Writes the header of a file of so many frames, of which all are missing then. Fails by `Channels`, `RateZero`,
-    /// `RateTooLarge` or `TooLong`, tested in this order and before the first byte; after `Write` a front of the header
-    /// is written.
+    /// Writes the header of a file of `frames` frames, at `rate` frames a second. All frames are missing then. Fails
+    /// with `Channels`, `RateZero`, `RateTooLarge` or `TooLong`, tested in this order before the first byte. After
+    /// `Write`, the beginning of the header is written.
     pub fn start<W: Writer>(
         writer: &mut W,
         rate: u64,
@@ -74,25 +74,26 @@ impl ContentOut {
         }
     }
 
-    /// How many frames are still to be written.
+    /// Returns how many frames are still to be written.
     pub fn missing(&self) -> u64
         ensures { result ≡ self.now.missing }
     {
         self.missing
     }
 
-    /// Writes the next frames, interleaved. Once the writer failed, nothing more is written and `Write` comes again.
+    /// Writes the next frames, interleaved in `samples`. Once the writer has failed, this writes nothing more and fails
+    /// with `Write` again.
     pub fn put<W: Writer>(&mut self, writer: &mut W, samples: &[i16]) -> Result<(), WavFault>
         requires whole { length samples.now % self.old.channels ≡ 0 }
         requires missing { length samples.now ≤ self.old.missing * self.old.channels }
 
-        // The samples are written, or a front of their bytes where the writer fails.
+        // The samples are written, or the beginning of their bytes if the writer fails.
         ensures writes { self.old.spent ≡ false → Puts (W.state writer.old).contents (W.state writer.new).contents
             (sample_bytes samples.now) result }
         ensures counted { self.old.spent ≡ false → (W.state writer.new).failures ≡
             failures_after result (W.state writer.old).failures }
 
-        // A failure is repeated, and the writer left alone.
+        // A failure is repeated, and the writer is not touched again.
         ensures repeats { self.old.spent ≡ true → (result ≡ Err WavFault.Write) × (writer.new ≡ writer.old) }
         ensures owed { self.new ≡ owed_after self.old (length samples.now) result }
         ensures fault { IfErr result (λ e. e ≡ WavFault.Write) }
@@ -112,7 +113,7 @@ impl ContentOut {
         }
     }
 
-    /// Ends the file, and says whether its writer failed.
+    /// Ends the file, and fails with `Write` if its writer failed.
     pub fn end(self) -> Result<(), WavFault>
         requires { (self.missing ≡ 0) ⊎ (self.spent ≡ true) }
         ensures { result ≡ ended self.spent }

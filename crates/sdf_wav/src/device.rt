@@ -7,16 +7,16 @@ ghost use Rattle.sdf_wav.specs.Device.{answered, failures_after_read, failures_a
 
 use std::io;
 
-/// A device failed.
+/// The failure of a device.
 #[derive(Clone, Copy, Debug, PartialEq, Eq)]
 pub struct DeviceFault;
 
-/// Gives bytes, as std's `Read` does, and counts its calls that failed.
+/// A source of bytes, like std's `Read`, that counts its failed calls.
 pub trait Reader {
     // The bytes that it has still to give, and how many of its calls failed.
     ghost state: { Self → ReaderState };
 
-    /// Moves bytes to the front of `buf`, and says how many: none only at the end of the input, or where `buf` is
+    /// Moves bytes to the front of `buf`, and returns how many: none only at the end of the input, or if `buf` is
     /// empty.
     fn read(&mut self, buf: &mut [u8]) -> Result<usize, DeviceFault>
         ensures bound { ReadsAtMost result buf.new }
@@ -24,19 +24,20 @@ pub trait Reader {
         ensures counted { (state self.new).failures ≡ failures_after_read result (state self.old).failures };
 }
 
-/// Takes bytes, as std's `Write` does, and counts its calls that failed.
+/// A sink of bytes, like std's `Write`, that counts its failed calls.
 pub trait Writer {
     // The bytes that it has taken, and how many of its calls failed.
     ghost state: { Self → WriterState };
 
-    /// Takes bytes from the front of `bytes`, and says how many. Taking none where there are some counts as a failure.
+    /// Takes bytes from the front of `bytes`, and returns how many. To take none if there are some counts as a failure.
     fn write(&mut self, bytes: &[u8]) -> Result<usize, DeviceFault>
         ensures bound { WritesAtMost result bytes.now }
         ensures bytes { WriteAppends (state self.old).contents (state self.new).contents result bytes.now }
         ensures counted { (state self.new).failures ≡ failures_after_write result bytes.now (state self.old).failures };
 }
 
-/// What a call of std's answered, as a device's call: each error is a failure, an interrupted call too.
+/// Converts the result of a call of std to a device's result, and counts an error in `failed`. An interrupted call is
+/// an error too.
 pub(crate) fn counted(answer: io::Result<usize>, failed: &mut u64) -> Result<usize, DeviceFault>
     ensures value { result ≡ answered answer }
     ensures count { failed.new ≡ failures_after_read answer failed.old }

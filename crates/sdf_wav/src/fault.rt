@@ -18,7 +18,7 @@ pub enum FormatFault {
     /// Bytes 8 to 11 are not `WAVE`.
     #[error("35 NotWave")]
     NotWave,
-    /// No `fmt ` chunk stands before the data, or before the end of an input with no data.
+    /// There is no `fmt ` chunk before the data, or before the end of an input without data.
     #[error("36 NoFormat")]
     NoFormat,
     /// The `fmt ` chunk has fewer than 16 bytes, or an extensible one fewer than 40.
@@ -36,19 +36,19 @@ pub enum FormatFault {
     /// The block align is not two bytes for each channel.
     #[error("41 BadAlign")]
     BadAlign,
-    /// The input ends behind a `fmt ` chunk and before any data.
+    /// The input ends after a `fmt ` chunk and before any data.
     #[error("42 NoData")]
     NoData,
     /// The input ends within one of its parts.
     #[error("43 Truncated")]
     Truncated,
-    /// The samples are no whole number of frames.
+    /// The samples are not a whole number of frames.
     #[error("44 PartialFrame")]
     PartialFrame,
-    /// There are more chunks before the data, or more bytes of data, than are taken.
+    /// There are more chunks before the data, or more bytes of data, than are accepted.
     #[error("45 TooLong")]
     TooLong,
-    /// The bytes of a second do not fit into the 32 bits of the header.
+    /// The bytes a second do not fit into the 32 bits of the header.
     #[error("46 RateTooLarge")]
     RateTooLarge,
 }

@@ -6,7 +6,7 @@ ghost use Rattle.sdf_wav.specs.Adapters.{read_inner, read_failures};
 use crate::device::{DeviceFault, Reader, counted};
 use std::io;
 
-/// A reader over one of std's. Every error counts as a failed call, an interrupted one too.
+/// A reader over a reader of std. Every error counts as a failed call, an interrupted one too.
 #[derive(Drop)]
 pub struct FromRead<R> {
     inner: R,
@@ -14,7 +14,7 @@ pub struct FromRead<R> {
 }
 
 impl<R> FromRead<R> {
-    /// A reader over `inner` that has not failed yet.
+    /// Returns a reader over `inner` that has not failed yet.
     pub fn new(inner: R) -> FromRead<R>
         ensures inner { read_inner result ≡ inner }
         ensures fresh { read_failures result ≡ 0 }
@@ -22,14 +22,14 @@ impl<R> FromRead<R> {
         FromRead { inner, failed: 0 }
     }
 
-    /// How many calls failed, up to the greatest u64.
+    /// Returns how many calls failed, at most `u64::MAX`.
     pub fn failed(&self) -> u64
         ensures { result ≡ read_failures self.now }
     {
         self.failed
     }
 
-    /// The reader inside.
+    /// Returns the reader inside.
     pub fn into_inner(self) -> R
         ensures { result ≡ read_inner self }
     {

@@ -1,4 +1,4 @@
-//! Laws over the definitions, which no call of the crate states.
+//! Laws of the definitions, beyond the contracts of the crate's calls.
 
 ghost use Rattle.std.specs.Prelude.{◌≡◌, ◌≤◌, ◌<◌, ◌^◌, ◌%◌, ◌+◌, ◌*◌, ◌⊎◌, ◌++◌, ℕ, ℤ, List, [], length, Option, None};
 ghost use Rattle.std.specs.Prelude.{Ok, Err};
@@ -12,26 +12,27 @@ ghost use Rattle.sdf_wav.specs.PiecesIn.{Reading, Opens, OpensAs, IsReadTo, IsEn
 ghost use Rattle.sdf_wav.specs.Sound.{Sound, IsSound};
 ghost use Rattle.sdf_wav.specs.declared.wav.TheConstants.{MOST_CHANNELS};
 
-/// The canonical file of a sound is a file of that sound, with nothing behind it.
+/// States that the canonical file of a sound is a file of that sound, with nothing behind it.
 pub fn canonical_is_wav()
     ensures { (s : Sound) → IsSound s → write_fault s ≡ None → IsWav (canonical_wav s) s [] }
 {}
 
-/// The canonical file of whole frames is that of a sound, whatever numbers its samples are.
+/// States that the canonical file of whole frames is the file of a sound, whatever numbers its samples are.
 pub fn files_are_canonical()
     ensures { (s : Sound) → 1 ≤ s.rate → s.rate < 2 ^ 32 → 1 ≤ s.channels → s.channels ≤ MOST_CHANNELS →
         length s.samples % s.channels ≡ 0 → write_fault s ≡ None → IsCanonical (canonical_wav s) }
 {}
 
-/// Samples that are written in turn are written as one list, so the pieces behind a header are a file.
+/// States that samples written in turn are written as one list, so the pieces behind a header are a file.
 pub fn puts_join()
     ensures { (a b c : Option (List ℕ)) (x y : List ℤ) → Appends a b (sample_bytes x) → Appends b c (sample_bytes y) →
         Appends a c (sample_bytes (x ++ y)) }
 {}
 
-/// A file opens, with its sound's format, and a size that is filled in is that of its samples. Pieces that are read in
-/// turn, joined: they are the samples of the content that is gone; fewer frames than were asked for come at the end
-/// alone; at the end the input is a file of them; and a fault among them is the input's.
+/// States that a file opens with its sound's format, and that a size that is filled in is the size of its samples. It
+/// then states four facts of pieces that are read in turn and joined. They are the samples of the content that is gone.
+/// Fewer frames than were asked for come only at the end. At the end the input is a file of them. A fault among them is
+/// a fault of the input.
 pub fn pieces_join()
     ensures opens { (input : List ℕ) (s : Sound) (rest : List ℕ) → IsWav input s rest →
         (f : Format) × (size : ℕ) × (bytes : List ℕ) × Opens input f size bytes }
@@ -50,7 +51,7 @@ pub fn pieces_join()
         IsReadTo input r before bytes → next_at r frames bytes ≡ Err f → HasFault input f }
 {}
 
-/// Every input is a file of one sound with one rest, or has one fault, and never both.
+/// States that every input is a file of one sound with one rest, or has one fault, and never both.
 pub fn one_outcome()
     ensures some { (bytes : List ℕ) → ((s : Sound) × (rest : List ℕ) × IsWav bytes s rest)
         ⊎ ((f : FormatFault) × HasFault bytes f) }

@@ -1,9 +1,10 @@
 //! WAV files of 16-bit PCM, read and written exactly.
 //!
-//! A sound is a [`Wav`]: a rate, 1 to 8 channels, and samples. [`read_wav`] reads one from any [`Reader`], and answers
-//! the first fault of any other input; [`write_wav`] writes the one canonical file of a sound to any [`Writer`]. The
-//! crate depends on `byteorder` and `thiserror` alone. Begin with the grammar in `specs/Grammar.antt`, the faults in
-//! `specs/Fault.antt` and the canonical file in `specs/Canonical.antt`; then `reading`, `writing` and the `laws`.
+//! A sound is a [`Wav`]: a rate, 1 to 8 channels, and samples. [`read_wav`] reads one from any [`Reader`], and returns
+//! the first fault of any other input. [`write_wav`] writes the one canonical file of a sound to any [`Writer`].
+//!
+//! It depends on `byteorder` and `thiserror` alone. Begin with the grammar in `specs/Grammar.antt`, the faults in
+//! `specs/Fault.antt` and the canonical file in `specs/Canonical.antt`. Then read `reading`, `writing` and the `laws`.
 #![tactic(auto)]
 
 mod chunks;

@@ -1,4 +1,4 @@
-//! Moving bytes from a reader and to a writer, by as many calls as it takes.
+//! Moving bytes from a reader and to a writer, however many calls it takes.
 
 ghost use Rattle.std.specs.Prelude.{◌≡◌, ◌≤◌, length, IfOk, OnOk, OnErr};
 ghost use Rattle.std.specs.Io.KnownBytes.{Appends};
@@ -6,7 +6,7 @@ ghost use Rattle.sdf_wav.specs.Device.{failures_after_read, Known, Fills, Skips,
 
 use crate::device::{DeviceFault, Reader, Writer};
 
-/// Fills `buf` from the reader, and says with how many bytes: fewer than it holds only where the input ends.
+/// Fills `buf` from `reader`, and returns the number of bytes: fewer than `buf` holds only if the input ends.
 pub(crate) fn fill<R: Reader>(reader: &mut R, buf: &mut [u8]) -> Result<usize, DeviceFault>
     ensures fits { IfOk result (λ n. n ≤ length buf.new) }
     ensures ok { IfOk result (λ n. Known (R.state reader.old).remaining (R.state reader.new).remaining
@@ -25,10 +25,10 @@ pub(crate) fn fill<R: Reader>(reader: &mut R, buf: &mut [u8]) -> Result<usize, D
     Ok(at)
 }
 
-/// How many bytes are read at a time where none is kept.
+/// Bytes read at a time when none is kept.
 const SKIP_PIECE: usize = 4096;
 
-/// Reads this many bytes and drops them, and says how many there were: fewer only where the input ends.
+/// Reads `size` bytes and drops them. Returns how many there were: fewer only if the input ends.
 pub(crate) fn skip<R: Reader>(reader: &mut R, size: u64) -> Result<u64, DeviceFault>
     ensures fits { IfOk result (λ n. n ≤ size) }
     ensures ok { IfOk result (λ n. Known (R.state reader.old).remaining (R.state reader.new).remaining
@@ -49,7 +49,7 @@ pub(crate) fn skip<R: Reader>(reader: &mut R, size: u64) -> Result<u64, DeviceFa
     Ok(skipped)
 }
 
-/// Writes all of the bytes, or stops at the first call that fails or takes none of them.
+/// Writes all of `bytes`, or stops at the first call that fails or takes none of them.
 pub(crate) fn put_all<W: Writer>(writer: &mut W, bytes: &[u8]) -> Result<(), DeviceFault>
     ensures ok { OnOk result (Appends (W.state writer.old).contents (W.state writer.new).contents bytes.now) }
     ensures err { OnErr result (AppendsFront (W.state writer.old).contents (W.state writer.new).contents bytes.now) }

@@ -42,7 +42,7 @@ const PCM_GUID: [u8; 16] = [
     0x01, 0x00, 0x00, 0x00, 0x00, 0x00, 0x10, 0x00, 0x80, 0x00, 0x00, 0xAA, 0x00, 0x38, 0x9B, 0x71,
 ];
 
-/// The first twelve bytes of a file, or as many as it has.
+/// Checks the first twelve bytes of a file, or all of them if it has fewer.
 pub(crate) fn riff_of(front: &[u8]) -> Result<(), FormatFault>
     ensures value { result ≡ riff_of front.now }
     ensures fault { IfErr result IsInputFault }
@@ -74,7 +74,8 @@ fn kind_of(id: &[u8]) -> ChunkKind
     }
 }
 
-/// The first eight bytes at the place of a chunk, or as many as are left.
+/// Returns the chunk header in `front`: the first eight bytes at the place of a chunk, or all that are left. At the end
+/// of the input it fails with `NoData` if there was a format (`has_format`), otherwise with `NoFormat`.
 pub(crate) fn header_of(has_format: bool, front: &[u8]) -> Result<ChunkHeader, FormatFault>
     ensures value { result ≡ header_of has_format front.now }
     ensures fault { IfErr result IsInputFault }
@@ -133,7 +134,7 @@ fn is_pcm16(fields: Fields, content: &[u8]) -> bool
     }
 }
 
-/// The content of a format chunk, or its first forty bytes.
+/// Returns the format in `content`: the content of a format chunk, or its first 40 bytes.
 #[tactic(auto, unfolding(crate::specs::Parts::format_of))]
 pub(crate) fn format_of(content: &[u8]) -> Result<Format, FormatFault>
     requires { 16 ≤ length content.now }
@@ -163,7 +164,8 @@ pub(crate) fn format_of(content: &[u8]) -> Result<Format, FormatFault>
     })
 }
 
-/// Where the data begins, in a chunk of this size behind this format.
+/// Returns where the data begins, in a chunk of `size` bytes behind the format `seen`. Fails with `NoFormat` if there
+/// was none.
 pub(crate) fn data_start(seen: Option<Format>, size: u32) -> Result<DataStart, FormatFault>
     requires { IsKnown seen }
     ensures value { result ≡ data_start seen size }

@@ -34,26 +34,26 @@ fn read_content<R: Reader>(
     Ok(Wav::of_format(format, samples))
 }
 
-/// Reads a WAV file up to the end of its data, and leaves what follows unread. After a fault a front of the input has
-/// been read. Memory grows with the samples that have come, whatever size the file announces.
+/// Reads a WAV file up to the end of its data, and leaves the rest unread. After a fault, the beginning of the input
+/// has been read. Memory grows with the samples that have arrived, whatever size the file announces.
 ///
-/// RIFF/WAVE with 16-bit PCM samples, by the plain tag or the extensible one; a data size of 0xFFFFFFFF, which its
-/// writer never filled in, goes to the end of the input.
+/// The format is RIFF/WAVE with 16-bit PCM samples, under the plain tag or the extensible one. A data size of
+/// 0xFFFFFFFF was never filled in by its writer: that data goes to the end of the input.
 pub fn read_wav<R: Reader>(alloc: Global, reader: &mut R) -> Result<Wav, WavFault>
-    // What is answered is so: the input is a file of this sound and the rest is left, or the input has this fault.
+    // The result is true of the input: it is a file of this sound and the rest is left, or it has this fault.
     ensures answers { Answers (R.state reader.old).remaining (R.state reader.new).remaining result }
 
-    // What is so is answered, unless memory or the reader failed.
+    // Conversely, the sound or the fault of the input is returned, unless memory or the reader failed.
     ensures accepts { (input : List ℕ) (s : Sound) (rest : List ℕ) → (R.state reader.old).remaining ≡ Some input →
         IsWav input s rest → Accepts (R.state reader.new).remaining s rest result }
     ensures refuses { (input : List ℕ) (f : FormatFault) → (R.state reader.old).remaining ≡ Some input →
         HasFault input f →
         Refuses f result }
 
-    // Whatever is known of the bytes, no other fault comes.
+    // Whatever is known of the bytes, no other fault is returned.
     ensures fault { IfErr result IsReadingFault }
 
-    // A failure of the reader is answered at once: no other call of it failed.
+    // A failure of the reader is returned at once: no other call of it failed.
     ensures counted { (R.state reader.new).failures ≡ failures_after result (R.state reader.old).failures }
     ensures device { IsErrOf result WavFault.Read → Failed (R.state reader.old).failures (R.state reader.new).failures }
 {

@@ -6,7 +6,7 @@ ghost use Rattle.sdf_wav.specs.Adapters.{write_inner, write_failures};
 use crate::device::{DeviceFault, Writer, counted};
 use std::io;
 
-/// A writer over one of std's. Every error counts as a failed call, an interrupted one too.
+/// A writer over a writer of std. Every error counts as a failed call, an interrupted one too.
 #[derive(Drop)]
 pub struct ToWrite<W> {
     inner: W,
@@ -14,7 +14,7 @@ pub struct ToWrite<W> {
 }
 
 impl<W> ToWrite<W> {
-    /// A writer over `inner` that has not failed yet.
+    /// Returns a writer over `inner` that has not failed yet.
     pub fn new(inner: W) -> ToWrite<W>
         ensures inner { write_inner result ≡ inner }
         ensures fresh { write_failures result ≡ 0 }
@@ -22,14 +22,14 @@ impl<W> ToWrite<W> {
         ToWrite { inner, failed: 0 }
     }
 
-    /// How many calls failed, up to the greatest u64.
+    /// Returns how many calls failed, at most `u64::MAX`.
     pub fn failed(&self) -> u64
         ensures { result ≡ write_failures self.now }
     {
         self.failed
     }
 
-    /// The writer inside.
+    /// Returns the writer inside.
     pub fn into_inner(self) -> W
         ensures { result ≡ write_inner self }
     {

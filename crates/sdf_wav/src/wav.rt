@@ -8,7 +8,7 @@ use crate::fault::{FormatFault, WavFault};
 use crate::format::Format;
 use std::marker::Model;
 
-/// Channels of a sound: 1 to this.
+/// Maximum number of channels of a sound. The minimum is 1.
 pub const MOST_CHANNELS: u16 = 8;
 
 /// A sound: at least one frame a second, 1 to 8 channels, and whole frames of one sample for each channel.
@@ -33,8 +33,8 @@ impl Model for Wav {
 }
 
 impl Wav {
-    /// The sound of these samples, interleaved by frame. Fails by `Channels`, `RateZero` or `PartialFrame`, tested in
-    /// this order.
+    /// Returns the sound of `samples`, interleaved by frame, at `rate` frames a second. Fails with `Channels`,
+    /// `RateZero` or `PartialFrame`, tested in this order.
     pub fn new(rate: u32, channels: u16, samples: Vec<i16>) -> Result<Wav, WavFault>
         ensures { result ≡ sound_of rate channels samples.items }
     {
@@ -54,7 +54,7 @@ impl Wav {
         })
     }
 
-    /// The sound of what was read.
+    /// Returns the sound of `samples` that were read in `format`.
     pub(crate) fn of_format(format: Format, samples: Vec<i16>) -> Wav
         requires format { IsFormat format }
         requires whole { length samples.items % format.channels ≡ 0 }
@@ -67,7 +67,7 @@ impl Wav {
         }
     }
 
-    /// Frames a second.
+    /// Returns the rate in frames a second.
     pub fn rate(&self) -> u32
         ensures value { result ≡ self.now.rate }
         ensures above_0 { 1 ≤ result }
@@ -75,7 +75,7 @@ impl Wav {
         self.rate
     }
 
-    /// Samples in a frame.
+    /// Returns the number of channels: the samples in a frame.
     pub fn channels(&self) -> u16
         ensures value { result ≡ self.now.channels }
         ensures above_0 { 1 ≤ result }
@@ -84,7 +84,7 @@ impl Wav {
         self.channels
     }
 
-    /// How many frames there are.
+    /// Returns the number of frames.
     pub fn frames(&self) -> usize
         ensures value { result ≡ frames_of self.now }
         ensures whole { result * self.now.channels ≡ length self.now.samples }
@@ -92,7 +92,7 @@ impl Wav {
         self.samples.len() / self.channels as usize
     }
 
-    /// The sample of this frame and channel, both counted from 0.
+    /// Returns the sample of `channel` in `frame`, both counted from 0.
     pub fn sample(&self, frame: usize, channel: u16) -> i16
         requires frame { frame < frames_of self.now }
         requires channel { channel < self.now.channels }
@@ -101,7 +101,7 @@ impl Wav {
         self.samples[frame * self.channels as usize + channel as usize]
     }
 
-    /// All samples, interleaved by frame.
+    /// Returns all samples, interleaved by frame.
     pub fn samples(&self) -> &[i16]
         ensures value { result.now ≡ self.now.samples }
         ensures whole { length self.now.samples % self.now.channels ≡ 0 }

@@ -15,7 +15,7 @@ use crate::device::Reader;
 use crate::fault::WavFault;
 use std::alloc::Global;
 
-/// A file on its way from a reader: its parts up to the size of its data were read, and its content comes in pieces.
+/// A file that is being read: its parts up to the size of its data were read, and its content is read in pieces.
 #[derive(Drop)]
 pub struct WavIn<'a, R> {
     alloc: Global,
@@ -24,9 +24,9 @@ pub struct WavIn<'a, R> {
 }
 
 impl<'a, R: Reader> WavIn<'a, R> {
-    /// Reads a file up to the size of its data, and fails as [`ContentIn::open`] does. Whoever must know what the
-    /// reader lost before a fault calls that, which reads the same, and then [`WavIn::over`]. Memory for the pieces is
-    /// taken from `alloc`, and none here.
+    /// Reads a file up to the size of its data, and fails as [`ContentIn::open`] does. To know what the reader lost
+    /// before a fault, call [`ContentIn::open`], which reads the same, and then [`WavIn::over`]. Memory for the pieces
+    /// is taken from `alloc` later, and none here.
     pub fn open(alloc: Global, reader: &'a mut R) -> Result<WavIn<'a, R>, WavFault>
         ensures same_reader { IfOk result (λ w. reader_name w ≡ reader.entry.ghost_name) }
         ensures opens { IfOk result (λ w. Known (R.state reader.old).remaining (R.state (reader_of w)).remaining
@@ -37,8 +37,7 @@ impl<'a, R: Reader> WavIn<'a, R> {
         ensures refuses { IfErr result (OpenFails (R.state reader.old).remaining) }
         ensures fault { IfErr result IsOpeningFault }
 
-        // Where the reader is blamed, some reader was left that had failed once more: a body that reads nothing has
-        // none.
+        // If the fault is `Read`, some reader was left that had failed once more: a body that reads nothing has none.
         ensures device { IsErrOf result WavFault.Read →
             (left : R) × ((R.state left).failures ≡ one_more (R.state reader.old).failures) }
     {
@@ -46,7 +45,7 @@ impl<'a, R: Reader> WavIn<'a, R> {
         Ok(WavIn::over(alloc, reader, content))
     }
 
-    /// A file whose content goes on in this reader.
+    /// Returns a file whose `content` goes on in `reader`.
     pub fn over(alloc: Global, reader: &'a mut R, content: ContentIn) -> WavIn<'a, R>
         ensures same_reader { reader_name result ≡ reader.entry.ghost_name }
         ensures reader { reader_of result ≡ reader.old }
@@ -59,7 +58,7 @@ impl<'a, R: Reader> WavIn<'a, R> {
         }
     }
 
-    /// Frames a second.
+    /// Returns the rate in frames a second.
     pub fn rate(&self) -> u32
         ensures value { result ≡ (reading self.now).rate }
         ensures above_0 { 1 ≤ result }
@@ -67,7 +66,7 @@ impl<'a, R: Reader> WavIn<'a, R> {
         self.content.rate()
     }
 
-    /// Samples in a frame.
+    /// Returns the number of channels: the samples in a frame.
     pub fn channels(&self) -> u16
         ensures value { result ≡ (reading self.now).channels }
         ensures above_0 { 1 ≤ result }
@@ -76,20 +75,19 @@ impl<'a, R: Reader> WavIn<'a, R> {
         self.content.channels()
     }
 
-    /// How many frames the whole content has, where the size of the data was filled in.
+    /// Returns how many frames the whole content has, or `None` if the size of the data was never filled in.
     pub fn frames(&self) -> Option<usize>
         ensures { result ≡ known_frames (reading self.now) }
     {
         self.content.frames()
     }
 
-    /// The samples of the next frames, interleaved: fewer than were asked for only at the content's end, and none after
-    /// it. Fails as [`ContentIn::next`] does, and again by the same fault from then on.
+    /// Reads the next `frames` frames and returns their samples, interleaved: fewer only at the content's end, and none
+    /// after it. Fails as [`ContentIn::next`] does, and then with that fault at every call.
     pub fn next(&mut self, frames: usize) -> Result<Vec<i16>, WavFault>
         ensures same_reader { reader_name self.new ≡ reader_name self.old }
 
-        // These are the samples before the reader, or the fault that stands among them, and what is behind them is
-        // left.
+        // These are the samples before the reader, or the fault among them. What is behind them is left.
         ensures bytes { (reading self.old).fault ≡ None →
             AnswersBy (λ v. v.items) (R.state (reader_of self.old)).remaining (R.state (reader_of self.new)).remaining
             (next_at (reading self.old) frames) result }
@@ -97,11 +95,11 @@ impl<'a, R: Reader> WavIn<'a, R> {
             (R.state (reader_of self.new)).failures ≡ failures_after result (R.state (reader_of self.old)).failures }
         ensures piece { IfOk result (λ v. IsPiece (reading self.old) frames (length v.items)) }
 
-        // A fault is repeated, and the reader left alone.
+        // A fault is repeated, and the reader is not touched again.
         ensures repeats { (e : WavFault) → (reading self.old).fault ≡ Some e →
             (result ≡ Err e) × (reader_of self.new ≡ reader_of self.old) }
 
-        // What was read is gone, and a fault stays.
+        // The bytes that were read are gone, and a fault stays.
         ensures goes_on { IfOk result (λ v. reading self.new ≡
             record (reading self.old) { gone = (reading self.old).gone + 2 * length v.items }) }
         ensures stops { IfErr result (λ e. reading self.new ≡ record (reading self.old) { fault = Some e }) }

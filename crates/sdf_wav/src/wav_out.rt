@@ -11,7 +11,7 @@ use crate::content_out::ContentOut;
 use crate::device::Writer;
 use crate::fault::WavFault;
 
-/// A file on its way to a writer: the header is written, and so many frames are missing.
+/// A file that is being written: its header is written, and [`WavOut::missing`] frames are still to be written.
 #[derive(Drop)]
 pub struct WavOut<'a, W> {
     writer: &'a mut W,
@@ -19,9 +19,9 @@ pub struct WavOut<'a, W> {
 }
 
 impl<'a, W: Writer> WavOut<'a, W> {
-    /// Writes the header of a file of so many frames. Fails by `Channels`, `RateZero`, `RateTooLarge` or `TooLong`,
-    /// tested in this order and before the first byte, and by `Write`. Whoever must know what the writer took before
-    /// that fault calls [`ContentOut::start`], which writes the same, and then [`WavOut::over`].
+    /// Writes the header of a file of `frames` frames, at `rate` frames a second. Fails with `Channels`, `RateZero`,
+    /// `RateTooLarge` or `TooLong`, tested in this order before the first byte, and with `Write`. To know what the
+    /// writer took before `Write`, call [`ContentOut::start`], which writes the same, and then [`WavOut::over`].
     pub fn start(
         writer: &'a mut W,
         rate: u64,
@@ -36,8 +36,7 @@ impl<'a, W: Writer> WavOut<'a, W> {
         ensures fits { IfOk result (λ _. start_fault rate channels frames ≡ None) }
         ensures fault { IfErr result (StartFails rate channels frames) }
 
-        // Where the writer is blamed, some writer was left that had failed once more: a body that writes nothing has
-        // none.
+        // If the fault is `Write`, some writer was left that had failed once more: a body that writes nothing has none.
         ensures device { IsErrOf result WavFault.Write →
             (left : W) × ((W.state left).failures ≡ one_more (W.state writer.old).failures) }
     {
@@ -45,7 +44,7 @@ impl<'a, W: Writer> WavOut<'a, W> {
         Ok(WavOut::over(writer, content))
     }
 
-    /// A file whose content goes on to this writer.
+    /// Returns a file whose `content` goes on to `writer`.
     pub fn over(writer: &'a mut W, content: ContentOut) -> WavOut<'a, W>
         ensures same_writer { writer_name result ≡ writer.entry.ghost_name }
         ensures writer { writer_of result ≡ writer.old }
@@ -54,27 +53,28 @@ impl<'a, W: Writer> WavOut<'a, W> {
         WavOut { writer, content }
     }
 
-    /// How many frames are still to be written.
+    /// Returns how many frames are still to be written.
     pub fn missing(&self) -> u64
         ensures { result ≡ (owed self.now).missing }
     {
         self.content.missing()
     }
 
-    /// Writes the next frames, interleaved. Once the writer failed, nothing more is written and `Write` comes again.
+    /// Writes the next frames, interleaved in `samples`. Once the writer has failed, this writes nothing more and fails
+    /// with `Write` again.
     pub fn put(&mut self, samples: &[i16]) -> Result<(), WavFault>
         requires whole { length samples.now % (owed self.old).channels ≡ 0 }
         requires missing { length samples.now ≤ (owed self.old).missing * (owed self.old).channels }
         ensures same_writer { writer_name self.new ≡ writer_name self.old }
 
-        // The samples are written, or a front of their bytes where the writer fails.
+        // The samples are written, or the beginning of their bytes if the writer fails.
         ensures writes { (owed self.old).spent ≡ false →
             Puts (W.state (writer_of self.old)).contents (W.state (writer_of self.new)).contents
             (sample_bytes samples.now) result }
         ensures counted { (owed self.old).spent ≡ false →
             (W.state (writer_of self.new)).failures ≡ failures_after result (W.state (writer_of self.old)).failures }
 
-        // A failure is repeated, and the writer left alone.
+        // A failure is repeated, and the writer is not touched again.
         ensures repeats { (owed self.old).spent ≡ true →
             (result ≡ Err WavFault.Write) × (writer_of self.new ≡ writer_of self.old) }
         ensures owed { owed self.new ≡ owed_after (owed self.old) (length samples.now) result }
@@ -83,7 +83,7 @@ impl<'a, W: Writer> WavOut<'a, W> {
         self.content.put(self.writer, samples)
     }
 
-    /// Ends the file, and says whether its writer failed. Nothing is written.
+    /// Ends the file, and fails with `Write` if its writer failed. Nothing is written.
     pub fn end(self) -> Result<(), WavFault>
         requires { ((owed self).missing ≡ 0) ⊎ ((owed self).spent ≡ true) }
         ensures value { result ≡ ended (owed self.entry).spent }

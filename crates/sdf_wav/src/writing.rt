@@ -33,7 +33,7 @@ fn bytes_of_u32(n: u32) -> [u8; 4]
     bytes
 }
 
-/// The 44 bytes before data of this size.
+/// Returns the 44 bytes before `size` bytes of data.
 #[tactic(auto, unfolding(crate::specs::Canonical::header))]
 pub(crate) fn header(rate: u32, channels: u16, size: u32) -> [u8; 44]
     requires size { size ≤ 4294967259 }
@@ -54,10 +54,10 @@ pub(crate) fn header(rate: u32, channels: u16, size: u32) -> [u8; 44]
     ]
 }
 
-/// How many samples are converted at a time.
+/// Samples converted at a time.
 const WRITE_PIECE: usize = 8192;
 
-/// Writes the samples, a piece at a time.
+/// Writes `samples`, a piece at a time.
 pub(crate) fn put_samples<W: Writer>(writer: &mut W, samples: &[i16]) -> Result<(), DeviceFault>
     ensures ok { OnOk result (Appends (W.state writer.old).contents (W.state writer.new).contents
         (sample_bytes samples.now)) }
@@ -77,10 +77,10 @@ pub(crate) fn put_samples<W: Writer>(writer: &mut W, samples: &[i16]) -> Result<
     Ok(())
 }
 
-/// The most bytes a second that the header can say.
+/// Maximum bytes a second that the header can state.
 pub(crate) const MAX_BYTES_A_SECOND: u64 = 4_294_967_295;
 
-/// The most bytes of data that the header can say: 36 more stand behind the first eight bytes of the file.
+/// Maximum bytes of data that the header can state. Its RIFF size is 36 bytes more.
 pub(crate) const MAX_DATA: u64 = 4_294_967_259;
 
 /// Writes a whole content in one piece.
@@ -102,17 +102,18 @@ fn put_content<W: Writer>(
     out.end()
 }
 
-/// Writes the canonical file of a sound: RIFF/WAVE with one `fmt ` chunk of 16 bytes and one `data` chunk. Fails by
-/// `RateTooLarge`, or else `TooLong`, before the first byte; after `Write` a front of the file is written.
+/// Writes the canonical file of `wav`: RIFF/WAVE with one `fmt ` chunk of 16 bytes and one `data` chunk. Fails with
+/// `RateTooLarge` or `TooLong`, tested in this order before the first byte. After `Write`, the beginning of the file is
+/// written.
 pub fn write_wav<W: Writer>(writer: &mut W, wav: &Wav) -> Result<(), WavFault>
     ensures writes { Writes (W.state writer.old).contents (W.state writer.new).contents (write_fault wav.now)
         (canonical_wav wav.now) result }
 
-    // That is the canonical file of a sound, and whatever is known of the bytes, no other fault comes.
+    // What is written is the canonical file of a sound. Whatever is known of the bytes, no other fault is returned.
     ensures canonical { write_fault wav.now ≡ None → IsCanonical (canonical_wav wav.now) }
     ensures fault { IfErr result IsWritingFault }
 
-    // A failure of the writer is answered at once: no other call of it failed.
+    // A failure of the writer is returned at once: no other call of it failed.
     ensures counted { (W.state writer.new).failures ≡ failures_after result (W.state writer.old).failures }
     ensures device { IsErrOf result WavFault.Write →
         Failed (W.state writer.old).failures (W.state writer.new).failures }

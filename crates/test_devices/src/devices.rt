@@ -1,42 +1,42 @@
-//! A reader or writer of std that moves little, slips at one call, and keeps what it was asked for.
+//! A reader or writer of std that moves few bytes a call, slips at one call, and records what it was asked for.
 
 ghost use Rattle.std.specs.Prelude.{◌≤◌, None, IfOk};
 
 use std::alloc::Global;
 use std::io::{self, ErrorKind};
 
-/// What a device does at one of its calls, in place of moving bytes.
+/// What a device does at one of its calls, instead of moving bytes.
 #[derive(Clone, Copy, Debug, PartialEq, Eq)]
 pub enum Slip {
-    /// It answers an error of the kind `Other`.
+    /// It returns an error of the kind `Other`.
     Fails,
-    /// It answers an error of the kind `Interrupted`.
+    /// It returns an error of the kind `Interrupted`.
     IsInterrupted,
     /// It moves no byte.
     MovesNothing,
 }
 
-/// Moves bytes of a device.
+/// A reader or writer over `device`, which moves few bytes a call and can slip at one.
 #[derive(Drop)]
 pub struct Faulty<D> {
     pub device: D,
-    /// How many bytes a call moves at most.
+    /// Maximum bytes that a call moves.
     pub most: usize,
-    /// What it does at one call.
+    /// What it does at call number `at`.
     pub slip: Slip,
-    /// Which call that is, counted from 1; 0 for none.
+    /// The number of the call that slips, counted from 1; 0 for none.
     pub at: usize,
-    /// How many bytes each call asked for.
+    /// Bytes that each call asked for.
     pub asked: Vec<usize>,
 }
 
 impl<D> Faulty<D> {
-    /// Moves at most so many bytes a call, and never slips.
+    /// Returns a device that moves at most `most` bytes a call, and never slips.
     pub fn moving(alloc: Global, device: D, most: usize) -> Faulty<D> {
         Faulty::slipping(alloc, device, most, Slip::Fails, 0)
     }
 
-    /// Moves at most so many bytes a call, and slips at the call of this number.
+    /// Returns a device that moves at most `most` bytes a call, and slips at call number `at`.
     pub fn slipping(alloc: Global, device: D, most: usize, slip: Slip, at: usize) -> Faulty<D> {
         Faulty {
             device,
@@ -47,7 +47,7 @@ impl<D> Faulty<D> {
         }
     }
 
-    /// How many bytes a call may move that asks for so many.
+    /// Records a call that asks for `len` bytes, and returns how many it may move. Slips if it is call number `at`.
     fn begin_call(&mut self, len: usize) -> io::Result<usize>
         ensures { IfOk result (λ n. n ≤ len) }
     {

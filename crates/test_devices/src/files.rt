@@ -1,14 +1,15 @@
-//! WAV files of which a front is kept, or whose sizes lie, and what is in them.
+//! WAV files that are cut off or whose sizes lie, and what reading them returns.
 
 use sdf_wav::FormatFault;
 
-/// A file is read and has these samples, or has this fault.
+/// The result of reading a file: its samples, or its fault.
 pub type Answer = Result<&'static [i16], FormatFault>;
 
-/// What a file is where so many of its bytes are kept, or fewer, but more than the row before says.
+/// A number of bytes, and the result of a file cut to that length or less, but to more than the row before has.
 type Kept = (usize, Answer);
 
-/// A file of one channel, 44,100 frames a second, and what each front of it is: first those without data, then the rest.
+/// A file of one channel at 44,100 frames a second, and the result of each front of it. `heads` has the fronts without
+/// data, and `fronts` the others.
 #[derive(Clone, Copy)]
 pub struct Whole {
     pub bytes: &'static [u8],
@@ -37,7 +38,7 @@ pub const CANONICAL: Whole = Whole {
     fronts: &[(47, TRUNCATED), (48, Ok(&[5, -5]))],
 };
 
-/// What a front without data is, of a file with a list and the extensible format.
+/// The results of the fronts without data, of a file with a list and the extensible format.
 const LISTED: &[Kept] = &[
     (11, TRUNCATED),
     (12, NO_FORMAT),
@@ -47,7 +48,7 @@ const LISTED: &[Kept] = &[
     (74, NO_DATA),
 ];
 
-/// A list of odd size with its pad byte, the extensible format, and data of a size that is filled in.
+/// A file with a list of odd size and its pad byte, the extensible format, and data of a size that is filled in.
 pub const SIZED: Whole = Whole {
     bytes: b"RIFF\x01\x02\x03\x04WAVELIST\x05\0\0\0\x01\x02\x03\x04\x05\0\
         fmt \x28\0\0\0\xFE\xFF\x01\0\x44\xAC\0\0\x88\x58\x01\0\x02\0\x10\0\x16\0\x10\0\x04\0\0\0\
@@ -57,7 +58,7 @@ pub const SIZED: Whole = Whole {
     fronts: &[(85, TRUNCATED), (86, Ok(&[1, -2]))],
 };
 
-/// The same with a size that was never filled in.
+/// The file `SIZED`, but with a data size that was never filled in.
 pub const OPEN: Whole = Whole {
     bytes: b"RIFF\x01\x02\x03\x04WAVELIST\x05\0\0\0\x01\x02\x03\x04\x05\0\
         fmt \x28\0\0\0\xFE\xFF\x01\0\x44\xAC\0\0\x88\x58\x01\0\x02\0\x10\0\x16\0\x10\0\x04\0\0\0\
@@ -74,7 +75,7 @@ pub const OPEN: Whole = Whole {
     ],
 };
 
-/// The three files.
+/// All three files.
 pub const FILES: [Whole; 3] = [CANONICAL, SIZED, OPEN];
 
 /// A file whose sizes lie, and its fault.
@@ -84,7 +85,7 @@ pub struct Lie {
     pub fault: FormatFault,
 }
 
-/// Sizes past the end of the input, and one that is no whole number of frames.
+/// Files with sizes past the end of the input, and one with a size that is not a whole number of frames.
 pub const LIES: [Lie; 4] = [
     Lie {
         bytes: b"RIFF\0\0\0\0WAVELIST\xFF\xFF\xFF\xFF\
@@ -110,13 +111,13 @@ pub const LIES: [Lie; 4] = [
 ];
 
 impl Whole {
-    /// Its first bytes, so many as are kept.
+    /// Returns the first `kept` bytes of the file, or all if it has fewer.
     pub fn front(&self, kept: usize) -> &'static [u8] {
         let bytes = self.bytes;
         &bytes[..kept.min(bytes.len())]
     }
 
-    /// What the file is where so many bytes of it are kept.
+    /// Returns the result of the first `kept` bytes of the file, or `None` past its length.
     pub fn answer(&self, kept: usize) -> Option<Answer> {
         let mut rows = self.heads.iter().chain(self.fronts);
         let (_, answer) = rows.find(|(last, _)| kept <= *last)?;

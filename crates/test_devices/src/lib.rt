@@ -1,7 +1,7 @@
-//! Devices of the tests, which move little or fail at one call, and damaged WAV files.
+//! Devices for tests, which move few bytes a call or fail at one call, and damaged WAV files.
 //!
-//! It depends on `sdf_wav`, and has no tests: the crates of tests above it use it, so that the devices are proved once.
-//! Begin at `devices`.
+//! It depends on `sdf_wav`, and has no tests: the crates of tests use it, so that the devices are proved once. Begin at
+//! `devices`.
 #![tactic(auto)]
 
 pub mod devices;

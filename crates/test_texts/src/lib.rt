@@ -1,6 +1,6 @@
-//! What a test compares: the text that is told of what was made, and the text that is wanted.
+//! How a test compares: the text of what was made, and the text expected.
 //!
-//! It depends on std alone, and has no tests: the crates of tests use it, so that the comparison is proved once, and a
+//! It depends on std alone, and has no tests. The crates of tests use it, so that the comparison is proved once, and a
 //! test holds no text of its own. Begin at `says`.
 #![tactic(auto)]
 
@@ -9,14 +9,14 @@ ghost use Rattle.std.specs.Result.{IsOkAnd};
 
 use std::test::Fail;
 
-/// Fails where another text is told than the one wanted, or none.
+/// Fails unless `told` is the text `wanted`.
 pub fn says(told: Result<String, Fail>, wanted: &str) -> Result<(), Fail>
     ensures { IfOk result (λ _. IsOkAnd told (λ text. string_bytes text ≡ wanted.now)) }
 {
     row_says("told", told, wanted)
 }
 
-/// As `says`, for a row of a table that has this name.
+/// Compares as `says` does, for the row `name` of a table. The message on a different text begins with `name`.
 pub fn row_says(name: &str, told: Result<String, Fail>, wanted: &str) -> Result<(), Fail>
     ensures { IfOk result (λ _. IsOkAnd told (λ text. string_bytes text ≡ wanted.now)) }
 {

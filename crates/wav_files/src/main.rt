@@ -1,5 +1,5 @@
-//! Prints what `read_wav` answers for each WAV file that it is given: the rate, the channels, the frames and the
-//! SHA-256 of the samples' bytes, or the fault.
+//! Prints what `read_wav` returns for each WAV file that is named: the rate, the channels, the frames and the SHA-256
+//! of the samples, or the fault.
 //!
 //! It depends on `sdf_wav`. Begin at `main`.
 #![tactic(auto)]
@@ -10,8 +10,8 @@ use sha2::{Digest, Sha256};
 use std::alloc::Global;
 use std::{env, fs};
 
-/// The digest of the samples, 16-bit little-endian and interleaved: of what stands behind the header of the canonical
-/// file.
+/// Returns the SHA-256 of the samples, 16-bit little-endian and interleaved: of the bytes behind the header of the
+/// canonical file.
 fn digest_of(alloc: Global, wav: &Wav) -> Result<[u8; 32]> {
     let mut writer = ToWrite::new(Vec::new(alloc));
     write_wav(&mut writer, wav)?;

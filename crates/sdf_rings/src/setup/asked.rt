@@ -1,10 +1,10 @@
-//! How many firings are asked.
+//! The number of firings asked of each node.
 
 ghost use Rattle.std.specs.Prelude.{◌≡◌, ◌*◌, ◌<◌, ◌^◌, map, sum, IfOk};
 
 use std::alloc::{AllocError, Global};
 
-/// How often a node fires in so many blocks of `j` periods.
+/// Returns how often a node fires in `blocks` blocks of `j` periods, if it fires `repetition` times in a period.
 fn firings(blocks: u32, j: u32, repetition: u32) -> u64
     requires { j * repetition < 2 ^ 32 }
     ensures { result ≡ blocks * (j * repetition) }
@@ -12,7 +12,7 @@ fn firings(blocks: u32, j: u32, repetition: u32) -> u64
     u64::from(blocks) * (u64::from(j) * u64::from(repetition))
 }
 
-/// The same of each node.
+/// Returns how often each node fires in `blocks` blocks of `j` periods. `repetitions` is the repetition vector.
 pub(crate) fn asked(
     alloc: Global,
     repetitions: &[u32],

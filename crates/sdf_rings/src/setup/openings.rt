@@ -1,4 +1,4 @@
-//! Rings before the first firing: each holds what its channel begins with.
+//! Rings before the first firing: each holds the initial samples of its channel.
 
 ghost use Rattle.std.specs.Prelude.{◌≡◌, ◌<◌, ◌≤◌, ℕ, length, slice_index, IfOk};
 ghost use Rattle.rtrb.specs.Ring.{producer_capacity};
@@ -13,14 +13,14 @@ use sdf_graph::Channel;
 use sdf_prec::Table;
 use std::alloc::{AllocError, Global};
 
-/// The ends of rings, by channel. Those that stand at a node are taken out.
+/// The ends of rings, by channel. An end is `None` once a node has taken it.
 #[derive(Drop)]
 pub(crate) struct Ends<T> {
     pub(crate) producers: Vec<Option<Producer<T, Global>>>,
     pub(crate) consumers: Vec<Option<Consumer<T, Global>>>,
 }
 
-/// A ring of so many places that holds some samples.
+/// Returns the ends of a ring that has room for `places` samples and holds `samples`.
 fn open_ring<T: Copy>(
     alloc: Global,
     places: usize,
@@ -36,7 +36,7 @@ fn open_ring<T: Copy>(
     Ok((producer, consumer))
 }
 
-/// The greatest of some numbers.
+/// Returns the greatest of `numbers`.
 fn greatest(numbers: &[u32]) -> u32
     requires { 0 < length numbers.now }
     ensures { IsGreatestOf numbers.now result }
@@ -50,7 +50,7 @@ fn greatest(numbers: &[u32]) -> u32
     greatest
 }
 
-/// The greatest number of samples that a firing puts on a channel.
+/// Returns the greatest number of samples that a firing puts on `channel`.
 fn greatest_put(channel: &Channel) -> u32
     requires { 0 < length channel.now.put }
     ensures { IsGreatestOf channel.now.put result }
@@ -58,8 +58,8 @@ fn greatest_put(channel: &Channel) -> u32
     greatest(&channel.put)
 }
 
-/// Returns how many samples the ring of channel `c` takes: the capacity in the table, and another block if the channel
-/// leads from an actor to itself. More than a memory has can't be reserved.
+/// Returns the room in the ring of channel `c` in samples: the capacity in `table`, and another block from an actor to
+/// itself. Fails with `AllocError` if this does not fit into a `usize`.
 fn room_of<A: Actor>(net: &Net<A>, table: &Table, c: usize) -> Result<usize, AllocError>
     requires known { c < length net.now.wires }
     requires caps { length table.now.caps ≡ length net.now.wires }
@@ -77,7 +77,7 @@ fn room_of<A: Actor>(net: &Net<A>, table: &Table, c: usize) -> Result<usize, All
     }
 }
 
-/// The rings of a net's channels.
+/// Returns the rings of all channels of `net`, by channel.
 pub(crate) fn open_rings<A: Actor>(
     alloc: Global,
     net: &Net<A>,

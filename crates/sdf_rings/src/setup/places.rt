@@ -1,4 +1,4 @@
-//! Where each node stands.
+//! The place of each node: its seat, and its index there.
 
 ghost use Rattle.std.specs.Prelude.{◌≡◌, ◌<◌, ℕ, None, Some, length, vec_len, IfOk};
 ghost use Rattle.sdf_prec.specs.Tables.{home_in};
@@ -7,7 +7,7 @@ ghost use Rattle.sdf_rings.specs.Begun.{place, standing, AreNext};
 use sdf_prec::Table;
 use std::alloc::{AllocError, Global};
 
-/// How many of these stand on a seat.
+/// Returns how many of `places` are on `seat`.
 fn standing(places: &[(usize, usize)], seat: usize) -> usize
     ensures { result ≡ standing places.now seat }
 {
@@ -20,7 +20,7 @@ fn standing(places: &[(usize, usize)], seat: usize) -> usize
     many
 }
 
-/// The column in which all firings of an actor stand.
+/// Returns the home of `actor`: the processor that does all its firings.
 fn home(table: &Table, actor: usize) -> usize
     requires known { actor < length table.now.homes }
     requires homed { home_in table.now actor ≡ None → ⊥ }
@@ -32,7 +32,7 @@ fn home(table: &Table, actor: usize) -> usize
     }
 }
 
-/// A place for each actor: the seat of its home, and the next one there.
+/// Returns a place for each actor: the seat of its home, and the next index there.
 pub(crate) fn places(
     alloc: Global,
     table: &Table,

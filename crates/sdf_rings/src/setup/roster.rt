@@ -1,4 +1,4 @@
-//! Which firings of a table each seat does.
+//! The assignment of a table's firings to seats.
 
 ghost use Rattle.std.specs.Prelude.{◌≡◌, ◌==◌, ◌++◌, ◌∷◌, [], if◌then◌else◌, map, IfOk, OnOk};
 ghost use Rattle.sdf_graph.specs.Sequences.{repeated};
@@ -8,7 +8,7 @@ ghost use Rattle.sdf_rings.specs.Begun.{place, IsRoster};
 use crate::course::Course;
 use std::alloc::{AllocError, Global};
 
-/// Puts a firing behind a seat's list where its actor stands there.
+/// Appends a firing to `left`, the list of `seat`, if the `place` of its actor is on that seat.
 fn add_if_here(place: (usize, usize), seat: usize, left: &mut Vec<usize>) -> Result<(), AllocError>
     ensures { OnOk result (left.new.items ≡ left.old.items ++ (if place.0 == seat then place.1 ∷ [] else [])) }
 {
@@ -18,10 +18,10 @@ fn add_if_here(place: (usize, usize), seat: usize, left: &mut Vec<usize>) -> Res
     Ok(())
 }
 
-/// Where each node stands, and the firings of so many blocks: each seat does those of its nodes.
+/// The assignment of the firings of all blocks: each seat does the firings of its nodes.
 #[derive(Clone, Copy)]
 pub(crate) struct Roster<'a> {
-    /// Where each node stands: its seat, and its place there.
+    /// The place of each node: its seat, and its index there.
     pub(crate) places: &'a [(usize, usize)],
     /// The nodes of a block's firings, in order.
     pub(crate) order: &'a [usize],
@@ -29,7 +29,7 @@ pub(crate) struct Roster<'a> {
 }
 
 impl<'a> Roster<'a> {
-    /// A seat's firings of a block.
+    /// Returns the firings that `seat` does in one block, by stand.
     fn block_of(&self, alloc: Global, seat: usize) -> Result<Vec<usize>, AllocError>
         requires { IsRoster self.now }
         ensures { IfOk result (λ left. left.items ≡ map (λ a. (place self.now.places.now a).1)
@@ -42,7 +42,7 @@ impl<'a> Roster<'a> {
         Ok(left)
     }
 
-    /// A seat's firings of all blocks.
+    /// Returns the firing list of `seat` over all blocks.
     pub(crate) fn course_of(&self, alloc: Global, seat: usize) -> Result<Course, AllocError>
         requires { IsRoster self.now }
         ensures { IfOk result (λ left. left ≡ map (λ a. (place self.now.places.now a).1)

@@ -15,7 +15,7 @@ use crate::stand::Stand;
 use sdf_actor::Actor;
 use std::alloc::{AllocError, Global};
 
-/// The nodes of a seat, each at its place.
+/// Returns the nodes of `seat`, each at its index. Their ring ends are taken out of `ends`.
 fn stands<A: Actor>(
     alloc: Global,
     start: &Start<A>,
@@ -45,7 +45,7 @@ fn stands<A: Actor>(
     Ok(stands)
 }
 
-/// A seat with its nodes and the list of its firings.
+/// Returns seat number `seat` with its nodes and its firing list.
 fn begin_seat<A: Actor>(
     alloc: Global,
     start: &Start<A>,
@@ -79,7 +79,7 @@ fn begin_seat<A: Actor>(
     })
 }
 
-/// So many seats, each with its nodes and the list of its firings.
+/// Returns `many` seats, each with its nodes and its firing list.
 pub(crate) fn seats<A: Actor>(
     alloc: Global,
     start: &Start<A>,

@@ -1,4 +1,4 @@
-//! A node before its first firing.
+//! Nodes before their first firing.
 
 ghost use Rattle.std.specs.Prelude.{◌≡◌, ◌<◌, ℕ, None, length, slice_index, vec_len, IsSome, IfSome};
 ghost use Rattle.std.specs.Prelude.{IfOk, OnOk};
@@ -17,25 +17,25 @@ use sdf_node::{begin, most};
 use std::alloc::{AllocError, Global};
 use std::mem;
 
-/// The working blocks of a node hold so many samples, or a firing's where that has more.
+/// Samples in a working block of a node, unless one firing moves more.
 const SAMPLES_AT_ONCE: usize = 4_096;
 
-/// What a run begins with.
+/// What the nodes of a run begin with.
 #[derive(Drop)]
 pub(crate) struct Start<'a, A: Actor> {
     pub(crate) net: &'a Net<A>,
     pub(crate) inputs: &'a [Vec<A::Token>],
-    /// What firings move.
+    /// How many samples each firing moves.
     pub(crate) sizes: Sizes,
-    /// How many firings are asked of each node.
+    /// Firings asked of each node.
     pub(crate) asked: Vec<u64>,
-    /// How many samples a sink takes in all.
+    /// Samples that each sink takes in all.
     pub(crate) room: usize,
-    /// Any sample, where there is one.
+    /// Any sample to fill working blocks with, if the inputs have one.
     pub(crate) filler: Option<A::Token>,
 }
 
-/// Takes the end of a ring out.
+/// Takes the end of channel `c` out of `ends`.
 fn take_end<E>(ends: &mut Vec<Option<E>>, c: usize) -> E
     requires known { c < length ends.old.items }
     requires there { IsSome (end_at ends.old.items c) }
@@ -48,7 +48,7 @@ fn take_end<E>(ends: &mut Vec<Option<E>>, c: usize) -> E
     }
 }
 
-/// Takes the ends of the rings of some channels out, in order.
+/// Takes the ends of `channels` out of `ends`, in order.
 fn take_ends<E: Drop>(
     alloc: Global,
     ends: &mut Vec<Option<E>>,
@@ -69,7 +69,7 @@ fn take_ends<E: Drop>(
     Ok(taken)
 }
 
-/// A block of fillers, where there is one.
+/// Returns a block of `many` fillers, or an empty block if there is no filler.
 fn fillers<T: Copy>(alloc: Global, filler: Option<T>, many: usize) -> Result<Vec<T>, AllocError>
     ensures { IfSome filler (λ _. IfOk result (λ v. vec_len v ≡ many)) }
 {
@@ -79,7 +79,7 @@ fn fillers<T: Copy>(alloc: Global, filler: Option<T>, many: usize) -> Result<Vec
     }
 }
 
-/// A node with its ends of rings.
+/// Returns node `a` before its first firing, with the ring ends `ins` and `outs`.
 fn make_stand<A: Actor>(
     alloc: Global,
     start: &Start<A>,
@@ -112,7 +112,7 @@ fn make_stand<A: Actor>(
     })
 }
 
-/// A node before its first firing, with the ends at its ports.
+/// Returns node `a` before its first firing. The ring ends at its ports are taken out of `ends`.
 pub(crate) fn begin_stand<A: Actor>(
     alloc: Global,
     start: &Start<A>,
