@@ -150,7 +150,7 @@ entry_of kind.Gather vs = Gather (natural (first vs)) (natural (second vs))
 entry_of kind.Clip vs = Clip (integer (first vs)) (integer (second vs))
 entry_of kind.Offset vs = Offset (integer (first vs))
 
--- the form `FromLeast` is kept: the least value of a clip is at most its greatest
+-- the bounds of a clip are in order, as the form `FromLeast` says; other kinds have no bounds
 abbrev pub is_ordered : KindEntry → Bool
 is_ordered (Clip least greatest) = int_le least greatest
 is_ordered kind = true

@@ -44,7 +44,7 @@ pub static PLACEMENTS: [Placement; 4] = [
 pub enum Runner {
     /// One thread.
     One,
-    /// Workers over the rows of a table, the firings of a row in parallel.
+    /// Workers by the rows of a table, the firings of a row in parallel.
     Rows,
     /// Workers over bounded rings, each at its own pace.
     Rings,

@@ -27,8 +27,8 @@ pub(crate) const FIRST_SHARE: usize = 65_536;
 /// processor then runs fewer parts.
 const PART: usize = 16_384;
 
-/// The least warm-ups in a part if a piece has several parts for each worker. At most one in 32 of its periods is then
-/// run twice.
+/// The least length of a part, in warm-ups, if a piece has several parts for each worker. At most one in 32 of its
+/// periods is then run twice.
 const WARM_UPS: u32 = 32;
 
 /// The cut of a piece in time: the most parts that are run in parallel, and the periods of warm-up before a part.

@@ -1,4 +1,4 @@
-//! A profile: the time of a run that each actor's firings take, as a text and as the costs of a graph file.
+//! A profile: the time that each actor's firings take in a run, as a text and as the costs of a graph file.
 //!
 //! It depends on `sdf_plan`, which plans a design, and on `sdf_process`, which runs it and calls a gate before each
 //! firing. The gate is from `sdf_run`, and readers and writers are from `sdf_wav`. `sdf_file` has the names of actors

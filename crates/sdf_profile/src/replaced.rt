@@ -32,7 +32,7 @@ fn is_cost(text: &[u8]) -> bool
     }
 }
 
-/// Returns what comes before a cost that replaces `old`: nothing or a line end. `None` if it may not be replaced.
+/// Returns what comes before a cost that replaces `old`: nothing or a line end; `None` if `old` may not be replaced.
 #[tactic(auto, unfolding(crate::specs::Places::before))]
 fn before(old: &[u8], long: bool) -> Option<&'static str>
     ensures exactly { option_map (λ before. before.now) result ≡ before old.now long }
@@ -49,7 +49,7 @@ fn before(old: &[u8], long: bool) -> Option<&'static str>
     }
 }
 
-/// Returns the text of `cost` that replaces `old`, if it may be replaced.
+/// Returns the text of `cost` that replaces `old`, if `old` may be replaced.
 #[tactic(auto, unfolding(crate::specs::Places::text_for))]
 fn text_for(alloc: Global, old: &[u8], long: bool, cost: u32) -> Result<Option<String>, AllocError>
     ensures exactly { IfOk result (λ text. option_map string_bytes text ≡ text_for cost old.now long) }
