@@ -118,7 +118,7 @@ pub(crate) struct Player<'a> {
     pub(crate) manner: Manner,
 }
 
-/// Returns the cut of a sound in time, if it is to be run in several parts and the net is known to forget its input.
+/// Returns the cut of a sound in time, if several parts are requested and the net is known to forget its input.
 fn cut_of(alloc: Global, score: Score<'_>) -> Result<Option<Cut>, AllocError>
     requires { IsScore score }
     ensures warm { IfOk result (IsCut score.entry.net.now score.entry.period.now.repetitions) }
