@@ -1,4 +1,4 @@
--- What an actor's table says, with the first test that it fails.
+-- What an actor's table says, or the first test that it fails.
 use Rattle.std.specs.Prelude.{ℕ, Bool, List, [], ◌∷◌, codes, Option, Result, Ok, Err, bytes_eq, if◌then◌else◌}
 use Rattle.std.specs.Prelude.{string_bytes, map}
 use Rattle.std.specs.List.{list_any}
@@ -34,18 +34,18 @@ abbrev pub IsActorWithin : Bool → ActorEntry → Type 0
 IsActorWithin looked a = IsWithin looked a.kind × HaveForms looked shared_keys
     (Optional a.processor ∷ Natural a.cost ∷ [])
 
--- the name of actor a, after actors of these names
+-- the name of actor a, given the names of the actors before it
 unfoldable pub name_at : ℕ → List (List ℕ) → Members → Result (List ℕ) Fault
 name_at a names ms = do
   s ← text_at (actor a) (codes "name") ms
   named ← if is_name s then Ok s else Err (bad_name (actor a) (codes "name"))
   if list_any (bytes_eq s) names then Err (name_twice a) else Ok s
 
--- actor a of a kind has no other keys than an actor of this kind may have
+-- actor a has only keys that an actor of its kind may have
 abbrev pub keys_at : ℕ → Kind → Members → Result (Unit {0}) Fault
 keys_at a word ms = known_keys (actor a) (actor_keys (row_of word).keys ms) ms
 
--- actor a, after actors of these names
+-- actor a, given the names of the actors before it
 unfoldable pub actor_at : ℕ → ℕ → Lookup → List (List ℕ) → Data → Result ActorValue Fault
 actor_at a format files names d = do
   ms ← or_fault (wrong_type (actor a) (codes "actor")) (as_table d)

@@ -1,4 +1,4 @@
--- A whole graph file, with the first test that it fails.
+-- What a whole graph file says, or the first test that it fails.
 use Rattle.std.specs.Prelude.{◌≡◌, ℕ, suc, ◌+◌, ◌&&◌, not, List, [], ◌∷◌, ◌++◌, codes, map, Option, None, Result, Ok}
 use Rattle.std.specs.Prelude.{Err}
 use Rattle.std.specs.Prelude.{nat_le, bytes_eq, if◌then◌else◌}
@@ -19,9 +19,9 @@ use Rattle.sdf_document.specs.declared.entry.KindEntry.TheVariants.{Fir, Table}
 use Rattle.sdf_document.specs.Actors.{ActorValue, actor_view, names_in, actor_at}
 use Rattle.sdf_document.specs.Links.{LinkValue, link_view, link_at}
 
--- ---- one after the other
+-- ---- items in turn
 
--- each item in turn, from number i on, after those done
+-- each item in turn, from number i on, given what the items before it gave
 unfoldable pub each_from : {E : Type 0} → (ℕ → List E → Data → Result E Fault) → ℕ → List E → Items →
     Result (List E) Fault
 each_from one i done no_items = Ok done
@@ -50,7 +50,7 @@ abbrev pub item_count : Items → ℕ
 item_count no_items = 0
 item_count (item d ds) = suc (item_count ds)
 
--- from least to most of them
+-- the count n is from least to most, otherwise fault f
 abbrev pub counted : Fault → ℕ → ℕ → ℕ → Result (Unit {0}) Fault
 counted f least most n = if nat_le least n && nat_le n most then Ok tt else Err f
 
@@ -90,17 +90,17 @@ entries_at files parts = do
   links ← links_in (names_in actors) parts.links
   Ok (record { actors = actors; links = links })
 
--- the table that the bytes of a graph file are
+-- the TOML table in the bytes of a graph file
 unfoldable pub graph_table : List ℕ → Result Members Fault
 graph_table bytes = or_fault (not_toml top) (table_in bytes)
 
--- what the table of a graph file says, beside its coefficient files
+-- what the table of a graph file says, with its coefficient files
 unfoldable pub document_in : Members → Files → Result DocumentValue Fault
 document_in ms files = do
   parts ← parts_at ms
   entries_at files parts
 
--- what the bytes of a graph file say, beside its coefficient files
+-- what the bytes of a graph file say, with its coefficient files
 unfoldable pub document_of : List ℕ → Files → Result DocumentValue Fault
 document_of bytes files = do
   ms ← graph_table bytes
@@ -108,7 +108,7 @@ document_of bytes files = do
 
 -- ---- the coefficient files that it names
 
--- the file that an actor's list stands in
+-- the coefficient file of a kind's list, if it has one
 abbrev pub kind_file : KindEntry → Option (List ℕ)
 kind_file (Fir up down shift taps) = taps.file
 kind_file (Table offset values) = values.file
@@ -117,23 +117,23 @@ kind_file other = None
 abbrev pub actor_file : ActorValue → Option (List ℕ)
 actor_file a = kind_file a.kind
 
--- each once, where it stands first
+-- each name once, in first-seen order
 abbrev pub first_seen : List (List ℕ) → List (List ℕ)
 first_seen [] = []
 first_seen (x ∷ xs) = x ∷ filter (λ y. not (bytes_eq x y)) (first_seen xs)
 
--- no name stands twice
+-- no name is there twice
 abbrev pub AreDistinct : List (List ℕ) → Type 0
 AreDistinct names = first_seen names ≡ names
 
--- the tests of a table without links and without a look into the files
+-- the coefficient files that a graph file's table names; links and the files themselves are not tested
 unfoldable pub file_names_in : Members → Result (List (List ℕ)) Fault
 file_names_in ms = do
   parts ← parts_at ms
   actors ← actors_in parts.format unread parts.actors
   Ok (first_seen (filter_map actor_file actors))
 
--- the same tests of the bytes of a graph file
+-- the coefficient files that the bytes of a graph file name; links and the files themselves are not tested
 unfoldable pub file_names_of : List ℕ → Result (List (List ℕ)) Fault
 file_names_of bytes = do
   ms ← graph_table bytes

@@ -9,7 +9,7 @@ use Rattle.sdf_document.specs.declared.fault.DocumentFault.TheVariants as faults
 use Rattle.sdf_document.specs.declared.fault.ReadFault.{ReadFault}
 use Rattle.sdf_document.specs.declared.fault.ReadFault.TheVariants as reads
 
--- where a fault stands
+-- the place of a fault
 pub data Place : Type 0 where
   top : Place
   actor : ℕ → Place
@@ -66,13 +66,13 @@ fault_view (faults.UnknownKind n) = unknown_kind n
 fault_view (faults.BadPort n k) = bad_port n k.now
 fault_view (faults.NoFile name) = no_file (string_bytes name)
 
--- the next test, where those before it passed
+-- the next test, if those before it passed
 infixl 10 ◌>>=◌
 abbrev pub ◌>>=◌ : {A B : Type 0} → Result A Fault → (A → Result B Fault) → Result B Fault
 (Ok x) >>= f = f x
 (Err e) >>= f = Err e
 
--- the value, or a fault where there is none
+-- the value, or fault f if there is none
 abbrev pub or_fault : {A : Type 0} → Fault → Option A → Result A Fault
 or_fault f None = Err f
 or_fault f (Some x) = Ok x

@@ -34,7 +34,7 @@ word_at a format ms = do
 
 -- ---- its keys
 
--- where a key of a row is written: a list at its own key where that is there, and else at `file`
+-- the key that a table uses for a key of a row: `file` for a list that is not at its own key
 abbrev pub written_at : Members → List ℕ → Form → List ℕ
 written_at ms name (forms.List most width) = if is_some (get_member name ms) then name else codes "file"
 written_at ms name (forms.Natural least most absent) = name
@@ -45,13 +45,13 @@ written_at ms name (forms.FromLeast least most absent) = name
 abbrev pub names_of_keys : Members → List KeyRow → List (List ℕ)
 names_of_keys ms ks = map (λ (k : KeyRow). written_at ms k.name k.form) ks
 
--- the keys that an actor's table may have, with these of its kind
+-- the keys that an actor's table may have, given the keys of its kind
 abbrev pub actor_keys : List KeyRow → Members → List (List ℕ)
 actor_keys ks ms = (codes "name" ∷ codes "kind" ∷ names_of_keys ms ks) ++ names_of_keys ms shared_keys
 
 -- ---- the values of keys, in their order
 
--- a number where its key is absent
+-- the number of an absent key, if it may be absent
 abbrev pub absent_as : ℕ → List ℕ → ℕ → ℕ → Option ℕ → Result ℕ Fault
 absent_as a key least most None = Err (missing_key (actor a) key)
 absent_as a key least most (Some n) = within_natural a key least most (pos n)
@@ -64,7 +64,7 @@ abbrev pub optional_at : ℕ → List ℕ → ℕ → ℕ → Option Data → Re
 optional_at a key least most None = Ok None
 optional_at a key least most (Some d) = natural_in a key least most d >>= λ n. Ok (Some n)
 
--- the same of either sign
+-- the number, of either sign, of an absent key, if it may be absent
 abbrev pub absent_integer : ℕ → List ℕ → ℤ → ℤ → Option ℤ → Result ℤ Fault
 absent_integer a key least most None = Err (missing_key (actor a) key)
 absent_integer a key least most (Some z) = within_integer a key least most z
@@ -150,12 +150,12 @@ entry_of kind.Gather vs = Gather (natural (first vs)) (natural (second vs))
 entry_of kind.Clip vs = Clip (integer (first vs)) (integer (second vs))
 entry_of kind.Offset vs = Offset (integer (first vs))
 
--- what is said of a value beside the key `least` holds: the least value of a clip is at most its greatest
+-- the bounds of a clip are in order, as the form `FromLeast` says; other kinds have no bounds
 abbrev pub is_ordered : KindEntry → Bool
 is_ordered (Clip least greatest) = int_le least greatest
 is_ordered kind = true
 
--- a kind whose values are in order: of those that are not, the last key is at fault
+-- a kind whose values are in order; if they are not, the key `greatest` is at fault
 abbrev pub in_order : ℕ → KindEntry → Result KindEntry Fault
 in_order a k = if is_ordered k then Ok k else Err (kit_value (actor a) (codes "greatest"))
 
@@ -166,7 +166,7 @@ kind_at a files k ms = do
 
 -- ---- limits
 
--- a value is within the limits of its form, a list where files were looked into
+-- a value is within the limits of its form; a list is, if files were looked into
 abbrev pub HasForm : Bool → Form → KeyValue → Type 0
 HasForm looked (forms.Natural least most absent) v = (least ≤ natural v) × (natural v ≤ most)
 HasForm looked (forms.Optional least most) v = IfSome (optional v) (λ n. (least ≤ n) × (n ≤ most))
@@ -178,7 +178,7 @@ abbrev pub HaveForms : Bool → List KeyRow → List KeyValue → Type 0
 HaveForms looked [] vs = Unit {0}
 HaveForms looked (k ∷ ks) vs = HasForm looked k.form (first vs) × HaveForms looked ks (rest vs)
 
--- the row of a kind with its values, and these values
+-- an entry's kind, and its values in the order of the kind's row
 abbrev pub kind_values : KindEntry → Kind × List KeyValue
 kind_values (Input channel block) = (kind.Input, Natural channel ∷ Natural block ∷ [])
 kind_values (Output channel block) = (kind.Output, Natural channel ∷ Natural block ∷ [])

@@ -1,4 +1,4 @@
--- What a link's table says, with the first test that it fails.
+-- What a link's table says, or the first test that it fails.
 use Rattle.std.specs.Prelude.{ℕ, ℤ, Bool, List, [], ◌∷◌, length, codes, Option, Some, None, option_map, option_and_then}
 use Rattle.std.specs.Prelude.{Result, Ok, Err, nat_lt, eqb, bytes_eq, if◌then◌else◌}
 use Rattle.std.specs.List.{list_all, position, position_or_len, before_first, after_first}
@@ -27,7 +27,7 @@ port_texts = codes "0" ∷ codes "1" ∷ codes "2" ∷ codes "3" ∷ codes "4" �
 abbrev pub port_of : List ℕ → Option ℕ
 port_of s = position (bytes_eq s) port_texts
 
--- the number of the actor of a name
+-- the number of the actor that is called s
 abbrev pub named : List (List ℕ) → List ℕ → Option ℕ
 named names s = position (bytes_eq s) names
 
@@ -37,7 +37,7 @@ is_colon b = eqb b 58
 abbrev pub both_of : Option ℕ → Option ℕ → Option (ℕ × ℕ)
 both_of a p = option_and_then (λ x. option_map (λ y. (x, y)) p) a
 
--- an actor and a port: a name, which is port 0, or a name, a colon and a port
+-- an actor and a port: a name, a colon and a port, or a name alone for port 0
 unfoldable pub end_of : List (List ℕ) → List ℕ → Option (ℕ × ℕ)
 end_of names s =
     if nat_lt (position_or_len is_colon s) (length s)
@@ -61,7 +61,7 @@ initial_at l ms = initial_in l (get_member (codes "initial") ms)
 abbrev pub link_keys : List (List ℕ)
 link_keys = codes "from" ∷ codes "to" ∷ codes "initial" ∷ []
 
--- link l between actors of these names
+-- link l, given the names of all actors
 unfoldable pub link_at : ℕ → List (List ℕ) → Data → Result LinkValue Fault
 link_at l names d = do
   ms ← or_fault (wrong_type (link l) (codes "link")) (as_table d)

@@ -15,7 +15,7 @@ use Rattle.sdf_document.specs.Tables.{table_in, format_at, known_keys}
 use Rattle.sdf_document.specs.Values.{integers_at}
 use Rattle.sdf_document.specs.Names.{is_file_name}
 
--- a list, and the coefficient file that it stands in
+-- a list, and its coefficient file if it has one
 pub record ListValue : Type 0 where
   pub file : Option (List ℕ)
   pub values : List ℤ
@@ -25,7 +25,7 @@ no_list = record { file = None; values = [] }
 
 -- ---- coefficient files
 
--- each a name and its bytes
+-- coefficient files, each a name and its bytes
 abbrev pub Files : Type 0
 Files = List (List ℕ × List ℕ)
 
@@ -45,7 +45,7 @@ abbrev pub are_read : FilesGiven → Bool
 are_read files.Unread = false
 are_read (files.Given fs) = true
 
--- the first file of a name
+-- the bytes of the first file that has the name
 abbrev pub file_named : List ℕ → Files → Option (List ℕ)
 file_named name files = option_map (λ f. f.1) (find (λ f. bytes_eq name f.0) files)
 
@@ -69,7 +69,7 @@ abbrev pub fits : Width → ℤ → Bool
 fits Bits16 z = int_le (negsuc 32767) z && int_le z (pos 32767)
 fits Bits32 z = int_le (negsuc 2147483647) z && int_le z (pos 2147483647)
 
--- the numbers, where each is of the width
+-- the numbers, if each is of the width
 abbrev pub all_of : Width → List ℤ → Option (List ℤ)
 all_of w zs = if list_all (fits w) zs then Some zs else None
 
@@ -77,7 +77,7 @@ all_of w zs = if list_all (fits w) zs then Some zs else None
 abbrev pub is_list : ℕ → Width → List ℤ → Bool
 is_list most w zs = (nat_le 1 (length zs) && nat_le (length zs) most) && list_all (fits w) zs
 
--- the numbers, where they are such a list
+-- the numbers, if they are a list of actor a; otherwise its key is at fault
 abbrev pub listed : ℕ → List ℕ → ℕ → Width → List ℤ → Result (List ℤ) Fault
 listed a key most w zs = if is_list most w zs then Ok zs else Err (kit_value (actor a) key)
 
@@ -87,7 +87,7 @@ name_in a d = do
   name ← or_fault (wrong_type (actor a) (codes "file")) (as_str d)
   if is_file_name name then Ok name else Err (bad_name (actor a) (codes "file"))
 
--- the values of the file of a name. Where no files are looked into there are none
+-- the values of the file that has the name; no values if files are not looked into
 unfoldable pub filed_values : ℕ → ℕ → Width → Lookup → List ℕ → Result (List ℤ) Fault
 filed_values a most w unread name = Ok []
 filed_values a most w (read files) name = do
@@ -112,10 +112,10 @@ list_in a key most w files (Some d) other = array_in a key most w d
 list_in a key most w files None (Some d) = filed_at a most w files d
 list_in a key most w files None None = Err (missing_key (actor a) key)
 
--- the list of actor a: at its own key, or else in the file that the key `file` names
+-- the list of actor a: at its own key, otherwise in the file that the key `file` names
 unfoldable pub list_at : ℕ → List ℕ → ℕ → Width → Lookup → Members → Result ListValue Fault
 list_at a key most w files ms = list_in a key most w files (get_member key ms) (get_member (codes "file") ms)
 
--- where files are looked into, a list that was read is such a list
+-- if files are looked into, a list that was read is within its limits
 abbrev pub IsListed : Bool → ℕ → Width → List ℤ → Type 0
 IsListed looked most w zs = IsTrue looked → IsTrue (is_list most w zs)

@@ -29,7 +29,7 @@ is_name_byte b = is_letter b || ((nat_le 48 b && nat_le b 57) || ((b == 95) || (
 unfoldable pub is_name : List ℕ → Bool
 is_name s = (nat_le (length s) 32 && is_letter (slice_index s 0)) && list_all is_name_byte s
 
--- the same, or a dot
+-- a letter, 0-9, `_`, `-` or a dot
 abbrev pub is_file_byte : ℕ → Bool
 is_file_byte b = is_name_byte b || (b == 46)
 

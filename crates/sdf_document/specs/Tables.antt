@@ -1,4 +1,4 @@
--- Tables, and the keys that may stand in them.
+-- Tables, and the keys that they may have.
 use Rattle.std.specs.Prelude.{ℕ, ℤ, pos, negsuc, ◌&&◌, List, codes, map, Option, Some, None, Result, Ok, Err, nat_le}
 use Rattle.std.specs.Prelude.{bytes_eq, if◌then◌else◌}
 use Rattle.std.specs.Borrow.{Bor}
@@ -12,7 +12,7 @@ use Rattle.sdf_document.specs.Fault.{Place, Fault, bad_format, unknown_key, miss
 abbrev pub texts_of : List (Bor (List ℕ)) → List (List ℕ)
 texts_of ts = map (λ t. t.now) ts
 
--- the table that the bytes are
+-- the TOML table in the bytes, if they are one
 unfoldable pub table_in : List ℕ → Option Members
 table_in bytes = if is_utf8 bytes then parse_document bytes else None
 
@@ -28,16 +28,16 @@ format_at p last ms = do
   z ← or_fault (wrong_type p (codes "format")) (as_integer d)
   format_in p last z
 
--- the first key that is not among those known. The members of a table stand in the byte order of their keys
+-- the first key that is not among those known. The members of a table are in the byte order of their keys
 abbrev pub stranger : List (List ℕ) → Members → Option (List ℕ)
 stranger known no_members = None
 stranger known (member k d ms) = if list_any (bytes_eq k) known then stranger known ms else Some k
 
--- a fault at what was found, where something was
+-- a fault at what was found, if something was
 abbrev pub none_of : {A : Type 0} → (A → Fault) → Option A → Result (Unit {0}) Fault
 none_of f None = Ok tt
 none_of f (Some x) = Err (f x)
 
--- no other keys than those known
+-- no keys except those known
 unfoldable pub known_keys : Place → List (List ℕ) → Members → Result (Unit {0}) Fault
 known_keys p known ms = none_of (unknown_key p) (stranger known ms)

@@ -1,10 +1,10 @@
--- What stands at single keys.
+-- Values at single keys.
 use Rattle.std.specs.Prelude.{ℕ, ℤ, pos, negsuc, ◌&&◌, List, [], ◌∷◌, Option, Some, option_map, option_and_then, Result}
 use Rattle.std.specs.Prelude.{Ok, Err, nat_le, int_le, if◌then◌else◌}
 use Rattle.toml.specs.Data.{Data, Items, no_items, item, Members, get_member, as_str, as_integer, as_array}
 use Rattle.sdf_document.specs.Fault.{Place, actor, Fault, kit_value, missing_key, wrong_type, ◌>>=◌, or_fault}
 
--- the text at a key that has to be there
+-- the text at a key that must be there
 unfoldable pub text_at : Place → List ℕ → Members → Result (List ℕ) Fault
 text_at p key ms = do
   d ← or_fault (missing_key p key) (get_member key ms)
@@ -24,13 +24,13 @@ natural_in a key least most d = do
 abbrev pub within_integer : ℕ → List ℕ → ℤ → ℤ → ℤ → Result ℤ Fault
 within_integer a key least most z = if int_le least z && int_le z most then Ok z else Err (kit_value (actor a) key)
 
--- a whole number of either sign
+-- a whole number of either sign, from least to most, at a key of actor a
 unfoldable pub integer_in : ℕ → List ℕ → ℤ → ℤ → Data → Result ℤ Fault
 integer_in a key least most d = do
   z ← or_fault (wrong_type (actor a) key) (as_integer d)
   within_integer a key least most z
 
--- the whole numbers of an array, where each item is one
+-- the whole numbers of an array, if each item is one
 abbrev pub integers_in : Items → Option (List ℤ)
 integers_in no_items = Some []
 integers_in (item d ds) = option_and_then (λ z. option_map (λ zs. z ∷ zs) (integers_in ds)) (as_integer d)

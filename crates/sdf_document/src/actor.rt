@@ -1,4 +1,4 @@
-//! Actors, from their tables.
+//! Actors, read from their tables.
 ghost use Rattle.std.specs.Prelude.{◌≡◌, IfOk, option_map, string_bytes};
 ghost use Rattle.std.specs.Vec.Iter.{into_iter_items};
 ghost use Rattle.toml.specs.View.{table_view, view};
@@ -22,7 +22,7 @@ use std::alloc::Global;
 use std::vec;
 use toml::{Table, Value};
 
-/// Returns the name of an actor, and adds it to those of the actors before it.
+/// Reads the name of an actor, and adds it to `names`, the names of the actors before it.
 #[tactic(auto, unfolding(crate::specs::Actors::name_at))]
 fn name_at<'a>(
     alloc: Global,
@@ -44,7 +44,8 @@ fn name_at<'a>(
     Ok(name)
 }
 
-/// Refuses the least key that an actor of a kind can't have.
+/// Checks that an actor of kind `word` has only keys that it may have. The fault names the first other key in byte
+/// order.
 fn test_actor_keys(alloc: Global, actor: usize, word: Kind, table: &Table) -> Result<(), ReadFault>
     ensures { Gives (λ x. x) result (keys_at actor word (table_view table.now)) }
 {
@@ -52,7 +53,7 @@ fn test_actor_keys(alloc: Global, actor: usize, word: Kind, table: &Table) -> Re
     test_keys(alloc, Spot::Actor(actor), known.as_slice(), table)
 }
 
-/// The next value as a processor, where it is there.
+/// Takes the next value as a processor, or `None` if its key is absent.
 fn processor(values: &mut vec::IntoIter<KeyValue>) -> Option<usize>
     ensures value { result ≡ optional (first (into_iter_items values.old)) }
     ensures left { into_iter_items values.new ≡ rest (into_iter_items values.old) }
@@ -61,7 +62,7 @@ fn processor(values: &mut vec::IntoIter<KeyValue>) -> Option<usize>
     Some(number as usize)
 }
 
-/// Returns actor number `actor`, and adds its name to those of the actors before it.
+/// Reads actor number `actor`, and adds its name to `names`, the names of the actors before it.
 #[tactic(auto, unfolding(crate::specs::Actors::actor_at))]
 pub(crate) fn actor_at(
     alloc: Global,

@@ -28,7 +28,7 @@ use std::alloc::{AllocError, Global};
 use std::marker::Model;
 use toml::{Table, Value};
 
-/// Returns the actors, and puts their names into `names`.
+/// Reads the actors from the tables `items`, and puts their names into `names`.
 fn actors_in(
     alloc: Global,
     format: u32,
@@ -117,7 +117,7 @@ fn parts_at(alloc: Global, table: &Table) -> Result<Parts<'_>, ReadFault>
     })
 }
 
-/// Returns the actors and links of a graph file, and puts the names of its actors into `names`.
+/// Reads the actors and links of a graph file, and puts the names of its actors into `names`.
 fn document_in(
     alloc: Global,
     parts: Parts<'_>,
@@ -140,7 +140,7 @@ fn document_in(
     Ok(Document { actors, links })
 }
 
-/// The coefficient file that a kind's list stands in.
+/// Returns the name of the coefficient file of `kind`, if its list has one.
 fn file_of(kind: &KindEntry) -> Option<&str>
     ensures { option_map (λ s. s.now) result ≡ kind_file kind.now }
 {
@@ -182,7 +182,7 @@ fn names_wanted(alloc: Global, actors: &[ActorEntry]) -> Result<IndexSet<String>
     Ok(names)
 }
 
-/// Returns the actors of a graph file, without a look into coefficient files.
+/// Reads the actors of a graph file, without a look into coefficient files.
 fn actors_alone(alloc: Global, parts: Parts<'_>) -> Result<Vec<ActorEntry>, ReadFault>
     ensures { Gives (λ v. map actor_view v.items) result
         (actors_in parts.entry.format unread (items_view parts.entry.actors.now)) }
@@ -212,7 +212,7 @@ impl Model for GraphFile {
 }
 
 impl GraphFile {
-    /// Parses `graph`, the bytes of a graph file, once for all that is read from it.
+    /// Parses `graph`, the bytes of a graph file, once for `file_names` and `document`.
     #[tactic(auto, unfolding(crate::specs::Document::graph_table))]
     pub fn parse(alloc: Global, graph: &[u8]) -> Result<GraphFile, ReadFault>
         ensures { Gives table_view result (graph_table graph.now) }
@@ -221,7 +221,7 @@ impl GraphFile {
         Ok(GraphFile { table })
     }
 
-    /// Returns the names of its coefficient files, each once, in first-seen order, or the first test that it fails.
+    /// Returns the names of the coefficient files, each once, in first-seen order, or the first failed test.
     ///
     /// Links and coefficient files are not tested.
     #[tactic(auto, unfolding(crate::specs::Document::file_names_in))]
@@ -233,9 +233,9 @@ impl GraphFile {
         Ok(names_wanted(alloc, actors.as_slice())?)
     }
 
-    /// Returns what the graph file and its coefficient `files` say, or the first test that they fail.
+    /// Reads the actors and links of the graph file with its coefficient `files`, or returns the first failed test.
     ///
-    /// Each of `files` is a name and its bytes; the first one of a name counts.
+    /// Each of `files` is a name and its bytes. If two have one name, the first counts.
     #[tactic(auto, unfolding(crate::specs::Document::document_in))]
     pub fn document(
         &self,
@@ -252,9 +252,9 @@ impl GraphFile {
     }
 }
 
-/// What a graph file says, or the first test that it fails.
+/// Reads `graph`, the bytes of a graph file, with its coefficient `files`, or returns the first failed test.
 ///
-/// Each file is a name and its bytes; of two files of one name the first counts.
+/// Each of `files` is a name and its bytes. If two have one name, the first counts.
 #[tactic(auto, unfolding(crate::specs::Document::document_of))]
 pub fn read_document(
     alloc: Global,
@@ -269,8 +269,9 @@ pub fn read_document(
     graph.document(alloc, files)
 }
 
-/// The coefficient files that a graph file names, each once, where it stands first, or the first test that it fails
-/// of those that need no such file: all but those of the links.
+/// Returns the names of the coefficient files of `graph`, each once, in first-seen order, or the first failed test.
+///
+/// Links and coefficient files are not tested.
 #[tactic(auto, unfolding(crate::specs::Document::file_names_of))]
 pub fn file_names(alloc: Global, graph: &[u8]) -> Result<IndexSet<String>, ReadFault>
     ensures { Gives names_of result (file_names_of graph.now) }

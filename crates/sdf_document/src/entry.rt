@@ -1,4 +1,4 @@
-//! What the tables of a graph file say.
+//! Entries: the contents of the tables of a graph file.
 
 use std::marker::Model;
 
@@ -9,7 +9,7 @@ pub struct Document {
     pub links: Vec<LinkEntry>,
 }
 
-/// An actor: its name, its kind with its values, its home processor, and what a firing costs.
+/// An actor: its name, its kind with its values, its home processor, and the cost of a firing.
 #[derive(Debug, Drop)]
 pub struct ActorEntry {
     pub name: String,
@@ -58,7 +58,7 @@ pub enum KindEntry {
         offset: i32,
         values: ListEntry,
     },
-    /// Only in format 2, as those that follow.
+    /// Only in format 2, like all kinds below it.
     Deal {
         ways: u32,
         run: u32,
@@ -77,7 +77,7 @@ pub enum KindEntry {
     },
 }
 
-/// A list of whole numbers, and the coefficient file that it stands in, where it has one.
+/// A list of whole numbers, and the name of its coefficient file if it has one.
 #[derive(Debug, Drop)]
 pub struct ListEntry {
     pub file: Option<String>,
@@ -93,7 +93,7 @@ impl Model for ListEntry {
     ghost view = { λ l. record { file = option_map string_bytes l.file; values = l.values.items } };
 }
 
-/// A channel between two ends, each an actor and a port, and its initial samples.
+/// A link between two ends, each an actor and a port, and its initial samples.
 #[derive(Debug, Drop)]
 pub struct LinkEntry {
     pub from: (usize, usize),

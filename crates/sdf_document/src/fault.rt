@@ -1,4 +1,4 @@
-//! Why a graph file was not read.
+//! Faults of reading a graph file.
 ghost use Rattle.std.specs.Prelude.{◌≡◌, Some, ◌++◌, codes, decimal, IfOk};
 ghost use Rattle.sdf_document.specs.Fault.{place_view, spot_view};
 ghost use Rattle.sdf_document.specs.declared.fault.ReadFault.TheVariants.{Document, OutOfMemory};
@@ -7,7 +7,7 @@ use std::alloc::{AllocError, AllocFailed, Global};
 use std::fmt;
 use thiserror::Error;
 
-/// Where a fault stands: at the top of the graph file, in an actor or a link, or in a coefficient file.
+/// The place of a fault: the top of the graph file, an actor, a link, or a coefficient file.
 #[derive(Debug, Drop)]
 pub enum Place {
     Top,
@@ -31,7 +31,7 @@ impl fmt::Display for Place {
     }
 }
 
-/// A place as long as nothing is wrong there: it owns no name.
+/// A `Place` that borrows its name, so that it is free to copy while there is no fault.
 #[derive(Clone, Copy)]
 pub(crate) enum Spot<'a> {
     Top,
@@ -55,7 +55,7 @@ impl Spot<'_> {
 
 /// The first test that a graph file or one of its coefficient files fails.
 ///
-/// It prints its number, its name and its place.
+/// It prints its number and its name, then its place and key if it has them.
 #[derive(Debug, Drop, Error)]
 pub enum DocumentFault {
     #[error("2 ActorCount")]
@@ -86,7 +86,7 @@ pub enum DocumentFault {
     NoFile(String),
 }
 
-/// Why a document was not read: memory was refused, or it fails a test.
+/// The reason why a document was not read: an allocation was refused, or a test failed.
 #[derive(Debug, Drop, Error)]
 pub enum ReadFault {
     #[error("1 OutOfMemory")]

@@ -10,14 +10,14 @@ use crate::table::{format_at, table_in, test_keys};
 use crate::value::{at, integers_at};
 use std::alloc::Global;
 
-/// Coefficient files: each a name and its bytes, or none that is looked into.
+/// Coefficient files, each a name and its bytes, or `Unread` if no file is looked into.
 #[derive(Clone, Copy)]
 pub(crate) enum Files<'a> {
     Unread,
     Given(&'a [(String, Vec<u8>)]),
 }
 
-/// The bytes of the first file of a name.
+/// Returns the bytes of the first of `files` that is called `name`.
 pub(crate) fn file_named<'a>(name: &str, files: &'a [(String, Vec<u8>)]) -> Option<&'a [u8]>
     ensures { option_map (λ s. s.now) result ≡ file_named name.now (files_view files.now) }
 {
@@ -38,7 +38,7 @@ pub fn file_keys() -> &'static [&'static str]
     FILE_KEYS.as_slice()
 }
 
-/// The values that the file of a name lists.
+/// Returns the values that the coefficient file `name` lists in its `bytes`.
 #[tactic(auto, unfolding(crate::specs::Lists::coefficients))]
 pub(crate) fn coefficients(alloc: Global, name: &str, bytes: &[u8]) -> Result<Vec<i64>, ReadFault>
     ensures { Gives (λ v. v.items) result (coefficients name.now bytes.now) }

@@ -1,4 +1,4 @@
-//! What stands at the keys of a row: one reader for all kinds.
+//! Values of the keys of a row: one reader for all kinds.
 ghost use Rattle.std.specs.Prelude.{◌≡◌, ◌++◌, ◌≤◌, ◌≤ℤ◌, map, IfOk, IfSome, OnOk};
 ghost use Rattle.std.specs.Vec.Iter.{into_iter_items};
 ghost use Rattle.toml.specs.Data.{get_member};
@@ -19,7 +19,7 @@ use sdf_kinds::{Form, KeyForm, shared_keys};
 use std::alloc::{AllocError, Global};
 use toml::Table;
 
-/// What stands at a key, by its form.
+/// The value of a key, by its form.
 #[derive(Debug, Drop)]
 pub enum KeyValue {
     Natural(u32),
@@ -28,7 +28,7 @@ pub enum KeyValue {
     List(ListEntry),
 }
 
-/// Where a key of a row is written: a list at its own key where that is there, and else at `file`.
+/// Returns the key that `table` uses for `name`: `file` for a list that is not at `name`, otherwise `name`.
 fn written_at(table: &Table, name: &'static str, form: Form) -> &'static str
     ensures { result.now ≡ written_at (table_view table.now) name.now form }
 {
@@ -53,7 +53,7 @@ fn push_names(
     Ok(())
 }
 
-/// The keys that an actor's table may have, with these of its kind.
+/// Returns the keys that an actor's table may have: `name`, `kind`, the `keys` of its kind, and the shared keys.
 pub(crate) fn actor_keys(
     alloc: Global,
     keys: &[KeyForm],
@@ -130,7 +130,7 @@ fn integer_at(
     }
 }
 
-/// The value of an actor's key, in its form.
+/// Reads the value at `key` of an actor, in the given `form`.
 fn formed_at(
     alloc: Global,
     actor: usize,
@@ -168,7 +168,7 @@ fn formed_at(
     }
 }
 
-/// The values at the keys of a row.
+/// Reads the values of `keys` from an actor's `table`, in the order of `keys`.
 pub(crate) fn values_at(
     alloc: Global,
     actor: usize,

@@ -1,4 +1,4 @@
-//! The kinds of actors, with their values.
+//! Kinds of actors, with their values.
 ghost use Rattle.std.specs.Prelude.{◌≡◌, IfOk};
 ghost use Rattle.std.specs.Vec.Iter.{into_iter_items};
 ghost use Rattle.toml.specs.View.{table_view};
@@ -25,7 +25,7 @@ fn is_kind(format: u32, text: &str, kind: Kind) -> bool
     text == row.word && row.since <= format
 }
 
-/// Returns the kind of a word, if it is one of a format up to `format`.
+/// Returns the kind with the word `text`, if a format up to `format` has it.
 pub fn kind_named(format: u32, text: &str) -> Option<Kind>
     ensures { result ≡ kind_named format text.now }
 {
@@ -35,7 +35,7 @@ pub fn kind_named(format: u32, text: &str) -> Option<Kind>
         .find(|kind| is_kind(format, text, *kind))
 }
 
-/// The kind that an actor's table names.
+/// Returns the kind that an actor's table names, if `format` has it.
 #[tactic(auto, unfolding(crate::specs::Kinds::word_at))]
 pub(crate) fn word_at(actor: usize, format: u32, table: &Table) -> Result<Kind, ReadFault>
     ensures { Gives (λ k. k) result (word_at actor format (table_view table.now)) }
@@ -47,7 +47,7 @@ pub(crate) fn word_at(actor: usize, format: u32, table: &Table) -> Result<Kind, 
     }
 }
 
-/// The next value, where it is a whole number that is not negative.
+/// Takes the next value, a whole number that is not negative, or 0 if it has another form.
 pub(crate) fn natural(values: &mut vec::IntoIter<KeyValue>) -> u32
     ensures value { result ≡ natural (first (into_iter_items values.old)) }
     ensures left { into_iter_items values.new ≡ rest (into_iter_items values.old) }
@@ -58,7 +58,7 @@ pub(crate) fn natural(values: &mut vec::IntoIter<KeyValue>) -> u32
     }
 }
 
-/// The next value, where it is an optional number.
+/// Takes the next value, an optional number, or `None` if it has another form.
 pub(crate) fn optional(values: &mut vec::IntoIter<KeyValue>) -> Option<u32>
     ensures value { result ≡ optional (first (into_iter_items values.old)) }
     ensures left { into_iter_items values.new ≡ rest (into_iter_items values.old) }
@@ -69,7 +69,7 @@ pub(crate) fn optional(values: &mut vec::IntoIter<KeyValue>) -> Option<u32>
     }
 }
 
-/// The next value, where it is a whole number of either sign.
+/// Takes the next value, a whole number of either sign, or 0 if it has another form.
 fn integer(values: &mut vec::IntoIter<KeyValue>) -> i32
     ensures value { result ≡ integer (first (into_iter_items values.old)) }
     ensures left { into_iter_items values.new ≡ rest (into_iter_items values.old) }
@@ -80,7 +80,7 @@ fn integer(values: &mut vec::IntoIter<KeyValue>) -> i32
     }
 }
 
-/// The next value, where it is a list.
+/// Takes the next value, a list, or an empty list if it has another form.
 fn list(alloc: Global, values: &mut vec::IntoIter<KeyValue>) -> ListEntry
     ensures value { result ≡ list (first (into_iter_items values.old)) }
     ensures left { into_iter_items values.new ≡ rest (into_iter_items values.old) }
@@ -94,7 +94,7 @@ fn list(alloc: Global, values: &mut vec::IntoIter<KeyValue>) -> ListEntry
     }
 }
 
-/// A kind with the values of its keys, in their order.
+/// Makes an entry of `kind` from `left`, the values of its keys in the order of its row.
 fn entry_of(alloc: Global, kind: Kind, mut left: vec::IntoIter<KeyValue>) -> KindEntry
     ensures { result ≡ entry_of kind (into_iter_items left) }
 {
@@ -155,7 +155,7 @@ fn entry_of(alloc: Global, kind: Kind, mut left: vec::IntoIter<KeyValue>) -> Kin
     }
 }
 
-/// Whether a value that is no less than that of the key `least` is so.
+/// Returns whether a clip's `least` is at most its `greatest`. This is true of all other kinds.
 fn is_ordered(kind: &KindEntry) -> bool
     ensures { result ≡ is_ordered kind.now }
 {
@@ -165,7 +165,7 @@ fn is_ordered(kind: &KindEntry) -> bool
     }
 }
 
-/// The values of a kind.
+/// Reads the values of `kind` from an actor's table, and checks that the bounds of a clip are in order.
 #[tactic(auto, using(crate::proofs::Within::entry_within), unfolding(crate::specs::Kinds::kind_at))]
 pub(crate) fn kind_at(
     alloc: Global,

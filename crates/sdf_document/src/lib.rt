@@ -1,10 +1,10 @@
-//! Graph files and coefficient files: TOML tables, tested in order, as entries.
+//! Reads graph files and coefficient files, which are TOML, as tested entries.
 //!
-//! `read_document` gives what a graph file says, or the first test that it fails; `file_names` the coefficient files
-//! that it names. A caller of both parses once by `GraphFile::parse`. The rows of `sdf_kinds` give the keys of each
-//! kind. The crate also depends on `sdf_limits`, `toml` and `indexmap`. Begin at `entry` and `document`. The
-//! definitions, in the order of the tests, are in `specs/Document.antt`, `specs/Actors.antt`, `specs/Kinds.antt` and
-//! `specs/Links.antt`.
+//! `read_document` returns the entries of a graph file, or the first test that it fails. `file_names` returns the
+//! coefficient files that it names. A caller of both parses once with `GraphFile::parse`. The rows of `sdf_kinds`
+//! list the keys of each kind. The crate also depends on `sdf_limits`, `toml` and `indexmap`. Begin at `entry` and
+//! `document`. The definitions, in the order of the tests, are in `specs/Document.antt`, `specs/Actors.antt`,
+//! `specs/Kinds.antt` and `specs/Links.antt`.
 #![tactic(auto)]
 
 mod actor;

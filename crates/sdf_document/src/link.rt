@@ -1,4 +1,4 @@
-//! Links, from their tables.
+//! Links, read from their tables.
 ghost use Rattle.std.specs.Prelude.{◌≡◌, codes, option_map, bytes_eq};
 ghost use Rattle.std.specs.List.{position};
 ghost use Rattle.toml.specs.View.{table_view, view};
@@ -99,7 +99,7 @@ pub fn link_keys() -> &'static [&'static str]
     LINK_KEYS.as_slice()
 }
 
-/// Returns link number `link`, between actors of these names.
+/// Reads link number `link`. `names` are the names of all actors.
 #[tactic(auto, unfolding(crate::specs::Links::link_at))]
 pub(crate) fn link_at(
     alloc: Global,

@@ -16,14 +16,14 @@ use sdf_kinds::Width;
 use std::alloc::{AllocError, Global};
 use toml::{Table, Value};
 
-/// How many numbers a list may have, and how wide each of them.
+/// The greatest length of a list, and the width of its numbers.
 #[derive(Clone, Copy)]
 pub(crate) struct Limits {
     pub(crate) most: usize,
     pub(crate) width: Width,
 }
 
-/// The number, where it is of the width.
+/// Returns `number` if it fits `width`.
 fn fitting(width: Width, number: i64) -> Option<i32>
     ensures { result ≡ (if fits width number then Some number else None) }
 {
@@ -34,7 +34,7 @@ fn fitting(width: Width, number: i64) -> Option<i32>
     }
 }
 
-/// The same numbers, where each is of the width.
+/// Returns `numbers` if each of them fits `width`.
 pub(crate) fn all_of(
     alloc: Global,
     width: Width,
@@ -62,7 +62,7 @@ fn list_of(alloc: Global, limits: Limits, numbers: &[i64]) -> Result<Option<Vec<
     all_of(alloc, limits.width, numbers)
 }
 
-/// The numbers as a list of an actor, named by its key where they are none.
+/// Returns `numbers` as a list within `limits`, or a fault at `key` of the actor.
 fn listed(
     alloc: Global,
     actor: usize,
@@ -93,7 +93,7 @@ fn name_in(actor: usize, value: &Value) -> Result<&str, ReadFault>
     }
 }
 
-/// The values of the file of a name, and none where no files are looked into.
+/// Returns the values of the coefficient file `name`, or no values if `files` are not looked into.
 #[tactic(auto, unfolding(crate::specs::Lists::filed_values))]
 fn filed_values(
     alloc: Global,
@@ -152,7 +152,7 @@ fn array_in(
     Ok(ListEntry { file: None, values })
 }
 
-/// The list of an actor: at its own key, or else in the file that the key `file` names.
+/// Reads the list of an actor, at `key` if it is there, otherwise from the file that the key `file` names.
 #[tactic(auto, unfolding(crate::specs::Lists::list_at))]
 pub(crate) fn list_at(
     alloc: Global,

@@ -25,7 +25,7 @@ fn are_name_bytes(bytes: &[u8]) -> bool
     bytes.iter().all(|b| is_name_byte(*b))
 }
 
-/// Whether a text can be an actor's name.
+/// Returns whether `text` can be an actor's name.
 #[tactic(auto, unfolding(crate::specs::Names::is_name))]
 pub(crate) fn is_name(text: &str) -> bool
     ensures { result ≡ is_name text.now }
@@ -43,7 +43,7 @@ fn are_file_bytes(bytes: &[u8]) -> bool
     bytes.iter().all(|b| is_name_byte(*b) || *b == b'.')
 }
 
-/// Whether a text can be a coefficient file's name.
+/// Returns whether `text` can be a coefficient file's name.
 #[tactic(auto, unfolding(crate::specs::Names::is_file_name))]
 pub(crate) fn is_file_name(text: &str) -> bool
     ensures { result ≡ is_file_name text.now }
@@ -55,7 +55,7 @@ pub(crate) fn is_file_name(text: &str) -> bool
     bytes.len() <= 64 && *first != b'.' && are_file_bytes(bytes)
 }
 
-/// Puts `name` last, unless it is there.
+/// Puts `name` last into `names`, unless it is there.
 #[tactic(auto, using(crate::proofs::Names::names_inserted))]
 pub(crate) fn put_name(
     alloc: Global,

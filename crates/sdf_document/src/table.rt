@@ -1,4 +1,4 @@
-//! Tables, and the keys that may stand in them.
+//! Tables, and the keys that they may have.
 ghost use Rattle.std.specs.Prelude.{◌≡◌, map, bytes_eq};
 ghost use Rattle.std.specs.List.{list_any};
 ghost use Rattle.toml.specs.View.{table_view};
@@ -10,7 +10,7 @@ use crate::value::at;
 use std::alloc::Global;
 use toml::Table;
 
-/// The table that the bytes are.
+/// Parses `bytes` as a TOML table. The fault `NotToml` is at `spot`.
 pub(crate) fn table_in(alloc: Global, spot: Spot<'_>, bytes: &[u8]) -> Result<Table, ReadFault>
     ensures { Gives table_view result (or_fault (not_toml (spot_view spot.entry)) (table_in bytes.now)) }
 {
@@ -24,7 +24,7 @@ pub(crate) fn table_in(alloc: Global, spot: Spot<'_>, bytes: &[u8]) -> Result<Ta
     }
 }
 
-/// The format of a file, one of 1 to `last`.
+/// Returns the format of a file, from 1 to `last`.
 #[tactic(auto, unfolding(crate::specs::Tables::format_at))]
 pub(crate) fn format_at(
     alloc: Global,
@@ -56,7 +56,7 @@ fn is_known(known: &[&str], key: &str) -> bool
     known.iter().any(|k| key == *k)
 }
 
-/// Refuses the least key that is not known.
+/// Checks that `table` has only `known` keys. The fault names the first other key in byte order.
 #[tactic(auto, using(crate::proofs::Names::list_any_texts), unfolding(crate::specs::Tables::known_keys))]
 pub(crate) fn test_keys(
     alloc: Global,

@@ -1,4 +1,4 @@
-//! What stands at single keys.
+//! Values at single keys.
 ghost use Rattle.std.specs.Prelude.{◌≡◌, ◌≤◌, ◌≤ℤ◌, option_map, IfOk};
 ghost use Rattle.toml.specs.Data.{get_member};
 ghost use Rattle.toml.specs.View.{table_view, view, items_view};
@@ -9,14 +9,14 @@ use crate::fault::{DocumentFault, Place, ReadFault, Spot};
 use std::alloc::{AllocError, Global};
 use toml::{Table, Value};
 
-/// The value at a key.
+/// Returns the value at `key`, if `table` has one.
 pub(crate) fn at<'a>(table: &'a Table, key: &str) -> Option<&'a Value>
     ensures { option_map (λ v. view v.now) result ≡ get_member key.now (table_view table.now) }
 {
     table.get(key)
 }
 
-/// The text at a key that has to be there.
+/// Returns the text at `key`, which must be there.
 #[tactic(auto, unfolding(crate::specs::Values::text_at))]
 pub(crate) fn text_at<'a>(
     place: Place,
@@ -34,7 +34,7 @@ pub(crate) fn text_at<'a>(
     }
 }
 
-/// A whole number from `least` to `most`, at a key of an actor.
+/// Reads `value`, at `key` of an actor, as a whole number from `least` to `most`.
 #[tactic(auto, unfolding(crate::specs::Values::natural_in))]
 pub(crate) fn natural_in(
     actor: usize,
@@ -56,7 +56,7 @@ pub(crate) fn natural_in(
     }
 }
 
-/// A whole number of either sign, at a key of an actor.
+/// Reads `value`, at `key` of an actor, as a whole number of either sign from `least` to `most`.
 #[tactic(auto, unfolding(crate::specs::Values::integer_in))]
 pub(crate) fn integer_in(
     actor: usize,
@@ -78,7 +78,7 @@ pub(crate) fn integer_in(
     }
 }
 
-/// The numbers, where each item is a whole one.
+/// Returns the numbers of `items`, or `None` if an item is not a whole number.
 fn integers_in(alloc: Global, items: &[Value]) -> Result<Option<Vec<i64>>, AllocError>
     ensures { IfOk result (λ r. option_map (λ v. v.items) r ≡ integers_in (items_view items.now)) }
 {
@@ -92,7 +92,7 @@ fn integers_in(alloc: Global, items: &[Value]) -> Result<Option<Vec<i64>>, Alloc
     Ok(Some(numbers))
 }
 
-/// The numbers of an array, where each item is a whole one.
+/// Reads `value`, at `key`, as an array of whole numbers.
 #[tactic(auto, unfolding(crate::specs::Values::integers_at))]
 pub(crate) fn integers_at(
     alloc: Global,

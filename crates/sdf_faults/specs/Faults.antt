@@ -1,4 +1,4 @@
--- The program's fault of a layer's, with one fault of memory for all layers, and its text.
+-- The faults of all layers as faults of the program, with one fault of memory, and their texts.
 use Rattle.std.specs.Prelude.{◌≡◌, ◌++◌, ◌∷◌, [], ℕ, List, codes}
 use Rattle.sdf_file.specs.declared.fault.FileFault.{FileFault}
 use Rattle.sdf_file.specs.declared.fault.FileFault.TheVariants as file
@@ -40,8 +40,8 @@ of_wav (wav.Format f) = fault.Wav f
 of_wav wav.Read = fault.Read
 of_wav wav.Write = fault.Write
 
--- one line, which nothing that a fault names can break or escape from; a deadlock has a line for each actor, and a
--- mistake of usage the parser's own text
+-- one line, which no name in a fault can break or escape from; a deadlock has a line for each actor, and a mistake of
+-- usage has the parser's own text
 abbrev pub IsFaultText : Fault → List ℕ → Type 0
 IsFaultText (fault.Deadlock s) text = Unit {0}
 IsFaultText (fault.Words w) text = Unit {0}

@@ -7,7 +7,7 @@ use Rattle.sdf_options.specs.declared.fault.WordFault.TheVariants as words
 use Rattle.sdf_faults.specs.declared.fault.Fault.{Fault}
 use Rattle.sdf_faults.specs.declared.fault.Fault.TheVariants as fault
 
--- help and the version are answers
+-- help and the version are not mistakes
 abbrev pub usage_status : ErrorKind → ℕ
 usage_status DisplayHelp = 0
 usage_status DisplayVersion = 0

@@ -16,8 +16,8 @@ use std::alloc::{AllocError, AllocFailed, Global};
 use std::fmt;
 use thiserror::Error;
 
-/// How far an actor of a deadlocked design came: `done` firings of the `of` that a period has, and for an unfinished
-/// actor its first link that holds too little.
+/// The progress of an actor of a deadlocked design: `done` of its `of` firings in a period. If it is unfinished,
+/// `short` is its first link that holds too few tokens.
 #[derive(Debug, Drop)]
 pub struct Progress {
     pub name: String,
@@ -39,7 +39,7 @@ impl fmt::Display for Progress {
     }
 }
 
-/// The actors of a deadlocked design, in file order, each a line of its own.
+/// The actors of a deadlocked design, in file order. Each prints as a line of its own.
 #[derive(Debug, Drop)]
 pub struct Stalled {
     pub actors: Vec<Progress>,
@@ -54,15 +54,15 @@ impl fmt::Display for Stalled {
     }
 }
 
-/// Why the program does not do what it was asked for. The text is the number and the name, and then the place.
+/// The reason why a command was not carried out. It prints its number and its name, then its place if it has one.
 #[derive(Debug, Drop, Error)]
 pub enum Fault {
     #[error("1 OutOfMemory")]
     OutOfMemory,
-    /// The command line was not read; the text is the parser's own.
+    /// A mistake on the command line, or a request for help or the version. The text is the parser's own.
     #[error(transparent)]
     Words(WordFault),
-    /// What is wrong with the design: 2 to 9, 20 to 28, 49 to 58.
+    /// The fault of the design: 2 to 9, 20 to 28, 49 to 58.
     #[error(transparent)]
     File(FileFault),
     /// No sequence of enabled firings completes a period.
@@ -72,25 +72,25 @@ pub enum Fault {
     BlockingFactor,
     #[error("12 WorkerCount")]
     WorkerCount,
-    /// Why there is no table: 13, 19.
+    /// The reason why there is no table: 13 `BlockTooLong` or 19 `BadHome`.
     #[error(transparent)]
     Table(PrecFault),
-    /// Input lists that are too short: the program makes none.
+    /// Input lists that are too short. The program never makes them.
     #[error("29 InputLength")]
     InputLength,
-    /// An actor of the table stands in two columns, so no worker has all its firings.
+    /// An actor of the table is on two processors, so no worker has all its firings.
     #[error("30 NotHomed")]
     NotHomed,
-    /// More repeated tests in a round than a worker may do.
+    /// A spin limit above the greatest one: more repeated tests in a round than a worker may do.
     #[error("31 Patience")]
     Patience,
-    /// A worker could not be started. No runner answers it today.
+    /// A worker could not be started. No runner returns this today.
     #[error("32 NoWorker")]
     NoWorker,
-    /// A session was used again after memory or a worker was refused. The program uses none again.
+    /// A session was used again after memory or a worker was refused. The program never does so.
     #[error("33 SessionFailed")]
     SessionFailed,
-    /// What is wrong with the WAV file, read or to be written: 34 to 46.
+    /// The fault of a WAV file, read or to be written: 34 to 46.
     #[error(transparent)]
     Wav(FormatFault),
     /// A file can't be opened, or its reader failed.
@@ -99,10 +99,10 @@ pub enum Fault {
     /// A file can't be made, or its writer failed.
     #[error("48 Write")]
     Write,
-    /// The graph reads a channel that the WAV file lacks.
+    /// The design reads a channel that the WAV file does not have.
     #[error("59 ChannelsMissing")]
     ChannelsMissing,
-    /// The output's rate would be no whole number.
+    /// The output's rate would not be a whole number.
     #[error("60 RateNotWhole")]
     RateNotWhole,
 }
@@ -194,8 +194,8 @@ impl From<RunFault> for Fault {
     }
 }
 
-/// The exit status of a fault: 2 usage (0 where help or the version was asked for), 3 the design or the plan, 4 the WAV
-/// file, 5 a device, 6 memory, a worker or a session.
+/// Returns the exit status of `fault`: 2 usage (0 for help or the version), 3 the design or the plan, 4 the WAV file,
+/// 5 a device, 6 memory, a worker or a session.
 pub fn status(fault: &Fault) -> u8
     ensures { result ≡ status_of fault.now }
 {
@@ -221,13 +221,15 @@ pub fn status(fault: &Fault) -> u8
     }
 }
 
-/// What the program prints of a fault on standard error: one line, and of a deadlock one more for each actor. A
-/// character that would begin another line or reach the terminal's controls is written as `\u{a}`, in a key too.
+/// Returns the text of `fault` for standard error: one line, and for a deadlock one more line for each actor. For a
+/// mistake on the command line, it has the parser's own text.
+///
+/// A control character, even in a key, is written as `\u{a}`, so that it can't begin a line or control the terminal.
 pub fn fault_text(alloc: Global, fault: &Fault) -> Result<String, AllocError>
     ensures { IfOk result (λ text. IsFaultText fault.now (string_bytes text)) }
 {
     match fault {
-        // The names of actors and the parser's own texts.
+        // Printed as they are: the names of actors, and the parser's own texts.
         Fault::Deadlock(_) | Fault::Words(_) => format!(in alloc; "sdfw: {fault}\n"),
         _ => {
             let said = format!(in alloc; "{fault}")?;

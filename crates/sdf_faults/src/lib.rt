@@ -1,4 +1,4 @@
-//! The faults of the program: each layer's in one type, with their numbers, texts and exit statuses.
+//! The faults of the program: all layers' faults in one type, with their numbers, texts and exit statuses.
 //!
 //! It depends on the layers whose faults it gathers: `sdf_options` for mistakes on the command line and for texts that
 //! are safe to print, `sdf_file` for designs, `sdf_prec` for tables, `sdf_answer` for runs and `sdf_wav` for WAV files.

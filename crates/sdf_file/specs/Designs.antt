@@ -23,14 +23,14 @@ use Rattle.sdf_prec.specs.Costs.{AreCosts}
 use Rattle.sdf_file.specs.declared.fault.FileFault.{FileFault}
 use Rattle.sdf_file.specs.declared.fault.FileFault.TheVariants.{OutOfMemory, Document, Net}
 
--- a net, and of each of its actors the name, the home processor and the cost of a firing
+-- a net, with the name, the home processor and the cost of a firing of each actor
 pub record DesignValue : Type 0 where
   pub net : Netlist Kit ℤ
   pub names : List (List ℕ)
   pub homes : List (Option ℕ)
   pub costs : List ℕ
 
--- ---- the design that a document says
+-- ---- the design of a document
 
 -- the node of a kind
 abbrev pub node_of : KindEntry → Node Kit
@@ -61,7 +61,7 @@ design_of d = record {
   costs = map (λ (a : ActorValue). a.cost) d.actors;
 }
 
--- ---- the design of files: that of their document, where the net of it passes all tests of nets
+-- ---- the design of files: the design of their document, if its net passes all tests of nets
 
 -- the design of what was read
 pub record IsDesignFrom (read : Result DocumentValue Fault) (d : DesignValue) : Type 0 where
@@ -74,7 +74,7 @@ pub record IsDesignFrom (read : Result DocumentValue Fault) (d : DesignValue) : 
 abbrev pub IsDesignOf : List ℕ → Files → DesignValue → Type 0
 IsDesignOf graph files = IsDesignFrom (document_of graph files)
 
--- the net has the fault. Memory is no fault of a net
+-- the net has the fault. A refused allocation is not a fault of a net
 abbrev pub HasNetFault : Netlist Kit ℤ → NetFault → Type 0
 HasNetFault n nets.OutOfMemory = ⊥
 HasNetFault n fault = IsNetFault kit_steps n fault
@@ -84,8 +84,8 @@ IsMadeFault n OutOfMemory = Unit {0}
 IsMadeFault n (Document fault) = ⊥
 IsMadeFault n (Net fault) = HasNetFault n fault
 
--- the first test that what was read fails: those of the document come before those of the net. Memory may be refused
--- at any place
+-- the first test that fails. Tests of the document come before tests of the net, and an allocation may be refused at
+-- any point
 abbrev pub IsFaultFrom : Result DocumentValue Fault → FileFault → Type 0
 IsFaultFrom read OutOfMemory = Unit {0}
 IsFaultFrom read (Document fault) = read ≡ Err (fault_view fault)
@@ -96,7 +96,7 @@ IsFileFault graph files = IsFaultFrom (document_of graph files)
 
 -- ---- what is read before a net is made
 
--- the first test that fails, or memory was refused
+-- the first test that fails, or a refused allocation
 abbrev pub IsReadFault : {A : Type 0} → Result A Fault → FileFault → Type 0
 IsReadFault read OutOfMemory = Unit {0}
 IsReadFault read (Document fault) = read ≡ Err (fault_view fault)
@@ -109,9 +109,10 @@ AreFileNames graph names = file_names_of graph ≡ Ok names
 abbrev pub IsNamesFault : List ℕ → FileFault → Type 0
 IsNamesFault graph = IsReadFault (file_names_of graph)
 
--- ---- what holds of every design
+-- ---- what is true of every design
 
--- each node has a name, a home or none, and a cost; there are no inputs and outputs but of a WAV file's channels
+-- each node has a name, a home or none, and a cost; the inputs are at most the channels of a WAV file, and so are the
+-- outputs
 pub record IsDesign (d : DesignValue) : Type 0 where
   pub named : length d.names ≡ length d.net.nodes
   pub housed : length d.homes ≡ length d.net.nodes

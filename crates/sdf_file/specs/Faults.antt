@@ -1,4 +1,4 @@
--- The faults of the layers below as those of files, with one fault of memory.
+-- The faults of the layers below as faults of files, with one fault for refused allocations.
 use Rattle.sdf_document.specs.declared.fault.ReadFault.{ReadFault}
 use Rattle.sdf_document.specs.declared.fault.ReadFault.TheVariants as reads
 use Rattle.sdf_actor.specs.declared.fault.NetFault.{NetFault}

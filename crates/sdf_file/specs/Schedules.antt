@@ -12,12 +12,12 @@ use Rattle.sdf_prec.specs.Tables.{Tabled, row}
 use Rattle.sdf_file.specs.Designs.{DesignValue}
 use Rattle.sdf_file.specs.Texts.{end, period_text}
 
--- so many firings of one actor, one after another
+-- a number of firings of one actor, one after another
 pub record Stretch : Type 0 where
   pub actor : ℕ
   pub firings : ℕ
 
--- one more firing before the stretches of those behind it
+-- the stretches of an order, with one more firing of actor a in front
 abbrev pub stretched : ℕ → List Stretch → List Stretch
 stretched a [] = record { actor = a; firings = 1 } ∷ []
 stretched a (s ∷ ss) =
@@ -32,7 +32,7 @@ stretches (a ∷ order) = stretched a (stretches order)
 abbrev pub name_of : DesignValue → ℕ → List ℕ
 name_of d a = slice_index_or d.names a []
 
--- the actor's name, after the number of its firings where they are two or more
+-- the actor's name, behind the number of its firings if that is not 1
 abbrev pub stretch_text : DesignValue → Stretch → List ℕ
 stretch_text d s = (if s.firings == 1 then [] else (decimal s.firings ++ codes "*")) ++ name_of d s.actor
 
@@ -43,7 +43,7 @@ order_items d order = flat_map (λ s. codes " " ++ stretch_text d s) (stretches 
 abbrev pub order_line : DesignValue → List ℕ → List ℕ
 order_line d order = codes "order" ++ order_items d order ++ end
 
--- what a row shows in a column
+-- the text of a cell of a row: a firing, or `-` if the processor is idle
 abbrev pub cell_text : DesignValue → Option Firing → List ℕ
 cell_text d None = codes "-"
 cell_text d (Some f) = name_of d f.actor ++ codes "." ++ decimal f.number
@@ -62,7 +62,7 @@ link_text d c = end_text d (wire d.net c).from ++ codes " " ++ end_text d (wire 
 abbrev pub capacity_line : DesignValue → List ℕ → ℕ → List ℕ
 capacity_line d caps c = codes "capacity " ++ link_text d c ++ codes " " ++ decimal (slice_index caps c) ++ end
 
--- how often the order of a period makes a table's block, and how many columns each of its rows has
+-- the number of periods in a table's block, and the number of processors of its rows
 abbrev pub blocking_of : List ℕ → Tabled → ℕ
 blocking_of order t = length t.order / length order
 
@@ -82,11 +82,11 @@ table_text d order t =
     size_lines order t ++ flat_map (row_line d) t.rows
     ++ flat_map (capacity_line d t.caps) (range_with_len 0 (length d.net.wires))
 
--- what `schedule` prints of a design with period vector q, whose period has this order of firings, with this table
+-- what `schedule` prints of a design with repetition vector q, this order of a period's firings, and this table
 abbrev pub schedule_text : DesignValue → List ℕ → List ℕ → Tabled → List ℕ
 schedule_text d q order t = period_text d q ++ order_line d order ++ table_text d order t
 
--- the text of a schedule, whose period vector is the least
+-- the text of a schedule with the least repetition vector
 pub record IsScheduleText (d : DesignValue) (order : List ℕ) (t : Tabled) (text : List ℕ) : Type 0 where
   pub period : List ℕ
   pub least : IsLeastPeriod (rates (graph_of kit_steps d.net)) period

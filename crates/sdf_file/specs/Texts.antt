@@ -13,19 +13,19 @@ use Rattle.sdf_file.specs.Designs.{DesignValue}
 abbrev pub end : List ℕ
 end = 10 ∷ []
 
--- an actor's name, and how often it fires in a period
+-- an actor's name, and the number of its firings in a period
 abbrev pub q_line : List ℕ → ℕ → List ℕ
 q_line name count = codes "q " ++ name ++ codes " " ++ decimal count ++ end
 
--- the lines of the first n actors, in a period q
+-- the lines of the first n actors, with repetition vector q
 abbrev pub q_lines : DesignValue → List ℕ → ℕ → List ℕ
 q_lines d q n = flat_map (λ a. q_line (slice_index_or d.names a []) (slice_index q a)) (range_with_len 0 n)
 
--- how many firings a period q has, and the lines of the actors
+-- the number of firings in a period with repetition vector q, and the lines of the actors
 abbrev pub period_text : DesignValue → List ℕ → List ℕ
 period_text d q = codes "period " ++ decimal (sum q) ++ end ++ q_lines d q (length d.net.nodes)
 
--- what `check` prints of a design with period vector q
+-- what `check` prints of a design with repetition vector q
 abbrev pub check_text : DesignValue → List ℕ → List ℕ
 check_text d q =
     codes "actors " ++ decimal (length d.net.nodes) ++ end
@@ -34,7 +34,7 @@ check_text d q =
     ++ codes "input " ++ decimal (period_samples d.net.nodes Inputs q) ++ codes " output "
     ++ decimal (period_samples d.net.nodes Outputs q) ++ end
 
--- the text of a design, whose period vector is the least
+-- the text of a design with the least repetition vector
 pub record IsCheckText (d : DesignValue) (text : List ℕ) : Type 0 where
   pub period : List ℕ
   pub least : IsLeastPeriod (rates (graph_of kit_steps d.net)) period

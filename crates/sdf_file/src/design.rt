@@ -22,7 +22,7 @@ use sdf_prec::Costs;
 use std::alloc::{AllocError, Global};
 use std::marker::Model;
 
-/// A design: a net, and of each of its actors the name, the home processor and the cost of a firing.
+/// A design: a net, with the name, the home processor and the cost of a firing of each actor.
 #[derive(Drop)]
 pub struct Design {
     net: Net<Kit>,
@@ -53,7 +53,7 @@ impl Model for Design {
 }
 
 impl Design {
-    /// Its net: node `a` is actor `a` of the graph file, link `c` is its link `c`.
+    /// Returns the net. Its nodes and links have the numbers of the actors and links in the graph file.
     pub fn net(&self) -> &Net<Kit>
         ensures value { result.now ≡ self.now.net }
         ensures whole { IsDesign self.now }
@@ -61,7 +61,7 @@ impl Design {
         &self.net
     }
 
-    /// The name of an actor, or no letters where there is no such actor.
+    /// Returns the name of actor number `actor`, or an empty text if the net has fewer actors.
     pub fn name(&self, actor: usize) -> &str
         ensures { result.now ≡ slice_index_or self.now.names actor [] }
     {
@@ -71,21 +71,21 @@ impl Design {
         }
     }
 
-    /// The home processor of each actor, where its key `processor` names one.
+    /// Returns the home processor of each actor, if its key `processor` names one.
     pub fn homes(&self) -> &[Option<usize>]
         ensures { result.now ≡ self.now.homes }
     {
         &self.homes
     }
 
-    /// What a firing of each actor costs, by its key `cost`: 1 to 1,000,000.
+    /// Returns the cost of a firing of each actor, from its key `cost`: 1 to 1,000,000.
     pub fn costs(&self) -> &[u32]
         ensures { result.now ≡ self.now.costs }
     {
         &self.costs
     }
 
-    /// The same as the costs of a table's firings.
+    /// Returns a copy of the costs, in the type that the making of a table needs.
     pub fn firing_costs(&self, alloc: Global) -> Result<Costs, AllocError>
         ensures { IfOk result (λ c. c ≡ self.now.costs) }
     {
@@ -116,8 +116,9 @@ pub fn coefficient_files(alloc: Global, graph: &GraphFile) -> Result<IndexSet<St
     Ok(graph.file_names(alloc)?)
 }
 
-/// The coefficient files that a graph file names, each once, where it stands first; or the first test that it fails of
-/// those that look into no coefficient file, all but those of the links and of the net.
+/// Returns the names of the coefficient files of `graph`, the bytes of a graph file, or the first failed test.
+///
+/// Each name is there once, in first-seen order. Links, coefficient files and the net are not tested.
 #[tactic(auto, using(crate::proofs::Parsed::names_parsed, crate::proofs::Parsed::names_unparsed))]
 pub fn design_files(alloc: Global, graph: &[u8]) -> Result<IndexSet<String>, FileFault>
     ensures { MatchResult result (λ s. AreFileNames graph.now (names_of s)) (IsNamesFault graph.now) }
@@ -126,7 +127,7 @@ pub fn design_files(alloc: Global, graph: &[u8]) -> Result<IndexSet<String>, Fil
     coefficient_files(alloc, &graph)
 }
 
-/// A document as a design, or the first test that its net fails.
+/// Makes the design of `document`, or returns the first test that its net fails.
 fn design_of(alloc: Global, document: Document) -> Result<Design, FileFault>
     requires distinct { AreDistinct (names_in (map actor_view document.actors.items)) }
     requires within { All (IsActorWithin true) document.actors.items }
@@ -148,8 +149,8 @@ fn design_of(alloc: Global, document: Document) -> Result<Design, FileFault>
 
 /// Makes the design of `graph` and its coefficient `files`, or returns the first test that they fail.
 ///
-/// Each of `files` is a name and its bytes; the first one of a name counts. Files that `graph` does not name are not
-/// read.
+/// Each of `files` is a name and its bytes. If two have one name, the first counts. Files that `graph` does not name
+/// are not read.
 pub fn make_design(
     alloc: Global,
     graph: &GraphFile,
@@ -162,9 +163,11 @@ pub fn make_design(
     design_of(alloc, document)
 }
 
-/// The design of a graph file and its coefficient files, each a name and its bytes, or the first test that they fail.
+/// Reads the design of `graph`, the bytes of a graph file, with its coefficient `files`, or returns the first test
+/// that they fail.
 ///
-/// Files that the graph file does not name are not read; of two files of one name the first counts.
+/// Each of `files` is a name and its bytes. If two have one name, the first counts. Files that the graph file does
+/// not name are not read.
 #[tactic(auto, using(crate::proofs::Parsed::document_parsed, crate::proofs::Parsed::document_unparsed))]
 pub fn read_design(
     alloc: Global,

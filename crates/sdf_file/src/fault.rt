@@ -1,4 +1,4 @@
-//! Why files give no design.
+//! Faults of reading a design.
 ghost use Rattle.std.specs.Prelude.{◌≡◌};
 
 use sdf_actor::NetFault;
@@ -6,7 +6,7 @@ use sdf_document::{DocumentFault, ReadFault};
 use std::alloc::{AllocError, AllocFailed};
 use thiserror::Error;
 
-/// Why files give no design. Its text is its number, its name, and where it has one its place.
+/// The reason why files do not give a design. It prints its number and its name, then its place if it has one.
 #[derive(Debug, Drop, Error)]
 pub enum FileFault {
     /// An allocation was refused.

@@ -1,9 +1,9 @@
-//! Designs from files, and the texts that say what a design and its schedule are.
+//! Designs from files, and the texts that describe a design and its schedule.
 //!
 //! It depends on `sdf_document`, which reads the files as entries within the limits of `sdf_kinds`. It makes a net of
-//! them, of the types of `sdf_actor`, `sdf_kit` and `sdf_graph`. The text of a schedule needs a period of `sdf_sched`
-//! and a table of `sdf_prec`. Begin at `design`; the definitions are in `specs/Designs.antt`, `specs/Texts.antt` and
-//! `specs/Schedules.antt`.
+//! the entries, with the types of `sdf_actor`, `sdf_kit` and `sdf_graph`. The text of a schedule needs the order of a
+//! period from `sdf_sched` and a table from `sdf_prec`. Begin at `design`; the definitions are in
+//! `specs/Designs.antt`, `specs/Texts.antt` and `specs/Schedules.antt`.
 #![tactic(auto)]
 
 pub mod design;

@@ -1,4 +1,4 @@
-//! Entries as the nodes and links of a net.
+//! The nodes and links of a net, made from entries.
 ghost use Rattle.std.specs.Prelude.{◌≡◌, ◌≤◌, ◌+◌, ◌++◌, ◌∷◌, [], true, length, IsTrue, map, Ok, IfOk, OnOk};
 ghost use Rattle.std.specs.Prelude.{string_bytes};
 ghost use Rattle.std.specs.List.{All};
@@ -25,14 +25,14 @@ use sdf_document::{ActorEntry, KindEntry, LinkEntry, ListEntry};
 use sdf_kit::{Kit, KitFault};
 use std::alloc::{AllocError, Global};
 
-/// The values of a list.
+/// Moves the values out of `list`.
 fn moved(list: ListEntry) -> Vec<i32>
     ensures { result.items ≡ list.values }
 {
     list.values
 }
 
-/// A filter whose values are within their limits.
+/// Makes a FIR filter. Its values are within their limits, so no test of the kit fails.
 fn filter_of(up: u32, down: u32, shift: u32, taps: Vec<i32>) -> Result<Kit, KitFault>
     requires up { (1 ≤ up) × (up ≤ MOST_FACTOR) }
     requires down { (1 ≤ down) × (down ≤ MOST_FACTOR) }
@@ -43,7 +43,7 @@ fn filter_of(up: u32, down: u32, shift: u32, taps: Vec<i32>) -> Result<Kit, KitF
     Kit::fir(up, down, taps, shift)
 }
 
-/// A kit as an inner node.
+/// Wraps `kit` as an inner node.
 fn inner(kit: Result<Kit, KitFault>) -> Result<Node<Kit>, KitFault>
     ensures { result ≡ result_map_both Inner (λ e. e) kit }
 {
@@ -53,7 +53,7 @@ fn inner(kit: Result<Kit, KitFault>) -> Result<Node<Kit>, KitFault>
     }
 }
 
-/// A kind whose values are within their limits: no test of the kit fails.
+/// Makes the node of `kind`. Its values are within their limits, so no test of the kit fails.
 fn tested_node(kind: KindEntry) -> Result<Node<Kit>, KitFault>
     requires { IsWithin true kind }
     ensures { result ≡ Ok (node_of kind) }
@@ -123,7 +123,7 @@ impl Parts {
     }
 }
 
-/// The parts of actors, in their order.
+/// Makes the parts of `actors`, in their order.
 pub(crate) fn parts_of(alloc: Global, actors: Vec<ActorEntry>) -> Result<Parts, AllocError>
     requires distinct { AreDistinct (names_in (map actor_view actors.items)) }
     requires within { All (IsActorWithin true) actors.items }
@@ -159,7 +159,7 @@ fn link_of(link: LinkEntry) -> Link<i32>
     }
 }
 
-/// The links of a net, in their order.
+/// Converts `links` to links of a net, in their order.
 pub(crate) fn links_of(alloc: Global, links: Vec<LinkEntry>) -> Result<Vec<Link<i32>>, AllocError>
     ensures { IfOk result (λ v. wires v.items ≡ map wire_of (map link_view links.items)) }
 {

@@ -14,7 +14,7 @@ use sdf_prec::{Firing, Table};
 use sdf_sched::Period;
 use std::alloc::{AllocError, Global};
 
-/// How many firings of one actor stand in an order from a place on.
+/// Returns the number of consecutive firings of one actor in `order`, from position `at` on.
 pub fn stretch_at(order: &[usize], at: usize) -> usize
     requires { at < length order.now }
     ensures stretch { stretches (drop at order.now) ≡
@@ -48,7 +48,7 @@ fn push_stretch(
     Ok(())
 }
 
-/// Adds an item for each longest stretch of one actor.
+/// Adds an item for each longest stretch of firings of one actor.
 fn push_items(text: &mut String, design: &Design, order: &[usize]) -> Result<(), AllocError>
     ensures { OnOk result (string_bytes text.new ≡ string_bytes text.old ++ order_items design.now order.now) }
 {
@@ -61,7 +61,7 @@ fn push_items(text: &mut String, design: &Design, order: &[usize]) -> Result<(),
     Ok(())
 }
 
-/// Adds the line of an order.
+/// Adds the line of `order`.
 fn push_order(text: &mut String, design: &Design, order: &[usize]) -> Result<(), AllocError>
     ensures { OnOk result (string_bytes text.new ≡ string_bytes text.old ++ order_line design.now order.now) }
 {
@@ -83,7 +83,7 @@ fn push_cell(text: &mut String, design: &Design, cell: Option<Firing>) -> Result
     Ok(())
 }
 
-/// Adds the line of a row.
+/// Adds the line of a row with these `cells`.
 fn push_row(text: &mut String, design: &Design, cells: &[Option<Firing>]) -> Result<(), AllocError>
     ensures { OnOk result (string_bytes text.new ≡ string_bytes text.old ++ row_line design.now cells.now) }
 {
@@ -94,7 +94,7 @@ fn push_row(text: &mut String, design: &Design, cells: &[Option<Firing>]) -> Res
     Ok(text.push_str("\n")?)
 }
 
-/// Adds the lines of a table's rows.
+/// Adds a line for each row of `table`.
 fn push_rows(text: &mut String, design: &Design, table: &Table) -> Result<(), AllocError>
     ensures { OnOk result (string_bytes text.new ≡
         string_bytes text.old ++ flat_map (row_line design.now) table.now.rows) }
@@ -105,7 +105,7 @@ fn push_rows(text: &mut String, design: &Design, table: &Table) -> Result<(), Al
     Ok(())
 }
 
-/// The ends of a link, each an actor and a port.
+/// Returns the ends of `link`, each an actor and a port.
 fn ends_of(design: &Design, link: usize) -> ((usize, usize), (usize, usize))
     requires { link < length design.now.net.wires }
     ensures from { result.0 ≡ (wire design.now.net link).from }
@@ -115,7 +115,7 @@ fn ends_of(design: &Design, link: usize) -> ((usize, usize), (usize, usize))
     (link.from, link.to)
 }
 
-/// Adds an end of a link.
+/// Adds an end of a link: its actor's name and its port.
 fn push_end(text: &mut String, design: &Design, end: (usize, usize)) -> Result<(), AllocError>
     ensures { OnOk result (string_bytes text.new ≡ string_bytes text.old ++ end_text design.now end) }
 {
@@ -125,7 +125,7 @@ fn push_end(text: &mut String, design: &Design, end: (usize, usize)) -> Result<(
     Ok(())
 }
 
-/// Adds the ends of a link, each its actor's name and its port, the end that it comes from first.
+/// Adds the ends of `link`, its source first, each as its actor's name and its port.
 pub fn push_link(text: &mut String, design: &Design, link: usize) -> Result<(), AllocError>
     requires { link < length design.now.net.wires }
     ensures { OnOk result (string_bytes text.new ≡ string_bytes text.old ++ link_text design.now link) }
@@ -136,7 +136,7 @@ pub fn push_link(text: &mut String, design: &Design, link: usize) -> Result<(), 
     push_end(text, design, to)
 }
 
-/// Adds the line of a link's capacity.
+/// Adds the line of the capacity of `link`.
 fn push_capacity(
     text: &mut String,
     design: &Design,
@@ -155,7 +155,7 @@ fn push_capacity(
     Ok(())
 }
 
-/// Adds the lines of the links' capacities, in file order.
+/// Adds a line for the capacity of each link, in file order.
 fn push_capacities(text: &mut String, design: &Design, table: &Table) -> Result<(), AllocError>
     requires { length table.now.caps ≡ length design.now.net.wires }
     ensures { OnOk result (string_bytes text.new ≡
@@ -168,14 +168,14 @@ fn push_capacities(text: &mut String, design: &Design, table: &Table) -> Result<
     Ok(())
 }
 
-/// How often the order of a period makes a table's block.
+/// Returns the number of periods in the block of `table`, by the length of a period's `order`.
 fn blocking_of(order: &[usize], table: &Table) -> usize
     ensures { result ≡ blocking_of order.now table.now }
 {
     table.order().len().checked_div(order.len()).unwrap_or(0)
 }
 
-/// How many columns each row of a table has.
+/// Returns the number of processors of `table`: the cells of its first row, or 0 if it has no rows.
 fn workers_of(table: &Table) -> usize
     ensures { result ≡ workers_of table.now }
 {
@@ -185,7 +185,7 @@ fn workers_of(table: &Table) -> usize
     table.row(0).len()
 }
 
-/// Adds the sizes of a table.
+/// Adds the sizes of `table`: the periods of its block, its processors and its rows.
 fn push_sizes(text: &mut String, order: &[usize], table: &Table) -> Result<(), AllocError>
     ensures { OnOk result (string_bytes text.new ≡ string_bytes text.old ++ size_lines order.now table.now) }
 {
@@ -196,7 +196,7 @@ fn push_sizes(text: &mut String, order: &[usize], table: &Table) -> Result<(), A
     Ok(())
 }
 
-/// Adds a table.
+/// Adds `table`: its sizes, its rows and the capacities of the links.
 fn push_table(
     text: &mut String,
     design: &Design,
@@ -229,8 +229,10 @@ fn text_with(
     Ok(text)
 }
 
-/// What a schedule is: the period and how often each actor fires in it, the order of its firings, and a table: its
-/// periods, its columns, the firings of each row, and the capacity of each link.
+/// Returns the text of a schedule: the repetition vector, the order of a period's firings, and `table`.
+///
+/// The text of the table has the periods of its block, its processors, the firings of each row, and the capacity of
+/// each link.
 pub fn schedule_text(
     alloc: Global,
     design: &Design,

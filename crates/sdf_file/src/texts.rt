@@ -17,7 +17,7 @@ fn push_q_line(text: &mut String, name: &str, count: u32) -> Result<(), AllocErr
     Ok(())
 }
 
-/// Adds a line for each actor, with its name and how often it fires in a period.
+/// Adds a line for each actor, with its name and its number of firings in a period.
 fn push_q_lines(
     text: &mut String,
     design: &Design,
@@ -33,7 +33,7 @@ fn push_q_lines(
     Ok(())
 }
 
-/// Adds how many firings a period has, and how many of them each actor's are.
+/// Adds the number of firings in a period, and the firings of each actor, which are the repetition vector.
 pub(crate) fn push_period(
     text: &mut String,
     design: &Design,
@@ -66,8 +66,9 @@ fn text_with(
     Ok(text)
 }
 
-/// What a design is: how many actors and links it has, its period, how often each actor fires in one, and how many
-/// samples each input puts and each output takes in one.
+/// Returns the text of a design: the numbers of its actors and links, and the repetition vector with its sum.
+///
+/// The last line has the samples that each input puts and each output takes in a period.
 pub fn check_text(alloc: Global, design: &Design) -> Result<String, AllocError>
     ensures { IfOk result (λ s. IsCheckText design.now (string_bytes s)) }
 {

@@ -1,4 +1,4 @@
--- The limits of the numbers of options, and what a mistake of usage is.
+-- The limits of the numbers of options, and mistakes of usage.
 use Rattle.std.specs.Prelude.{◌≤◌, ◌≢◌}
 use Rattle.sdf_limits.specs.declared.TheConstants.{MOST_BLOCKING, MOST_PATIENCE, MOST_WORKERS}
 use Rattle.clap.specs.Words.{kind_of}

@@ -1,4 +1,4 @@
-//! Why a command line was not read.
+//! Faults of reading a command line.
 
 ghost use Rattle.std.specs.Prelude.{◌≡◌};
 ghost use Rattle.sdf_options.specs.declared.fault.WordFault.TheVariants as fault;
@@ -7,7 +7,7 @@ use clap::error::ErrorKind;
 use std::alloc::{AllocError, AllocFailed};
 use thiserror::Error;
 
-/// Why a command line was not read.
+/// The reason why a command line was not read.
 #[derive(Debug, Drop, Error)]
 pub enum WordFault {
     #[error("1 OutOfMemory")]

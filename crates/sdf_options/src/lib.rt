@@ -1,7 +1,7 @@
-//! What a command line can ask of a schedule or a run, why one was not read, and texts that are safe to print.
+//! Options of a schedule or a run, faults of reading a command line, and texts that are safe to print.
 //!
-//! It depends on `clap`, whose mistakes it carries, and on `sdf_limits`; it knows no command. Begin at `options`. The
-//! definitions are in `specs/Limits.antt` and `specs/Printable.antt`.
+//! It depends on `clap`, whose errors it carries, and on `sdf_limits`. It does not know any command. Begin at
+//! `options`. The definitions are in `specs/Limits.antt` and `specs/Printable.antt`.
 #![tactic(auto)]
 
 mod fault;

@@ -5,7 +5,7 @@ ghost use Rattle.sdf_options.specs.Printable.{printable_char, printable_text};
 
 use std::alloc::{AllocError, Global};
 
-/// Adds a character as it is printed.
+/// Adds `character` to `shown` as it is printed.
 fn push_printable(shown: &mut String, character: char) -> Result<(), AllocError>
     ensures { OnOk result (string_bytes shown.new ≡ string_bytes shown.old ++ printable_char character) }
 {
@@ -17,8 +17,8 @@ fn push_printable(shown: &mut String, character: char) -> Result<(), AllocError>
     }
 }
 
-/// A text with each control character (below U+0020, or from U+007F to U+009F) written as `\u{a}`: its number in
-/// lower-case hexadecimal, without leading zeros.
+/// Returns `text` with each control character written as `\u{a}`: its number in lower-case hexadecimal, without
+/// leading zeros. Control characters are those below U+0020 and from U+007F to U+009F.
 pub fn printable(alloc: Global, text: &str) -> Result<String, AllocError>
     ensures { IfOk result (λ shown. string_bytes shown ≡ printable_text text.now) }
 {

@@ -25,7 +25,7 @@ one_thread = record {
   patience = 1000;
 }
 
--- the plan for one thread, cut into a part for each of m workers, after this many periods and samples of warm-up, the
+-- the plan for one thread, cut into a part for each of m workers, with this many periods and samples of warm-up, the
 -- fewest that are enough
 pub record IsInParts (d : DesignValue) (m : ℕ) (p : PlanValue) (workers periods samples : ℕ) : Type 0 where
   pub alone : PlanValue

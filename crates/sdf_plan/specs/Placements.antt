@@ -22,7 +22,7 @@ use Rattle.sdf_plan.specs.Weights.{weights_of}
 abbrev pub rates_of : DesignValue → Rates
 rates_of d = rates (graph_of kit_steps d.net)
 
--- the periods of a block: those that are asked for, and where the actors are spread those of a long block
+-- the periods of a block: of a long block if the actors are spread, otherwise the number in the options
 abbrev pub ArePeriodsBy : Placement → DesignValue → ℕ → Schedule → ℕ → Type 0
 ArePeriodsBy Spread d asked s j = IsLongest (rates_of d) s.repetitions j
 ArePeriodsBy placement d asked s j = j ≡ asked
@@ -30,26 +30,26 @@ ArePeriodsBy placement d asked s j = j ≡ asked
 abbrev pub ArePeriodsOf : DesignValue → Options → Schedule → ℕ → Type 0
 ArePeriodsOf d o s j = ArePeriodsBy o.placement d o.blocking s j
 
--- how often each actor fires in a block
+-- the number of firings of each actor in a block
 abbrev pub firings_of : ℕ → Schedule → ℕ → ℕ
 firings_of j s = slice_index (block j s.repetitions)
 
--- one firing a row at the homes of the design: the period's order so many times, and by the policy of runs the whole
--- block in runs
+-- one firing a row at the homes of the design: the period's order j times, or by the policy of runs the whole block in
+-- runs
 abbrev pub AreAtHome : Policy → DesignValue → ℕ → ℕ → Schedule → Tabled → Type 0
 AreAtHome Round d j m s t = AreByHomes d.homes m (repeated j s.order) t.rows
 AreAtHome Lean d j m s t = AreByHomes d.homes m (repeated j s.order) t.rows
 AreAtHome Runs d j m s t = AreRunsByHomes (rates_of d) (firings_of j s) d.homes m t.rows
 
 -- the table by a placement for blocks of j periods and m workers: by Hu's rule with the costs of the design, free or
--- homed, or one firing a row at the homes of the design, or at those by which its weight is spread
+-- homed; or one firing a row, at the homes of the design, or at the homes by which its weight is spread
 abbrev pub IsPlaced : Placement → Policy → DesignValue → ℕ → ℕ → Schedule → Tabled → Type 0
 IsPlaced Hu policy d j m s t = IsHuTable (rates_of d) (firings_of j s) (slice_index d.costs) m false t
 IsPlaced Homed policy d j m s t = IsHuTable (rates_of d) (firings_of j s) (slice_index d.costs) m true t
 IsPlaced File policy d j m s t = IsTable (rates_of d) (firings_of j s) m t × AreAtHome policy d j m s t
 IsPlaced Spread policy d j m s t = IsSpreadTable (rates_of d) s.repetitions j m (weights_of d s.repetitions) t
 
--- the first reason why there is none
+-- the first reason why there is no table
 abbrev pub IsPlaceFault : Placement → DesignValue → ℕ → ℕ → Schedule → PrecFault → Type 0
 IsPlaceFault Hu d j m s f = IsBlockSizeFault j m s.repetitions f
 IsPlaceFault Homed d j m s f = IsBlockSizeFault j m s.repetitions f

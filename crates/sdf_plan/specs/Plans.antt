@@ -36,8 +36,8 @@ use Rattle.sdf_faults.specs.declared.fault.Fault.TheVariants.{OutOfMemory, Patie
 use Rattle.sdf_faults.specs.declared.fault.Fault.TheVariants.{Deadlock, Table, NotHomed}
 use Rattle.sdf_plan.specs.Placements.{ArePeriodsOf, IsTableBy, IsPlaceFault}
 
--- what runs a design, the periods of a block, how often a worker repeats its tests over rings, how many parts of a
--- sound run at once on one thread each, the order of one period, and the table of a block
+-- the periods of a block, the runner, the spin limit of workers over rings, the most parts of a sound that run in
+-- parallel on one thread each, the order of one period, and the table of a block
 pub record PlanValue : Type 0 where
   pub blocking : ℕ
   pub runner : Runner
@@ -46,7 +46,7 @@ pub record PlanValue : Type 0 where
   pub period : Schedule
   pub table : Option Tabled
 
--- a policy fires this order of a period's firings, from its beginning: rounds and runs begin at actor 0
+-- a policy gives this order of a period's firings; rounds and runs begin at actor 0
 abbrev pub IsOrderBy : Policy → Shape → (ℕ → ℕ) → List ℕ → Type 0
 IsOrderBy policies.Round g q order = (turn : ℕ) × IsPicked IsRoundChoice g q 0 order turn
 IsOrderBy policies.Lean g q order = IsPicked {P = Lean} IsLeanChoice g q (record {}) order (record {})
@@ -57,7 +57,7 @@ pub record IsScheduleBy (policy : Policy) (g : Shape) (s : Schedule) : Type 0 wh
   pub period : IsPeriodOf (rates g) s
   pub order : IsOrderBy policy g (slice_index s.repetitions) s.order
 
--- a graph of least period vector q is deadlocked, and this is where a schedule stopped
+-- a graph with least repetition vector q is deadlocked, and this is where a schedule stopped
 abbrev pub IsStuckFault : Shape → List ℕ → SchedFault → Type 0
 IsStuckFault g q sched.OutOfMemory = Unit {0}
 IsStuckFault g q (sched.Deadlock s) =
@@ -73,13 +73,13 @@ IsWorkers workers = (1 ≤ workers) × (workers ≤ MOST_WORKERS)
 abbrev pub AreSizes : Options → Type 0
 AreSizes o = IsBlocking o.blocking × IsWorkers o.workers
 
--- the first of them that is not
+-- the first of these numbers that is not within its limits
 abbrev pub IsSizeFault : Options → Fault → Type 0
 IsSizeFault o BlockingFactor = IsBlocking o.blocking → ⊥
 IsSizeFault o WorkerCount = IsBlocking o.blocking × (IsWorkers o.workers → ⊥)
 IsSizeFault o f = ⊥
 
--- a worker over rings tests again at most so often in a round. The other runners have no such tests
+-- the spin limit of workers over rings is not above the greatest one. Other runners have no spin limit
 abbrev pub HasPatience : Runner → ℕ → Type 0
 HasPatience Rings patience = patience ≤ MOST_PATIENCE
 HasPatience runner patience = Unit {0}
@@ -89,27 +89,27 @@ pub record ArePassed (o : Options) : Type 0 where
   pub patience : HasPatience o.runner o.patience
   pub sizes : AreSizes o
 
--- the first of these tests that they fail
+-- the first test that the options fail by themselves
 abbrev pub IsOptionFault : Options → Fault → Type 0
 IsOptionFault o Patience = HasPatience o.runner o.patience → ⊥
 IsOptionFault o BlockingFactor = HasPatience o.runner o.patience × IsSizeFault o BlockingFactor
 IsOptionFault o WorkerCount = HasPatience o.runner o.patience × IsSizeFault o WorkerCount
 IsOptionFault o f = ⊥
 
--- The runner on one thread has no table. Each other one has that of the placement; over rings each actor has a home in
--- it.
+-- The runner on one thread has no table. The other runners have the table of the placement; over rings each actor has a
+-- home in it.
 abbrev pub IsTableFor : Runner → DesignValue → Options → Schedule → ℕ → Option Tabled → Type 0
 IsTableFor One d o s j t = t ≡ None
 IsTableFor Rows d o s j (Some t) = IsTableBy d o s j t
 IsTableFor Rings d o s j (Some t) = IsTableBy d o s j t × IsHomed t
 IsTableFor runner d o s j None = ⊥
 
--- a worker's repeated tests over rings. The other runners have none
+-- the spin limit of workers over rings, and 0 for the other runners
 abbrev pub patience_for : Runner → ℕ → ℕ
 patience_for Rings patience = patience
 patience_for runner patience = 0
 
--- what a design is run by, for blocks of j periods, by options: its period, and the table that the runner needs
+-- the plan of a design by options, for blocks of j periods: its period, and the table that the runner needs
 pub record IsRunBy (d : DesignValue) (o : Options) (s : Schedule) (j : ℕ) (p : PlanValue) : Type 0 where
   pub is : p ≡ record {
     blocking = j;
@@ -136,7 +136,7 @@ abbrev pub SuitsRunner : Runner → Tabled → Type 0
 SuitsRunner Rings t = IsHomed t
 SuitsRunner runner t = Unit {0}
 
--- a plan is one of a net's: its order is one of the net's period, and its table, where it has one, is one of the net's
+-- a plan suits a net: its order is an order of the net's period, and its table, if it has one, is a table of the net's
 -- blocks
 pub record Suits (n : Netlist Kit ℤ) (p : PlanValue) : Type 0 where
   pub period : IsPeriodOf (rates (graph_of kit_steps n)) p.period
@@ -144,8 +144,8 @@ pub record Suits (n : Netlist Kit ℤ) (p : PlanValue) : Type 0 where
   pub homes : IfSome p.table (SuitsRunner p.runner)
   pub patience : HasPatience p.runner p.patience
 
--- how far an actor came: its name, its firings, those of a period, and for an unfinished one its first link that holds
--- too little
+-- the progress of an actor: its name, its firings, its firings in a period, and if it is unfinished its first link that
+-- holds too few tokens
 pub record ProgressValue : Type 0 where
   pub name : List ℕ
   pub done : ℕ
@@ -155,7 +155,7 @@ pub record ProgressValue : Type 0 where
 abbrev pub progress_view : Progress → ProgressValue
 progress_view p = record { name = string_bytes p.name; done = p.done; of = p.of; short = p.short }
 
--- the channel that is told of an actor
+-- the channel that is listed for an actor
 abbrev pub short_of : List (ℕ × ℕ) → ℕ → Option ℕ
 short_of short a = option_map (λ (p : ℕ × ℕ). p.1) (find (λ (p : ℕ × ℕ). p.0 == a) short)
 
@@ -174,7 +174,7 @@ pub record IsLive (d : DesignValue) : Type 0 where
   pub sequence : List ℕ
   pub completes : IsPass (rates (graph_of kit_steps d.net)) (slice_index period) sequence
 
--- none completes it, and what is told of each actor where a schedule stopped
+-- no sequence completes it, and this is the progress of each actor where a schedule stopped
 pub record IsDeadlockOf (d : DesignValue) (actors : List ProgressValue) : Type 0 where
   pub period : List ℕ
   pub least : IsLeastPeriod (rates (graph_of kit_steps d.net)) period
@@ -189,7 +189,7 @@ IsScheduleFault d OutOfMemory = Unit {0}
 IsScheduleFault d (Deadlock stalled) = IsDeadlockOf d (map progress_view stalled.actors.items)
 IsScheduleFault d f = ⊥
 
--- no table of the period of the policy, but memory was not refused
+-- there is no table for the period of the policy, though memory was not refused
 pub record IsUnplaced (d : DesignValue) (o : Options) (f : PrecFault) : Type 0 where
   pub sizes : AreSizes o
   pub period : Schedule
@@ -199,7 +199,7 @@ pub record IsUnplaced (d : DesignValue) (o : Options) (f : PrecFault) : Type 0 w
   pub fault : IsPlaceFault o.placement d periods o.workers period f
   pub no_memory : f ≡ prec.OutOfMemory → ⊥
 
--- why there is no table of j periods that the runner takes
+-- the reason why there is no table of j periods that the runner can follow
 abbrev pub IsTableFault : DesignValue → Options → Schedule → ℕ → Fault → Type 0
 IsTableFault d o s j OutOfMemory = Unit {0}
 IsTableFault d o s j (Table f) = (o.runner ≢ One) × IsPlaceFault o.placement d j o.workers s f
@@ -218,7 +218,7 @@ pub record IsScattered (d : DesignValue) (o : Options) : Type 0 where
   pub by_placement : IsTableBy d o period periods table
   pub scattered : IsHomed table → ⊥
 
--- the first test that options or the design fail. Only the schedule and the table take memory
+-- the first test that options or the design fail. Only the schedule and the table allocate memory
 abbrev pub IsPlanFault : DesignValue → Options → Fault → Type 0
 IsPlanFault d o Patience = IsOptionFault o Patience
 IsPlanFault d o BlockingFactor = IsOptionFault o BlockingFactor
@@ -227,9 +227,9 @@ IsPlanFault d o (Table f) = (o.runner ≢ One) × HasPatience o.runner o.patienc
 IsPlanFault d o NotHomed = (o.runner ≡ Rings) × HasPatience o.runner o.patience × IsScattered d o
 IsPlanFault d o f = ArePassed o × IsScheduleFault d f
 
--- What the answer for options that pass says of a design: a plan, or a reason why there is no table that serves, stands
--- where some sequence of enabled firings completes its least period, and 10 where none does. Memory may be refused in
--- both cases, and there is no third.
+-- What the result for options that pass says of a design. If it is a plan, or a reason why there is no table to follow,
+-- then some sequence of enabled firings completes its least period. If it is 10 Deadlock, then no sequence does. Memory
+-- may be refused in both cases, and there is no other result.
 abbrev pub Decides : {X : Type 0} → DesignValue → Result X Fault → Type 0
 Decides d (Ok plan) = IsLive d
 Decides d (Err (Table f)) = IsLive d

@@ -13,14 +13,14 @@ use Rattle.sdf_faults.specs.declared.fault.Fault.TheVariants.{Table}
 use Rattle.sdf_plan.specs.Placements.{ArePeriodsOf, IsTableBy}
 use Rattle.sdf_plan.specs.Plans.{AreSizes, IsSizeFault, IsScheduleBy, IsScheduleFault, IsUnplaced}
 
--- the order of the policy, and the table of the placement for a block of so many periods
+-- the order of the policy, and the table of the placement for a block of this many periods
 pub record IsScheduled (d : DesignValue) (o : Options) (periods : ℕ) (period : Schedule) (table : Tabled) : Type 0 where
   pub sizes : AreSizes o
   pub by_policy : IsScheduleBy o.policy (graph_of kit_steps d.net) period
   pub blocking : ArePeriodsOf d o period periods
   pub by_placement : IsTableBy d o period periods table
 
--- the text is of these
+-- the text of a schedule by the options
 pub record IsShown (d : DesignValue) (o : Options) (text : List ℕ) : Type 0 where
   pub period : Schedule
   pub periods : ℕ

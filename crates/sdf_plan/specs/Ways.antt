@@ -6,7 +6,7 @@ use Rattle.sdf_plan.specs.declared.plan.Way.{Way}
 use Rattle.sdf_plan.specs.declared.plan.Way.TheVariants.{One, Parts, Rows, Rings}
 use Rattle.sdf_plan.specs.Plans.{PlanValue}
 
--- the plan that runs a design in a way
+-- the plan that runs a design by a way
 abbrev pub plan_by : Way → PlanValue
 plan_by (One period blocking) = record {
   blocking = blocking;

@@ -1,4 +1,4 @@
--- What the actors of a design weigh, by which they are spread over workers.
+-- Weights: the loads of a design's actors, by which they are spread over workers.
 use Rattle.std.specs.Prelude.{ℕ, ◌+◌, ◌*◌, Bool, true, ◌==◌, min, max, if◌then◌else◌, List, length, map}
 use Rattle.std.specs.Prelude.{slice_index}
 use Rattle.std.specs.List.{list_all, range_with_len}
@@ -20,7 +20,7 @@ abbrev pub moved_by : PortRates → ℕ
 moved_by (Every ports rate) = ports * rate
 moved_by (InTurn ports rate) = rate
 
--- the products of a firing: of each sample that a filter puts, as many as it keeps samples, and one more
+-- the products of a firing: for each sample that a filter puts, one more than the samples that it keeps
 abbrev pub products_of : Kit → ℕ
 products_of (Fir f) = f.up * (kept_len f + 1)
 products_of kit = 0
@@ -29,7 +29,7 @@ products_of kit = 0
 abbrev pub as_cost : ℕ → ℕ
 as_cost weight = max 1 (min MOST_COST weight)
 
--- what a firing of a node weighs: 1 for each product, and more for each sample that it moves
+-- the weight of a firing of a node: 1 for each product, and SAMPLE_WEIGHT for each sample that it moves
 abbrev pub load_of : Node Kit → ℕ
 load_of (Source channel block) = as_cost (SAMPLE_WEIGHT * block)
 load_of (Sink channel block) = as_cost (SAMPLE_WEIGHT * block)
@@ -37,18 +37,18 @@ load_of (Inner kit) =
     as_cost (products_of kit
     + SAMPLE_WEIGHT * (moved_by (behaviour kit).ports.inputs + moved_by (behaviour kit).ports.outputs))
 
--- the design gives no costs: each is 1, as where the key `cost` is left out
+-- the design gives no costs: each is 1, which is also the value of an absent key `cost`
 abbrev pub is_free_of_costs : DesignValue → Bool
 is_free_of_costs d = list_all (λ cost. cost == 1) d.costs
 
--- what a firing of actor a weighs: what its node does, or its cost
+-- the weight of a firing of actor a: by its node, or its cost
 abbrev pub firing_weight : DesignValue → Bool → ℕ → ℕ
 firing_weight d by_kind a = if by_kind then load_of (node d.net a) else slice_index d.costs a
 
--- what the firings of each actor in a period weigh
+-- the weight of each actor's firings in a period
 abbrev pub weights_by : DesignValue → Bool → List ℕ → List ℕ
 weights_by d by_kind q = map (λ a. slice_index q a * firing_weight d by_kind a) (range_with_len 0 (length d.net.nodes))
 
--- by costs where the design gives them, and else by what the nodes do
+-- by costs if the design gives them, otherwise by what the nodes do
 abbrev pub weights_of : DesignValue → List ℕ → List ℕ
 weights_of d q = weights_by d (is_free_of_costs d) q

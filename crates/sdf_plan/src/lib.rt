@@ -1,9 +1,9 @@
-//! How a design is run: its plan, by options or for workers where these can be faster, and its printed schedule.
+//! Plans of runs, by options or for several workers if these can be faster, and the printed schedule of a design.
 //!
 //! It depends on `sdf_options` for the options, and on `sdf_file`, `sdf_kit`, `sdf_actor` and `sdf_graph` for the
 //! design. `sdf_sched` orders the firings of a period, and `sdf_prec` makes the table of a block. `sdf_fission` finds
-//! the warm-up of a part, `sdf_answer` has the table that workers follow, and `sdf_faults` the reasons that there is no
-//! plan. It runs nothing. Begin at `planning`; then `parallel` and `schedule`. The definitions are in
+//! the warm-up of a part, `sdf_answer` has the table that workers follow, and `sdf_faults` has the reasons why there
+//! is no plan. It runs nothing. Begin at `planning`; then `parallel` and `schedule`. The definitions are in
 //! `specs/Plans.antt`, `specs/Placements.antt`, `specs/Paces.antt` and `specs/Schedules.antt`.
 #![tactic(auto)]
 

@@ -15,11 +15,11 @@ use sdf_fission::warm_up::warm_up;
 use sdf_options::Options;
 use std::alloc::Global;
 
-/// How a design is run if it is to be run in parallel.
+/// The way in which a design is run by several workers, or the reason why one thread runs it.
 #[derive(Clone, Copy, Debug, PartialEq, Eq)]
 pub enum Pace {
-    /// In `workers` parts of the sound at once, each in one thread after `periods` periods of warm-up, which are
-    /// `samples` samples of each input.
+    /// In up to `workers` parts of the sound in parallel, each in one thread after a warm-up. The warm-up has
+    /// `periods` periods, which are `samples` samples of each input.
     Parts {
         workers: usize,
         periods: u32,
@@ -27,18 +27,18 @@ pub enum Pace {
     },
     /// In one thread: the design keeps samples for ever, or for too long.
     Lasting,
-    /// In one thread: one worker is asked for.
+    /// In one thread: only one worker is requested.
     Alone,
 }
 
-/// A plan, and how it runs a design.
+/// A plan, and the way in which it runs a design.
 #[derive(Drop)]
 pub struct Paced {
     pub plan: Plan,
     pub pace: Pace,
 }
 
-/// Cuts the plan for one thread into a part of the sound for each worker.
+/// Cuts `alone`, the plan for one thread, into a part of the sound for each worker.
 fn by_parts(design: &Design, workers: usize, periods: u32, alone: Plan) -> Paced
     requires alone { IsPlanOf design.now one_thread alone }
     requires suits { Suits design.now.net alone }
@@ -60,16 +60,16 @@ fn by_parts(design: &Design, workers: usize, periods: u32, alone: Plan) -> Paced
     }
 }
 
-/// Plans a run by `workers` workers, each on its own part of the sound, if the design is known to forget what it took.
-/// Otherwise the run is in one thread. A fault is one of a plan for one thread.
+/// Plans a run by `workers` workers, each on its own part of the sound, if the design is known to forget its input.
+/// Otherwise the run is in one thread. Its faults are the faults of a plan for one thread.
 pub fn parallel_plan(alloc: Global, design: &Design, workers: usize) -> Result<Paced, Fault>
     requires { IsWorkers workers }
 
-    // What is answered is so.
+    // The plan and its pace, or the fault, are right for the design.
     ensures answers { MatchResult result (λ p. IsPaced design.now workers p.plan p.pace)
         (IsPlanFault design.now one_thread) }
 
-    // The plan is one of the design's.
+    // The plan suits the design's net.
     ensures suits { IfOk result (λ p. Suits design.now.net p.plan) }
 {
     let plan = plan(alloc, design, &Options::DEFAULT)?;

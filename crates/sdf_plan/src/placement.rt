@@ -13,7 +13,7 @@ use sdf_prec::{PrecFault, Table, Team};
 use sdf_sched::Period;
 use std::alloc::Global;
 
-/// The periods of a block: those of the options, and by the placement `spread` those of a long block.
+/// Returns the periods of a block: of a long block for the placement `spread`, otherwise `options.blocking`.
 pub(crate) fn blocking_by(design: &Design, options: &Options, period: &Period) -> u32
     requires { IsPeriodOf (rates_of design.now) period.now }
     ensures { ArePeriodsOf design.now options.now period.now result }
@@ -24,7 +24,7 @@ pub(crate) fn blocking_by(design: &Design, options: &Options, period: &Period) -
     }
 }
 
-/// The table of a design's period for blocks of `j` periods by a placement.
+/// Makes the table of a block of `j` periods by the placement of `options`.
 pub(crate) fn table_by(
     alloc: Global,
     design: &Design,

@@ -1,4 +1,4 @@
-//! How a design is run.
+//! Plans: ways to run a design.
 
 ghost use Rattle.std.specs.Prelude.{◌≡◌, ℤ, IfSome, IfNone, None};
 ghost use Rattle.sdf_graph.specs.Rates.{rates};
@@ -14,7 +14,7 @@ use sdf_answer::BlockTable;
 use sdf_sched::Period;
 use std::marker::Model;
 
-/// How a design is run: the runner, and what it follows.
+/// A way to run a design: the runner, and what it follows.
 #[derive(Drop)]
 pub enum Way {
     /// On one thread, by the order of `period`. A block has `blocking` periods.
@@ -22,15 +22,16 @@ pub enum Way {
         period: Period,
         blocking: u32,
     },
-    /// In `parts` parts of the sound at once, each as `One` runs the whole sound.
+    /// In up to `parts` parts of the sound in parallel, each as `One` runs the whole sound.
     Parts {
         period: Period,
         blocking: u32,
         parts: u32,
     },
-    /// By the rows of a table.
+    /// By the rows of a table (barrier-synchronous).
     Rows(BlockTable),
-    /// Over rings, by a worker for each column of a table. A worker repeats at most `patience` tests in a round.
+    /// Over rings (self-timed), by a worker for each processor of a table. `patience` is the spin limit: a worker
+    /// repeats at most this many tests in a round.
     Rings {
         table: BlockTable,
         patience: u32,
@@ -53,14 +54,14 @@ impl Model for Plan {
 }
 
 impl Plan {
-    /// Makes the plan that runs a design in this way.
+    /// Makes the plan that runs a design by `way`.
     pub(crate) fn new(way: Way) -> Plan
         ensures { result ≡ plan_by way }
     {
         Plan { way }
     }
 
-    /// Cuts the sound of a plan for one thread into parts, so that `parts` of them can be run at once.
+    /// Turns a plan for one thread into a plan that runs up to `parts` parts of the sound in parallel.
     pub(crate) fn in_parts(self, parts: u32) -> Plan
         requires { self.table ≡ None }
         ensures { result ≡ record self { parts = parts } }
@@ -88,7 +89,7 @@ impl Plan {
         &self.way
     }
 
-    /// The firings of one period in their order.
+    /// Returns the firings of one period, in their order.
     pub fn period(&self) -> &Period
         ensures { result.now ≡ self.now.period }
     {
@@ -98,7 +99,7 @@ impl Plan {
         }
     }
 
-    /// The table of its blocks, where the runner has workers.
+    /// Returns the table of a block, if the runner has workers that follow one.
     pub fn table(&self) -> Option<&BlockTable>
         ensures some { IfSome result (λ t. HasBlockTable self.now t.now) }
         ensures none { IfNone result (self.now.table ≡ None) }

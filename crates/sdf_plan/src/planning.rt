@@ -1,4 +1,4 @@
-//! Planning a run: one period of a design by a policy, or why there is none.
+//! Planning a run: the tests of the options, one period by a policy, and the table of a block.
 
 ghost use Rattle.std.specs.Prelude.{◌≡◌, ◌<◌, length, map, MatchOption, MatchResult, IfOk};
 ghost use Rattle.std.specs.List.{range_with_len};
@@ -26,7 +26,7 @@ use sdf_sched::class_s::class_s;
 use sdf_sched::{Lean, Period, Round, Runs, SchedFault, Stuck};
 use std::alloc::{AllocError, Global};
 
-/// The channel that is told of an actor.
+/// Returns the channel that `short` lists for `actor`, if it lists one.
 fn short_channel(short: &[(usize, usize)], actor: usize) -> Option<usize>
     ensures { result ≡ short_of short.now actor }
 {
@@ -36,7 +36,7 @@ fn short_channel(short: &[(usize, usize)], actor: usize) -> Option<usize>
         .map(|entry| entry.1)
 }
 
-/// How far an actor came.
+/// Returns the progress of `actor` at the point where its schedule got stuck.
 fn progress_at(
     alloc: Global,
     design: &Design,
@@ -57,7 +57,7 @@ fn progress_at(
     })
 }
 
-/// How far each actor came, in file order.
+/// Returns the progress of each actor, in file order.
 fn progress(
     alloc: Global,
     design: &Design,
@@ -76,7 +76,7 @@ fn progress(
     Ok(all)
 }
 
-/// One period of a graph by a policy.
+/// Makes one period of a graph by `policy`.
 fn class_s_by(
     alloc: Global,
     graph: &Graph,
@@ -93,7 +93,8 @@ fn class_s_by(
     }
 }
 
-/// One period of a design by a policy. That no sequence of enabled firings completes it is one answer for all policies.
+/// Makes one period of a design by `policy`. A deadlock does not depend on the policy: then no sequence of enabled
+/// firings completes a period.
 pub fn period_by(alloc: Global, design: &Design, policy: Policy) -> Result<Period, Fault>
     ensures { MatchResult result (IsScheduleBy policy (graph_of kit_steps design.now.net))
         (IsScheduleFault design.now) }
@@ -111,7 +112,7 @@ pub fn period_by(alloc: Global, design: &Design, policy: Policy) -> Result<Perio
     }
 }
 
-/// The first of the tests that options fail by their numbers alone.
+/// Returns the first test that fails: of the blocking factor, then of the workers.
 pub(crate) fn size_fault(options: &Options) -> Option<Fault>
     ensures { MatchOption result (AreSizes options.now) (IsSizeFault options.now) }
 {
@@ -124,7 +125,7 @@ pub(crate) fn size_fault(options: &Options) -> Option<Fault>
     None
 }
 
-/// The first of the tests that options fail by themselves.
+/// Returns the first test that `options` fail by themselves, before a look at the design.
 fn option_fault(options: &Options) -> Option<Fault>
     ensures { MatchOption result (ArePassed options.now) (IsOptionFault options.now) }
 {
@@ -186,7 +187,7 @@ fn way_for(
     }
 }
 
-/// The tests in their order, and then the plan.
+/// Runs the tests in their order, then makes the plan.
 #[tactic(auto, using(crate::proofs::Tabling::untabled))]
 fn planned(alloc: Global, design: &Design, options: &Options) -> Result<Plan, Fault>
     ensures { MatchResult result (IsPlanOf design.now options.now) (IsPlanFault design.now options.now) }
@@ -199,19 +200,21 @@ fn planned(alloc: Global, design: &Design, options: &Options) -> Result<Plan, Fa
     Ok(Plan::new(way_for(alloc, design, period, options, blocking)?))
 }
 
-/// Plans a run. The tests in order: for the runner `rings` the patience is within its limit; the blocking factor and
-/// the workers are within theirs; the design has a schedule; for a runner with workers a block is not too long, and
-/// with the placement `file` each actor has a home among the workers; and for the runner `rings` each actor has a home
-/// in the table.
+/// Plans a run of `design` by `options`, or returns the first test that fails.
+///
+/// The tests in order: for the runner `rings`, the patience is within its limit; the blocking factor and the workers
+/// are within theirs; the design has a schedule; for a runner with workers, a block is not too long, and with the
+/// placement `file` each actor has a home among the workers; for the runner `rings`, each actor has a home in the
+/// table.
 pub fn plan(alloc: Global, design: &Design, options: &Options) -> Result<Plan, Fault>
-    // What is answered is so.
+    // The plan, or the fault, is right for the design and the options.
     ensures answers { MatchResult result (IsPlanOf design.now options.now) (IsPlanFault design.now options.now) }
 
-    // The plan is one of the design's.
+    // The plan suits the design's net.
     ensures suits { IfOk result (Suits design.now.net) }
 
-    // 10 is answered exactly where no sequence of enabled firings completes the least period, unless memory was
-    // refused.
+    // The fault is `10 Deadlock` exactly if no sequence of enabled firings completes the least period, unless memory
+    // was refused.
     ensures decides { ArePassed options.now → Decides design.now result }
 {
     let net = design.net();

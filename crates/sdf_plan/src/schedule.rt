@@ -18,10 +18,10 @@ use sdf_prec::Table;
 use sdf_sched::Period;
 use std::alloc::Global;
 
-/// One period of a design by the policy of options, the table of its block by their placement, and the periods of the
-/// block. The tests in order:
-/// the blocking factor and the workers are within their limits; the design has a schedule; a block is not too long;
-/// with the placement `file`, each actor has a home among the workers.
+/// Returns one period by the policy of `options`, the table of a block by their placement, and the block's periods.
+///
+/// The tests in order: the blocking factor and the workers are within their limits; the design has a schedule; a block
+/// is not too long; with the placement `file`, each actor has a home among the workers.
 pub fn scheduled(
     alloc: Global,
     design: &Design,
@@ -43,8 +43,8 @@ pub fn scheduled(
     Ok((period, table, blocking))
 }
 
-/// The table that options give a period of a design by their policy, and the periods of its block. The tests in order:
-/// a block is not too long; with the placement `file`, each actor has a home among the workers.
+/// Returns the table that `options` give to `period`, an order by their policy, and the periods of its block. The tests
+/// in order: a block is not too long; with the placement `file`, each actor has a home among the workers.
 pub fn tabled(
     alloc: Global,
     design: &Design,
@@ -66,8 +66,8 @@ pub fn tabled(
     Ok((table, blocking))
 }
 
-/// What the command `schedule` prints: the order of the policy, and the table of the placement. The tests are those of
-/// `scheduled`.
+/// Returns what the command `schedule` prints: the order by the policy, and the table by the placement. Its tests are
+/// the tests of `scheduled`.
 pub fn schedule(alloc: Global, design: &Design, options: &Options) -> Result<String, Fault>
     ensures { MatchResult result (λ s. IsShown design.now options.now (string_bytes s))
         (IsShowFault design.now options.now) }

@@ -1,4 +1,4 @@
-//! What the actors of a design weigh, by which they are spread over workers.
+//! Weights: the loads of a design's actors, by which they are spread over workers.
 
 ghost use Rattle.std.specs.Prelude.{◌≡◌, ◌≤◌, ◌<◌, ◌^◌, ◌*◌, ℕ, length, map, slice_index, IfOk};
 ghost use Rattle.std.specs.List.{range_with_len};
@@ -18,10 +18,10 @@ use sdf_limits::MOST_COST;
 use sdf_sched::Period;
 use std::alloc::{AllocError, Global};
 
-/// What a sample weighs that a firing moves, where a product weighs 1.
+/// The weight of a sample that a firing moves. A product weighs 1.
 pub const SAMPLE_WEIGHT: u64 = 32;
 
-/// The samples that a firing moves at all ports of a side.
+/// Returns the samples that a firing moves at all ports of `side`.
 fn moved_by(side: PortRates) -> u64
     requires { ArePortRates side }
     ensures is { result ≡ moved_by side }
@@ -33,7 +33,7 @@ fn moved_by(side: PortRates) -> u64
     }
 }
 
-/// The products of a firing.
+/// Returns the products of a firing, which are counted for filters only.
 fn products_of(kit: &Kit) -> u64
     ensures is { result ≡ products_of kit.now }
     ensures few { result < 2 ^ 50 }
@@ -44,7 +44,7 @@ fn products_of(kit: &Kit) -> u64
     }
 }
 
-/// A weight within the limits of a cost.
+/// Clamps `weight` to the limits of a cost.
 fn as_cost(weight: u64) -> u64
     ensures is { result ≡ as_cost weight }
     ensures few { result ≤ MOST_COST }
@@ -52,7 +52,7 @@ fn as_cost(weight: u64) -> u64
     weight.min(u64::from(MOST_COST)).max(1)
 }
 
-/// What a firing of a node weighs.
+/// Returns the weight of a firing of `node`, by its products and the samples that it moves.
 fn load_of(node: &Node<Kit>) -> u64
     ensures is { result ≡ load_of node.now }
     ensures few { result ≤ MOST_COST }
@@ -69,14 +69,14 @@ fn load_of(node: &Node<Kit>) -> u64
     }
 }
 
-/// Whether a design gives no costs.
+/// Returns whether `design` gives no costs: each is 1.
 fn is_free_of_costs(design: &Design) -> bool
     ensures { result ≡ is_free_of_costs design.now }
 {
     design.costs().iter().all(|cost| *cost == 1)
 }
 
-/// What a firing of an actor weighs: by its kind, or as its cost.
+/// Returns the weight of a firing of `actor`: by its kind if `by_kind`, otherwise its cost.
 fn firing_weight(design: &Design, by_kind: bool, actor: usize) -> u64
     requires known { actor < length design.now.net.nodes }
     ensures is { result ≡ firing_weight design.now by_kind actor }
@@ -90,7 +90,7 @@ fn firing_weight(design: &Design, by_kind: bool, actor: usize) -> u64
     }
 }
 
-/// What the firings of each actor in a period weigh: by kinds, or as their costs.
+/// Returns the weight of each actor's firings in a period: by kinds if `by_kind`, otherwise by costs.
 fn weights_by(
     alloc: Global,
     design: &Design,
@@ -111,8 +111,10 @@ fn weights_by(
     Ok(weights)
 }
 
-/// What the firings of each actor in a period weigh: of a firing its cost, where the design gives some cost above 1,
-/// and else 1 for each product and 32 for each sample that it moves, within the limits of a cost.
+/// Returns the weight of each actor's firings in a period.
+///
+/// A firing weighs its cost if the design gives some cost above 1. Otherwise it weighs 1 for each product and 32 for
+/// each sample that it moves, within the limits of a cost.
 pub(crate) fn weights(
     alloc: Global,
     design: &Design,

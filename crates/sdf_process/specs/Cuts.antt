@@ -1,4 +1,4 @@
--- How a sound is cut in time: how many periods are run at once, and in how many parts.
+-- The cut of a sound in time: the number of periods that are run at once, and the number of their parts.
 use Rattle.std.specs.Prelude.{◌≡◌, ℕ, ◌*◌, ◌/◌, ◌-◌, ◌^◌, Option, None, Some, max, min}
 use Rattle.std.specs.Int.{div_ceil}
 use Rattle.sdf_fission.specs.Warm.{IsLeast}
@@ -7,20 +7,20 @@ use Rattle.sdf_process.specs.declared.cut.Cut.{Cut}
 use Rattle.sdf_process.specs.declared.cut.TheConstants.{FIRST_SHARE, PART, PIECE}
 use Rattle.sdf_process.specs.declared.exchange.Exchange.{Exchange}
 
--- the most periods that read at most this many frames and make at most as many, and at least one
+-- the most periods that read at most this many frames and make at most this many, but at least one
 abbrev pub periods_in : ℕ → Exchange → ℕ
 periods_in frames x = max 1 (frames / max x.taken x.made)
 
--- The periods of a piece. On one thread: those in PIECE frames. In parts: for each worker those in `share` frames, or
--- eight warm-ups if these are longer. (At most the greatest number of 32 bits.)
+-- The periods of a piece. On one thread: the periods in PIECE frames. In parts: for each worker the periods in `share`
+-- frames, or eight warm-ups if these are longer. (At most the greatest number of 32 bits.)
 abbrev pub IsPieceSize : ℕ → Exchange → Option Cut → ℕ → Type 0
 IsPieceSize share x None periods = periods ≡ periods_in PIECE x
 IsPieceSize share x (Some c) periods =
     (each : ℕ) × IsLeast (IsPartSize (periods_in share x) 1 c.warm) each ×
     (periods ≡ max 1 (min (each * c.parts) (2 ^ 32 - 1)))
 
--- The periods of a part if this many are run at once. An equal share of them for each worker is cut into as many parts
--- as have the periods in PART frames, and 32 warm-ups, each; or it is one part, of at least eight warm-ups.
+-- The periods of a part if this many are run at once. An equal share of them for each worker is cut into the most parts
+-- that each have the periods in PART frames, and 32 warm-ups; or it is one part, of at least eight warm-ups.
 abbrev pub IsPartOf : Exchange → Cut → ℕ → ℕ → Type 0
 IsPartOf x c periods size =
     let share = div_ceil periods (max 1 c.parts) in

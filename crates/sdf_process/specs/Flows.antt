@@ -1,4 +1,4 @@
--- How far a run came that takes its input and writes its output as it goes.
+-- The progress of a run that takes its input and writes its output as it goes.
 use Rattle.std.specs.Prelude.{◌≡◌, ◌≢◌, ℕ, ◌+◌, ◌-◌, ◌*◌, ◌<◌, ◌≤◌, min, ℤ, List, [], ◌++◌, length, drop, Option, None}
 use Rattle.std.specs.Prelude.{Result, Err, IfOk, MatchResult, false}
 use Rattle.std.specs.Io.KnownBytes.{Appends}
@@ -28,8 +28,8 @@ use Rattle.sdf_process.specs.Output.{exchange_of, in_turn, periods_for, IsExchan
 use Rattle.sdf_process.specs.Sources.{reading_of, source_behind, Takes}
 use Rattle.sdf_process.specs.Streams.{AreWhole, Follows, GoesBy, StandsWhole, Streams, is_cut, left_by}
 
--- What a run was begun with: its net, a period and how many of these make a block; the source of its sound, how many
--- frames that has and how many are made of it; the reader and the writer.
+-- The start of a run: its net, a period, and the number of periods in a block; the source of its sound, the frames that
+-- this has, and the frames that are owed for it; the reader and the writer.
 pub record Start : Type 0 where
   pub net : Netlist Kit ℤ
   pub period : Schedule
@@ -58,7 +58,7 @@ reading_in b = reading_of b.source
 abbrev pub exchange_in : Start → Exchange
 exchange_in b = exchange_of b.net b.period.repetitions
 
--- the answer of a run that was begun so, and leaves the devices so
+-- the result of a run with this start, which leaves the devices in these states
 abbrev pub StreamsFrom : Start → ReaderState → WriterState → Result (Unit {0}) Fault → Type 0
 StreamsFrom b r w result = Streams b.net b.period.repetitions b.source b.reader r b.writer w result
 
@@ -81,24 +81,24 @@ pub record CanFlow (b : Start) : Type 0 where
   pub owed : b.owed ≡ periods_for (exchange_in b) b.frames * (exchange_in b).made
   pub short : 2 * (b.owed * (exchange_in b).outputs) ≤ 4294967259
 
--- How far it came: the samples that were taken, the blocks of them that were run, the bytes of the frames that these
--- make, and what they leave.
+-- The progress of a run: the samples that were taken, the blocks of them that were run, the bytes of the frames that
+-- these make, and the net state that they leave.
 pub record Progress : Type 0 where
   pub samples : List ℤ
   pub blocks : ℕ
   pub bytes : List ℕ
   pub left : Option (Rest ℤ (List ℤ))
 
--- how many samples the blocks take that were run
+-- the number of samples that this many blocks take
 abbrev pub samples_run : Start → ℕ → ℕ
 samples_run b blocks = blocks * b.blocking * (exchange_in b).taken * (reading_in b).channels
 
--- it came as far as this
+-- the run made this progress
 pub record CameTo (b : Start) (g : Progress) : Type 0 where
   pub stands : StandsWhole b.net b.period b.blocking (sound_read (reading_in b) g.samples) g.blocks g.bytes g.left
   pub there : samples_run b g.blocks ≤ length g.samples
 
--- All frames are written that were made so far. So many frames are still to be taken, and this is what is owed.
+-- All frames that were made so far are written. `unread` frames are still to be taken, and this is what is owed.
 pub record Flows (b : Start) (g : Progress) (unread : ℕ) (source : Source) (o : Owed) (r : ReaderState)
     (w : WriterState) : Type 0 where
   pub came : CameTo b g
@@ -115,12 +115,12 @@ pub record Flows (b : Start) (g : Progress) (unread : ℕ) (source : Source) (o 
   pub reader : r.failures ≡ b.reader.failures
   pub writer : w.failures ≡ b.writer.failures
 
--- some blocks behind those of which all is written
+-- the progress g, after this many more blocks
 abbrev pub blocks_on : Progress → ℕ → List ℕ → Option (Rest ℤ (List ℤ)) → Progress
 blocks_on g more bytes left =
     record { samples = g.samples; blocks = g.blocks + more; bytes = g.bytes ++ bytes; left = left }
 
--- The frames of some blocks were written, and those of the blocks behind them are made.
+-- The frames of some blocks were written, and the frames of the blocks behind them are made.
 pub record IsAhead (b : Start) (g : Progress) (f : Flow) (r : ReaderState) (w : WriterState) : Type 0 where
   pub before : Progress
   pub flows : Flows b before f.left f.source f.output r w
@@ -129,7 +129,7 @@ pub record IsAhead (b : Start) (g : Progress) (f : Flow) (r : ReaderState) (w : 
   pub came : CameTo b g
   pub whole : AreWhole (exchange_in b).outputs (more * b.blocking * (exchange_in b).made) (items_of f.made.items)
 
--- these samples more were taken
+-- the progress g, after these samples more were taken
 abbrev pub samples_on : Progress → List ℤ → Progress
 samples_on g more = record { samples = g.samples ++ more; blocks = g.blocks; bytes = g.bytes; left = g.left }
 
@@ -141,7 +141,7 @@ pub record Writes (b : Start) (g : Progress) (f f' : Flow) (r : ReaderState) (w 
   pub left : f'.left ≡ f.left
   pub most : f'.most ≡ f.most
 
--- the next frames are taken: of those that are left as many as may be taken at a time
+-- the next frames are taken: all that are left, or the most that may be taken at a time
 pub record TakesNext (b : Start) (g : Progress) (f f' : Flow) (r : ReaderState) (w : WriterState) : Type 0 where
   pub more : List ℤ
   pub flows : Flows b (samples_on g more) f'.left f'.source f'.output r w
@@ -150,7 +150,7 @@ pub record TakesNext (b : Start) (g : Progress) (f f' : Flow) (r : ReaderState) 
   pub left : f'.left ≡ f.left - min f.most f.left
   pub most : f'.most ≡ f.most
 
--- the one, and then the other
+-- all frames that were made are written, and then the next frames are taken
 pub record Turns (b : Start) (g : Progress) (f f' : Flow) (r : ReaderState) (w : WriterState) : Type 0 where
   pub more : List ℤ
   pub flows : Flows b (samples_on g more) f'.left f'.source f'.output r w
@@ -159,11 +159,11 @@ pub record Turns (b : Start) (g : Progress) (f f' : Flow) (r : ReaderState) (w :
   pub left : f'.left ≡ f.left - min f.most f.left
   pub most : f'.most ≡ f.most
 
--- some run came so far, and can write its frames and take the next ones
+-- some run came this far, and can write its frames and take the next ones
 abbrev pub CanTurn : Flow → ReaderState → WriterState → Type 0
 CanTurn f r w = (b : Start) × (g : Progress) × CanFlow b × IsAhead b g f r w
 
--- so it is, whatever run came so far; or the run ends by a fault
+-- every run that came this far writes its frames and takes the next ones, or ends by a fault
 pub record TurnsAll (f f' : Flow) (r r' : ReaderState) (w w' : WriterState) (result : Result (Unit {0}) Fault) :
     Type 0 where
   pub turns : (b : Start) (g : Progress) → CanFlow b → IsAhead b g f r w →
@@ -171,7 +171,7 @@ pub record TurnsAll (f f' : Flow) (r r' : ReaderState) (w w' : WriterState) (res
 
 -- ---- the whole state of a run
 
--- it can go on
+-- the run can go on
 pub record IsReady (b : Start) (t : Stream) : Type 0 where
   pub can : CanFlow b
   pub goes : GoesBy b.net b.period b.blocking t.runner
@@ -185,7 +185,7 @@ pub record IsReady (b : Start) (t : Stream) : Type 0 where
   -- frames wait to be written only while parts are run
   pub waits : is_cut t.runner ≡ false → items_of t.flow.made.items ≡ []
 
--- it came as far as this, and keeps the samples behind it
+-- the run made this progress, and keeps the samples behind it
 pub record IsUnderWay (b : Start) (g : Progress) (t : Stream) (r : ReaderState) (w : WriterState) : Type 0 where
   pub ready : IsReady b t
   pub ahead : IsAhead b g t.flow r w
@@ -195,7 +195,7 @@ pub record IsUnderWay (b : Start) (g : Progress) (t : Stream) (r : ReaderState) 
 abbrev pub GoesOn : Start → Stream → ReaderState → WriterState → Type 0
 GoesOn b t r w = (g : Progress) × IsUnderWay b g t r w
 
--- every run that came so far goes on, or ends by a fault
+-- every run that came this far goes on, or ends by a fault
 abbrev pub KeepsGoing : Stream → Stream → ReaderState → ReaderState → WriterState → WriterState →
     Result (Unit {0}) Fault → Type 0
 KeepsGoing t t' r r' w w' result = (b : Start) → GoesOn b t r w →
@@ -215,7 +215,7 @@ pub record IsNext (b : Start) (g : Progress) (blocks : ℕ) (t : Stream) (y : Po
   pub frames : y.frames ≡ y.periods * y.exchange.made
   pub there : samples_run b (g.blocks + blocks) ≤ length g.samples
 
--- a run whose kept samples stand behind the portion
+-- a run whose kept samples are those behind the portion
 pub record IsStep (b : Start) (g : Progress) (blocks : ℕ) (t : Stream) (y : Portion) (r : ReaderState)
     (w : WriterState) : Type 0 where
   pub ready : IsReady b t

@@ -8,7 +8,7 @@ use Rattle.sdf_wav.specs.Sound.{Sound}
 use Rattle.sdf_file.specs.Designs.{DesignValue}
 use Rattle.sdf_process.specs.Run.{HasOutput}
 
--- two outputs of one design and one input are equal, whatever the order of the periods of which they are
+-- two outputs of one design and one input are equal, whatever the order of firings in their periods
 abbrev pub OneOutput : DesignValue → Type 0
 OneOutput d =
     (s t : Schedule) (input : List ℕ) (x y : Sound) →

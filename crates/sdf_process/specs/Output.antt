@@ -17,7 +17,7 @@ use Rattle.sdf_process.specs.declared.exchange.Extent.{Extent}
 use Rattle.sdf_faults.specs.declared.fault.Fault.{Fault}
 use Rattle.sdf_faults.specs.declared.fault.Fault.TheVariants.{Wav, ChannelsMissing, RateNotWhole}
 
--- what a net of least period vector q exchanges with files in a period
+-- what a net with least repetition vector q exchanges with files in a period
 abbrev pub exchange_of : {A : Type 0} → Netlist A ℤ → List ℕ → Exchange
 exchange_of n q = record {
   inputs = list_count Inputs n.nodes;
@@ -26,11 +26,11 @@ exchange_of n q = record {
   made = period_samples n.nodes Outputs q;
 }
 
--- what is known of a sound before its samples are
+-- the stream info of a sound: what is known of it before its samples are read
 abbrev pub announced_by : Sound → Announced
 announced_by s = record { rate = s.rate; channels = s.channels; frames = frames_of s }
 
--- as many periods as it takes to read so many frames
+-- the number of periods that it takes to read this many frames
 abbrev pub periods_for : Exchange → ℕ → ℕ
 periods_for x frames = (frames + (x.taken - 1)) / x.taken
 
@@ -38,18 +38,18 @@ periods_for x frames = (frames + (x.taken - 1)) / x.taken
 abbrev pub rate_for : Exchange → ℕ → ℕ
 rate_for x rate = rate * x.made / x.taken
 
--- frames of the output: those of whole periods
+-- frames of the output, which has whole periods
 abbrev pub frames_for : Exchange → ℕ → ℕ
 frames_for x frames = periods_for x frames * x.made
 
--- why there is no output of what is announced, if there is none
+-- the reason why there is no output of what is announced, if there is none
 abbrev pub announced_fault : Exchange → Announced → Option Fault
 announced_fault x a =
     if nat_lt a.channels x.inputs then Some ChannelsMissing
     else (if not (a.rate * x.made % x.taken == 0) then Some RateNotWhole
     else option_map Wav (size_fault (rate_for x a.rate) x.outputs (frames_for x a.frames * x.outputs)))
 
--- the same of a sound
+-- the periods, the rate, the frames and the fault of the output of a sound
 abbrev pub periods_of : Exchange → Sound → ℕ
 periods_of x s = periods_for x (frames_of s)
 
@@ -70,22 +70,22 @@ output_header x a = file_header (rate_for x a.rate) x.outputs (frames_for x a.fr
 abbrev pub sample : Sound → ℕ → ℕ → ℤ
 sample s e i = slice_index_or s.samples (i * s.channels + e) (pos 0)
 
--- n samples of a channel from a place on, and the first n
+-- n samples of channel e from sample `at` on; `channel_samples` has the first n
 abbrev pub channel_samples_from : Sound → ℕ → ℕ → ℕ → List ℤ
 channel_samples_from s at n e = map (sample s e) (range_with_len at n)
 
 abbrev pub channel_samples : Sound → ℕ → ℕ → List ℤ
 channel_samples s n e = channel_samples_from s 0 n e
 
--- each channel that is read, for so many periods
+-- each channel that is read, for this many periods
 abbrev pub lists_to : ℕ → Exchange → Sound → List (List ℤ)
 lists_to periods x s = map (channel_samples s (periods * x.taken)) (range_with_len 0 x.inputs)
 
--- each channel that is read, for so many periods behind the first ones
+-- each channel that is read, for this many periods behind the first `at`
 abbrev pub lists_from : ℕ → ℕ → Exchange → Sound → List (List ℤ)
 lists_from at periods x s = map (channel_samples_from s (at * x.taken) (periods * x.taken)) (range_with_len 0 x.inputs)
 
--- the input lists: those for all periods
+-- the input lists, for all periods
 abbrev pub input_lists : Exchange → Sound → List (List ℤ)
 input_lists x s = lists_to (periods_of x s) x s
 
@@ -93,7 +93,7 @@ input_lists x s = lists_to (periods_of x s) x s
 abbrev pub frame : List (List ℤ) → ℕ → List ℤ
 frame lists i = map (λ xs. saturate_signed w16 (slice_index_or xs i (pos 0))) lists
 
--- n frames from a place on, one after the other, and the first n
+-- n frames from frame `at` on, one after the other; `interleaved` has the first n
 abbrev pub interleaved_from : ℕ → ℕ → List (List ℤ) → List ℤ
 interleaved_from at n lists = flat_map (frame lists) (range_with_len at n)
 
@@ -112,7 +112,7 @@ output_of x s lists = record {
   samples = interleaved (output_frames x s) lists;
 }
 
--- what holds of a net's exchange with files
+-- what is true of a net's exchange with files
 pub record IsExchange (x : Exchange) : Type 0 where
   pub some_taken : 0 < x.taken
   pub some_made : 0 < x.made
@@ -122,7 +122,7 @@ pub record IsExchange (x : Exchange) : Type 0 where
   pub one_output : 1 ≤ x.outputs
   pub few_outputs : x.outputs ≤ MOST_CHANNELS
 
--- the rate and the length of the output of what is announced, where there is one
+-- the rate and the length of the output of what is announced, if there is one
 pub record IsExtent (x : Exchange) (a : Announced) (e : Extent) : Type 0 where
   pub is_allowed : announced_fault x a ≡ None
   pub rate : e.rate ≡ rate_for x a.rate

@@ -1,4 +1,4 @@
--- What a run of the program reads, answers and writes.
+-- What a run of the program reads, returns and writes.
 use Rattle.std.specs.Prelude.{◌≡◌, ◌≢◌, ℕ, ◌*◌, ◌/◌, ◌≤◌, ◌⊎◌, [], ◌++◌, ℤ, List, Option, Some, None, Result, Ok, Err}
 use Rattle.std.specs.Prelude.{IfErr}
 use Rattle.std.specs.Io.KnownBytes.{Appends, Keeps}
@@ -23,15 +23,15 @@ use Rattle.sdf_faults.specs.declared.fault.Fault.{Fault}
 use Rattle.sdf_faults.specs.declared.fault.Fault.TheVariants.{OutOfMemory, Wav, Read, Write, ChannelsMissing}
 use Rattle.sdf_faults.specs.declared.fault.Fault.TheVariants.{RateNotWhole}
 
--- the sound that a net of period vector q makes of a sound: that of the lists that reach the sinks, in the histories of
--- as many periods as it takes to read the sound. By the law of histories there is only one
+-- the sound that a net with repetition vector q makes of a sound: the sound of the lists that reach the sinks, in the
+-- histories of the periods that it takes to read the input. By the law of histories there is only one
 pub record IsOutput (n : Netlist Kit ℤ) (q : List ℕ) (s out : Sound) : Type 0 where
   pub lists : List (List ℤ)
   pub are_outputs : AreOutputs kit_steps n (input_lists (exchange_of n q) s)
       (firings q (periods_of (exchange_of n q) s)) lists
   pub output : out ≡ output_of (exchange_of n q) s lists
 
--- a WAV file stood in the input, and there is an output of it
+-- the input begins with a WAV file, and there is an output of it
 pub record HasOutput (n : Netlist Kit ℤ) (q : List ℕ) (input : List ℕ) (out : Sound) : Type 0 where
   pub sound : Sound
   pub rest : List ℕ
@@ -39,15 +39,15 @@ pub record HasOutput (n : Netlist Kit ℤ) (q : List ℕ) (input : List ℕ) (ou
   pub is_allowed : output_fault (exchange_of n q) sound ≡ None
   pub is_output : IsOutput n q sound out
 
--- What is announced of a content that was read as far as this: as many frames as the size of its data says, or, where
--- that was not filled in, as many as there are once nothing of it is left.
+-- What is announced of a content that was read this far: the frames by the size of its data or, if that was not filled
+-- in, the frames that there are once nothing of it is left.
 abbrev pub Announces : Reading → List ℤ → List ℕ → Announced → Type 0
 Announces r samples rest a =
     (a.rate ≡ r.rate) × (a.channels ≡ r.channels)
     × ((known_frames r ≡ Some a.frames) ⊎ ((known_frames r ≡ None) × IsEnded r rest
     × (a.frames ≡ frames_of (sound_read r samples))))
 
--- a size of data that was filled in announces so many frames
+-- what the size of data announces, if it was filled in
 abbrev pub announced_size : Format → ℕ → Announced
 announced_size f size = record { rate = f.rate; channels = f.channels; frames = size / (2 * f.channels) }
 
@@ -55,12 +55,12 @@ announced_size f size = record { rate = f.rate; channels = f.channels; frames = 
 abbrev pub IsUnsized : List ℕ → Type 0
 IsUnsized input = (f : Format) (size : ℕ) (rest : List ℕ) → Opens input f size rest → size ≡ 0xFFFFFFFF
 
--- of what the size of the data announces there is an output, if the input opens and the size was filled in
+-- there is an output of what the size of the data announces, if the input opens and the size was filled in
 abbrev pub IsAllowed : Exchange → List ℕ → Type 0
 IsAllowed x input = (f : Format) (size : ℕ) (rest : List ℕ) → Opens input f size rest → size ≢ 0xFFFFFFFF →
     announced_fault x (announced_size f size) ≡ None
 
--- of what the input announces there is no output
+-- there is no output of what the input announces
 pub record HasOutputFault (n : Netlist Kit ℤ) (q : List ℕ) (input : List ℕ) (f : Fault) : Type 0 where
   pub reading : Reading
   pub samples : List ℤ
@@ -70,22 +70,22 @@ pub record HasOutputFault (n : Netlist Kit ℤ) (q : List ℕ) (input : List ℕ
   pub announces : Announces reading samples rest announced
   pub fault : announced_fault (exchange_of n q) announced ≡ Some f
 
--- so many whole periods were read of a content, the last one filled up with zeros once nothing is left
+-- this many whole periods were read of a content, the last one filled up with zeros once nothing is left
 abbrev pub AreRead : Exchange → Reading → List ℤ → List ℕ → ℕ → Type 0
 AreRead x r samples rest periods =
     (periods * x.taken ≤ frames_of (sound_read r samples))
     ⊎ (IsEnded r rest × (periods ≤ periods_of x (sound_read r samples)))
 
--- the bytes of the frames that a net makes in the first periods of a sound: none, or those of the lists that reach the
--- sinks
+-- the bytes of the frames that a net makes in the first periods of a sound: none, or the bytes of the lists that reach
+-- the sinks
 abbrev pub AreFrames : Netlist Kit ℤ → List ℕ → Sound → ℕ → List ℕ → Type 0
 AreFrames n q s periods bytes =
     ((periods ≡ 0) × (bytes ≡ []))
     ⊎ ((lists : List (List ℤ)) × AreOutputs kit_steps n (lists_to periods (exchange_of n q) s) (firings q periods) lists
     × (bytes ≡ sample_bytes (interleaved (periods * (exchange_of n q).made) lists)))
 
--- What a run may have written of an input by now: the header of the output, which what is announced says, and behind it
--- the frames of whole periods that were read.
+-- What a run may have written of an input by now: the header of the output, by what is announced, and behind it the
+-- frames of whole periods that were read.
 pub record IsText (n : Netlist Kit ℤ) (q : List ℕ) (input text : List ℕ) : Type 0 where
   pub reading : Reading
   pub samples : List ℤ
@@ -100,7 +100,7 @@ pub record IsText (n : Netlist Kit ℤ) (q : List ℕ) (input text : List ℕ) :
   pub are_frames : AreFrames n q (sound_read reading samples) periods frames
   pub text_is : text ≡ output_header (exchange_of n q) announced ++ frames
 
--- such a text was written whole, or a front of one
+-- a text of a run was written whole; `WritesFront`: a front of one was written
 abbrev pub WritesText : Netlist Kit ℤ → List ℕ → List ℕ → Option (List ℕ) → Option (List ℕ) → Type 0
 WritesText n q input before after = (text : List ℕ) × IsText n q input text × Appends before after text
 
@@ -110,10 +110,10 @@ WritesFront n q input before after = (text : List ℕ) × IsText n q input text 
 abbrev pub WhereKnown : Option (List ℕ) → (List ℕ → Type 0) → Type 0
 WhereKnown bytes P = (input : List ℕ) → bytes ≡ Some input → P input
 
--- What a run's answer says of the input, and of what was written. On Ok that is the output's canonical file. A fault of
--- the input before its content, or anywhere where the size of its data was never filled in, and a fault of the output
--- leave nothing written; a content that is cut off leaves a text whole, the writer's failure a front of one, and memory
--- and the reader nothing or a text.
+-- What a run's result says of the input, and of what was written. On Ok the output's canonical file was written. On a
+-- fault of the output nothing was written; nor on a fault of the input before its content, or on any fault of the input
+-- if the size of its data was never filled in. A content that is cut off leaves a whole text, the writer's failure a
+-- front of one, and memory and the reader nothing or a text.
 abbrev pub Runs : Netlist Kit ℤ → List ℕ → List ℕ → Option (List ℕ) → Option (List ℕ) → Result (Unit {0}) Fault → Type 0
 Runs n q input before after (Ok x) = (out : Sound) × HasOutput n q input out × Appends before after (canonical_wav out)
 Runs n q input before after (Err Write) = WritesFront n q input before after
@@ -125,7 +125,7 @@ Runs n q input before after (Err (Wav f)) =
     ⊎ (HasFault input f × WritesText n q input before after))
 Runs n q input before after (Err f) = HasOutputFault n q input f × Keeps before after
 
--- the faults that a run answers: 1, 34 to 46, 47, 48, 59 and 60
+-- the faults that a run returns: 1, 34 to 46, 47, 48, 59 and 60
 abbrev pub IsProcessFault : Fault → Type 0
 IsProcessFault OutOfMemory = Unit {0}
 IsProcessFault (Wav f) = Unit {0}
@@ -135,16 +135,16 @@ IsProcessFault ChannelsMissing = Unit {0}
 IsProcessFault RateNotWhole = Unit {0}
 IsProcessFault f = ⊥
 
--- a WAV file was read, and exactly what stands behind it is left
+-- a WAV file was read, and exactly what is behind it is left
 abbrev pub ReadsFile : List ℕ → List ℕ → Type 0
 ReadsFile input left = (s : Sound) × IsWav input s left
 
--- the input was read as far as some frames of its content, and exactly what stands behind these is left
+-- the input was read as far as some frames of its content, and exactly what is behind these is left
 abbrev pub ReadsInto : List ℕ → List ℕ → Type 0
 ReadsInto input left = (r : Reading) × (samples : List ℤ) × IsReadTo input r samples left
 
--- the input was read as far as it takes to know its frames: not into its content, where the size of the data was filled
--- in, and else to its end
+-- the input was read as far as it takes to know its number of frames: not into its content if the size of the data was
+-- filled in, otherwise to its end
 abbrev pub ReadsAnnounced : List ℕ → List ℕ → Type 0
 ReadsAnnounced input left =
     (r : Reading) × (samples : List ℤ) × IsReadTo input r samples left
@@ -154,9 +154,9 @@ ReadsAnnounced input left =
 abbrev pub IsRefused : FormatFault → List ℕ → List ℕ → Type 0
 IsRefused f input left = (HasFault input f × LosesFront input left) ⊎ ReadsAnnounced input left
 
--- What is left in the reader: what stands behind the WAV file, once it is known to be one; behind what was read of it,
--- where the writer failed; the content, where there is no output of as many frames as the size of the data says; or
--- else the input without some front.
+-- What is left in the reader. On Ok: what is behind the WAV file. If the writer failed: what is behind the samples that
+-- were read. On a fault of the output: the content and what is behind it, or nothing if the size of the data was never
+-- filled in. On any other fault: the input without some front.
 abbrev pub Leaves : {X : Type 0} → Option (List ℕ) → Option (List ℕ) → Result X Fault → Type 0
 Leaves old new (Ok x) = Known old new ReadsFile
 Leaves old new (Err Write) = Known old new ReadsInto
@@ -169,8 +169,8 @@ Leaves old new (Err f) = Known old new LosesFront
 abbrev pub WritesSome : Option (List ℕ) → Option (List ℕ) → Type 0
 WritesSome old new = Keeps old new ⊎ ((file : List ℕ) × IsCanonical file × AppendsFront old new file)
 
--- What was written, whatever the reader tells: one canonical file, a front of one where the writer failed, nothing or a
--- front where memory or the reader failed or the content is cut off, and else nothing.
+-- What was written, whatever the reader returns: one canonical file on Ok, a front of one if the writer failed, nothing
+-- or a front if memory or the reader failed or the content is cut off, otherwise nothing.
 abbrev pub WritesFile : {X : Type 0} → Option (List ℕ) → Option (List ℕ) → Result X Fault → Type 0
 WritesFile old new (Ok x) = (file : List ℕ) × IsCanonical file × Appends old new file
 WritesFile old new (Err Write) = (file : List ℕ) × IsCanonical file × AppendsFront old new file
@@ -179,26 +179,26 @@ WritesFile old new (Err Read) = WritesSome old new
 WritesFile old new (Err (Wav Truncated)) = WritesSome old new
 WritesFile old new (Err f) = Keeps old new
 
--- how often the reader has failed: once more where it is blamed, and else never
+-- the number of the reader's failures: one more if it is blamed, otherwise unchanged
 abbrev pub reader_failures : {X : Type 0} → Result X Fault → ℕ → ℕ
 reader_failures (Err Read) failures = one_more failures
 reader_failures result failures = failures
 
--- and the writer
+-- the number of the writer's failures: one more if it is blamed, otherwise unchanged
 abbrev pub writer_failures : {X : Type 0} → Result X Fault → ℕ → ℕ
 writer_failures (Err Write) failures = one_more failures
 writer_failures result failures = failures
 
--- all that a run's answer says of the two devices, whatever was to be run
+-- all that a run's result says of the two devices, whatever was to be run
 pub record Handles {X : Type 0} (r r' : ReaderState) (w w' : WriterState) (result : Result X Fault) : Type 0 where
-  -- whatever is known of the bytes, no other fault comes
+  -- no other fault is returned, whatever is known of the bytes
   pub faults : IfErr result IsProcessFault
   -- nothing behind the samples is read, and no sample before all tests that come before them
   pub leaves : Leaves r.remaining r'.remaining result
-  -- whatever the reader tells, one canonical file is written, or a front of one where the run stopped behind its
+  -- whatever the reader returns, one canonical file is written, or a front of one if the run stopped behind its
   -- header, or nothing
   pub writes : WritesFile w.contents w'.contents result
-  -- a device is blamed exactly where it failed in this call, and after its first failure it is not called again
+  -- a device is blamed exactly if it failed in this call, and after its first failure it is not called again
   pub reader : r'.failures ≡ reader_failures result r.failures
   pub writer : w'.failures ≡ writer_failures result w.failures
 
@@ -206,23 +206,23 @@ pub record Handles {X : Type 0} (r r' : ReaderState) (w w' : WriterState) (resul
 abbrev pub IsFromOutside : Fault → Type 0
 IsFromOutside f = (f ≡ OutOfMemory) ⊎ (f ≡ Read) ⊎ (f ≡ Write)
 
--- the fault is answered, if there is one, unless memory or a device failed
+-- the fault is returned, if there is one, unless memory or a device failed
 abbrev pub Refuses : Option Fault → Result (Unit {0}) Fault → Type 0
 Refuses None (Ok x) = Unit {0}
 Refuses None (Err e) = IsFromOutside e
 Refuses (Some f) (Ok x) = ⊥
 Refuses (Some f) (Err e) = (e ≡ f) ⊎ IsFromOutside e
 
--- all that the answer of a run says: net n, repetition vector q, the reader before (r) and after (r'), the writer
+-- all that the result of a run says: net n, repetition vector q, the reader before (r) and after (r'), the writer
 -- before (w) and after (w')
 pub record IsRun (n : Netlist Kit ℤ) (q : List ℕ) (r r' : ReaderState) (w w' : WriterState)
     (result : Result (Unit {0}) Fault) : Type 0 where
-  -- what is answered is so, where the reader's bytes are known
+  -- what the result says is true, if the reader's bytes are known
   pub runs : WhereKnown r.remaining (λ input. Runs n q input w.contents w'.contents result)
-  -- what is so is answered, unless memory or a device failed
+  -- for a WAV file the result is Ok, or the fault of its output, unless memory or a device failed
   pub accepts : (input : List ℕ) (s : Sound) (rest : List ℕ) → r.remaining ≡ Some input → IsWav input s rest →
       Refuses (output_fault (exchange_of n q) s) result
-  -- the output's fault comes first where the size of the data says how long it would be, and else a fault of the input
+  -- the output's fault comes first if the size of the data says how long it would be, otherwise a fault of the input
   pub foresees : (input : List ℕ) (f : Format) (size : ℕ) (rest : List ℕ) (e : Fault) → r.remaining ≡ Some input →
       Opens input f size rest → size ≢ 0xFFFFFFFF →
       announced_fault (exchange_of n q) (announced_size f size) ≡ Some e → Refuses (Some e) result

@@ -1,4 +1,4 @@
--- Where the frames of a sound come from, and what is taken of them.
+-- The source of a sound's frames, and what is taken from it.
 use Rattle.std.specs.Prelude.{◌≡◌, ℕ, ◌+◌, ◌*◌, ℤ, List, [], ◌++◌, length, take, drop, Option, None, Result, Ok, Err}
 use Rattle.sdf_wav.specs.Device.{Known, LosesFront, ReaderState}
 use Rattle.sdf_wav.specs.PiecesIn.{Reading, IsReadTo}
@@ -11,13 +11,14 @@ use Rattle.sdf_process.specs.Stages.{ReadsContent}
 
 -- ---- the content of a file
 
--- the content c of an input was read on from its start by these samples
+-- these samples of the content c of an input were read, from its start on
 abbrev pub ReadsBy : Reading → List ℤ → Option (List ℕ) → Option (List ℕ) → Type 0
 ReadsBy c samples old new =
     Known old new (λ bytes left. ((input : List ℕ) → IsReadTo input c [] bytes →
     IsReadTo input (record c { gone = c.gone + 2 * length samples }) samples left) × LosesFront bytes left)
 
--- So many frames behind these samples were read, and are kept behind others; or the reading of the content failed.
+-- This many frames behind the samples `before` were read, and are kept behind others; or the reading of the content
+-- failed.
 abbrev pub ReadsMore : Reading → List ℤ → ℕ → List ℤ → ReaderState → ReaderState → Reading → Result (List ℤ) Fault →
     Type 0
 ReadsMore c before frames kept r r' now (Ok all) =
@@ -39,23 +40,23 @@ reading_of (Heard s taken) = record {
   fault = None;
 }
 
--- what it becomes once these samples more are taken
+-- the source, once these samples more are taken
 abbrev pub source_behind : Source → List ℤ → Source
 source_behind (Content c) samples = Content (record c { gone = c.gone + 2 * length samples })
 source_behind (Heard s taken) samples = Heard s (taken + length samples)
 
--- These samples were taken from it. A sound that was read before leaves the reader alone.
+-- These samples were taken from the source. A sound that was read before leaves the reader alone.
 abbrev pub Takes : Source → List ℤ → Option (List ℕ) → Option (List ℕ) → Type 0
 Takes (Content c) samples old new = ReadsBy c samples old new
 Takes (Heard s taken) samples old new = (new ≡ old) × (samples ≡ take (length samples) (drop taken s.samples))
 
--- the whole sound was taken from it, or that failed
+-- the whole sound was taken from the source, or that failed
 abbrev pub TakesAll : Source → ReaderState → ReaderState → Result Sound Fault → Type 0
 TakesAll (Content c) r r' result = ReadsContent c r r' result
 TakesAll (Heard s taken) r r' (Ok t) = (t ≡ s) × (r' ≡ r)
 TakesAll (Heard s taken) r r' (Err f) = (f ≡ OutOfMemory) × (r' ≡ r)
 
--- So many frames behind these samples were taken, and are kept behind others; or that failed.
+-- This many frames behind the samples `before` were taken, and are kept behind others; or that failed.
 abbrev pub TakesMore : Source → List ℤ → ℕ → List ℤ → ReaderState → ReaderState → Source → Result (List ℤ) Fault →
     Type 0
 TakesMore first before frames kept r r' now (Ok all) =

@@ -25,14 +25,14 @@ use Rattle.sdf_process.specs.Output.{announced_by, exchange_of, input_lists, int
 use Rattle.sdf_process.specs.Output.{output_header, periods_of, IsExtent}
 use Rattle.sdf_process.specs.Run.{Announces, AreFrames, IsAllowed, IsRun}
 
--- What a call did that is to write these bytes: all of them, or a front where the writer failed.
+-- What a call wrote that is to write these bytes: all of them, or a front if the writer failed.
 abbrev pub PutsHeader : {X : Type 0} → WriterState → WriterState → List ℕ → Result X Fault → Type 0
 PutsHeader w w' bytes (Ok x) = Appends w.contents w'.contents bytes × (w'.failures ≡ w.failures)
 PutsHeader w w' bytes (Err f) =
     (f ≡ Write) × AppendsFront w.contents w'.contents bytes × (w'.failures ≡ one_more w.failures)
 
--- The frames of a net on a sound were written: all of them, or a front of those of some periods where the writer
--- failed, or those of some periods where memory was refused.
+-- The frames of a net on a sound were written: all of them; or, if the writer failed, a front of the frames of some
+-- periods; or, if memory was refused, the frames of some periods.
 abbrev pub PutsOutput : Netlist Kit ℤ → List ℕ → Sound → WriterState → WriterState → Result (Unit {0}) Fault → Type 0
 PutsOutput n q s w w' (Ok x) =
     (lists : List (List ℤ)) × AreOutputs kit_steps n (input_lists (exchange_of n q) s)
@@ -44,12 +44,12 @@ PutsOutput n q s w w' (Err f) =
     × (((f ≡ Write) × AppendsFront w.contents w'.contents frames × (w'.failures ≡ one_more w.failures))
     ⊎ ((f ≡ OutOfMemory) × Appends w.contents w'.contents frames × (w'.failures ≡ w.failures)))
 
--- where the content c of an input was read from its start on, to its end, and this is its sound
+-- the content c of an input was read from its start to its end, and this is its sound
 pub record IsHeardFrom (c : Reading) (input : List ℕ) (s : Sound) (left : List ℕ) : Type 0 where
   pub read : IsReadTo input (record c { gone = c.gone + 2 * length s.samples }) s.samples left
   pub ended : IsEnded (record c { gone = c.gone + 2 * length s.samples }) left
 
--- what the reading of a whole content says of the reader before it and behind it
+-- what the reading of a whole content says of the reader before and after it
 abbrev pub ReadsContent : Reading → ReaderState → ReaderState → Result Sound Fault → Type 0
 ReadsContent c r r' (Ok s) =
     Known r.remaining r'.remaining (λ bytes left. ((input : List ℕ) → IsReadTo input c [] bytes →
@@ -72,8 +72,8 @@ pub record IsHeard (input : List ℕ) (s : Sound) (left : List ℕ) : Type 0 whe
   pub channels : s.channels ≡ reading.channels
   pub announces : Announces reading s.samples left (announced_by s)
 
--- All that is known once a sound was heard and the header of its output is written: of an output of this rate and
--- length nothing is there but the header.
+-- All that is known once a sound was heard and the header of its output is written: only the header of an output of
+-- this rate and length is there.
 pub record Hears (x : Exchange) (r r' : ReaderState) (w w' : WriterState) (s : Sound) (e : Extent) (o : Owed) :
     Type 0 where
   pub heard : Known r.remaining r'.remaining (λ input rest. IsHeard input s rest × LosesFront input rest)
@@ -101,7 +101,7 @@ abbrev pub SamplesJoin : Type 0
 SamplesJoin = (a b c : Option (List ℕ)) (x y : List ℤ) → Appends a b (sample_bytes x) → Appends b c (sample_bytes y) →
     Appends a c (sample_bytes (x ++ y))
 
--- The laws of WAV files that a run stands on.
+-- The laws of WAV files that a run depends on.
 pub record WavLaws : Type 0 where
   pub announces : (input : List ℕ) (s : Sound) (rest : List ℕ) → IsWav input s rest → OpensAs input s
   pub ends : (input : List ℕ) (r : Reading) (samples : List ℤ) (rest : List ℕ) → IsReadTo input r samples rest →

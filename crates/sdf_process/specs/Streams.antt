@@ -35,8 +35,8 @@ use Rattle.sdf_process.specs.Sources.{reading_of, Takes, TakesAll}
 use Rattle.sdf_process.specs.Stages.{PutsOutput}
 use Rattle.sdf_process.specs.Tasks.{IsPlayer, cut_by}
 
--- The first blocks of j periods of a sound were run by net n: this is what the run left, and these are the bytes of the
--- first frames of what it made of them.
+-- Net n ran the first blocks of j periods of a sound: this is the net state that the run left, and these are the bytes
+-- of the first frames that it made.
 pub record StandsAt (n : Netlist Kit ℤ) (p : Schedule) (j : ℕ) (s : Sound) (blocks frames : ℕ) (bytes : List ℕ)
     (left : Option (Rest ℤ (List ℤ))) : Type 0 where
   pub made : List (List ℤ)
@@ -46,12 +46,12 @@ pub record StandsAt (n : Netlist Kit ℤ) (p : Schedule) (j : ℕ) (s : Sound) (
       (firings p.repetitions (blocks * j)) made rest
   pub bytes_are : bytes ≡ sample_bytes (interleaved frames made)
 
--- all that it made
+-- the bytes are of all frames that the run made
 abbrev pub StandsWhole : Netlist Kit ℤ → Schedule → ℕ → Sound → ℕ → List ℕ → Option (Rest ℤ (List ℤ)) → Type 0
 StandsWhole n p j s blocks bytes left =
     StandsAt n p j s blocks (blocks * j * (exchange_of n p.repetitions).made) bytes left
 
--- ---- what a run goes on by
+-- ---- the session or player of a run
 
 -- a session of net n that is not spent, fed by blocks of j periods
 pub record FeedsBy (n : Netlist Kit ℤ) (p : Schedule) (j : ℕ) (v : SessionValue Kit (List ℤ) ℤ) : Type 0 where
@@ -71,22 +71,22 @@ abbrev pub GoesBy : Netlist Kit ℤ → Schedule → ℕ → Runner → Type 0
 GoesBy n p j (runner.Session v) = FeedsBy n p j v
 GoesBy n p j (runner.Player v) = PlaysBy n p j v
 
--- what it left, unless it is spent
+-- the net state that the runner left, unless it is spent
 abbrev pub left_by : Runner → Option (Rest ℤ (List ℤ))
 left_by (runner.Session v) = v.rest
 left_by (runner.Player v) = Some v.rest
 
--- frames are written and taken while parts are run at once
+-- the runner runs parts in parallel, while frames are written and taken
 abbrev pub is_cut : Runner → Bool
 is_cut (runner.Session v) = false
 is_cut (runner.Player v) = is_some (cut_by v.manner)
 
--- of a player all frames are written that it makes
+-- all frames that a player makes are written
 abbrev pub WritesOf : Runner → ℕ → ℕ → Type 0
 WritesOf (runner.Session v) made frames = Unit {0}
 WritesOf (runner.Player v) made frames = frames ≡ made
 
--- the portion is the next blocks of a sound of which the first few were run
+-- the portion is the next blocks of a sound, after the first `few` were run
 pub record Follows (n : Netlist Kit ℤ) (p : Schedule) (j : ℕ) (s : Sound) (few blocks : ℕ) (bytes : List ℕ)
     (left : Option (Rest ℤ (List ℤ))) (y : Portion) : Type 0 where
   pub stands : StandsWhole n p j s few bytes left
@@ -104,12 +104,12 @@ pub record CanRun (n : Netlist Kit ℤ) (p : Schedule) (j : ℕ) (y : Portion) :
   pub some : 0 < j
   pub exchange : y.exchange ≡ exchange_of n p.repetitions
 
--- lists of whole frames of some channels, and how many frames there are in all
+-- lists of whole frames of this many channels, with this many frames in all
 pub record AreWhole (channels frames : ℕ) (made : List (List ℤ)) : Type 0 where
   pub each : (i : ℕ) → i < length made → (k : ℕ) × (length (slice_index_or made i []) ≡ k * channels)
   pub all : length (in_turn made) ≡ frames * channels
 
--- The next blocks were run behind those before, and these are the first frames of what they made.
+-- The next blocks were run behind the first `few`, and these are the first frames that they made.
 pub record Makes (n : Netlist Kit ℤ) (p : Schedule) (j : ℕ) (s : Sound) (few blocks frames : ℕ) (bytes : List ℕ)
     (made : List (List ℤ)) (left : Option (Rest ℤ (List ℤ))) : Type 0 where
   pub stands : StandsAt n p j s (few + blocks) (few * j * (exchange_of n p.repetitions).made + frames)
@@ -120,7 +120,7 @@ pub record Makes (n : Netlist Kit ℤ) (p : Schedule) (j : ℕ) (s : Sound) (few
 abbrev pub StaysPlayer : Player → Player → Type 0
 StaysPlayer v w = (w.net ≡ v.net) × (w.period ≡ v.period) × (cut_by w.manner ≡ cut_by v.manner)
 
--- a run of net n that was fed nothing yet
+-- a run that was not fed yet
 pub record IsOpened (t : Opened) : Type 0 where
   pub period : IsPeriodOf (rates (graph_of kit_steps t.net.now)) t.period.now
   pub inputs : list_count Inputs t.net.now.nodes ≤ MOST_CHANNELS
@@ -134,7 +134,7 @@ pub record IsOpened (t : Opened) : Type 0 where
 
 -- ---- a runner that runs the next portion
 
--- it can: the portion follows what it ran
+-- the runner can run the portion, which follows what it ran
 pub record CanRunNext (v : Runner) (y : Portion) : Type 0 where
   pub net : Netlist Kit ℤ
   pub period : Schedule
@@ -144,18 +144,18 @@ pub record CanRunNext (v : Runner) (y : Portion) : Type 0 where
   pub follows : IsFollowed net period blocking (left_by v) y
   pub all : WritesOf v (y.periods * y.exchange.made) y.frames
 
--- and then, whatever sound it ran, it made these frames of its next blocks
+-- the runner ran the portion: whatever sound it ran, it made these frames of its next blocks
 abbrev pub RunsNext : Runner → Runner → Portion → List (List ℤ) → Type 0
 RunsNext v now y made = (n : Netlist Kit ℤ) (p : Schedule) (j : ℕ) (s : Sound) (few blocks : ℕ) (bytes : List ℕ) →
     GoesBy n p j v → CanRun n p j y → Follows n p j s few blocks bytes (left_by v) y →
     Makes n p j s few blocks y.frames bytes made (left_by now) × GoesBy n p j now
 
--- nothing of it changes but its memory
+-- only the memory of the runner changes
 abbrev pub StaysRunner : Runner → Runner → Type 0
 StaysRunner v w = (left_by w ≡ left_by v) × ((n : Netlist Kit ℤ) (p : Schedule) (j : ℕ) → GoesBy n p j v →
     GoesBy n p j w) × (is_cut w ≡ is_cut v)
 
--- the same of a session
+-- a session ran the portion: whatever sound it ran, it made these frames of its next blocks
 abbrev pub FeedsNext : SessionValue Kit (List ℤ) ℤ → SessionValue Kit (List ℤ) ℤ → Portion → List (List ℤ) → Type 0
 FeedsNext v now y made = (n : Netlist Kit ℤ) (p : Schedule) (j : ℕ) (s : Sound) (few blocks : ℕ) (bytes : List ℕ) →
     FeedsBy n p j v → CanRun n p j y → Follows n p j s few blocks bytes v.rest y →
@@ -165,20 +165,20 @@ FeedsNext v now y made = (n : Netlist Kit ℤ) (p : Schedule) (j : ℕ) (s : Sou
 abbrev pub CanPlay : Netlist Kit ℤ → Schedule → Rest ℤ (List ℤ) → Portion → Type 0
 CanPlay n p rest y = (j : ℕ) × CanRun n p j y × IsFollowed n p j (Some rest) y
 
--- and then, whatever sound it played, it made these frames of the next blocks, and left this
+-- a net played the portion: whatever sound it played, it made these frames of the next blocks, and left this state
 abbrev pub Plays : Netlist Kit ℤ → Schedule → Rest ℤ (List ℤ) → Rest ℤ (List ℤ) → Portion → List (List ℤ) → Type 0
 Plays n p rest last y made = (j : ℕ) (s : Sound) (few blocks : ℕ) (bytes : List ℕ) →
     Follows n p j s few blocks bytes (Some rest) y → Makes n p j s few blocks y.frames bytes made (Some last)
 
--- the same of a player
+-- a player can play the portion, from what it left
 abbrev pub CanPlayNext : Player → Portion → Type 0
 CanPlayNext v y = CanPlay v.net.now v.period.now v.rest y
 
 abbrev pub PlaysNext : Player → Player → Portion → List (List ℤ) → Type 0
 PlaysNext v now y made = Plays v.net.now v.period.now v.rest now.rest y made
 
--- So far a run came that reads and writes as it goes: these samples were read, and these are the bytes of the frames of
--- so many periods of them.
+-- A run that reads and writes as it goes came this far: these samples were read, and these are the bytes of the frames
+-- of this many periods of them.
 pub record IsStream (n : Netlist Kit ℤ) (q : List ℕ) (c : Reading) (samples : List ℤ) (periods : ℕ)
     (frames : List ℕ) : Type 0 where
   pub within : 2 * length samples ≤ c.size

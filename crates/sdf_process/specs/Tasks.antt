@@ -26,13 +26,13 @@ use Rattle.sdf_process.specs.Output.{exchange_of, IsExtent}
 use Rattle.sdf_process.specs.Sources.{reading_of}
 use Rattle.sdf_plan.specs.Plans.{Suits}
 
--- the plan is one of the net's, and a WAV file can have the channels of the net
+-- the plan suits the net, and a WAV file can have the channels of the net
 pub record IsTask (t : Task) : Type 0 where
   pub suits : Suits t.net.now t.plan.now
   pub inputs : list_count Inputs t.net.now.nodes ≤ MOST_CHANNELS
   pub outputs : list_count Outputs t.net.now.nodes ≤ MOST_CHANNELS
 
--- the table is one of the net's blocks and can be run so, and a WAV file can have the channels of the net
+-- the table is one of the net's blocks and can be run in this mode, and a WAV file can have the channels of the net
 pub record IsShared (t : Shared) : Type 0 where
   pub table : IsBlockTableOf (rates (graph_of kit_steps t.net.now)) t.table.now
   pub may : MayRun t.table.now.table t.mode
@@ -47,7 +47,7 @@ IsScore t = IsPeriodOf (rates (graph_of kit_steps t.net.now)) t.period.now
 abbrev pub IsCut : Netlist Kit ℤ → List ℕ → Option Cut → Type 0
 IsCut n q cut = IfSome cut (λ (c : Cut). WarmsIn kit_steps n q c.warm)
 
--- how a player cuts a sound, unless one thread plays it
+-- the cut of a player's sound, unless one thread plays it
 abbrev pub cut_by : Manner → Option Cut
 cut_by (manner.Whole memory) = None
 cut_by (manner.Parts cut workers) = Some cut
@@ -57,14 +57,14 @@ pub record IsPlayer (v : Player) : Type 0 where
   pub period : IsPeriodOf (rates (graph_of kit_steps v.net.now)) v.period.now
   pub cut : IsCut v.net.now v.period.now.repetitions (cut_by v.manner)
 
--- nothing was read of a content of so many frames
+-- nothing was read yet of a content of this many frames
 pub record IsUnheard (c : Reading) (frames : ℕ) : Type 0 where
   pub sound : IsReading c
   pub unread : c.gone ≡ 0
   pub unspoilt : c.fault ≡ None
   pub known : known_frames c ≡ Some frames
 
--- Nothing was taken from the source of a run of net n, and of its output nothing is written but the header.
+-- Nothing was taken from the source of a run of net n, and only the header of its output is written.
 pub record IsBegun (n : Netlist Kit ℤ) (q : List ℕ) (b : Begun) : Type 0 where
   pub unheard : IsUnheard (reading_of b.source) b.frames
   pub extent : Extent

@@ -1,4 +1,4 @@
-//! A run whose output is begun: the rest of it, in the way of the plan.
+//! The rest of a run whose output is begun, in the way of the plan.
 
 ghost use Rattle.std.specs.Prelude.{◌≡◌, ◌≤◌, [], IfOk, MatchResult};
 ghost use Rattle.sdf_actor.specs.Sides.{list_count};
@@ -30,7 +30,7 @@ use std::thread::Threads;
 /// Frames that a session is fed at a time.
 const FRAMES: usize = 4096;
 
-/// A source of `frames` frames before the first one is taken, and an output whose header alone is written.
+/// A source of `frames` frames, before the first one is taken, and an output with only its header written.
 #[derive(Drop)]
 pub(crate) struct Begun {
     pub(crate) source: Source,
@@ -38,7 +38,7 @@ pub(crate) struct Begun {
     pub(crate) output: ContentOut,
 }
 
-/// A net, the table of blocks that its workers follow, and how they run them.
+/// A net, the table of blocks that its workers follow, and the mode in which they run them.
 #[derive(Clone, Copy)]
 pub(crate) struct Shared<'a> {
     pub(crate) net: &'a Net<Kit>,
@@ -46,7 +46,7 @@ pub(crate) struct Shared<'a> {
     pub(crate) mode: Mode,
 }
 
-/// A session that was fed nothing.
+/// Opens a session, before it is fed.
 fn open_session<'a>(alloc: Global, shared: Shared<'a>) -> Result<Session<'a, Kit>, Fault>
     requires { IsShared shared }
     ensures stands { let t = shared.entry.table.now in MatchResult result
@@ -60,7 +60,7 @@ fn open_session<'a>(alloc: Global, shared: Shared<'a>) -> Result<Session<'a, Kit
     Ok(session)
 }
 
-/// Runs a net by workers that follow a table of blocks on the frames of a source.
+/// Runs a net on the frames of a source, by workers that follow a table of blocks.
 fn run_shared<T: Threads + AllocGlobal + Sync, R: Reader, W: Writer, G: Gate>(
     rt: &T,
     reader: &mut R,
@@ -87,7 +87,7 @@ fn run_shared<T: Threads + AllocGlobal + Sync, R: Reader, W: Writer, G: Gate>(
     run_stream(rt, reader, writer, gate, opened, begun)
 }
 
-/// Plays the frames of a source on one thread, or in parts at once.
+/// Plays the frames of a source on one thread, or in parallel parts.
 fn play<T: Threads + AllocGlobal + Sync, R: Reader, W: Writer, G: Gate>(
     rt: &T,
     reader: &mut R,
@@ -148,8 +148,8 @@ fn play_heard<T: Threads + AllocGlobal + Sync, R: Reader, W: Writer, G: Gate>(
     play(rt, reader, writer, gate, score, heard)
 }
 
-/// Runs a net in the way of its plan on the frames of a source, and writes the frames of its output. One thread alone
-/// takes all frames before it plays them.
+/// Runs a net in the way of its plan on the frames of a source, and writes the frames of its output. A run on one
+/// thread takes all frames before it plays them.
 pub(crate) fn run_begun<T: Threads + AllocGlobal + Sync, R: Reader, W: Writer, G: Gate>(
     rt: &T,
     reader: &mut R,

@@ -1,4 +1,4 @@
-//! How a sound is cut in time.
+//! The cut of a sound in time, into pieces and parts.
 
 ghost use Rattle.std.specs.Prelude.{◌≡◌, ◌<◌, ◌≤◌, ℕ, List, max};
 ghost use Rattle.sdf_graph.specs.Periods.{IsLeastPeriod};
@@ -19,24 +19,26 @@ pub(crate) const PIECE: usize = 32_768;
 /// a piece, the fewer threads are started.
 pub(crate) const SHARE: usize = 131_072;
 
-/// The most frames that each worker reads or makes of the first piece, in the same way. No part runs while it is read.
+/// The most frames that each worker reads or makes of the first piece, unless a period or eight warm-ups have more. No
+/// part runs while it is read.
 pub(crate) const FIRST_SHARE: usize = 65_536;
 
-/// The least frames that a part reads or makes if a piece has several for each worker. A worker whose processor is slow
-/// then runs fewer parts.
+/// The least frames that a part reads or makes if a piece has several parts for each worker. A worker on a slow
+/// processor then runs fewer parts.
 const PART: usize = 16_384;
 
-/// The least warm-ups of such a part, so that no more than one in 32 of its periods is run twice.
+/// The least length of a part, in warm-ups, if a piece has several parts for each worker. At most one in 32 of its
+/// periods is then run twice.
 const WARM_UPS: u32 = 32;
 
-/// How a piece is cut in time: the most parts that are run at once, and the periods of warm-up before a part.
+/// The cut of a piece in time: the most parts that are run in parallel, and the periods of warm-up before a part.
 #[derive(Clone, Copy)]
 pub(crate) struct Cut {
     pub(crate) parts: u32,
     pub(crate) warm: u32,
 }
 
-/// Returns how many periods fit into `frames` frames, or one if none does.
+/// Returns the number of periods that fit into `frames` frames, or 1 if none does.
 pub(crate) fn periods_in(frames: usize, exchange: Exchange) -> u32
     requires limits { IsExchange exchange }
     requires few { frames < 4294967296 }
@@ -46,7 +48,7 @@ pub(crate) fn periods_in(frames: usize, exchange: Exchange) -> u32
 }
 
 impl Cut {
-    /// Returns the periods of a part if `periods` are run at once.
+    /// Returns the number of periods of a part, if `periods` periods are run in parallel parts.
     pub(crate) fn part_of(self, exchange: Exchange, periods: u32) -> u32
         requires { IsExchange exchange }
         ensures part { IsPartOf exchange self periods result }
@@ -58,7 +60,7 @@ impl Cut {
     }
 }
 
-/// Returns how many periods make a piece, if each worker has up to `share` frames of it, or eight warm-ups. A piece
+/// Returns the number of periods of a piece, if each worker has up to `share` frames of it, or eight warm-ups. A piece
 /// that is not cut has up to `PIECE` frames.
 pub(crate) fn piece_periods(exchange: Exchange, cut: Option<Cut>, share: usize) -> u32
     requires limits { IsExchange exchange }
@@ -74,8 +76,8 @@ pub(crate) fn piece_periods(exchange: Exchange, cut: Option<Cut>, share: usize) 
     }
 }
 
-/// Returns the most parts of a sound that `workers` workers run at once, if `design` makes `frames` frames and a part
-/// needs `warm` periods of warm-up. If the last period is not whole, it is run alone.
+/// Returns the most parts of a sound that `workers` workers run in parallel, if `design` makes `frames` frames and a
+/// part needs `warm` periods of warm-up. If the last period is not whole, it is run alone.
 pub fn parts_at_once(design: &Design, workers: u32, warm: u32, frames: u64) -> u32
     ensures some { 0 < frames → 0 < result }
     ensures few { result ≤ max 1 workers }

@@ -1,4 +1,5 @@
-//! What a net exchanges with WAV files: channels and samples of a period, and what they make of a file's rate and size.
+//! I/O rates: the channels and samples that a net exchanges with WAV files in a period. They give the rate and size of
+//! the output.
 
 ghost use Rattle.std.specs.Prelude.{◌≡◌, ◌≤◌, ◌<◌, ◌+◌, ◌*◌, ◌/◌, ℕ, List, length, nat_lt, MatchResult, Some};
 ghost use Rattle.sdf_graph.specs.Periods.{IsLeastPeriod};
@@ -18,9 +19,9 @@ use sdf_wav::{FormatFault, MOST_CHANNELS, Wav};
 /// The channels and samples that a net moves in a period.
 #[derive(Clone, Copy)]
 pub(crate) struct Exchange {
-    /// The channels that are read, the lowest ones.
+    /// The number of channels that are read, which are the lowest ones.
     pub(crate) inputs: usize,
-    /// The channels that are made.
+    /// The number of channels that are made.
     pub(crate) outputs: usize,
     /// Samples taken from each channel that is read.
     pub(crate) taken: usize,
@@ -28,7 +29,7 @@ pub(crate) struct Exchange {
     pub(crate) made: usize,
 }
 
-/// What is known of a sound before its samples are.
+/// Stream info: what is known of a sound before its samples are read.
 #[derive(Clone, Copy)]
 pub(crate) struct Announced {
     pub(crate) rate: u32,
@@ -37,7 +38,7 @@ pub(crate) struct Announced {
 }
 
 impl Announced {
-    /// That of a sound.
+    /// Returns the stream info of `input`.
     pub(crate) fn by(input: &Wav) -> Announced
         ensures { result ≡ announced_by input.now }
     {
@@ -49,7 +50,7 @@ impl Announced {
     }
 }
 
-/// The rate of an output, and its length in periods.
+/// Output size: the rate of an output, and its length in periods.
 #[derive(Clone, Copy)]
 pub(crate) struct Extent {
     pub(crate) rate: u32,
@@ -57,7 +58,7 @@ pub(crate) struct Extent {
 }
 
 impl Exchange {
-    /// What a net of at most eight inputs and outputs exchanges in a period.
+    /// Returns what `net` exchanges in a period. It has at most eight inputs and at most eight outputs.
     pub(crate) fn of_net(net: &Net<Kit>) -> Exchange
         requires inputs { list_count Inputs net.now.nodes ≤ MOST_CHANNELS }
         requires outputs { list_count Outputs net.now.nodes ≤ MOST_CHANNELS }
@@ -74,7 +75,7 @@ impl Exchange {
         }
     }
 
-    /// How many periods take so many frames.
+    /// Returns the number of periods that it takes to read `frames` frames.
     fn periods(self, frames: usize) -> usize
         requires { IsExchange self }
         ensures { result ≡ periods_for self frames }
@@ -82,7 +83,7 @@ impl Exchange {
         frames.div_ceil(self.taken)
     }
 
-    /// Whether the data of so many periods would pass 4,294,967,259 bytes.
+    /// Returns whether the output data of `periods` periods would exceed 4,294,967,259 bytes.
     fn is_too_long(self, periods: usize) -> bool
         requires { IsExchange self }
         ensures { result ≡ nat_lt 4294967259 (2 * (periods * self.made * self.outputs)) }
@@ -90,7 +91,7 @@ impl Exchange {
         periods > 2_147_483_629 / (self.made * self.outputs)
     }
 
-    /// The rate and the length of the output, where there can be one.
+    /// Returns the rate and the length of the output, or the reason why there can't be one.
     pub(crate) fn extent(self, announced: Announced) -> Result<Extent, Fault>
         requires limits { IsExchange self }
         requires rate { 1 ≤ announced.rate }

@@ -1,4 +1,4 @@
-//! What goes into a run and comes out of it: the frames of a source, and those that are made of them.
+//! The input and output of a run: the frames of a source, and the frames that are made of them.
 
 ghost use Rattle.std.specs.Prelude.{◌≡◌, ◌≤◌, ◌%◌, length, MatchResult, Err};
 ghost use Rattle.sdf_wav.specs.declared.wav.TheConstants.{MOST_CHANNELS};
@@ -13,7 +13,7 @@ use sdf_wav::{ContentOut, Reader, Wav, Writer};
 use std::alloc::Global;
 use std::mem;
 
-/// What goes into a run and comes out of it.
+/// The input and output of a run.
 #[derive(Drop)]
 pub(crate) struct Flow {
     pub(crate) source: Source,
@@ -23,15 +23,15 @@ pub(crate) struct Flow {
     pub(crate) most: usize,
     /// Samples that were taken and not run yet.
     pub(crate) kept: Vec<i16>,
-    /// Frames that were made and not written yet, one list of them behind the other.
+    /// Frames that were made and not written yet, as lists in their order.
     pub(crate) made: Vec<Vec<i16>>,
-    /// The memory of frames that were written.
+    /// Lists of frames that were written, kept for their memory.
     pub(crate) spare: Vec<Vec<i16>>,
     pub(crate) output: ContentOut,
 }
 
 impl Flow {
-    /// Takes the samples that are kept, as a sound of `rate` frames a second.
+    /// Takes the kept samples out, as a sound of `rate` frames a second.
     pub(crate) fn take_kept(&mut self, alloc: Global, rate: u32, channels: u16) -> Wav
         requires rate { 1 ≤ rate }
         requires one { 1 ≤ channels }
@@ -59,7 +59,7 @@ impl Flow {
         Ok(())
     }
 
-    /// Takes the next frames.
+    /// Takes the next frames, at most `most` of them.
     fn take<R: Reader>(&mut self, alloc: Global, reader: &mut R) -> Result<(), Fault>
         requires { (b : Start) × (g : Progress) × (w : WriterState) × CanFlow b
             × Flows b g self.old.left self.old.source self.old.output (R.state reader.old) w }

@@ -1,4 +1,4 @@
-//! Stages of a run: the header of its output, and a content that is read whole.
+//! Stages of a run: writing the header of its output, and reading a whole content.
 
 ghost use Rattle.std.specs.Prelude.{◌≡◌, ◌*◌, ◌≤◌, ◌<◌, false, length, None, IfOk};
 ghost use Rattle.sdf_wav.specs.PiecesOut.{file_header};

@@ -6,8 +6,8 @@ use sdf_actor::laws::one_history;
 use sdf_file::Design;
 use sdf_kit::Kit;
 
-/// There is one output: whatever runs a design on a WAV file, by whatever order of firings, it makes the same sound. It
-/// stands on the uniqueness of channel histories (Kahn 1974) and of the sound that a file says.
+/// Proves that there is one output: every run of a design on a WAV file makes the same sound, by whatever order of
+/// firings. It depends on the uniqueness of channel histories (Kahn 1974) and of the sound in a file.
 pub fn one_output(design: &Design)
     ensures { OneOutput design.now }
 {

@@ -1,5 +1,5 @@
-//! A net that plays a sound some periods at a time, on one thread or in parts at once. It holds what the periods before
-//! left, and their memory, which it uses again.
+//! A net that plays a sound some periods at a time, on one thread or in parallel parts. It holds the state that the
+//! periods before left, and their memory, which it uses again.
 
 ghost use Rattle.std.specs.Prelude.{◌≡◌, ◌*◌, ◌≤◌, ◌<◌, [], IfErr, IfOk, IfSome, IfNone, MatchResult, Some, is_some};
 ghost use Rattle.std.specs.Prelude.{true};
@@ -34,7 +34,7 @@ use std::alloc::{AllocError, Global};
 use std::mem;
 use std::thread::Threads;
 
-/// A net, one of its periods, and the most parts of a sound that are run at once.
+/// A net, one of its periods, and the most parts of a sound that are run in parallel.
 #[derive(Clone, Copy)]
 pub(crate) struct Score<'a> {
     pub(crate) net: &'a Net<Kit>,
@@ -42,7 +42,7 @@ pub(crate) struct Score<'a> {
     pub(crate) parts: u32,
 }
 
-/// What one thread keeps of a piece, for the next one.
+/// Memory that one thread keeps from a piece for the next one.
 #[derive(Drop)]
 pub(crate) struct Memory {
     /// The input lists.
@@ -54,7 +54,7 @@ pub(crate) struct Memory {
 }
 
 impl Memory {
-    /// Keeps nothing yet.
+    /// Makes a memory that keeps nothing yet.
     fn none(alloc: Global) -> Memory {
         Memory {
             inputs: Vec::new(alloc),
@@ -63,7 +63,7 @@ impl Memory {
         }
     }
 
-    /// Plays a portion from what the periods before left, and makes frames of what it makes.
+    /// Plays `portion` from `rest`, the state that the periods before left, and returns its frames.
     fn play(
         &mut self,
         alloc: Global,
@@ -99,12 +99,12 @@ impl Memory {
     }
 }
 
-/// How pieces are played.
+/// The way in which pieces are played.
 #[derive(Drop)]
 pub(crate) enum Manner {
     /// On one thread.
     Whole(Memory),
-    /// In parts at once, cut in this way, by these workers.
+    /// In parallel parts, cut in this way, by these workers.
     Parts(Cut, Workers<Vec<i16>, i32, Kept>),
 }
 
@@ -113,12 +113,12 @@ pub(crate) enum Manner {
 pub(crate) struct Player<'a> {
     pub(crate) net: &'a Net<Kit>,
     pub(crate) period: &'a Period,
-    /// What the periods before left.
+    /// The net state that the periods before left.
     pub(crate) rest: Rest<i32, Kept>,
     pub(crate) manner: Manner,
 }
 
-/// Returns how a sound is cut in time, if it is to be run in several parts and the net is known to forget.
+/// Returns the cut of a sound in time, if several parts are requested and the net is known to forget its input.
 fn cut_of(alloc: Global, score: Score<'_>) -> Result<Option<Cut>, AllocError>
     requires { IsScore score }
     ensures warm { IfOk result (IsCut score.entry.net.now score.entry.period.now.repetitions) }
@@ -137,7 +137,7 @@ fn cut_of(alloc: Global, score: Score<'_>) -> Result<Option<Cut>, AllocError>
 }
 
 impl<'a> Player<'a> {
-    /// Begins before the first period.
+    /// Makes a player before its first period.
     pub(crate) fn open(alloc: Global, score: Score<'a>) -> Result<Player<'a>, Fault>
         requires score { IsScore score }
         requires taken { 0 < (exchange_of score.net.now score.period.now.repetitions).taken }
@@ -164,7 +164,7 @@ impl<'a> Player<'a> {
         })
     }
 
-    /// Returns how pieces are cut, unless one thread plays them.
+    /// Returns the cut of pieces in time, unless one thread plays them.
     fn cut(&self) -> Option<Cut>
         ensures { result ≡ cut_by self.now.manner }
     {
@@ -174,14 +174,14 @@ impl<'a> Player<'a> {
         }
     }
 
-    /// Returns whether it runs parts at once.
+    /// Returns whether it runs parts of a sound in parallel.
     pub(crate) fn is_cut(&self) -> bool
         ensures { result ≡ is_some (cut_by self.now.manner) }
     {
         self.cut().is_some()
     }
 
-    /// Returns how many frames it is best fed at a time, if each worker has up to `share` frames of them.
+    /// Returns the number of frames to feed at a time, if each worker has up to `share` of them.
     pub(crate) fn piece(&self, exchange: Exchange, share: usize) -> usize
         requires limits { IsExchange exchange }
         requires few { share < 4294967296 }
@@ -190,7 +190,7 @@ impl<'a> Player<'a> {
         piece_periods(exchange, self.cut(), share) as usize * exchange.taken
     }
 
-    /// Runs a portion in parts at once, each of which makes its own frames, and `meanwhile` beside them.
+    /// Runs `portion` in parallel parts, each of which makes its own frames, and `meanwhile` beside them.
     pub(crate) fn run_parts<T: Threads + Sync, G: FnMut() -> B, B>(
         &mut self,
         rt: &T,
@@ -229,7 +229,7 @@ impl<'a> Player<'a> {
         }
     }
 
-    /// Runs a portion, and makes frames of what it makes.
+    /// Runs `portion`, and returns its frames.
     pub(crate) fn run<T: Threads + Sync>(
         &mut self,
         rt: &T,

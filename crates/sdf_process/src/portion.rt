@@ -11,8 +11,8 @@ use sdf_split::Ends;
 use sdf_wav::Wav;
 use std::alloc::{AllocError, Global};
 
-/// The first `periods` periods of a sound, with zeros past its end, and how many frames of what they make are written.
-/// Each stretch of a run in parts makes its own input lists of them, and its own frames.
+/// The first `periods` periods of the sound `input`, with zeros past its end. The first `frames` frames that they make
+/// are written. In a run in parts, each stretch makes its own input lists and its own frames.
 #[derive(Clone, Copy)]
 pub(crate) struct Portion<'a> {
     pub(crate) exchange: Exchange,

@@ -12,15 +12,16 @@ use sdf_run::{Gate, NoGate};
 use sdf_wav::{Reader, Writer};
 use std::thread::Threads;
 
-/// Reads a WAV file, runs a design on it by its plan, and writes the canonical WAV file of the output, of which there
-/// is only one (`laws::one_output`).
+/// Reads a WAV file, runs a design on it by its plan, and writes the canonical WAV file of the output. There is only
+/// one output (`laws::one_output`).
 ///
-/// The tests in order: those of the input file before its content (34 to 45), then 59 ChannelsMissing, 60 RateNotWhole,
-/// 46 RateTooLarge and 45 TooLong of the output, as long as the size of the data says; then the header of the output is
-/// written, and the content read (43). Where that size is not filled in, the content comes first (45, 44), then the
-/// tests of the output and its header. Memory (1) and the devices (47, 48) may fail at any place.
+/// First come the tests of the input file before its content (34 to 45). Then come the tests of the output, by the size
+/// of the data: 59 ChannelsMissing, 60 RateNotWhole, 46 RateTooLarge and 45 TooLong. Then the header of the output is
+/// written and the content is read (43 Truncated). If the size of the data is not filled in, the content comes first
+/// (45 TooLong, 44 PartialFrame), then the tests of the output and its header. Memory (1) and the devices (47 Read,
+/// 48 Write) may fail at any point.
 ///
-/// Workers by rows and over rings call the gate before each firing; a run on one thread or in parts calls none.
+/// Workers by rows and over rings call `gate` before each firing. A run on one thread or in parts does not call it.
 pub fn process_with<T: Threads + AllocGlobal + Sync, R: Reader, W: Writer, G: Gate>(
     rt: &T,
     reader: &mut R,
@@ -40,7 +41,7 @@ pub fn process_with<T: Threads + AllocGlobal + Sync, R: Reader, W: Writer, G: Ga
     run_net(rt, reader, writer, task, gate)
 }
 
-/// The same with a gate that lets each firing pass: what the program does.
+/// Calls `process_with` with a gate that lets each firing pass, as the program does.
 pub fn process<T: Threads + AllocGlobal + Sync, R: Reader, W: Writer>(
     rt: &T,
     reader: &mut R,

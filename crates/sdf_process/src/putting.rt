@@ -1,4 +1,4 @@
-//! Samples to a file whose header is written.
+//! Writing of samples to a file whose header is written.
 
 ghost use Rattle.std.specs.Prelude.{◌≡◌, ◌-◌, ◌*◌, ◌≤◌, ◌<◌, ℕ, [], false, length, slice_index_or, IfOk};
 ghost use Rattle.sdf_actor.specs.Wires.{lists as items_of};
@@ -9,7 +9,7 @@ ghost use Rattle.sdf_process.specs.Stages.{PutsHeader};
 use sdf_faults::Fault;
 use sdf_wav::{ContentOut, Writer};
 
-/// Writes frames that are made, one list of them behind the other.
+/// Writes the frames of `parts`, one list after the other.
 pub(crate) fn put_in_turn<W: Writer>(
     writer: &mut W,
     output: &mut ContentOut,

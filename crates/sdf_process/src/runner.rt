@@ -1,4 +1,4 @@
-//! What a run goes on by. It makes frames of portions of a sound, and leaves it to others to write them.
+//! The session or player of a run. It makes frames of portions of a sound, and does not write them.
 
 ghost use Rattle.std.specs.Prelude.{◌≡◌, ℕ, ℤ, Ok, IfOk, IfErr};
 ghost use Rattle.sdf_actor.specs.Nets.{Netlist};
@@ -19,17 +19,17 @@ use sdf_kit::Kit;
 use sdf_run::{Gate, Session};
 use std::thread::Threads;
 
-/// What a run goes on by.
+/// The session or player that makes the frames of a run.
 #[derive(Drop)]
 pub(crate) enum Runner<'a> {
-    /// Workers that follow a table of blocks, over rows or rings.
+    /// Workers that follow a table of blocks, by rows or over rings.
     Session(Session<'a, Kit>),
-    /// One thread, or parts at once.
+    /// One thread, or parallel parts of a sound.
     Player(Player<'a>),
 }
 
 impl<'a> Runner<'a> {
-    /// Returns whether it runs parts at once.
+    /// Returns whether it runs parts of a sound in parallel.
     pub(crate) fn is_cut(&self) -> bool
         ensures { result ≡ is_cut self.now }
     {
@@ -39,8 +39,8 @@ impl<'a> Runner<'a> {
         }
     }
 
-    /// Runs the periods of a portion, and makes the first frames of what they make: whole frames in one list or
-    /// several.
+    /// Runs the periods of `portion`, and returns the first `portion.frames` frames of what they make: whole frames, in
+    /// one list or several.
     pub(crate) fn run<T: Threads + AllocGlobal + Sync, G: Gate>(
         &mut self,
         rt: &T,
@@ -68,7 +68,7 @@ impl<'a> Runner<'a> {
     }
 }
 
-/// Feeds a portion of whole blocks to a session, and makes the first frames of what it makes.
+/// Feeds `portion`, which has whole blocks, to `session`, and returns the first `portion.frames` frames that it makes.
 fn run_fed<T: Threads + AllocGlobal + Sync, G: Gate>(
     rt: &T,
     gate: &G,

@@ -1,4 +1,4 @@
-//! A run from its input's first byte to its output's last.
+//! A run from the first byte of its input to the last byte of its output.
 
 ghost use Rattle.std.specs.Prelude.{◌≡◌, None};
 ghost use Rattle.sdf_wav.specs.PiecesIn.{known_frames};
@@ -16,15 +16,15 @@ use sdf_run::Gate;
 use sdf_wav::{ContentIn, Reader, Writer};
 use std::thread::Threads;
 
-/// A content of so many frames that is still to be read: its size is filled in.
+/// A content of `frames` frames that is still to be read. Its size is filled in.
 #[derive(Drop)]
 struct Unheard {
     content: ContentIn,
     frames: usize,
 }
 
-/// Runs a net on a content whose size is filled in: the output is tested, and its header written, before the content is
-/// read.
+/// Runs a net on a content whose size is filled in. The output is tested, and its header written, before the content
+/// is read.
 fn run_ahead<T: Threads + AllocGlobal + Sync, R: Reader, W: Writer, G: Gate>(
     rt: &T,
     reader: &mut R,
@@ -55,7 +55,7 @@ fn run_ahead<T: Threads + AllocGlobal + Sync, R: Reader, W: Writer, G: Gate>(
     run_begun(rt, reader, writer, task, gate, begun)
 }
 
-/// Runs a net on a content whose size was never filled in: it is read whole before the output is tested and begun.
+/// Runs a net on a content whose size was never filled in. It is read whole before the output is tested and begun.
 fn run_behind<T: Threads + AllocGlobal + Sync, R: Reader, W: Writer, G: Gate>(
     rt: &T,
     reader: &mut R,

@@ -1,4 +1,4 @@
-//! Samples between a sound and the lists of a net.
+//! Conversion of samples between a sound and the lists of a net.
 
 ghost use Rattle.std.specs.Prelude.{◌≡◌, ◌≢◌, ◌*◌, ◌+◌, ◌≤◌, ◌<◌, ◌^◌, ℕ, length, map, take, IfOk};
 ghost use Rattle.std.specs.Prelude.{slice_index_or, pos};
@@ -11,7 +11,7 @@ use sdf_answer::outputs::take_spare;
 use sdf_wav::Wav;
 use std::alloc::{AllocError, Global};
 
-/// Fills `list` with one sample in `channels` from `start` on, and with zeros past the end of `samples`.
+/// Fills `list` with every `channels`-th sample from `start` on, and with zeros past the end of `samples`.
 fn fill_channel(samples: &[i16], start: usize, channels: usize, list: &mut [i32])
     requires channels { 1 ≤ channels }
     ensures copied { (at : ℕ) → at < length list.old → slice_index_or list.new at (pos 0) ≡
@@ -21,7 +21,7 @@ fn fill_channel(samples: &[i16], start: usize, channels: usize, list: &mut [i32]
     let left = samples.len().saturating_sub(start);
     let many = left.div_ceil(channels).min(list.len());
     silence(list, many);
-    // With a stride of 1 that is known, the compiler copies several samples at a time.
+    // If the stride is known to be 1, the compiler copies several samples at a time.
     if channels == 1 {
         copy_channel(samples, start, 1, list, many);
     } else {
@@ -29,7 +29,7 @@ fn fill_channel(samples: &[i16], start: usize, channels: usize, list: &mut [i32]
     }
 }
 
-/// Puts zeros from the place `from` on.
+/// Fills `list` with zeros from index `from` on.
 fn silence(list: &mut [i32], from: usize)
     requires { from ≤ length list.old }
     ensures silent { (at : ℕ) → from ≤ at → slice_index_or list.new at (pos 0) ≡ pos 0 }
@@ -38,7 +38,7 @@ fn silence(list: &mut [i32], from: usize)
     list[from..].fill(0);
 }
 
-/// Copies `many` samples to the front of `list`: one in `channels` from `start` on.
+/// Copies `many` samples to the front of `list`: every `channels`-th sample from `start` on.
 #[inline(always)]
 fn copy_channel(samples: &[i16], start: usize, channels: usize, list: &mut [i32], many: usize)
     requires room { many ≤ length list.old }
@@ -53,7 +53,7 @@ fn copy_channel(samples: &[i16], start: usize, channels: usize, list: &mut [i32]
     }
 }
 
-/// Makes the list of `len` samples of a channel from frame `from` on, with zeros past the end, in the memory of
+/// Makes the list of `len` samples of `channel` from frame `from` on, with zeros past the end, in the memory of
 /// `spare`.
 fn channel_list(
     input: &Wav,
@@ -74,7 +74,8 @@ fn channel_list(
     Ok(list)
 }
 
-/// Makes lists of `len` samples of each of the lowest channels, from frame `from` on, in the memory of `spares`.
+/// Makes a list of `len` samples from frame `from` on for each of the lowest `channels` channels, in the memory of
+/// `spares`. There are zeros past the end.
 pub(crate) fn channel_lists(
     alloc: Global,
     input: &Wav,
@@ -96,7 +97,7 @@ pub(crate) fn channel_lists(
     Ok(all)
 }
 
-/// A sample clamped to 16 bits.
+/// Clamps `sample` to 16 bits.
 fn clamped(sample: i32) -> i16
     ensures { result ≡ saturate_signed w16 sample }
 {
@@ -110,7 +111,7 @@ fn first_samples(list: &[i32], many: usize) -> &[i32]
     &list[..many.min(list.len())]
 }
 
-/// Puts a list's samples into a channel of frames that is silent yet, each sample clamped to 16 bits.
+/// Puts the samples of `list` into `channel` of frames that are silent there, each sample clamped to 16 bits.
 fn put_channel(list: &[i32], channel: usize, channels: usize, samples: &mut [i16])
     requires channel { channel < channels }
     requires room { length list.now * channels ≤ length samples.old }
@@ -122,7 +123,7 @@ fn put_channel(list: &[i32], channel: usize, channels: usize, samples: &mut [i16
         slice_index_or samples.old (at * channels + other) (pos 0) }
     ensures count { length samples.new ≡ length samples.old }
 {
-    // With a stride of 1 that is known, the compiler puts several samples at a time.
+    // If the stride is known to be 1, the compiler puts several samples at a time.
     if channels == 1 {
         put_samples(list, channel, 1, samples);
     } else {
@@ -160,7 +161,7 @@ fn fill_frames(lists: &[Vec<i32>], frames: usize, samples: &mut [i16])
     }
 }
 
-/// Makes the first `frames` frames of the lists, each sample clamped to 16 bits, in the memory of `spare`.
+/// Makes the first `frames` frames of `lists`, each sample clamped to 16 bits, in the memory of `spare`.
 pub(crate) fn make_frames(
     lists: &[Vec<i32>],
     frames: usize,

@@ -1,4 +1,4 @@
-//! Where the frames of a sound come from.
+//! The source of a sound's frames.
 
 ghost use Rattle.std.specs.Prelude.{◌≡◌, ◌≢◌, ◌+◌, ◌*◌, ◌≤◌, ℤ, List, length, Ok, Err, MatchResult, None};
 ghost use Rattle.sdf_wav.specs.Device.{ReaderState};
@@ -11,16 +11,16 @@ use sdf_faults::Fault;
 use sdf_wav::{ContentIn, Reader, Wav};
 use std::alloc::Global;
 
-/// Where the frames of a sound come from.
+/// The source of a sound's frames.
 #[derive(Drop)]
 pub(crate) enum Source {
-    /// From the content of a file, before which the reader stands.
+    /// The content of a file, which is next in the reader.
     Content(ContentIn),
-    /// From a sound that was read before. `taken` of its samples were taken.
+    /// A sound that was read before. `taken` of its samples were taken.
     Heard { sound: Wav, taken: usize },
 }
 
-/// Reads the next frames of a content, and adds them to `kept`.
+/// Reads the next `frames` frames of `content`, and adds them to `kept`.
 fn read_more<R: Reader>(
     alloc: Global,
     reader: &mut R,
@@ -47,7 +47,7 @@ fn read_more<R: Reader>(
 }
 
 impl Source {
-    /// Returns the frames a second.
+    /// Returns the sound's rate, in frames a second.
     pub(crate) fn rate(&self) -> u32
         ensures value { result ≡ (reading_of self.now).rate }
         ensures above_0 { 1 ≤ result }

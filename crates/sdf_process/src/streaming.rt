@@ -29,7 +29,7 @@ use std::alloc::{AllocError, Global};
 use std::mem;
 use std::thread::Threads;
 
-/// The samples behind the first ones.
+/// Returns a copy of the samples from index `from` on.
 fn behind(alloc: Global, samples: &[i16], from: usize) -> Result<Vec<i16>, AllocError>
     requires { from ≤ length samples.now }
     ensures { IfOk result (λ rest. rest.items ≡ drop from samples.now) }
@@ -39,7 +39,7 @@ fn behind(alloc: Global, samples: &[i16], from: usize) -> Result<Vec<i16>, Alloc
     Ok(rest)
 }
 
-/// A run that was fed nothing yet.
+/// A run before its first frame.
 #[derive(Drop)]
 pub(crate) struct Opened<'a> {
     pub(crate) net: &'a Net<Kit>,
@@ -49,7 +49,7 @@ pub(crate) struct Opened<'a> {
     pub(crate) blocking: u32,
     /// Frames that are taken at first.
     pub(crate) first: usize,
-    /// Frames that are taken at a time after that.
+    /// Frames that are taken at a time after the first.
     pub(crate) frames: usize,
 }
 
@@ -63,12 +63,12 @@ pub(crate) struct Stream<'a> {
     blocking: u32,
     /// Frames a second of the sound.
     rate: u32,
-    /// Samples in a frame of it.
+    /// Samples in a frame of the sound.
     channels: u16,
 }
 
 impl<'a> Stream<'a> {
-    /// Begins before the first frame.
+    /// Makes the stream of a run before its first frame.
     fn open(alloc: Global, opened: Opened<'a>, begun: Begun) -> Stream<'a>
         requires opened { IsOpened opened }
         requires begun { IsBegun opened.net.now opened.period.now.repetitions begun }
@@ -103,7 +103,7 @@ impl<'a> Stream<'a> {
         }
     }
 
-    /// Runs a portion, and then writes what it makes and takes the next frames.
+    /// Runs `portion`, then writes the frames that it makes and takes the next ones.
     fn run_in_turn<T: Threads + AllocGlobal + Sync, R: Reader, W: Writer, G: Gate>(
         &mut self,
         rt: &T,
@@ -122,7 +122,7 @@ impl<'a> Stream<'a> {
         self.flow.turn(rt.alloc(), reader, writer)
     }
 
-    /// Runs a portion in parts at once, while the frames before are written and the next ones are taken.
+    /// Runs `portion` in parallel parts. Meanwhile the frames made before are written and the next ones are taken.
     fn run_beside<T: Threads + AllocGlobal + Sync, R: Reader, W: Writer>(
         &mut self,
         rt: &T,
@@ -145,7 +145,7 @@ impl<'a> Stream<'a> {
         Ok(())
     }
 
-    /// Runs a portion, writes frames and takes the next ones.
+    /// Runs `portion`, writes frames and takes the next ones.
     fn run<T: Threads + AllocGlobal + Sync, R: Reader, W: Writer, G: Gate>(
         &mut self,
         rt: &T,
@@ -166,7 +166,7 @@ impl<'a> Stream<'a> {
         }
     }
 
-    /// Runs the whole blocks of the samples that are kept, writes what was made, and takes the next frames.
+    /// Runs the whole blocks of the kept samples, writes frames that were made, and takes the next ones.
     fn go_on<T: Threads + AllocGlobal + Sync, R: Reader, W: Writer, G: Gate>(
         &mut self,
         rt: &T,
@@ -198,8 +198,8 @@ impl<'a> Stream<'a> {
         self.run(rt, reader, writer, gate, portion)
     }
 
-    /// Writes what was made, runs the samples that are kept, filled up with zeros to whole blocks, and writes the
-    /// frames that are missing.
+    /// Writes what was made, runs the kept samples, filled up with zeros to whole blocks, and writes the missing
+    /// frames.
     fn finish<T: Threads + AllocGlobal + Sync, W: Writer, G: Gate>(
         &mut self,
         rt: &T,
@@ -230,7 +230,7 @@ impl<'a> Stream<'a> {
     }
 }
 
-/// Plays a portion in parts at once, while the frames before are written and the next ones are taken.
+/// Plays `portion` in parallel parts. Meanwhile `flow` writes the frames made before and takes the next ones.
 fn play_while_turning<T: Threads + AllocGlobal + Sync, R: Reader, W: Writer>(
     rt: &T,
     player: &mut Player<'_>,
@@ -263,8 +263,8 @@ fn play_while_turning<T: Threads + AllocGlobal + Sync, R: Reader, W: Writer>(
 }
 
 /// Runs a net on the frames of a source: takes some frames, runs all whole blocks that there are, writes what they
-/// make, and so on. The last block is filled up with zeros. A run in parts at once writes and takes frames meanwhile.
-/// At first it takes as many frames as `opened.first` says, and then as `opened.frames` says.
+/// make, and so on. The last block is filled up with zeros. A run in parallel parts writes and takes frames meanwhile.
+/// It takes `opened.first` frames at first, and then `opened.frames` at a time.
 pub(crate) fn run_stream<T: Threads + AllocGlobal + Sync, R: Reader, W: Writer, G: Gate>(
     rt: &T,
     reader: &mut R,

@@ -1,10 +1,10 @@
-//! What is run.
+//! A task: a net and its plan.
 
 use sdf_actor::Net;
 use sdf_kit::Kit;
 use sdf_plan::Plan;
 
-/// A net, and the plan by which it is run.
+/// A net, and the plan that runs it.
 #[derive(Clone, Copy)]
 pub(crate) struct Task<'a> {
     pub(crate) net: &'a Net<Kit>,

@@ -1,12 +1,12 @@
--- What firings cost in terms of the cheapest.
+-- Costs of firings, in multiples of the cheapest firing.
 use Rattle.std.specs.Prelude.{◌≡◌, ◌⊎◌, ℕ, suc, ◌*◌, ◌+◌, ◌-◌, ◌/◌, ◌≤◌, ◌<◌, List, length, map, slice_index, min}
 use Rattle.sdf_limits.specs.declared.TheConstants.{MOST_COST}
 
--- how often the least time goes into a time, to the nearest
+-- a time in multiples of the least, rounded to the nearest
 abbrev pub times_of : ℕ → ℕ → ℕ
 times_of least time = (2 * time + least) / (2 * least)
 
--- the same, from 1 to the most that a key may say
+-- a time in multiples of the least, from 1 to the most that a key may say
 abbrev pub cost_of : ℕ → ℕ → ℕ → ℕ
 cost_of most least time = min most (suc (times_of least time - 1))
 
@@ -18,13 +18,13 @@ AreNone times = (i : ℕ) → i < length times → slice_index times i ≡ 0
 abbrev pub IsOneOf : List ℕ → ℕ → Type 0
 IsOneOf times time = (i : ℕ) × (i < length times) × (slice_index times i ≡ time)
 
--- the least of the times above 0; any above 0 where there is none
+-- the least of the times above 0; any number above 0 if there is none
 pub record IsLeastTime (times : List ℕ) (least : ℕ) : Type 0 where
   pub some : 0 < least
   pub below : (i : ℕ) → i < length times → 0 < slice_index times i → least ≤ slice_index times i
   pub reached : AreNone times ⊎ IsOneOf times least
 
--- what firings cost that take these times
+-- the costs of firings that take these times
 pub record AreCostsOf (times costs : List ℕ) : Type 0 where
   pub least : ℕ
   pub is : IsLeastTime times least

@@ -1,4 +1,4 @@
--- Where the costs of actors stand in a graph file's text, or may stand.
+-- Places in a graph file's text where costs of actors are written, or may be written.
 use Rattle.std.specs.Prelude.{ℕ, suc, ◌+◌, ◌-◌, ◌==◌, ◌&&◌, ◌||◌, Bool, false, List, [], ◌∷◌, ◌++◌, codes, decimal}
 use Rattle.std.specs.Prelude.{length, take, drop, slice_range, option_map, Option, Some, None, Result, Ok, Err}
 use Rattle.std.specs.Prelude.{if◌then◌else◌, nat_eq, nat_le, nat_lt}
@@ -19,7 +19,7 @@ begins text with = starts_with nat_eq text with
 abbrev pub ends : List ℕ → List ℕ → Bool
 ends text with = ends_with nat_eq text with
 
--- a byte before the lines behind it, of which the first one goes on with it
+-- lines, with a byte put in front of the first one
 abbrev pub begun : ℕ → List (List ℕ) → List (List ℕ)
 begun b [] = (b ∷ []) ∷ []
 begun b (line ∷ rest) = (b ∷ line) ∷ rest
@@ -38,15 +38,15 @@ line_length (b ∷ bs) = if b == 10 then 1 else suc (line_length bs)
 abbrev pub end_length : List ℕ → ℕ
 end_length line = if ends line (13 ∷ 10 ∷ []) then 2 else if ends line (10 ∷ []) then 1 else 0
 
--- without the blanks at its front
+-- a line without the blanks at its front
 abbrev pub unindented : List ℕ → List ℕ
 unindented line = drop (prefix_len is_ascii_whitespace line) line
 
--- it is blank or only a comment
+-- a line is blank or only a comment
 unfoldable pub says_nothing : List ℕ → Bool
 says_nothing line = length (unindented line) == 0 || begins (unindented line) (codes "#")
 
--- it has the key `cost`, however that is written: no other key begins so
+-- a line has the key `cost`, however that is written: no other key begins with it
 unfoldable pub names_cost : List ℕ → Bool
 names_cost line =
     (begins (unindented line) (codes "cost") || begins (unindented line) (codes "\"cost"))
@@ -67,11 +67,11 @@ cost_length line =
 
 -- ---- places
 
--- the end of a line that begins here
+-- the place at the end of a line that begins here
 abbrev pub place_behind : ℕ → List ℕ → Bool → Place
 place_behind start line long = record { start = start + (length line - end_length line); length = 0; long = long }
 
--- the places in the tables before, and the one in the table of the line before, if that is an actor's
+-- the places in the tables before, and the place in the current table, if that is an actor's
 pub record FoundValue : Type 0 where
   pub places : List Place
   pub table : Option Place
@@ -79,23 +79,23 @@ pub record FoundValue : Type 0 where
 abbrev pub found_view : Found → FoundValue
 found_view f = record { places = f.places.items; table = f.table }
 
--- all places, where the last table is over
+-- all places, when the last table is over
 abbrev pub closed : FoundValue → List Place
 closed f = f.places ++ option_to_list f.table
 
--- behind a line that heads a table
+-- what is found after a line that heads a table
 unfoldable pub headed : ℕ → List ℕ → FoundValue → FoundValue
 headed start line f = record {
   places = closed f;
   table = if begins line (codes "[[actor]]") then Some (place_behind start line (ends line (13 ∷ 10 ∷ []))) else None;
 }
 
--- behind a line with the key `cost`, at the place that it has there
+-- what is found after a line with the key `cost`, at the place that the key has there
 abbrev pub cost_found : ℕ → FoundValue → Option ℕ → Result FoundValue Unwritten
 cost_found start f None = Err (Cost (length f.places))
 cost_found start f (Some n) = Ok (record f { table = Some (record { start = start; length = n; long = false }) })
 
--- behind a line of an actor's table that has a key
+-- what is found after a line of an actor's table that has a key
 unfoldable pub keyed : ℕ → List ℕ → Place → FoundValue → Result FoundValue Unwritten
 keyed start line place f =
     if names_cost line then cost_found start f (cost_length line)
@@ -106,7 +106,7 @@ abbrev pub key_found : ℕ → List ℕ → Option Place → FoundValue → Resu
 key_found start line None f = Ok f
 key_found start line (Some place) f = keyed start line place f
 
--- behind any line
+-- what is found after any line
 unfoldable pub line_found : ℕ → List ℕ → FoundValue → Result FoundValue Unwritten
 line_found start line f =
     if begins line (codes "[") then Ok (headed start line f)
@@ -118,7 +118,7 @@ abbrev pub then_found : Result FoundValue Unwritten → (FoundValue → Result F
 then_found (Ok f) next = next f
 then_found (Err fault) next = Err fault
 
--- behind lines of which the first one begins here
+-- what is found after lines, the first of which begins here
 abbrev pub found_in : ℕ → List (List ℕ) → FoundValue → Result FoundValue Unwritten
 found_in start [] f = Ok f
 found_in start (line ∷ rest) f = then_found (line_found start line f) (λ g. found_in (start + length line) rest g)
@@ -130,7 +130,7 @@ abbrev pub closed_in : Result FoundValue Unwritten → Result (List Place) Unwri
 closed_in (Ok f) = Ok (closed f)
 closed_in (Err fault) = Err fault
 
--- where the cost of each actor stands in a graph file's text, or the first table in which it is written otherwise
+-- the place of each actor's cost in a graph file's text, or the first table in which it is written in another form
 unfoldable pub places_of : List ℕ → Result (List Place) Unwritten
 places_of graph = closed_in (found_in 0 (lines graph) none)
 
@@ -140,14 +140,14 @@ places_of graph = closed_in (found_in 0 (lines graph) none)
 unfoldable pub is_cost : List ℕ → Bool
 is_cost text = pointwise nat_eq (take (length key) text) key && list_all is_ascii_digit (drop (length key) text)
 
--- what comes before a cost that is written in the place of a text, if it may be: nothing where one stands there, and a
--- line end where nothing does
+-- what comes before a cost that replaces a text, if that may be replaced: nothing if the text is a cost, a line end if
+-- it is empty
 unfoldable pub before : List ℕ → Bool → Option (List ℕ)
 before old long =
     if is_cost old then Some []
     else if length old == 0 then Some (if long then 13 ∷ 10 ∷ [] else 10 ∷ []) else None
 
--- the cost n that is written in the place of a text, if it may be
+-- the text of cost n that replaces a text, if that may be replaced
 unfoldable pub text_for : ℕ → List ℕ → Bool → Option (List ℕ)
 text_for n old long = option_map (λ b. b ++ key ++ decimal n) (before old long)
 
@@ -189,7 +189,7 @@ abbrev pub costed_at : List ℕ → List ℕ → Result (List Place) Unwritten �
 costed_at costs graph (Ok places) = costed_in graph places costs
 costed_at costs graph (Err fault) = Err fault
 
--- a graph file's text with costs, or why it can't be made: the first table in which the cost is written otherwise, or
--- else the number of tables, if it is not the number of costs
+-- a graph file's text with costs, or why it can't be made: the first table in which the cost is written in another
+-- form, otherwise the number of tables, if it is not the number of costs
 unfoldable pub costed_text_of : List ℕ → List ℕ → Result (List ℕ) Unwritten
 costed_text_of costs graph = costed_at costs graph (places_of graph)

@@ -28,16 +28,16 @@ pub record HasRunOn (d : DesignValue) (input : List ℕ) : Type 0 where
   pub out : Sound
   pub output : HasOutput d.net plan.period.repetitions input out
 
--- what was measured is of what the firings of each actor took
+-- the text and the costs are made from the time that the firings of each actor took
 abbrev pub IsMeasured : DesignValue → Measured → Type 0
 IsMeasured d m = (all : List Spent) × (length all ≡ length d.net.nodes)
     × AreMeasured d.names all (string_bytes m.text) m.costs.items
 
--- as many periods in a block as a block and `blocking` may have
+-- the most periods in a block, by the limits of a block and of `blocking`
 abbrev pub blocking_of : ℕ → ℕ
 blocking_of period = max 1 (min (MOST_BLOCK / period) MOST_BLOCKING)
 
--- the options of a profile: a run over rings by one worker, in blocks as long as they may be
+-- the options of a profile: a run over rings by one worker, in the longest blocks allowed
 pub record AreProfileOptions (d : DesignValue) (o : Options) : Type 0 where
   pub passed : ArePassed o
   pub runner : o.runner ≡ Rings
@@ -55,7 +55,7 @@ unfailed_reader remaining = record { remaining = remaining; failures = 0 }
 abbrev pub unfailed_writer : Option (List ℕ) → WriterState
 unfailed_writer contents = record { contents = contents; failures = 0 }
 
--- a run of the design on the input, by devices that never fail, answers the fault
+-- a run of the design on the input, by devices that never fail, returns the fault
 pub record IsRunFault (d : DesignValue) (input : List ℕ) (f : Fault) : Type 0 where
   pub plan : PlanValue
   pub suits : Suits d.net plan
@@ -65,10 +65,10 @@ pub record IsRunFault (d : DesignValue) (input : List ℕ) (f : Fault) : Type 0 
   pub run : IsRun d.net plan.period.repetitions (unfailed_reader (Some input)) (unfailed_reader left)
       (unfailed_writer before) (unfailed_writer after) (Err f)
 
--- memory was refused, or a run answers the fault
+-- memory was refused, or a run returns the fault
 abbrev pub IsMeasuringFault : DesignValue → List ℕ → Fault → Type 0
 IsMeasuringFault d input f = (f ≡ OutOfMemory) ⊎ IsRunFault d input f
 
--- a fault is the plan's by the options of a profile, or one of measuring
+-- the fault is a plan's by the options of a profile, or a fault of measuring
 abbrev pub IsProfileFault : DesignValue → List ℕ → Fault → Type 0
 IsProfileFault d input f = ((o : Options) × AreProfileOptions d o × IsPlanFault d o f) ⊎ IsMeasuringFault d input f

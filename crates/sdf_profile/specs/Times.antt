@@ -1,4 +1,4 @@
--- What the firings of actors took, and what is printed of it.
+-- The time that the firings of actors took, and what is printed of it.
 use Rattle.std.specs.Prelude.{◌≡◌, ℕ, zero, suc, ◌*◌, ◌/◌, ◌%◌, ◌==◌, if◌then◌else◌, min, List, [], ◌∷◌, ◌++◌}
 use Rattle.std.specs.Prelude.{length, map, slice_index, slice_index_or, codes, decimal}
 use Rattle.std.specs.List.{sum_by}
@@ -9,11 +9,11 @@ use Rattle.sdf_profile.specs.Costs.{AreCostsOf}
 abbrev pub most : ℕ
 most = 18446744073709551615
 
--- 0 where there is nothing to divide by
+-- a quotient, rounded down; 0 if there is nothing to divide by
 abbrev pub quotient : ℕ → ℕ → ℕ
 quotient n d = if d == 0 then 0 else n / d
 
--- a firing's time in picoseconds
+-- the mean time of a firing in picoseconds
 abbrev pub time_of : Spent → ℕ
 time_of s = min most (quotient (s.nanoseconds * 1000) s.firings)
 
@@ -27,23 +27,23 @@ whole all = min most (sum_by (λ (s : Spent). s.nanoseconds) all)
 abbrev pub end : List ℕ
 end = 10 ∷ []
 
--- how much of the whole a part is, in percent, rounded down to hundredths
+-- the share of a part in the whole, in percent, rounded down to hundredths
 abbrev pub percent : ℕ → ℕ → List ℕ
 percent part whole =
     let share = quotient (part * 10000) whole in
     codes " " ++ decimal (share / 100) ++ codes "." ++ decimal (share / 10 % 10) ++ decimal (share % 10) ++ codes " %"
 
--- a time in nanoseconds, with tenths
+-- a time in picoseconds, printed in nanoseconds with tenths
 abbrev pub time_text : ℕ → List ℕ
 time_text time = decimal (time / 1000) ++ codes "." ++ decimal (time / 100 % 10) ++ codes " ns"
 
--- an actor's share of the whole, how often it fired and how long a firing takes
+-- an actor's share of the whole, the number of its firings and the time of one
 unfoldable pub share_line : List ℕ → ℕ → Spent → List ℕ
 share_line name whole s =
     codes "share " ++ name ++ percent s.nanoseconds whole ++ codes ", " ++ decimal s.firings ++ codes " firings of "
     ++ time_text (time_of s) ++ end
 
--- what a firing of an actor costs
+-- the cost of an actor's firing
 unfoldable pub cost_line : List ℕ → ℕ → List ℕ
 cost_line name cost = codes "cost " ++ name ++ codes " " ++ decimal cost ++ end
 
@@ -65,7 +65,7 @@ profile_text names all costs = shares_to names all (length all) ++ costs_to name
 
 -- ---- what is measured
 
--- the text and the costs are those of what the firings of so many actors took
+-- the text and the costs for the time that the firings of all actors took
 pub record AreMeasured (names : List (List ℕ)) (all : List Spent) (text costs : List ℕ) : Type 0 where
   pub costs_are : AreCostsOf (map time_of all) costs
   pub text_is : text ≡ profile_text names all costs

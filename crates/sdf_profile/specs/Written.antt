@@ -20,17 +20,17 @@ pub record IsCost (text : List ℕ) : Type 0 where
 abbrev pub IsLineEnd : List ℕ → Type 0
 IsLineEnd text = (text ≡ codes "\n") ⊎ (text ≡ codes "\r\n")
 
--- what comes before a cost that is written: nothing where one stood, and a line end where nothing did
+-- what comes before a cost that is written: nothing if it replaces a cost, a line end if it replaces nothing
 abbrev pub IsBefore : List ℕ → List ℕ → Type 0
 IsBefore old before = (IsCost old × (before ≡ [])) ⊎ ((old ≡ []) × IsLineEnd before)
 
--- the cost n, written in the place of a text
+-- the cost n, written in place of a text
 pub record IsReplaced (n : ℕ) (old new : List ℕ) : Type 0 where
   pub before : List ℕ
   pub fits : IsBefore old before
   pub is : new ≡ before ++ key ++ decimal n
 
--- two texts that are alike but for so many costs, which stand in the second one in this order
+-- two texts that are equal except for these costs, which are in the second one in this order
 pub data DifferInCosts : List ℕ → List ℕ → List ℕ → Type 0 where
   empty : DifferInCosts [] [] []
   kept : (ns old new text : List ℕ) → DifferInCosts ns old new → DifferInCosts ns (old ++ text) (new ++ text)
@@ -57,7 +57,7 @@ pub record IsCostedDocument (ns : List ℕ) (old new : DocumentValue) : Type 0 w
   pub actors : AreCosted ns old.actors new.actors
   pub links : new.links ≡ old.links
 
--- the second graph file says what the first one does, but for the costs
+-- the second graph file says what the first one says, with these costs
 pub record SaysWithCosts (ns : List ℕ) (old new : List ℕ) (files : Files) : Type 0 where
   pub document : DocumentValue
   pub written : DocumentValue

@@ -14,7 +14,7 @@ use crate::unwritten::Unwritten;
 use sdf_document::{Document, ReadFault, read_document};
 use std::alloc::Global;
 
-/// Returns what a graph file says.
+/// Reads a graph file with its coefficient `files`.
 fn document(alloc: Global, graph: &[u8], files: &[(String, Vec<u8>)]) -> Result<Document, Unwritten>
     ensures { MatchResult result
         (λ d. document_of graph.now (files_view files.now) ≡ Ok (document_view d))
@@ -28,7 +28,7 @@ fn document(alloc: Global, graph: &[u8], files: &[(String, Vec<u8>)]) -> Result<
     }
 }
 
-/// Tests that `text` says what `graph` says, with `costs`.
+/// Checks that `text` says what `graph` says, except that it has `costs`.
 fn test_costed(
     alloc: Global,
     graph: &[u8],
@@ -62,11 +62,11 @@ fn made_text(alloc: Global, graph: &[u8], costs: &[u32]) -> Result<Vec<u8>, Unwr
     text_with(alloc, graph, &places, costs)
 }
 
-/// The text of a graph file with these costs in the place of those of its actors. Each line stays as it is but for
-/// the numbers behind `cost = `, and where an actor has none a line is added behind the last key of its table.
+/// Returns the text of `graph`, a graph file, with `costs` in place of the costs of its actors. Each line stays as it
+/// is, except the numbers behind `cost = `. If an actor has no cost, a line is added behind the last key of its table.
 ///
-/// Each table is to be headed by a line that begins with `[[actor]]`, and a cost to be written as `cost = 12` at the
-/// beginning of its line. The coefficient files are a name and its bytes each.
+/// Each actor's table must begin with a line that begins with `[[actor]]`. A cost must be written as `cost = 12` at
+/// the beginning of its line. Each of the coefficient `files` is a name and its bytes.
 pub fn costed_text(
     alloc: Global,
     graph: &[u8],

@@ -1,4 +1,4 @@
-//! What firings cost in terms of the cheapest.
+//! Costs of firings, in multiples of the cheapest firing.
 
 ghost use Rattle.std.specs.Prelude.{◌≡◌, ◌<◌, map, IfOk};
 ghost use Rattle.sdf_limits.specs.declared.TheConstants.{MOST_COST};
@@ -16,7 +16,7 @@ pub(crate) fn quotient(many: u128, by: u64) -> u128
     if by == 0 { 0 } else { many / u128::from(by) }
 }
 
-/// Returns the picoseconds of a firing; 0 if there was none.
+/// Returns the mean time of a firing in picoseconds; 0 if there was none.
 pub(crate) fn time_of(spent: Spent) -> u64
     ensures { result ≡ time_of spent }
 {
@@ -24,7 +24,7 @@ pub(crate) fn time_of(spent: Spent) -> u64
     time.min(u128::from(u64::MAX)) as u64
 }
 
-/// Returns the picoseconds of a firing of each actor.
+/// Returns the mean time of a firing of each actor in picoseconds.
 #[tactic(auto, using(std::proofs::lemmas::List::map_more))]
 pub(crate) fn times_of(alloc: Global, spent: &[Spent]) -> Result<Vec<u64>, AllocError>
     ensures { IfOk result (λ times. times.items ≡ map time_of spent.now) }
@@ -36,7 +36,7 @@ pub(crate) fn times_of(alloc: Global, spent: &[Spent]) -> Result<Vec<u64>, Alloc
     Ok(times)
 }
 
-/// The least of the times above 0, or 1 where there is none.
+/// Returns the least of the `times` above 0, or 1 if there is none.
 fn least(times: &[u64]) -> u64
     ensures { IsLeastTime times.now result }
 {
@@ -49,7 +49,7 @@ fn least(times: &[u64]) -> u64
     least.max(1)
 }
 
-/// How often the least time goes into a time, to the nearest, within the limits of the key `cost`.
+/// Returns `time` in multiples of `least`, rounded to the nearest, within the limits of the key `cost`.
 fn cost_of(least: u64, time: u64) -> u32
     requires { 0 < least }
     ensures { result ≡ cost_of MOST_COST least time }
@@ -59,7 +59,7 @@ fn cost_of(least: u64, time: u64) -> u32
     times.max(1).min(u128::from(MOST_COST)) as u32
 }
 
-/// What firings cost that take these times, the least of them 1.
+/// Returns the costs of firings that take these `times`. The least time above 0 costs 1.
 #[tactic(auto, using(std::proofs::lemmas::List::map_more))]
 pub(crate) fn costs_of(alloc: Global, times: &[u64]) -> Result<Vec<u32>, AllocError>
     ensures { IfOk result (λ costs. AreCostsOf times.now costs.items) }

@@ -1,11 +1,11 @@
-//! What each actor's firings take of the time of a run, as a text and as the costs of a graph file.
+//! A profile: the time that each actor's firings take in a run, as a text and as the costs of a graph file.
 //!
-//! It depends on `sdf_plan`, which plans a design, on `sdf_process`, which runs it and calls a gate before each firing,
-//! on `sdf_run` for the gate, on `sdf_wav` for what a reader and a writer are, on `sdf_faults`, on `sdf_options`, on
-//! `sdf_file` for the names of actors, on `sdf_actor` for how many there are, on `sdf_graph` and `sdf_kit` for the
-//! length of a period, on `sdf_document`, which reads a graph file, and on `sdf_limits`. Begin with `measuring`.
-//! `stopwatch` measures, `lines` and `costs` make the report, and `costing` writes the costs into a graph file's text.
-//! Nothing is said of time itself. The definitions are in `specs/Profiles.antt`, `specs/Times.antt`,
+//! It depends on `sdf_plan`, which plans a design, and on `sdf_process`, which runs it and calls a gate before each
+//! firing. The gate is from `sdf_run`, and readers and writers are from `sdf_wav`. `sdf_file` has the names of actors
+//! and `sdf_actor` their number. `sdf_graph` and `sdf_kit` have the length of a period, and `sdf_document` reads a
+//! graph file. The crate also needs `sdf_faults`, `sdf_options` and `sdf_limits`. Begin with `measuring`. `stopwatch`
+//! measures, `lines` and `costs` make the report, and `costing` writes the costs into a graph file's text. No contract
+//! says anything about time itself. The definitions are in `specs/Profiles.antt`, `specs/Times.antt`,
 //! `specs/Costs.antt`, `specs/Places.antt` and `specs/Written.antt`.
 #![tactic(auto)]
 

@@ -9,7 +9,7 @@ use crate::stopwatch::Spent;
 use sdf_file::Design;
 use std::alloc::{AllocError, Global};
 
-/// The nanoseconds of all firings.
+/// Returns the nanoseconds of all firings.
 fn whole(spent: &[Spent]) -> u64
     ensures { result ≡ whole spent.now }
 {
@@ -20,7 +20,7 @@ fn whole(spent: &[Spent]) -> u64
     whole
 }
 
-/// Adds how much of the whole a part is, in percent, rounded down to hundredths.
+/// Adds the share of `part` in `whole`, in percent, rounded down to hundredths.
 fn push_share(text: &mut String, part: u64, whole: u64) -> Result<(), AllocError>
     ensures { OnOk result (string_bytes text.new ≡ string_bytes text.old ++ percent part whole) }
 {
@@ -32,7 +32,7 @@ fn push_share(text: &mut String, part: u64, whole: u64) -> Result<(), AllocError
     Ok(())
 }
 
-/// Adds a time in picoseconds as a text in nanoseconds.
+/// Adds `time`, in picoseconds, as a text in nanoseconds with tenths.
 fn push_time(text: &mut String, time: u64) -> Result<(), AllocError>
     ensures { OnOk result (string_bytes text.new ≡ string_bytes text.old ++ time_text time) }
 {
@@ -55,7 +55,7 @@ fn push_actor(text: &mut String, name: &str, whole: u64, spent: Spent) -> Result
     text.push_str("\n")
 }
 
-/// Adds the lines of shares, those of the actors in file order.
+/// Adds the line of each actor's share, in file order.
 #[tactic(auto, unfolding(crate::specs::Times::shares_to))]
 fn push_shares(text: &mut String, design: &Design, spent: &[Spent]) -> Result<(), AllocError>
     ensures { OnOk result (string_bytes text.new ≡
@@ -68,7 +68,7 @@ fn push_shares(text: &mut String, design: &Design, spent: &[Spent]) -> Result<()
     Ok(())
 }
 
-/// Adds the line of what a firing of an actor costs.
+/// Adds the line of the cost of an actor's firing.
 #[tactic(auto, unfolding(crate::specs::Times::cost_line))]
 fn push_cost(text: &mut String, name: &str, cost: u32) -> Result<(), AllocError>
     ensures { OnOk result (string_bytes text.new ≡ string_bytes text.old ++ cost_line name.now cost) }
@@ -77,7 +77,7 @@ fn push_cost(text: &mut String, name: &str, cost: u32) -> Result<(), AllocError>
     Ok(())
 }
 
-/// Adds the lines of what a firing of each actor costs.
+/// Adds the line of the cost of each actor's firing, in file order.
 #[tactic(auto, unfolding(crate::specs::Times::costs_to))]
 fn push_costs(text: &mut String, design: &Design, costs: &[u32]) -> Result<(), AllocError>
     ensures { OnOk result (string_bytes text.new ≡
@@ -89,7 +89,7 @@ fn push_costs(text: &mut String, design: &Design, costs: &[u32]) -> Result<(), A
     Ok(())
 }
 
-/// The text of a profile.
+/// Returns the text of a profile: the shares, then the costs.
 pub(crate) fn profile_text(
     alloc: Global,
     design: &Design,

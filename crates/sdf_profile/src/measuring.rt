@@ -22,7 +22,7 @@ use std::alloc::{AllocError, Global};
 use std::thread::Threads;
 use std::time::Clock;
 
-/// The options of a run over rings by one worker, in blocks as long as they may be, so that firings go in runs.
+/// Returns the options of a run over rings by one worker, in the longest blocks allowed, so that firings are batched.
 fn options_for(design: &Design) -> Options
     ensures { AreProfileOptions design.now result }
 {
@@ -38,14 +38,14 @@ fn options_for(design: &Design) -> Options
     }
 }
 
-/// What a run took: a text, and what a firing of each actor costs.
+/// The result of a profile: its text, and the cost of a firing of each actor.
 #[derive(Drop)]
 pub struct Measured {
     pub text: String,
     pub costs: Vec<u32>,
 }
 
-/// Runs a design on the bytes of a WAV file by a plan, and drops what it makes.
+/// Runs a design by `plan` on `input`, the bytes of a WAV file, and drops its output.
 #[tactic(auto, using(crate::proofs::Profiled::ran))]
 fn run_through<T: Threads + AllocGlobal + Sync, G: Gate>(
     rt: &T,
@@ -61,7 +61,7 @@ fn run_through<T: Threads + AllocGlobal + Sync, G: Gate>(
     process_with(rt, &mut reader, &mut Dropped, design, plan, gate)
 }
 
-/// The text and the costs of what firings took.
+/// Makes the text and the costs from the time that firings took.
 fn told(alloc: Global, design: &Design, spent: &[Spent]) -> Result<Measured, AllocError>
     ensures { IfOk result (λ m. AreMeasured design.now.names spent.now (string_bytes m.text) m.costs.items) }
 {
@@ -70,7 +70,7 @@ fn told(alloc: Global, design: &Design, spent: &[Spent]) -> Result<Measured, All
     Ok(Measured { text, costs })
 }
 
-/// What the actors of a run took that was timed.
+/// Makes the text and the costs of a run that `watch` timed.
 fn taken<C: Clock + Drop>(
     alloc: Global,
     design: &Design,
@@ -82,7 +82,7 @@ fn taken<C: Clock + Drop>(
     told(alloc, design, &spent)
 }
 
-/// Times a run by a plan.
+/// Times a run by `plan` with `watch`.
 fn run_timed<T: Threads + AllocGlobal + Sync, C: Clock + Drop + Sync>(
     rt: &T,
     input: &[u8],
@@ -99,7 +99,7 @@ fn run_timed<T: Threads + AllocGlobal + Sync, C: Clock + Drop + Sync>(
     Ok(taken(rt.alloc(), design, watch)?)
 }
 
-/// Times a run by a plan, with a clock of its own.
+/// Times a run by `plan`, with a stopwatch of its own.
 fn measure<T: Threads + AllocGlobal + Clock + Clone + Drop + Sync>(
     rt: &T,
     input: &[u8],
@@ -114,10 +114,12 @@ fn measure<T: Threads + AllocGlobal + Clock + Clone + Drop + Sync>(
     run_timed(rt, input, design, plan, &watch)
 }
 
-/// Runs a design on the bytes of a WAV file in one thread, and tells how much of the time passes in the firings of
-/// each actor, how often each fired, and how long a firing takes; and what the keys `cost` would say, the least time as
-/// 1. What the run makes is dropped. What passes between two firings belongs to the first of them, so reading the clock
-/// does, some 30 ns, and at the end of a piece of sound what brings in the next one. The tests are those of `run`.
+/// Runs `design` in one thread on `input`, the bytes of a WAV file, and drops its output.
+///
+/// It reports each actor's share of the time, its number of firings, the time of a firing, and the value for its key
+/// `cost`. The least time costs 1. The time between two firings counts for the first of them. This includes reading
+/// the clock (some 30 ns) and, at the end of a piece of sound, the intake of the next piece. The tests are the tests of
+/// the command `run`.
 pub fn profile<T: Threads + AllocGlobal + Clock + Clone + Drop + Sync>(
     rt: &T,
     input: &[u8],

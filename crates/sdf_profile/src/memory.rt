@@ -1,4 +1,4 @@
-//! What a profile reads, and where it writes: neither ever fails.
+//! The reader and the writer of a profile, which never fail.
 
 ghost use Rattle.std.specs.Prelude.{None, Some};
 
@@ -22,7 +22,7 @@ impl<'a> Reader for Heard<'a> {
     }
 }
 
-/// Takes what a run makes, and drops it.
+/// A writer that drops the output of a run.
 #[derive(Clone, Copy)]
 pub(crate) struct Dropped;
 

@@ -1,4 +1,4 @@
-//! Where the costs stand in a graph file's text, or may stand.
+//! Places in a graph file's text where costs are written, or may be written.
 
 ghost use Rattle.std.specs.Prelude.{◌≡◌, ◌≤◌, ◌<◌, ◌+◌, ◌⊎◌, length, Ok, Err, OnOk, MatchResult};
 ghost use Rattle.sdf_profile.specs.Places.{line_length, end_length, unindented, says_nothing, names_cost, digits};
@@ -12,15 +12,15 @@ use std::alloc::{AllocError, Global};
 /// The first line of an actor's table.
 const HEAD: &[u8] = b"[[actor]]";
 
-/// What stands before a cost.
+/// The text before a cost.
 pub(crate) const KEY: &[u8] = b"cost = ";
 
-/// Where the cost of an actor stands: a key and a number of `length` bytes, or none of them at the end of a line.
+/// The place of an actor's cost: a key and a number, `length` bytes in all, or 0 bytes at the end of a line.
 #[derive(Clone, Copy)]
 pub(crate) struct Place {
     pub(crate) start: usize,
     pub(crate) length: usize,
-    /// Whether lines end with a carriage return, too, as the first one of the table does.
+    /// Whether an added line end has a carriage return, as the first line of the table has.
     pub(crate) long: bool,
 }
 
@@ -39,7 +39,7 @@ fn line_length(text: &[u8]) -> usize
     text.len()
 }
 
-/// Returns the length of the end of `line`.
+/// Returns the length of the line end of `line`.
 fn end_length(line: &[u8]) -> usize
     ensures { result ≡ end_length line.now }
 {
@@ -59,7 +59,7 @@ fn unindented(line: &[u8]) -> &[u8]
     line.trim_ascii_start()
 }
 
-/// Tests whether `line` is blank or only a comment.
+/// Returns whether `line` is blank or only a comment.
 #[tactic(auto, unfolding(crate::specs::Places::says_nothing))]
 fn says_nothing(line: &[u8]) -> bool
     ensures { result ≡ says_nothing line.now }
@@ -68,7 +68,7 @@ fn says_nothing(line: &[u8]) -> bool
     text.is_empty() || text.starts_with(b"#")
 }
 
-/// Tests whether `line` has the key `cost`, however it is written: no other key begins so.
+/// Returns whether `line` has the key `cost`, however it is written. No other key begins with it.
 #[tactic(auto, unfolding(crate::specs::Places::names_cost))]
 fn names_cost(line: &[u8]) -> bool
     ensures { result ≡ names_cost line.now }
@@ -90,7 +90,7 @@ fn digits(text: &[u8]) -> usize
     text.len()
 }
 
-/// Returns how many bytes of `line` are the key and its number, if these are all that it says.
+/// Returns the number of bytes of `line` that are the key and its number, if it says nothing more.
 #[tactic(auto, unfolding(crate::specs::Places::cost_length))]
 fn cost_length(line: &[u8]) -> Option<usize>
     ensures { result ≡ cost_length line.now }
@@ -108,7 +108,7 @@ fn cost_length(line: &[u8]) -> Option<usize>
     }
 }
 
-/// Returns the place at the end of `line`, which begins at `start`.
+/// Returns the place at the end of `line`, before its line end. `line` begins at `start`.
 fn place_behind(start: usize, line: &[u8], long: bool) -> Place
     requires { start + length line.now ≤ usize.MAX }
     ensures { result ≡ place_behind start line.now long }
@@ -124,12 +124,12 @@ fn place_behind(start: usize, line: &[u8], long: bool) -> Place
 #[derive(Drop)]
 struct Found {
     places: Vec<Place>,
-    /// The place in the table of the line before, if that is an actor's.
+    /// The place in the current table, if that is an actor's.
     table: Option<Place>,
 }
 
 impl Found {
-    /// Ends the table of the line before.
+    /// Ends the current table.
     fn close(&mut self) -> Result<(), AllocError>
         ensures { OnOk result (self.new.places.items ≡ closed (found_view self.old)) }
     {
@@ -139,7 +139,7 @@ impl Found {
         Ok(())
     }
 
-    /// Goes on with a line that heads a table.
+    /// Reads a line that heads a table.
     #[tactic(auto, unfolding(crate::specs::Places::headed))]
     fn head(&mut self, start: usize, line: &[u8]) -> Result<(), AllocError>
         requires { start + length line.now ≤ usize.MAX }
@@ -154,7 +154,7 @@ impl Found {
         Ok(())
     }
 
-    /// Goes on with a line of an actor's table, in which `place` is the place so far.
+    /// Reads a line of an actor's table that has a key. `place` is the place in this table so far.
     #[tactic(auto, unfolding(crate::specs::Places::keyed))]
     fn key(&mut self, start: usize, line: &[u8], place: Place) -> Result<(), Unwritten>
         requires { start + length line.now ≤ usize.MAX }
@@ -177,7 +177,7 @@ impl Found {
         Ok(())
     }
 
-    /// Goes on with a line that starts here.
+    /// Reads `line`, which begins at `start`.
     #[tactic(auto, unfolding(crate::specs::Places::line_found))]
     fn line(&mut self, start: usize, line: &[u8]) -> Result<(), Unwritten>
         requires { start + length line.now ≤ usize.MAX }
@@ -199,8 +199,8 @@ impl Found {
     }
 }
 
-/// Returns where the cost of each actor stands in a graph file's text: behind the key `cost` of its table, and where
-/// there is none at the end of the table's last key.
+/// Returns the place of each actor's cost in the text of a graph file: at the key `cost` of its table or, if there is
+/// none, at the end of the table's last key.
 #[tactic(auto, unfolding(crate::specs::Places::places_of))]
 pub(crate) fn places_of(alloc: Global, graph: &[u8]) -> Result<Vec<Place>, Unwritten>
     ensures { MatchResult result

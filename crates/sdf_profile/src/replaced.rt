@@ -1,4 +1,4 @@
-//! A text with other costs in it.
+//! A graph file's text with other costs in it.
 
 ghost use Rattle.std.specs.Prelude.{◌≡◌, ◌≤◌, ◌∷◌, ◌⊎◌, [], IsTrue, IfOk, IfSome, ◌++◌, string_bytes, length, take, ℕ};
 ghost use Rattle.std.specs.Prelude.{List, option_map, MatchOption, MatchResult, Some, None, Ok, Err};
@@ -12,7 +12,7 @@ use crate::places::{KEY, Place};
 use crate::unwritten::Unwritten;
 use std::alloc::{AllocError, Global};
 
-/// Tests that `text` has digits alone.
+/// Returns whether `text` has only digits.
 fn are_digits(text: &[u8]) -> bool
     ensures exactly { result ≡ list_all is_ascii_digit text.now }
     ensures means { IsTrue result → All IsAsciiDigit text.now }
@@ -20,7 +20,7 @@ fn are_digits(text: &[u8]) -> bool
     text.iter().all(|digit| digit.is_ascii_digit())
 }
 
-/// Tests that `text` is the key and a number.
+/// Returns whether `text` is the key `cost = ` and a number.
 #[tactic(auto, unfolding(crate::specs::Places::is_cost))]
 fn is_cost(text: &[u8]) -> bool
     ensures exactly { result ≡ is_cost text.now }
@@ -32,7 +32,7 @@ fn is_cost(text: &[u8]) -> bool
     }
 }
 
-/// Returns what comes before a cost in the place of `old`, if one may be written there.
+/// Returns what comes before a cost that replaces `old`: nothing or a line end; `None` if `old` may not be replaced.
 #[tactic(auto, unfolding(crate::specs::Places::before))]
 fn before(old: &[u8], long: bool) -> Option<&'static str>
     ensures exactly { option_map (λ before. before.now) result ≡ before old.now long }
@@ -49,7 +49,7 @@ fn before(old: &[u8], long: bool) -> Option<&'static str>
     }
 }
 
-/// Returns the text of `cost` in the place of `old`, if it may be written there.
+/// Returns the text of `cost` that replaces `old`, if `old` may be replaced.
 #[tactic(auto, unfolding(crate::specs::Places::text_for))]
 fn text_for(alloc: Global, old: &[u8], long: bool, cost: u32) -> Result<Option<String>, AllocError>
     ensures exactly { IfOk result (λ text. option_map string_bytes text ≡ text_for cost old.now long) }
@@ -61,8 +61,8 @@ fn text_for(alloc: Global, old: &[u8], long: bool, cost: u32) -> Result<Option<S
     }
 }
 
-/// Adds to `text` what stands from `read` to `place`, and the cost there. Returns where the place ends, or nothing if
-/// no cost may be written there.
+/// Adds to `text` the bytes of `graph` from `read` to `place`, and `cost` there. Returns the end of `place`, or `None`
+/// if a cost may not be written there.
 #[tactic(auto, unfolding(crate::specs::Places::piece))]
 fn push_cost(
     alloc: Global,
@@ -101,7 +101,7 @@ fn push_cost(
     Ok(Some(end))
 }
 
-/// Returns `graph` with `costs` at `places`, one each.
+/// Returns the text of `graph` with `costs` at `places`, one each.
 #[tactic(auto, unfolding(crate::specs::Places::costed_in))]
 pub(crate) fn text_with(
     alloc: Global,

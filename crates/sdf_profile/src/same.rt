@@ -1,4 +1,4 @@
-//! Whether two documents say the same but for the costs.
+//! Comparison of two documents except their costs.
 
 ghost use Rattle.std.specs.Prelude.{◌≡◌, ◌↔◌, IsTrue, map, option_map, string_bytes};
 ghost use Rattle.sdf_document.specs.Actors.{actor_view, ActorValue};
@@ -8,7 +8,7 @@ ghost use Rattle.sdf_profile.specs.Written.{IsCosted, AreCosted, IsCostedDocumen
 
 use sdf_document::{ActorEntry, Document, KindEntry, LinkEntry, ListEntry};
 
-/// Tests that two optional names are alike.
+/// Returns whether two optional names are equal.
 fn same_name(one: &Option<String>, other: &Option<String>) -> bool
     ensures { IsTrue result ↔ option_map string_bytes one.now ≡ option_map string_bytes other.now }
 {
@@ -19,21 +19,21 @@ fn same_name(one: &Option<String>, other: &Option<String>) -> bool
     }
 }
 
-/// Tests that numbers are alike.
+/// Returns whether two lists of numbers are equal.
 fn same_numbers(one: &[i32], other: &[i32]) -> bool
     ensures { IsTrue result ↔ one.now ≡ other.now }
 {
     one == other
 }
 
-/// Tests that two lists are alike.
+/// Returns whether two list entries are equal.
 fn same_list(one: &ListEntry, other: &ListEntry) -> bool
     ensures { IsTrue result ↔ one.now ≡ other.now }
 {
     same_name(&one.file, &other.file) && same_numbers(&one.values, &other.values)
 }
 
-/// Tests that two kinds are alike.
+/// Returns whether two kinds, with their values, are equal.
 fn same_kind(one: &KindEntry, other: &KindEntry) -> bool
     ensures { IsTrue result ↔ one.now ≡ other.now }
 {
@@ -109,7 +109,7 @@ fn same_kind(one: &KindEntry, other: &KindEntry) -> bool
     }
 }
 
-/// Tests that the second actor is the first one with this cost.
+/// Returns whether `new` is the actor `old` with `cost`.
 fn same_actor(old: &ActorEntry, new: &ActorEntry, cost: u32) -> bool
     ensures { IsTrue result ↔ IsCosted cost (actor_view old.now) (actor_view new.now) }
 {
@@ -119,7 +119,7 @@ fn same_actor(old: &ActorEntry, new: &ActorEntry, cost: u32) -> bool
         && new.cost == cost
 }
 
-/// Tests that the second actors are the first ones with these costs.
+/// Returns whether `new` are the actors `old` with `costs`, one each.
 fn same_actors(old: &[ActorEntry], new: &[ActorEntry], costs: &[u32]) -> bool
     ensures { IsTrue result ↔ AreCosted costs.now (map actor_view old.now) (map actor_view new.now) }
 {
@@ -135,14 +135,14 @@ fn same_actors(old: &[ActorEntry], new: &[ActorEntry], costs: &[u32]) -> bool
     same_actor(one, other, *cost) && same_actors(old, new, costs)
 }
 
-/// Tests that two links are alike.
+/// Returns whether two links are equal.
 fn same_link(one: &LinkEntry, other: &LinkEntry) -> bool
     ensures { IsTrue result ↔ link_view one.now ≡ link_view other.now }
 {
     one.from == other.from && one.to == other.to && same_numbers(&one.initial, &other.initial)
 }
 
-/// Tests that links are alike.
+/// Returns whether two lists of links are equal.
 fn same_links(one: &[LinkEntry], other: &[LinkEntry]) -> bool
     ensures { IsTrue result ↔ map link_view one.now ≡ map link_view other.now }
 {
@@ -155,7 +155,7 @@ fn same_links(one: &[LinkEntry], other: &[LinkEntry]) -> bool
     }
 }
 
-/// Tests that the second document is the first one with these costs.
+/// Returns whether `new` is the document `old` with `costs`, one for each actor.
 pub(crate) fn is_costed(old: &Document, new: &Document, costs: &[u32]) -> bool
     ensures { IsTrue result ↔ IsCostedDocument costs.now (document_view old.now) (document_view new.now) }
 {

@@ -1,4 +1,4 @@
-//! The time that passes, by what it passes in.
+//! The time of each actor's firings.
 
 ghost use Rattle.std.specs.Prelude.{◌≡◌, length, IfOk};
 
@@ -7,14 +7,14 @@ use std::alloc::{AllocError, Global};
 use std::sync::atomic::{AtomicU64, Ordering};
 use std::time::Clock;
 
-/// Nanoseconds of an actor's firings, and how many these are.
+/// The nanoseconds of an actor's firings, and their number.
 #[derive(Clone, Copy)]
 pub(crate) struct Spent {
     pub(crate) nanoseconds: u64,
     pub(crate) firings: u64,
 }
 
-/// Counts of 0.
+/// Makes `many` counts of 0.
 fn counts(alloc: Global, many: usize) -> Result<Vec<AtomicU64>, AllocError> {
     let mut counts = Vec::new(alloc);
     for _ in 0..many {
@@ -36,7 +36,8 @@ fn count(counts: &[AtomicU64], place: usize) -> u64 {
     }
 }
 
-/// Gives the time between two readings of a clock to the actor that fired in between. One thread works at a time.
+/// A stopwatch that adds the time between two readings of a clock to the actor that fired in between. Only one thread
+/// works at a time.
 #[derive(Drop)]
 pub(crate) struct Stopwatch<C> {
     clock: C,
@@ -49,7 +50,7 @@ pub(crate) struct Stopwatch<C> {
 }
 
 impl<C: Clock + Drop> Stopwatch<C> {
-    /// Before the first firing of so many actors.
+    /// Makes a stopwatch for `actors` actors, before the first firing.
     pub(crate) fn new(alloc: Global, clock: C, actors: usize) -> Result<Stopwatch<C>, AllocError> {
         Ok(Stopwatch {
             clock,
@@ -60,7 +61,7 @@ impl<C: Clock + Drop> Stopwatch<C> {
         })
     }
 
-    /// The clock in nanoseconds, or its last reading where it can't be read.
+    /// Returns the clock's time in nanoseconds, or its last reading if it can't be read.
     fn now(&self) -> u64 {
         match self.clock.monotonic() {
             Ok(time) => u64::try_from(time.as_nanos()).unwrap_or(u64::MAX),
@@ -68,7 +69,7 @@ impl<C: Clock + Drop> Stopwatch<C> {
         }
     }
 
-    /// From here on another actor fires, or none where there is no such actor.
+    /// Ends the firing of the actor before. From here on `actor` fires, or no actor if its number is out of range.
     pub(crate) fn pass_to(&self, actor: usize) {
         let now = self.now();
         let before = self.read.swap(now, Ordering::SeqCst);
@@ -76,7 +77,7 @@ impl<C: Clock + Drop> Stopwatch<C> {
         add(&self.spent, fired as usize, now.saturating_sub(before));
     }
 
-    /// What the firings of each of the first `actors` actors took.
+    /// Returns the time and number of the firings of each of the first `actors` actors.
     pub(crate) fn spent(&self, alloc: Global, actors: usize) -> Result<Vec<Spent>, AllocError>
         ensures { IfOk result (λ all. length all.items ≡ actors) }
     {

@@ -1,19 +1,19 @@
-//! Why no text was made.
+//! Faults of writing costs into a graph file's text.
 
 ghost use Rattle.std.specs.Prelude.{◌≡◌};
 ghost use Rattle.sdf_profile.specs.declared.unwritten.Unwritten.TheVariants.{OutOfMemory};
 
 use std::alloc::{AllocError, AllocFailed};
 
-/// Why costs can't be written into a graph file's text.
+/// The reason why costs can't be written into a graph file's text.
 #[derive(Clone, Copy, Debug, PartialEq, Eq)]
 pub enum Unwritten {
     OutOfMemory,
-    /// There are so many lines `[[actor]]`, and another number of actors.
+    /// The number of lines `[[actor]]`, if it is not the number of costs.
     Tables(usize),
-    /// The cost of this actor stands there in another form than `cost = 12`.
+    /// The number of an actor whose cost is written in another form than `cost = 12`.
     Cost(usize),
-    /// With the costs in it the text would be another design, or none.
+    /// The text with the costs would be another design, or would not be a design.
     Reading,
 }
 

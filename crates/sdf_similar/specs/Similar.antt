@@ -4,7 +4,7 @@ use Rattle.std.specs.Prelude.{if◌then◌else◌}
 use Rattle.std.specs.Str.{chars}
 use Rattle.strsim.specs.Edits.{levenshtein_row}
 
--- how many characters have to be put, taken or changed to make one text of the other
+-- the least number of characters to insert, delete or change to make one text from the other
 abbrev pub edits : List ℕ → List ℕ → ℕ
 edits from to = levenshtein_row nat_eq (chars from) (chars to) (length (chars to))
 
@@ -12,7 +12,7 @@ edits from to = levenshtein_row nat_eq (chars from) (chars to) (length (chars to
 abbrev pub edit_bound : List ℕ → ℕ
 edit_bound word = length word / 3 + 2
 
--- the least of a number and of the edits that lead from a word to names
+-- the least of n and of the edits that lead from the word to each name
 abbrev pub fewest_edits : List ℕ → ℕ → List (List ℕ) → ℕ
 fewest_edits word n [] = n
 fewest_edits word n (name ∷ names) = fewest_edits word (min n (edits word name)) names
@@ -24,7 +24,7 @@ first_within word n names = find (λ name. nat_le (edits word name) n) names
 abbrev pub fewest : List ℕ → List (List ℕ) → ℕ
 fewest word names = fewest_edits word (edit_bound word) names
 
--- of the names that are like the word the first that the fewest edits lead to
+-- the first name with the fewest edits from the word, if it is like the word
 unfoldable pub nearest : List ℕ → List (List ℕ) → Option (List ℕ)
 nearest word names =
     if nat_lt (fewest word names) (edit_bound word) then first_within word (fewest word names) names else None

@@ -1,7 +1,7 @@
-//! Names that are like a word that is none of them.
+//! The name that is most like a misspelled word.
 //!
-//! It depends on `strsim` alone, so that the words of the command line and of graph files are measured alike. Begin at
-//! `nearest`; the definitions are in `specs/Similar.antt`.
+//! It depends on `strsim` alone, so that words of the command line and of graph files are compared by one measure.
+//! Begin at `nearest`; the definitions are in `specs/Similar.antt`.
 #![tactic(auto)]
 
 ghost use Rattle.std.specs.Prelude.{◌≡◌, IfOk, map, option_map};
@@ -10,7 +10,7 @@ ghost use Rattle.sdf_similar.specs.Similar.{edit_bound, fewest_edits, first_with
 use std::alloc::{AllocError, Global};
 use strsim::levenshtein;
 
-/// Returns a number of edits that is one too many for a name that is like `word`.
+/// Returns the least number of edits that makes a name unlike `word`.
 fn bound_of(word: &str) -> usize
     ensures { result ≡ edit_bound word.now }
 {
@@ -33,7 +33,7 @@ fn fewest_edits(
     Ok(fewest)
 }
 
-/// Returns the first of `names` that at most this many edits lead to from `word`.
+/// Returns the first of `names` that at most `edits` edits lead to from `word`.
 fn first_within<'a>(
     alloc: Global,
     names: &[&'a str],
@@ -51,7 +51,7 @@ fn first_within<'a>(
     Ok(None)
 }
 
-/// Returns the first of `names` that is most like `word`, if one is like it.
+/// Returns the first of `names` with the fewest edits from `word`, if it is like `word`.
 #[tactic(auto, unfolding(crate::specs::Similar::nearest))]
 pub fn nearest<'a>(
     alloc: Global,
