@@ -101,7 +101,7 @@ fn keep_port<A: Actor>(
     all.extend_from_slice(&put[start..start + rate])
 }
 
-/// Fires `actor` on `lists`, one for each input port, as long as they last, but at most 1,024 times. Returns all that
+/// Fires `actor` on `lists`, one for each input port, as long as they last, and at most 1,024 times. Returns all that
 /// it puts at the output `port`.
 pub(crate) fn put_at<A: Actor>(
     rt: &(impl Abort + AllocGlobal),

@@ -56,7 +56,7 @@ pub record Says (graph : List ℕ) (files : Files) (document : Data) (d : Design
   pub tables : root graph ≡ Some document
   pub design : IsDesignOf graph files d
 
--- the graph file is no document, or the files have a fault
+-- the graph file is not a document, or the files have a fault
 pub data SaysNone (graph : List ℕ) (files : Files) : Type 0 where
   no_tables : root graph ≡ None → SaysNone graph files
   refused : (fault : FileFault) → IsFileFault graph files fault → (fault ≡ OutOfMemory → ⊥) → SaysNone graph files

@@ -74,7 +74,7 @@ fn nothing() -> Ports
     Ports::steady(1, 0, 0, 0)
 }
 
-/// Returns the ports of `actor`, or ports that move no samples if there is no such actor.
+/// Returns the ports of `actor`, or ports that move no samples if there is no actor with this number.
 fn ports_at(actors: &[ActorEntry], actor: usize) -> Ports
     ensures { ArePortsOf result (slice_index_or (nodes_of (map actor_view actors.now)) actor (Sink 0 0)) }
 {

@@ -192,7 +192,7 @@ fn push_samples_of(
     push_samples(alloc, text, meeting, from, to)
 }
 
-/// Returns the lines about the channel balance at `link`, or nothing if there is no such link.
+/// Returns the lines about the channel balance at `link`, or nothing if there is no link with this number.
 #[tactic(auto, unfolding(crate::specs::More::meeting_told))]
 fn meeting_text(
     alloc: Global,

@@ -94,7 +94,7 @@ fn push_link_ports(
     push_ports_at(alloc, text, actors, link.to.0)
 }
 
-/// Returns the ports of the actors at the ends of `link`, or nothing if there is no such link.
+/// Returns the ports of the actors at the ends of `link`, or nothing if there is no link with this number.
 #[tactic(auto, unfolding(crate::specs::Ports::ports_told))]
 pub(crate) fn ports_text(
     alloc: Global,

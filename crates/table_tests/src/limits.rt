@@ -182,8 +182,8 @@ fn done_by(alloc: Global, graph: &Graph, table: &Table) -> Result<String, Fail>
     Ok(format!(in alloc; "{all}")?)
 }
 
-/// Returns the number of firings in a block of `j` periods that is spread over 16 workers, and the total load, or the
-/// text of the fault.
+/// Returns the number of firings and the total load of a block of `j` periods spread over 16 workers, or the text of
+/// the fault.
 fn spread_out(alloc: Global, graph: &Graph, j: u32) -> Result<String, Fail> {
     let period = period_of(alloc, graph)?;
     let weights = weights(alloc, graph)?;
