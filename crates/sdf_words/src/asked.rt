@@ -37,7 +37,7 @@ pub enum Why {
 }
 
 impl Why {
-    /// Returns whether more is said. `terminal` is whether standard error is a terminal.
+    /// Returns whether diagnostics and reports are printed. `terminal` is whether standard error is a terminal.
     pub fn is_said(self, terminal: bool) -> bool
         ensures terminal { self ≡ Why.AtTerminal → result ≡ terminal }
         ensures always { self ≡ Why.Always → result ≡ true }
