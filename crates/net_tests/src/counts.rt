@@ -10,7 +10,8 @@ use std::test::Fail;
 use test_actors::graphs::{Row, graph};
 use test_texts::says;
 
-/// For each actor its cycle and its channels, those out of it and then those into it, each told twice.
+/// Returns a line for each actor: its cycle, its outgoing channels and its incoming channels. Each list comes from two
+/// functions.
 fn actors(alloc: Global, graph: &Graph) -> Result<String, Fail> {
     let mut text = String::new(alloc);
     for actor in 0..graph.actors() {
@@ -25,7 +26,7 @@ fn actors(alloc: Global, graph: &Graph) -> Result<String, Fail> {
     Ok(text)
 }
 
-/// What firings 2 and 3 at the ends of a channel put and take.
+/// Returns what the firings 2 and 3 put on the channel `number` and take from it.
 fn moved(alloc: Global, graph: &Graph, number: usize) -> Result<String, Fail> {
     let Some(channel) = graph.channels().get(number) else {
         return Ok(String::new(alloc));
@@ -38,7 +39,7 @@ fn moved(alloc: Global, graph: &Graph, number: usize) -> Result<String, Fail> {
     Ok(format!(in alloc; "{put:?} {taken:?}")?)
 }
 
-/// How often two actors have fired, what two channels hold, and the channel that each actor is short of.
+/// Returns the firings of two actors, the samples on two channels, and the channel that each actor is short of.
 fn counted(alloc: Global, graph: &Graph, counts: &Counts) -> Result<String, Fail>
     requires { counts.now.graph ≡ graph.now }
 {
@@ -51,7 +52,7 @@ fn counted(alloc: Global, graph: &Graph, counts: &Counts) -> Result<String, Fail
     Ok(format!(in alloc; "{fired:?} {held:?} {short:?}")?)
 }
 
-/// Fires an actor that is enabled.
+/// Fires `actor`, which must be enabled.
 fn fire(rt: &impl Abort, graph: &Graph, counts: &mut Counts, actor: usize)
     requires { counts.old.graph ≡ graph.now }
     ensures { counts.new.graph ≡ graph.now }
@@ -80,7 +81,8 @@ fn counts_firings(rt: &(impl Abort + AllocGlobal), graph: &Graph) -> Result<(), 
     says(counted(alloc, graph, &counts), "(1, 1) (1, 1) (None, None)")
 }
 
-/// Three samples to an actor of two firings, and a channel from it to itself.
+/// Tests a graph that has an actor with a cycle of two firings. A channel with three samples a firing leads to it, and
+/// another channel leads from it to itself.
 #[test]
 fn channels_and_firings(rt: HostRuntime) -> Result<(), Fail> {
     let rows: [Row; 2] = [(0, &[3], &[2, 0], 1, 0), (1, &[1, 0], &[0, 1], 1, 0)];

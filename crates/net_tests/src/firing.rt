@@ -1,4 +1,4 @@
-//! Actors of the tests at work, fired through the trait's bound.
+//! Actors of the tests at work, fired through the bound of the trait.
 
 ghost use Rattle.std.specs.Prelude.{◌≡◌, ◌<◌};
 ghost use Rattle.sdf_actor.specs.Steps.{sum_in, sum_out};
@@ -10,7 +10,7 @@ use std::fmt::Write;
 use std::process::Abort;
 use std::test::Fail;
 
-/// How many samples so many firings take and put at all ports.
+/// Returns the number of samples that `many` firings take, and the number that they put, at all ports.
 fn moved<A: Actor>(rt: &impl Abort, actor: &A, many: u32) -> (usize, usize)
     requires { 0 < A.steps.cycle actor.now }
     ensures taken { result.0 ≡ sum_in A.steps actor.now 0 many }
@@ -29,7 +29,7 @@ fn moved<A: Actor>(rt: &impl Abort, actor: &A, many: u32) -> (usize, usize)
     (taken, put)
 }
 
-/// Where the samples of an output port begin in a block that is put.
+/// Returns the index at which the samples of the output `port` begin in a block that a firing puts.
 fn start_of<A: Actor>(rt: &impl Abort, actor: &A, port: usize, phase: u32) -> usize
     requires phase { phase < A.steps.cycle actor.now }
     requires port { port < A.steps.outputs actor.now }
@@ -42,8 +42,8 @@ fn start_of<A: Actor>(rt: &impl Abort, actor: &A, port: usize, phase: u32) -> us
     start
 }
 
-/// Moves the samples that a firing takes from the fronts of lists at its input ports. It answers false where they are
-/// too few.
+/// Moves what a firing takes from the fronts of `lists`, one for each input port, into `block`. Returns false if a list
+/// has too few samples.
 fn take_block<A: Actor>(
     rt: &impl Abort,
     actor: &A,
@@ -66,7 +66,7 @@ fn take_block<A: Actor>(
     Ok(true)
 }
 
-/// Fires an actor once at a phase on blocks, and gives what it puts at an output port.
+/// Fires `actor` once at `phase`, and returns the block that it puts.
 fn put_once<A: Actor>(
     rt: &(impl Abort + AllocGlobal),
     actor: &A,
@@ -83,7 +83,7 @@ fn put_once<A: Actor>(
     Ok(put)
 }
 
-/// Appends the samples of an output port in a block that is put.
+/// Appends the samples of the output `port` in the block `put` to `all`.
 fn keep_port<A: Actor>(
     rt: &(impl Abort + AllocGlobal),
     actor: &A,
@@ -101,7 +101,8 @@ fn keep_port<A: Actor>(
     all.extend_from_slice(&put[start..start + rate])
 }
 
-/// Fires an actor on lists at its input ports as long as they last, and gives all that it puts at an output port.
+/// Fires `actor` on `lists`, one for each input port, as long as they last, and at most 1,024 times. Returns all that
+/// it puts at the output `port`.
 pub(crate) fn put_at<A: Actor>(
     rt: &(impl Abort + AllocGlobal),
     actor: &A,
@@ -126,7 +127,7 @@ pub(crate) fn put_at<A: Actor>(
     Ok(all)
 }
 
-/// Fires an actor with one phase so many times in a run, and gives what it puts.
+/// Fires an actor with one phase `many` times in one batch, and returns what it puts.
 fn put_run<A: Actor>(
     rt: &(impl Abort + AllocGlobal),
     actor: &A,
@@ -146,7 +147,7 @@ fn put_run<A: Actor>(
     Ok(put)
 }
 
-/// Fires an actor with one phase in runs of so many firings, and gives all that it puts, block after block.
+/// Fires an actor with one phase in batches of the sizes in `runs`. Returns all that it puts, batch after batch.
 pub(crate) fn put_in_runs<A: Actor>(
     rt: &(impl Abort + AllocGlobal),
     actor: &A,
@@ -165,7 +166,7 @@ pub(crate) fn put_in_runs<A: Actor>(
     Ok(all)
 }
 
-/// Whether a kit puts a list in such runs.
+/// Checks that `kit` puts `want` if it fires in batches of the sizes in `runs`.
 fn check_run(
     rt: &(impl Abort + AllocGlobal),
     kit: &Kit,
@@ -178,7 +179,7 @@ fn check_run(
     Ok(())
 }
 
-/// Fires a kit with one port a side in one run and in two, and compares what it puts.
+/// Checks that a kit with one port on each side puts `want` in one batch and in two.
 fn check_runs(
     rt: &(impl Abort + AllocGlobal),
     kit: &Kit,
@@ -193,8 +194,8 @@ fn check_runs(
     check_run(rt, kit, &[many / 2, many - many / 2], taken, want)
 }
 
-/// Adds what a kit puts at an output port, firing by firing, and compares with it what one with one port a side puts in
-/// runs.
+/// Adds what `kit` puts at the output `port`, firing by firing. If the kit has one port on each side, checks that it
+/// puts the same in batches.
 fn add_put(
     rt: &(impl Abort + AllocGlobal),
     kit: &Kit,
@@ -209,7 +210,7 @@ fn add_put(
     Ok(write!(text, "{put:?};")?)
 }
 
-/// What a kit puts at each of its output ports.
+/// Returns what `kit` puts at each of its output ports.
 pub(crate) fn puts(
     rt: &(impl Abort + AllocGlobal),
     kit: &Kit,

@@ -1,8 +1,9 @@
-//! What no clause says of graphs, schedules, nets and kinds of actor: worked ones, and the texts of their faults.
+//! Tests of graphs, schedules, nets and kinds of actor, for what no contract covers: worked ones, and the texts of
+//! their faults.
 //!
-//! It depends on `sdf_graph`, `sdf_sched`, `sdf_actor`, `sdf_kit`, `test_actors` and `test_texts`, and has no
-//! functions: tests are in a crate of their own, since the functions of a crate are proved once more with its tests.
-//! Begin at `graphs`.
+//! It depends on `sdf_graph`, `sdf_sched`, `sdf_actor`, `sdf_kit`, `test_actors` and `test_texts`. It has no functions:
+//! tests are in a crate of their own because the functions of a crate are proved again with its tests. Begin at
+//! `graphs`.
 #![tactic(auto)]
 
 #[cfg(test)]

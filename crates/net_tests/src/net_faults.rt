@@ -1,5 +1,4 @@
-//! A net for each fault, in the order of the tests. Each net before the last has faults of the next test as well, where
-//! it can.
+//! A net for each fault, in the order of the tests. If possible, each net also has a fault of the next test.
 
 use crate::parts::Part::{In, Out, Turning};
 use crate::parts::{Part, THROUGH, refusal};
@@ -9,7 +8,7 @@ use std::test::Fail;
 use test_actors::nets::links;
 use test_texts::{row_says, says};
 
-/// A net: its name, its nodes, the ends of its links, and what it is refused with.
+/// Nets: their names, their nodes, the ends of their links, and their faults.
 const NETS: &[(&str, &[Part], &[[usize; 4]], &str)] = &[
     (
         "before 21 of the same link",
@@ -193,7 +192,7 @@ const NETS: &[(&str, &[Part], &[[usize; 4]], &str)] = &[
     ),
 ];
 
-/// What such a net is refused with, whose actor has so many phases, and whose first link begins with so many samples.
+/// Returns the fault of a net whose actor has `cycle` phases. Its first link begins with `many` samples.
 fn of_full_link(alloc: Global, cycle: u32, many: usize) -> Result<String, Fail> {
     let parts = [
         In(0, 1),
@@ -210,17 +209,18 @@ fn of_full_link(alloc: Global, cycle: u32, many: usize) -> Result<String, Fail> 
     refusal(alloc, &parts, links)
 }
 
-/// What parts with many links are refused with.
+/// Returns the fault of a net of `parts` with 257 links.
 fn of_many_links(alloc: Global, parts: &[Part]) -> Result<String, Fail> {
     refusal(alloc, parts, links(alloc, &[[0, 0, 0, 0]; 257])?)
 }
 
-/// The text of a refusal of memory.
+/// Returns the text of the fault for refused memory.
 fn of_no_memory(alloc: Global) -> Result<String, Fail> {
     Ok(NetFault::from(AllocError).to_string(alloc)?)
 }
 
-/// Too few nodes before too many links, and these before 20; a long cycle before a link that begins with too much.
+/// Tests the order of the faults: too few nodes come before too many links, these before 20, and a long cycle before
+/// too many initial samples.
 #[test]
 fn faults_of_nets(rt: HostRuntime) -> Result<(), Fail> {
     let alloc = rt.alloc();

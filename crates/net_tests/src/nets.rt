@@ -12,7 +12,8 @@ use test_actors::nets::{links, sink, source};
 use test_actors::{Regroup, Sum, Swap};
 use test_texts::says;
 
-/// The nodes and links of a net, its lists, the samples of a period, and the actors of its graph.
+/// Returns the sizes of `net`: its nodes and links, its inputs and outputs, the samples of a period, and the actors of
+/// its graph and of its repetition vector.
 fn sizes<A: Actor>(alloc: Global, net: &Net<A>) -> Result<String, Fail> {
     let parts = (net.len(), net.channels());
     let lists = (net.inputs(), net.outputs());
@@ -21,7 +22,7 @@ fn sizes<A: Actor>(alloc: Global, net: &Net<A>) -> Result<String, Fail> {
     Ok(format!(in alloc; "{parts:?} {lists:?} {samples:?} {actors:?}")?)
 }
 
-/// How often a node fires in a period, how many firings its cycle has, its channels in and out, and what it is.
+/// Returns the node `a`: its firings in a period, the length of its cycle, its channels in and out, and what it is.
 fn node<A: Actor>(alloc: Global, net: &Net<A>, a: usize) -> Result<String, Fail> {
     if a >= net.len() || a >= net.graph().actors() || a >= net.repetitions().len() {
         return Ok(String::new(alloc));
@@ -36,7 +37,7 @@ fn node<A: Actor>(alloc: Global, net: &Net<A>, a: usize) -> Result<String, Fail>
     Ok(format!(in alloc; "{times} of {cycle}, {into:?} {out_of:?}, {what} {ext} of {block}")?)
 }
 
-/// Where a link goes from and to, and the rates of its channel.
+/// Returns the ends of the link `c`, and the rates of its channel.
 fn link<A: Actor>(alloc: Global, net: &Net<A>, c: usize) -> Result<String, Fail> {
     let channels = net.graph().channels();
     if c >= net.channels() || c >= channels.len() {
@@ -47,7 +48,7 @@ fn link<A: Actor>(alloc: Global, net: &Net<A>, c: usize) -> Result<String, Fail>
     Ok(format!(in alloc; "{from:?} {to:?}, {:?} {:?}", channel.put, channel.take)?)
 }
 
-/// The net of two nodes.
+/// Checks the net of two nodes.
 fn is_two_to_three<A: Actor>(alloc: Global, net: &Net<A>) -> Result<(), Fail> {
     says(sizes(alloc, net), "(2, 1) (1, 1) (6, 6) (2, 2)")?;
     says(node(alloc, net, 0), "3 of 1, [] [0], source 0 of 2")?;
@@ -55,7 +56,7 @@ fn is_two_to_three<A: Actor>(alloc: Global, net: &Net<A>) -> Result<(), Fail> {
     says(link(alloc, net, 0), "(0, 0) (1, 0), [2] [3]")
 }
 
-/// The net with an actor of two phases.
+/// Checks the net that has an actor with two phases.
 fn has_two_phases<A: Actor>(alloc: Global, net: &Net<A>) -> Result<(), Fail> {
     says(sizes(alloc, net), "(5, 4) (2, 2) (2, 2) (5, 5)")?;
     says(node(alloc, net, 0), "1 of 1, [] [0], source 0 of 2")?;
@@ -63,12 +64,12 @@ fn has_two_phases<A: Actor>(alloc: Global, net: &Net<A>) -> Result<(), Fail> {
     says(link(alloc, net, 0), "(0, 0) (2, 0), [2] [2, 0]")
 }
 
-/// A net of parts and of links by their ends.
+/// Makes a net of `parts`, with links between `ends`.
 fn net(alloc: Global, parts: &[Part], ends: &[[usize; 4]]) -> Result<Net<Regroup>, Fail> {
     Ok(Net::new(alloc, nodes(alloc, parts)?, links(alloc, ends)?)?)
 }
 
-/// A net is made, or memory was refused.
+/// Checks that a net without a fault is made, unless memory is refused.
 fn nothing_but_memory_is_wrong(alloc: Global) -> Result<(), Fail> {
     let nodes = Vec::from_array(alloc, [source(0, 1), Node::Inner(Sum), sink(0, 1)])?;
     match Net::new(alloc, nodes, links(alloc, &[[0, 0, 1, 0], [1, 0, 2, 0]])?) {
@@ -92,7 +93,7 @@ fn nets(rt: HostRuntime) -> Result<(), Fail> {
     has_two_phases(alloc, &net(alloc, &phases, THROUGH)?)
 }
 
-/// Fires an actor once at a phase, through its trait.
+/// Fires `actor` once at `phase`, through its trait, and returns its state.
 fn fire_once<A: Actor>(
     alloc: Global,
     actor: &A,
@@ -109,21 +110,21 @@ fn fire_once<A: Actor>(
     Ok(state)
 }
 
-/// What a sum puts of 7, and its state then.
+/// Returns what a sum puts for the sample 7, and its state after that.
 fn sum_once(alloc: Global) -> Result<String, Fail> {
     let mut total = [0];
     let state = fire_once(alloc, &Sum, 0, &[7], &mut total)?;
     Ok(format!(in alloc; "{total:?} {state}")?)
 }
 
-/// What a pair is turned to.
+/// Returns what `Swap` puts for a pair.
 fn swap_once(alloc: Global) -> Result<String, Fail> {
     let mut turned = [[0, 0]];
     fire_once(alloc, &Swap, 0, &[[1, 2]], &mut turned)?;
     Ok(format!(in alloc; "{turned:?}")?)
 }
 
-/// What an actor of two phases puts of two samples, and what it moves at a port at its second phase.
+/// Returns what an actor with two phases puts for two samples, and what it moves at its ports in the second phase.
 fn regroup_twice(alloc: Global) -> Result<String, Fail> {
     let regroup = Regroup {
         cycle: 2,

@@ -1,4 +1,4 @@
-//! Nets by the parts of their nodes, as the rows of a test have them.
+//! Nets made of the parts in the rows of a test.
 
 use sdf_actor::{Link, Net, Node};
 use std::alloc::{AllocError, Global};
@@ -6,7 +6,7 @@ use std::test::Fail;
 use test_actors::Regroup;
 use test_actors::nets::{sink, source, turning};
 
-/// A node: a source or a sink of a list and its block, or an actor of so many phases and its rates.
+/// A node: a source or a sink with its list and its block, or an actor with its number of phases and its rates.
 #[derive(Clone, Copy)]
 pub(crate) enum Part {
     In(u8, u32),
@@ -26,7 +26,7 @@ pub(crate) fn nodes(alloc: Global, parts: &[Part]) -> Result<Vec<Node<Regroup>>,
     Ok(nodes)
 }
 
-/// The text of what a net is refused with, and nothing where it is made.
+/// Returns the text of the fault with which a net is refused, or nothing if the net is made.
 pub(crate) fn refusal(
     alloc: Global,
     parts: &[Part],
@@ -38,5 +38,5 @@ pub(crate) fn refusal(
     }
 }
 
-/// Two sources, an actor between them and two sinks.
+/// Links from two sources to an actor, and from there to two sinks.
 pub(crate) const THROUGH: &[[usize; 4]] = &[[0, 0, 2, 0], [1, 0, 2, 1], [2, 0, 3, 0], [2, 1, 4, 0]];

@@ -1,4 +1,4 @@
-//! The files of the program.
+//! The files of the program: reading a design, writing a file, and noting what the system refused.
 
 ghost use Rattle.std.specs.Prelude.{◌≡◌, ◌≢◌};
 ghost use Rattle.std.specs.IoError.{error_kind};
@@ -17,7 +17,7 @@ use std::path::Path;
 /// The most bytes of a graph file or a coefficient file.
 pub const MOST_BYTES: u32 = 1_073_741_824;
 
-/// The fault of a file: memory, or what its device is blamed with.
+/// Returns the fault for `error`: `OutOfMemory` if memory was refused, and `blamed` otherwise.
 pub fn device_fault(error: &io::Error, blamed: Fault) -> Fault
     ensures memory { error_kind error.now ≡ ErrorKind.OutOfMemory → result ≡ OutOfMemory }
     ensures device { error_kind error.now ≢ ErrorKind.OutOfMemory → result ≡ blamed }
@@ -28,7 +28,7 @@ pub fn device_fault(error: &io::Error, blamed: Fault) -> Fault
     }
 }
 
-/// All of a file's bytes, where they are at most `most`.
+/// Reads all bytes of `file`. If there are more than `most`, the error is `FileTooLarge`.
 pub fn bytes_of<F: Read + Drop>(alloc: Global, file: F, most: u32) -> io::Result<Vec<u8>> {
     let mut bytes = Vec::new(alloc);
     file.take(u64::from(most) + 1).read_to_end(&mut bytes)?;
@@ -39,7 +39,7 @@ pub fn bytes_of<F: Read + Drop>(alloc: Global, file: F, most: u32) -> io::Result
     }
 }
 
-/// The same, or the fault of the file.
+/// Reads all bytes of `file`. If there are more than `most`, or the device fails, the fault is `Read`.
 pub fn read_all<F: Read + Drop>(alloc: Global, file: F, most: u32) -> Result<Vec<u8>, Fault> {
     match bytes_of(alloc, file, most) {
         Ok(bytes) => Ok(bytes),
@@ -47,7 +47,7 @@ pub fn read_all<F: Read + Drop>(alloc: Global, file: F, most: u32) -> Result<Vec
     }
 }
 
-/// Writes bytes.
+/// Writes all `bytes`. If the device fails, the fault is `Write`.
 pub fn put<W: Write>(to: &mut W, bytes: &[u8]) -> Result<(), Fault> {
     match to.write_all(bytes) {
         Ok(()) => Ok(()),
@@ -55,14 +55,14 @@ pub fn put<W: Write>(to: &mut W, bytes: &[u8]) -> Result<(), Fault> {
     }
 }
 
-/// A file that the system refused, as it was named, and what the system said.
+/// A file that the system refused: its name as it was given, and the message of the system.
 #[derive(Drop)]
 pub struct Refused {
     pub name: String,
     pub said: String,
 }
 
-/// Notes that the system refused a file.
+/// Notes in `refused` that the system refused the file `name` with `error`.
 fn note(
     alloc: Global,
     refused: &mut Vec<Refused>,
@@ -74,7 +74,7 @@ fn note(
     Ok(refused.push(Refused { name, said })?)
 }
 
-/// The fault of a file that the system refused, which is noted.
+/// Notes in `refused` that the system refused the file `name`, and returns its fault.
 pub fn refuse(
     alloc: Global,
     refused: &mut Vec<Refused>,
@@ -88,7 +88,7 @@ pub fn refuse(
     }
 }
 
-/// Makes a file of bytes, or fills it anew. Notes how the system refused it.
+/// Creates the file at `path` with these `bytes`, or overwrites it. Notes in `refused` if the system refuses it.
 pub fn write_at<S: Storage>(
     alloc: Global,
     storage: &S,
@@ -106,12 +106,13 @@ pub fn write_at<S: Storage>(
     }
 }
 
-/// Notes how the system refused a file that was open, unless memory is refused for it.
+/// Notes in `refused` that the system refused an open file. Notes nothing if memory is refused for it.
 pub fn refuse_kind(alloc: Global, refused: &mut Vec<Refused>, name: &str, kind: ErrorKind) {
     let _ = note(alloc, refused, name, &io::Error::from(kind));
 }
 
-/// A coefficient file's bytes, unless it can't be opened.
+/// Reads the coefficient file `name` in the folder of `graph`. Returns `None` if it can't be opened, and notes that in
+/// `refused`.
 fn read_beside<S: Storage>(
     alloc: Global,
     storage: &S,
@@ -133,8 +134,8 @@ fn read_beside<S: Storage>(
     }
 }
 
-/// What was read so far: the graph file and its path, its coefficient files that can be opened, each with its name,
-/// what is known of the sound, and the files that the system refused.
+/// What was read so far: the graph file, its path, and its coefficient files that can be opened, each with its name.
+/// The trace has what is known of the sound. `refused` has the files that the system refused.
 #[derive(Drop)]
 pub struct Sources {
     pub path: String,
@@ -145,7 +146,7 @@ pub struct Sources {
 }
 
 impl Sources {
-    /// Before anything is read.
+    /// Returns the sources before anything is read.
     pub fn new(alloc: Global) -> Sources {
         Sources {
             path: String::new(alloc),
@@ -156,7 +157,7 @@ impl Sources {
         }
     }
 
-    /// Exchanges what is known of a sound, and the files that the system refused, with `other`.
+    /// Exchanges the trace of the sound and the refused files with `other`.
     pub fn swap_sound(&mut self, other: &mut Sources)
         ensures trace { (self.new.trace ≡ other.old.trace) × (other.new.trace ≡ self.old.trace) }
         ensures refused { (self.new.refused ≡ other.old.refused) × (other.new.refused ≡ self.old.refused) }
@@ -169,7 +170,7 @@ impl Sources {
     }
 }
 
-/// Reads the coefficient files that can be opened, each with its name. They lie in the folder of the graph file.
+/// Reads the coefficient files `names` in the folder of `graph`, and skips the ones that can't be opened.
 fn read_files<S: Storage>(
     alloc: Global,
     storage: &S,
@@ -194,7 +195,7 @@ pub struct Loaded {
     pub names: Vec<String>,
 }
 
-/// The names of files.
+/// Returns the names of `files`.
 fn names_of(alloc: Global, files: &[(String, Vec<u8>)]) -> Result<Vec<String>, AllocError> {
     let mut names = Vec::new(alloc);
     for file in files {
@@ -203,14 +204,14 @@ fn names_of(alloc: Global, files: &[(String, Vec<u8>)]) -> Result<Vec<String>, A
     Ok(names)
 }
 
-/// The design of a parsed graph file and of the coefficient files that were read.
+/// Makes the design of `graph` and the coefficient files in `sources`.
 fn loaded_from(alloc: Global, graph: &GraphFile, sources: &Sources) -> Result<Loaded, Fault> {
     let names = names_of(alloc, &sources.files)?;
     let design = make_design(alloc, graph, &sources.files)?;
     Ok(Loaded { design, names })
 }
 
-/// The bytes of a file, where they are at most `most`.
+/// Reads all bytes of the file at `path`. If there are more than `most`, the error is `FileTooLarge`.
 pub fn read_at<S: Storage>(
     alloc: Global,
     storage: &S,
@@ -220,7 +221,7 @@ pub fn read_at<S: Storage>(
     bytes_of(alloc, storage.open(path)?, most)
 }
 
-/// Reads a graph file.
+/// Reads the graph file at `graph` into `sources`.
 fn read_graph<S: Storage>(
     alloc: Global,
     storage: &S,
@@ -241,8 +242,8 @@ fn read_graph<S: Storage>(
     }
 }
 
-/// The design of a graph file and the coefficient files that it names, none of which has over `most` bytes. What is
-/// read stands in `sources`, also where there is a fault.
+/// Reads the design of the graph file at `graph` and its coefficient files, each of at most `most` bytes. What was read
+/// stays in `sources`, even after a fault.
 pub fn load_into<S: Storage>(
     alloc: Global,
     storage: &S,
@@ -257,7 +258,7 @@ pub fn load_into<S: Storage>(
     loaded_from(alloc, &parsed, sources)
 }
 
-/// The same where what was read is wanted no more.
+/// Reads the design of the graph file at `graph` like `load_into`, but keeps no sources.
 pub fn load<S: Storage>(
     alloc: Global,
     storage: &S,

@@ -1,4 +1,4 @@
-//! What is read of a sound as it goes by.
+//! A reader of a sound that notes what it reads.
 
 ghost use Rattle.std.specs.Prelude.{None, is_some, if◌then◌else◌};
 
@@ -6,11 +6,11 @@ use crate::opening::Opening;
 use std::alloc::Global;
 use std::io::{self, ErrorKind, Read};
 
-/// The most bytes of a sound's front that are kept.
+/// The most bytes that are kept of the beginning of a sound.
 const MOST_FRONT: usize = 16_384;
 
-/// What is known of a sound that was read: its path, its first bytes, how many came in all, and how the system refused
-/// the next.
+/// What is known of a sound that was read: its path, its first bytes, and the number of all bytes read. `refused` is
+/// the kind of the last error of the system.
 #[derive(Drop)]
 pub struct InputTrace {
     pub name: String,
@@ -20,7 +20,7 @@ pub struct InputTrace {
 }
 
 impl InputTrace {
-    /// Before anything is read.
+    /// Returns the trace before anything is read.
     pub fn new(alloc: Global) -> InputTrace {
         InputTrace {
             name: String::new(alloc),
@@ -30,7 +30,7 @@ impl InputTrace {
         }
     }
 
-    /// Notes bytes that were read. The front ends where memory is refused for it.
+    /// Notes `bytes` that were read. The front grows no more once memory was refused for it.
     pub fn note(&mut self, bytes: &[u8]) {
         if self.front.len() as u64 == self.bytes {
             let room = MOST_FRONT.saturating_sub(self.front.len());
@@ -41,7 +41,8 @@ impl InputTrace {
     }
 }
 
-/// A reader that hands on what another one reads and notes it. With an opening the header says no size of the samples.
+/// A reader that passes on what `from` reads, and notes it in `trace`. With an `opening` the header shows the size of
+/// the samples as unknown.
 #[derive(Drop)]
 pub struct Input<'a, R> {
     from: &'a mut R,
@@ -50,7 +51,7 @@ pub struct Input<'a, R> {
 }
 
 impl<'a, R: Read> Input<'a, R> {
-    /// Returns a reader at the start of a sound.
+    /// Returns a reader at the start of a sound. If `open_ended`, the size of the samples in its header does not count.
     pub fn new(from: &'a mut R, trace: &'a mut InputTrace, open_ended: bool) -> Input<'a, R> {
         Input {
             from,

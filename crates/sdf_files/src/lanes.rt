@@ -1,25 +1,25 @@
-//! Levels of many samples at once: each lane of a vector has the samples of one output.
+//! Levels by SIMD: each lane of a vector has the samples of one output.
 
 ghost use Rattle.std.specs.Prelude.{◌≡◌, ◌/◌, ◌*◌, ◌<◌, ◌^◌, length};
 
 use std::simd::prelude::*;
 
-/// How many samples are looked at side by side.
+/// The number of samples in a vector.
 pub(crate) const SIDE: usize = 8;
 
-/// The bytes of these samples.
+/// The bytes of a vector of samples.
 const BLOCK: usize = 2 * SIDE;
 
-/// What is counted of the samples of a lane.
+/// The levels of the samples in one lane.
 #[derive(Clone, Copy)]
 pub(crate) struct Lane {
     pub(crate) least: i16,
     pub(crate) greatest: i16,
-    /// The samples that are the least or the greatest of 16 bits.
+    /// The number of samples at full scale, -32768 or 32767.
     pub(crate) full: i16,
 }
 
-/// What is counted of whole blocks of samples.
+/// The levels of whole blocks of samples, lane by lane.
 #[derive(Clone, Copy)]
 pub(crate) struct Lanes {
     pub(crate) blocks: usize,
@@ -29,7 +29,7 @@ pub(crate) struct Lanes {
 }
 
 impl Lanes {
-    /// Counts the whole blocks of `bytes`, so few that what is full of a lane fits 16 bits.
+    /// Counts the whole blocks of `bytes`. The limit keeps the full-scale samples of a lane within 16 bits.
     pub(crate) fn of(bytes: &[u8]) -> Lanes
         requires { length bytes.now < 524288 }
         ensures { result.blocks ≡ length bytes.now / 16 }
@@ -54,7 +54,7 @@ impl Lanes {
         }
     }
 
-    /// How many bytes the blocks have.
+    /// Returns the number of bytes in the blocks.
     pub(crate) fn bytes(&self) -> usize
         requires { self.now.blocks * 16 < 2 ^ 64 }
         ensures { result ≡ self.now.blocks * 16 }
@@ -62,7 +62,7 @@ impl Lanes {
         self.blocks * BLOCK
     }
 
-    /// What is counted of a lane.
+    /// Returns the levels of `lane`.
     pub(crate) fn lane(&self, lane: usize) -> Lane
         requires { lane < 8 }
     {

@@ -1,4 +1,4 @@
-//! How loud a sound is that is written.
+//! The levels of a sound while it is written.
 
 ghost use Rattle.std.specs.Prelude.{◌≤◌, ◌<◌, length};
 
@@ -6,22 +6,22 @@ use crate::lanes::{Lane, Lanes, SIDE};
 use std::alloc::{AllocError, Global};
 use std::num::saturating_f64_to_u64;
 
-/// The bytes of a canonical header.
+/// The bytes of a canonical WAV header.
 const HEADER: usize = 44;
 
-/// The most bytes of samples that are counted at once.
+/// The most bytes of samples that are counted in one batch.
 const PIECE: usize = 65_536;
 
 /// The most channels of a sound.
 const MOST_CHANNELS: usize = 8;
 
-/// What is counted of an output.
+/// The levels of an output.
 #[derive(Clone, Copy)]
 struct Level {
     frames: u64,
-    /// The greatest distance from 0.
+    /// The greatest absolute value of a sample.
     peak: u16,
-    /// The samples that are the least or the greatest of 16 bits.
+    /// The number of samples at full scale, -32768 or 32767.
     full: u64,
 }
 
@@ -41,7 +41,7 @@ impl Level {
         }
     }
 
-    /// Counts the samples of a lane, one of each of `blocks` blocks.
+    /// Counts the samples of `lane`, one from each of `blocks` blocks.
     fn count_lane(&mut self, blocks: usize, lane: Lane) {
         let Lane {
             least,
@@ -57,7 +57,7 @@ impl Level {
     }
 }
 
-/// How far a sound is written: its frames so far, those that there are in all, and those of a second.
+/// The progress of a sound that is written: its frames so far, its frames in all, and its frames per second.
 #[derive(Clone, Copy)]
 pub(crate) struct Passed {
     pub(crate) frames: u64,
@@ -65,20 +65,20 @@ pub(crate) struct Passed {
     pub(crate) rate: u64,
 }
 
-/// The header of a sound that is written, as far as it was, and its outputs.
+/// The header of a sound, as far as it is written, and the levels of its outputs.
 #[derive(Clone, Copy)]
 pub struct Levels {
     header: [u8; HEADER],
     written: usize,
-    /// The first byte of a sample whose second one has yet to come.
+    /// The first byte of a sample whose second byte is not written yet.
     low: Option<u8>,
-    /// The output that the next sample is of.
+    /// The output of the next sample.
     next: usize,
     outputs: [Level; MOST_CHANNELS],
 }
 
 impl Levels {
-    /// Before anything is written.
+    /// Returns the levels before anything is written.
     pub(crate) fn new() -> Levels {
         Levels {
             header: [0; HEADER],
@@ -89,14 +89,14 @@ impl Levels {
         }
     }
 
-    /// How many outputs there are.
+    /// Returns the number of outputs in the header.
     fn channels(&self) -> usize
         ensures { result ≤ 8 }
     {
         usize::from(self.header[22]).min(MOST_CHANNELS)
     }
 
-    /// Whether the header is there whole.
+    /// Checks whether the header is written whole.
     fn is_open(&self) -> bool {
         self.written >= HEADER
     }
@@ -123,7 +123,7 @@ impl Levels {
         }
     }
 
-    /// Takes the next byte.
+    /// Takes the next byte, which belongs to the header or to the samples.
     fn note_byte(&mut self, byte: u8) {
         match self.header.get_mut(self.written) {
             Some(place) => {
@@ -134,7 +134,7 @@ impl Levels {
         }
     }
 
-    /// Takes the next bytes, one after the other.
+    /// Takes the next `bytes`, one after the other.
     fn note_each(&mut self, bytes: &[u8]) {
         for byte in bytes {
             self.note_byte(*byte);
@@ -161,7 +161,7 @@ impl Levels {
         lanes.bytes()
     }
 
-    /// Takes bytes that were written: the rest of the header and of a sample one after the other, and then blocks.
+    /// Takes `bytes` that were written: the rest of the header and of a sample byte by byte, then whole blocks.
     pub(crate) fn note(&mut self, bytes: &[u8]) {
         let begun = HEADER.saturating_sub(self.written) + usize::from(self.low.is_some());
         let (front, samples) = bytes.split_at(begun.min(bytes.len()));
@@ -172,7 +172,7 @@ impl Levels {
         }
     }
 
-    /// Returns the number of 32 bits at `at` in the header.
+    /// Returns the 32-bit number at byte `at` of the header.
     fn number(&self, at: usize) -> u64
         requires { at < 41 }
     {
@@ -185,7 +185,7 @@ impl Levels {
         u64::from(u32::from_le_bytes([a, b, c, d]))
     }
 
-    /// Returns how far the sound is written, once its header is.
+    /// Returns how far the sound is written, once its header is whole.
     pub(crate) fn passed(&self) -> Option<Passed> {
         if !self.is_open() {
             return None;
@@ -203,7 +203,7 @@ impl Levels {
         self.outputs[0].frames
     }
 
-    /// What is said of the outputs, a line for each.
+    /// Returns a line with the levels of each output, or nothing before the header is whole.
     pub fn text(&self, alloc: Global) -> Result<String, AllocError> {
         let mut text = String::new(alloc);
         if self.is_open() {
@@ -215,7 +215,7 @@ impl Levels {
     }
 }
 
-/// Adds how many of a thing there are.
+/// Adds `count` and the noun `thing`, in the plural unless `count` is 1.
 fn push_count(text: &mut String, count: u64, thing: &str) -> Result<(), AllocError> {
     let plural = if count == 1 { "" } else { "s" };
     write!(text, "{count} {thing}{plural}")
@@ -233,13 +233,13 @@ fn push_level(text: &mut String, output: usize, level: Level) -> Result<(), Allo
     text.push_str(" at full scale\n")
 }
 
-/// How far a peak is below full scale, in tenths of a dB.
+/// Returns how far `peak` is below full scale, in tenths of a dB.
 fn tenths_below(peak: u16) -> u64 {
     let part = f64::from(peak) / 32768.0;
     saturating_f64_to_u64((-200.0 * part.log10()).round())
 }
 
-/// Adds a peak in dB.
+/// Adds `peak` in dB relative to full scale.
 fn push_peak(text: &mut String, peak: u16) -> Result<(), AllocError> {
     if peak == 0 {
         return text.push_str("no peak");

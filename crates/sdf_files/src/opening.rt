@@ -1,4 +1,4 @@
-//! The header of a sound whose size is not true.
+//! The header of a sound that does not give the true size of its samples.
 
 /// The bytes before the first chunk: `RIFF`, a size and `WAVE`.
 const START: u64 = 12;
@@ -6,10 +6,11 @@ const START: u64 = 12;
 /// The bytes before the content of a chunk: its id and its size.
 const HEADER: usize = 8;
 
-/// How far a sound was read up to the size of its samples. That size is shown as never filled in.
+/// How far a sound was read, up to the size of its samples. That size is replaced by 0xFFFFFFFF, as if it was never
+/// filled in.
 #[derive(Clone, Copy)]
 pub(crate) struct Opening {
-    /// The bytes before the next header of a chunk.
+    /// The number of bytes before the next header of a chunk.
     skipped: u64,
     /// The header of a chunk, as far as it was read.
     header: [u8; HEADER],
@@ -18,7 +19,7 @@ pub(crate) struct Opening {
 }
 
 impl Opening {
-    /// At the start of a sound.
+    /// Returns the opening at the start of a sound.
     pub(crate) fn new() -> Opening {
         Opening {
             skipped: START,
@@ -28,12 +29,12 @@ impl Opening {
         }
     }
 
-    /// Whether the header is that of the samples.
+    /// Checks whether this is the header of the `data` chunk.
     fn is_data(&self) -> bool {
         &self.header[..4] == b"data".as_slice()
     }
 
-    /// Goes on behind a whole header: into the samples, or to the next chunk.
+    /// Moves past a whole header: into the samples, or to the next chunk.
     fn pass(&mut self) {
         self.is_over = self.is_data();
         let [_, _, _, _, a, b, c, d] = self.header;
@@ -42,7 +43,7 @@ impl Opening {
         self.read = 0;
     }
 
-    /// Takes the next byte of a header, and shows it as it is to be read.
+    /// Takes the next byte of a header, and sets it to 0xFF if it is part of the size of the samples.
     fn take(&mut self, byte: &mut u8) {
         if let Some(place) = self.header.get_mut(self.read) {
             *place = *byte;
@@ -56,7 +57,7 @@ impl Opening {
         }
     }
 
-    /// Shows the next bytes of a sound as they are to be read.
+    /// Takes the next `bytes` of a sound, and sets the ones of the size of the samples to 0xFF.
     pub(crate) fn open(&mut self, bytes: &mut [u8]) {
         for byte in bytes {
             if self.is_over {

@@ -1,4 +1,4 @@
-//! What is written of a sound as it goes by.
+//! A writer of a sound that counts what it writes and shows its progress.
 
 use crate::levels::Levels;
 use crate::progress::{GONE, Progress};
@@ -6,18 +6,18 @@ use std::alloc::Global;
 use std::io::{self, ErrorKind, Write};
 use std::time::Clock;
 
-/// What is shown of a sound while it is written: on standard error, by a clock.
+/// The progress line of a sound that is written, on standard error and timed by a clock.
 #[derive(Drop)]
 pub struct Shown<'a, E, C> {
     pub alloc: Global,
     pub err: &'a mut E,
     pub clock: &'a C,
-    /// How far the run has come, if that is shown.
+    /// The progress of the run, if it is shown.
     pub progress: Option<Progress>,
 }
 
 impl<E: Write, C: Clock> Shown<'_, E, C> {
-    /// Shows how far the run has come, if it is time.
+    /// Shows the progress line, if it is due.
     fn show(&mut self, levels: &Levels) {
         let (Some(progress), Some(passed)) = (&mut self.progress, levels.passed()) else {
             return;
@@ -27,7 +27,7 @@ impl<E: Write, C: Clock> Shown<'_, E, C> {
         }
     }
 
-    /// Takes the line away, if there is one.
+    /// Removes the progress line, if there is one.
     pub fn hide(&mut self) {
         if let Some(progress) = &self.progress {
             if progress.is_shown() {
@@ -37,18 +37,18 @@ impl<E: Write, C: Clock> Shown<'_, E, C> {
     }
 }
 
-/// A writer that hands on what it is given to another one. If there are levels it counts it, and shows how far it is.
+/// A writer that passes on to `to` what it is given. If there are levels, it counts them and shows the progress.
 #[derive(Drop)]
 pub struct Output<'a, W, E, C> {
     to: &'a mut W,
     pub shown: Shown<'a, E, C>,
     pub levels: Option<Levels>,
-    /// How the system refused what was to be written last.
+    /// The kind of the error with which the system last refused to write.
     pub refused: Option<ErrorKind>,
 }
 
 impl<'a, W: Write, E: Write, C: Clock> Output<'a, W, E, C> {
-    /// Returns a writer at the start of a sound. `counts` is whether it is counted.
+    /// Returns a writer at the start of a sound. `counts` is whether its levels are counted.
     pub fn new(to: &'a mut W, shown: Shown<'a, E, C>, counts: bool) -> Output<'a, W, E, C> {
         Output {
             to,

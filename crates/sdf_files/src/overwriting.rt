@@ -1,5 +1,6 @@
-//! What a command would destroy: OUT is emptied before IN is read, so it may be no file that a run reads, no more may
-//! the FILE of a profile, and a design is written into no folder that has one.
+//! Guards against overwriting a file. OUT is emptied before IN is read, so it must not be a file that the run reads.
+//! The FILE of a profile must not be one either. A design is not written into a folder that already has one of its
+//! files.
 
 use crate::storage::Storage;
 use crate::world::STANDARD;
@@ -10,7 +11,7 @@ use std::alloc::{AllocError, Global};
 use std::io::ErrorKind;
 use std::path::{Path, PathBuf};
 
-/// The one path of a file, without dots and links, where a file is there.
+/// Returns the canonical path of the file at `path`, without dots and symbolic links, if there is a file.
 pub fn only_path<S: Storage>(
     alloc: Global,
     storage: &S,
@@ -23,7 +24,7 @@ pub fn only_path<S: Storage>(
     }
 }
 
-/// Whether a path leads to the file whose one path is `file`.
+/// Checks whether `path` leads to the file with the canonical path `file`.
 fn leads_to<S: Storage>(alloc: Global, storage: &S, path: &str, file: &str) -> Result<bool, Fault> {
     match only_path(alloc, storage, path)? {
         Some(only) => Ok(only.as_str() == file),
@@ -31,7 +32,7 @@ fn leads_to<S: Storage>(alloc: Global, storage: &S, path: &str, file: &str) -> R
     }
 }
 
-/// What a run reads and writes, by their paths.
+/// The paths of what a run reads and writes.
 #[derive(Clone, Copy)]
 pub struct Paths<'a> {
     pub graph: &'a str,
@@ -39,7 +40,7 @@ pub struct Paths<'a> {
     pub output: &'a str,
 }
 
-/// The refusal of a file to write, by the word for it, that is also a file that is read.
+/// Returns the usage error for an output, called `word`, that is the same file as the input `what`.
 fn same_file(alloc: Global, word: &str, what: &str) -> Fault {
     match format!(in alloc; "{word} is the same file as {what}") {
         Ok(text) => Fault::from(mistake(alloc, text.as_str())),
@@ -47,7 +48,7 @@ fn same_file(alloc: Global, word: &str, what: &str) -> Fault {
     }
 }
 
-/// Whether a coefficient file is this file. It lies in the folder of the graph file.
+/// Checks whether the coefficient file `name`, in the folder of `graph`, has the canonical path `file`.
 fn leads_beside<S: Storage>(
     alloc: Global,
     storage: &S,
@@ -59,14 +60,14 @@ fn leads_beside<S: Storage>(
     leads_to(alloc, storage, path.as_str(), file)
 }
 
-/// The refusal of a file to write that is also a coefficient file.
+/// Returns the usage error for an output, called `word`, that is the same file as the coefficient file `name`.
 fn same_coefficients(alloc: Global, word: &str, name: &str) -> Result<Fault, AllocError> {
     let shown = printable(alloc, name)?;
     let what = format!(in alloc; "the coefficient file {}", shown.as_str())?;
     Ok(same_file(alloc, word, what.as_str()))
 }
 
-/// Refuses a file to write that is the same file as a coefficient file.
+/// Refuses an output, called `word`, whose canonical path `out` is a coefficient file in `names`.
 fn keep_coefficients<S: Storage>(
     alloc: Global,
     storage: &S,
@@ -83,7 +84,7 @@ fn keep_coefficients<S: Storage>(
     Ok(())
 }
 
-/// Refuses a file to write, by the word for it, that is the same file as IN, GRAPH or a coefficient file.
+/// Refuses an output, called `word`, whose canonical path `out` is IN, GRAPH or a coefficient file in `names`.
 fn keep_files<S: Storage>(
     alloc: Global,
     storage: &S,
@@ -102,8 +103,8 @@ fn keep_files<S: Storage>(
     keep_coefficients(alloc, storage, word, graph, names, out)
 }
 
-/// Refuses an output, by the word for it, that is the same file as IN, GRAPH or one of the coefficient files that
-/// `names` has. Standard input and standard output are no files here.
+/// Refuses an output, called `word`, that is the same file as IN, GRAPH or a coefficient file in `names`. Standard
+/// input and standard output are not files here.
 pub fn keep_what_is_read<S: Storage>(
     alloc: Global,
     storage: &S,
@@ -120,7 +121,7 @@ pub fn keep_what_is_read<S: Storage>(
     }
 }
 
-/// Refuses a folder that has a file of this name.
+/// Refuses `folder` if it already has a file with this `name`.
 pub fn keep_file<S: Storage>(
     alloc: Global,
     storage: &S,

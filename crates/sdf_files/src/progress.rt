@@ -1,19 +1,19 @@
-//! How far a run has come, on one line of a terminal.
+//! The progress of a run, on one line of a terminal.
 
 use crate::levels::Passed;
 use std::alloc::{AllocError, Global};
 use std::time::Clock;
 
-/// A run of less than these milliseconds is not shown.
+/// The milliseconds that pass before a run is shown.
 const SHORT: u64 = 2_000;
 
-/// The line is written anew after these milliseconds.
+/// The milliseconds between two updates of the line.
 const PAUSE: u64 = 200;
 
-/// Takes the line away.
+/// The bytes that remove the line.
 pub const GONE: &[u8] = b"\r\x1b[K";
 
-/// Returns the milliseconds of a clock, 0 if it can't be read.
+/// Returns the time of `clock` in milliseconds, or 0 if it can't be read.
 fn now<C: Clock>(clock: &C) -> u64 {
     match clock.monotonic() {
         Ok(time) => u64::try_from(time.as_millis()).unwrap_or(u64::MAX),
@@ -21,7 +21,7 @@ fn now<C: Clock>(clock: &C) -> u64 {
     }
 }
 
-/// When a run began, and when it was shown last, in milliseconds.
+/// The time when a run began and the time when it was last shown, in milliseconds.
 #[derive(Clone, Copy)]
 pub struct Progress {
     begun: u64,
@@ -37,12 +37,12 @@ impl Progress {
         }
     }
 
-    /// Returns whether the run is on the line.
+    /// Checks whether the run was shown on the line.
     pub(crate) fn is_shown(&self) -> bool {
         self.shown.is_some()
     }
 
-    /// Returns whether the line is to be written at a time.
+    /// Checks whether the line is due at `time`.
     fn is_due(&self, time: u64) -> bool {
         match self.shown {
             None => time.saturating_sub(self.begun) >= SHORT,
@@ -50,7 +50,7 @@ impl Progress {
         }
     }
 
-    /// Returns the line to write now, of a sound that has come so far.
+    /// Returns the line to write now, or an empty text if it is not due.
     pub(crate) fn line<C: Clock>(
         &mut self,
         alloc: Global,
@@ -66,18 +66,18 @@ impl Progress {
     }
 }
 
-/// Returns tenths of `number` over `by`, 0 if that is 0.
+/// Returns `number / by` in tenths, or 0 if `by` is 0.
 fn tenths(number: u64, by: u64) -> u64 {
     number.saturating_mul(10).checked_div(by).unwrap_or(0)
 }
 
-/// Adds tenths.
+/// Adds a number of `tenths` as a decimal number.
 fn push_tenths(text: &mut String, tenths: u64) -> Result<(), AllocError> {
     let (whole, tenth) = (tenths / 10, tenths % 10);
     write!(text, "{whole}.{tenth}")
 }
 
-/// Returns the line of a sound that has come so far in `milliseconds`.
+/// Returns the line of a sound that was written as far as `passed` in `milliseconds`.
 fn line_of(alloc: Global, passed: Passed, milliseconds: u64) -> Result<String, AllocError> {
     let Passed { frames, all, rate } = passed;
     let mut text = String::from_str(alloc, "\r")?;

@@ -6,28 +6,28 @@ use std::io::{self, Read, Write};
 use std::path::PathBuf;
 use std::rt::Files;
 
-/// Files by their paths, which threads share.
+/// A store of files with paths, which threads share.
 pub trait Storage: Sync {
-    /// What a file is read by.
+    /// A file that is open for reading.
     type Source: Read + Send + Drop;
 
-    /// What a file is written by.
+    /// A file that is open for writing.
     type Sink: Write + Send + Drop;
 
     fn open(&self, path: &str) -> io::Result<Self::Source>;
 
-    /// Makes a file, or empties it.
+    /// Creates a file, or empties it if there is one.
     fn create(&self, path: &str) -> io::Result<Self::Sink>;
 
-    /// Makes a folder in one that is there.
+    /// Creates a folder in one that exists.
     fn create_folder(&self, path: &str) -> io::Result<()>;
 
-    /// Gives a file another path, in place of what is there.
+    /// Moves the file at `from` to `to`, and replaces a file that is there.
     fn rename(&self, from: &str, to: &str) -> io::Result<()>;
 
     fn remove(&self, path: &str) -> io::Result<()>;
 
-    /// The one path of a file that is there, without dots and links.
+    /// Returns the canonical path of a file that exists, without dots and symbolic links.
     fn only_path(&self, alloc: Global, path: &str) -> io::Result<PathBuf>;
 }
 

@@ -1,9 +1,9 @@
-//! What commands are done with.
+//! What the commands work with.
 
-/// The word that names standard input in the place of IN, and standard output in that of OUT.
+/// The word for standard input in place of IN, and for standard output in place of OUT.
 pub const STANDARD: &str = "-";
 
-/// What commands are done with. The threads are for a run with workers, and bring the memory and the clock.
+/// What the commands work with. The threads are for a run with workers, and also provide the memory and the clock.
 #[derive_where(Clone, Copy)]
 pub struct World<'a, S, T> {
     pub storage: &'a S,

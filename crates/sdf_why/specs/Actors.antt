@@ -1,4 +1,4 @@
--- What is told of an actor, by its table.
+-- The lines about an actor, from its table.
 use Rattle.std.specs.Prelude.{ℕ, List, [], ◌++◌, codes, Option, None, option_and_then}
 use Rattle.std.specs.Option.{option_map_or}
 use Rattle.toml.specs.Data.{Data, get}
@@ -7,11 +7,11 @@ use Rattle.sdf_why.specs.Limits.{limits_of}
 use Rattle.sdf_why.specs.Words.{actor_line, key_line}
 use Rattle.sdf_why.specs.Tables.{text_at, entry, first_saying}
 
--- lines of what is there
+-- the lines of a value, or nothing if there is none
 abbrev pub lines_of : {A : Type 0} → (A → List ℕ) → Option A → List ℕ
 lines_of line o = option_map_or line o []
 
--- actor a, by the name and the kind in its table
+-- the line of actor a, with the name and the kind in its table
 abbrev pub actor_is : ℕ → Data → List ℕ
 actor_is a d = actor_line a (text_at (codes "name") d) (text_at (codes "kind") d)
 
@@ -25,14 +25,14 @@ actor_limits kinds key d = option_and_then (λ kind. limits_of kinds kind key) (
 abbrev pub actor_key_is : List ℕ → ℕ → List ℕ → Data → List ℕ
 actor_key_is kinds a key d = actor_is a d ++ key_line key (get key d) (actor_limits kinds key d)
 
--- actor a, and what stands at a key of its table
+-- the line of actor a, and the line of a key of its table with the limits
 unfoldable pub actor_key : List ℕ → ℕ → List ℕ → Data → List ℕ
 actor_key kinds a key d = lines_of (actor_key_is kinds a key) (entry (codes "actor") a d)
 
--- actor a, and what stands at a key of its table, but not what the key wants
+-- the line of actor a, and the line of a key of its table without limits
 unfoldable pub actor_value : ℕ → List ℕ → Data → List ℕ
 actor_value a key d = lines_of (λ t. actor_is a t ++ key_line key (get key t) None) (entry (codes "actor") a d)
 
--- the first actor that has this text at a key
+-- the line of the first actor that has this text at a key
 unfoldable pub first_told : List ℕ → List ℕ → Data → List ℕ
 first_told key text d = lines_of (actor_told d) (first_saying key text d MOST_ACTORS)

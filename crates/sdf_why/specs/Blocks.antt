@@ -1,4 +1,4 @@
--- What is told of a block that is too long for a table.
+-- The diagnostic for a block that is too long for a table.
 use Rattle.std.specs.Prelude.{ℕ, ◌/◌, max, List, ◌++◌, codes, decimal}
 use Rattle.sdf_limits.specs.declared.TheConstants.{MOST_BLOCK}
 use Rattle.sdf_why.specs.Words.{end}
@@ -7,7 +7,7 @@ use Rattle.sdf_why.specs.Words.{end}
 unfoldable pub firings_text : ℕ → List ℕ
 firings_text firings = codes "  a period has " ++ decimal firings ++ codes " firings"
 
--- and how many periods a block can have
+-- how many periods a block can have
 unfoldable pub most_text : ℕ → List ℕ
 most_text periods = codes ", so --blocking can be at most " ++ decimal periods ++ end
 

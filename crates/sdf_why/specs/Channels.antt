@@ -13,7 +13,7 @@ use Rattle.sdf_document.specs.Actors.{ActorValue}
 use Rattle.sdf_document.specs.Document.{DocumentValue}
 use Rattle.sdf_file.specs.Designs.{node_of, design_of}
 
--- the cycle of a node, how many ports it has on each side, and what its firings move at each port
+-- the cycle of a node, its number of ports on each side, and what its firings move at each port
 pub record ArePortsOf (ports : Ports) (node : Node Kit) : Type 0 where
   pub cycle : ports.cycle ≡ cycle_of kit_steps node
   pub input_count : count ports.inputs ≡ inputs_of kit_steps node

@@ -35,7 +35,7 @@ has_list k = is_some (list_limits k.form)
 unfoldable pub keys_limits : List KeyRow → Option Limits
 keys_limits ks = option_and_then (λ (k : KeyRow). list_limits k.form) (find has_list ks)
 
--- those of a kind, in any format
+-- the limits of the list of a kind, in any format
 unfoldable pub kind_limits : List ℕ → Option Limits
 kind_limits word = option_and_then (λ (k : Kind). keys_limits (row_of k).keys) (kind_named 4294967295 word)
 
@@ -45,11 +45,11 @@ kind_limits word = option_and_then (λ (k : Kind). keys_limits (row_of k).keys) 
 unfoldable pub is_unfit : Width → Data → ℕ → Bool
 is_unfit width list i = not (option_map_or (fits width) (option_and_then as_integer (at i list)) false)
 
--- the first such item of n
+-- the first of n items that is not a whole number of a width
 unfoldable pub first_unfit : Width → Data → ℕ → Option ℕ
 first_unfit width list n = find (is_unfit width list) (range_with_len 0 n)
 
--- the numbers of a width
+-- the range of a width
 abbrev pub width_text : Width → List ℕ
 width_text Bits16 = codes "-32768..32767"
 width_text Bits32 = codes "-2147483648..2147483647"
@@ -58,7 +58,7 @@ width_text Bits32 = codes "-2147483648..2147483647"
 unfoldable pub values_in : List ℕ → List ℕ
 values_in name = codes "  " ++ quoted name ++ codes ": values"
 
--- which of them it is, and what is wanted
+-- the index of a value, and the range that it needs
 unfoldable pub place_text : ℕ → List ℕ
 place_text i = codes "[" ++ decimal i ++ codes "] = "
 
@@ -73,7 +73,7 @@ value_told name width list i = lines_of (value_line name width i) (at i list)
 
 -- ---- the list
 
--- how many values there are, and how many are wanted
+-- the number of values in a list, and the limits of that number
 unfoldable pub count_text : ℕ → List ℕ
 count_text n = codes " = a list of " ++ decimal n
 
@@ -83,7 +83,7 @@ most_text most = codes ", wants 1.." ++ decimal most ++ end
 unfoldable pub count_line : List ℕ → ℕ → ℕ → List ℕ
 count_line name n most = values_in name ++ count_text n ++ most_text most
 
--- of a list of n items that number, if it is outside the limits, and otherwise the first item that does not fit
+-- for a list of n items: n if it is outside the limits, and otherwise the first item that does not fit
 abbrev pub items_told : List ℕ → Limits → Data → ℕ → List ℕ
 items_told name limits list n = if nat_le 1 n && nat_le n limits.most
     then lines_of (value_told name limits.width list) (first_unfit limits.width list n)
@@ -94,21 +94,21 @@ list_told name limits list = lines_of (λ (ds : Items). items_told name limits l
 
 -- ---- by place
 
--- the list in the file of a name
+-- the list in the file with this name
 abbrev pub list_in : List ℕ → Files → Option Data
 list_in name files = option_and_then (get (codes "values")) (option_and_then root (file_named name files))
 
 unfoldable pub file_told : Files → Limits → List ℕ → List ℕ
 file_told files limits name = lines_of (list_told name limits) (list_in name files)
 
--- of the file that an actor's table names
+-- what is outside the limits in the file that an actor's table names
 abbrev pub named_told : Files → Data → Limits → List ℕ
 named_told files d limits = lines_of (file_told files limits) (text_at (codes "file") d)
 
 unfoldable pub table_told : Files → Data → List ℕ
 table_told files d = lines_of (named_told files d) (option_and_then kind_limits (text_at (codes "kind") d))
 
--- of a value that is outside its limits: at the key `file` of an actor it stands in that file
+-- what is outside the limits in the file of an actor, if the fault is at its key `file`
 unfoldable pub values_told : Place → List ℕ → Data → Files → List ℕ
 values_told (actor a) key d files =
     if bytes_eq key (codes "file") then lines_of (table_told files) (entry (codes "actor") a d) else []

@@ -1,4 +1,4 @@
--- The text about a deadlock: a cycle of links that hold too little, and the other links for which actors wait.
+-- The diagnostic for a deadlock: a cycle of links that hold too little, and the other links for which actors wait.
 use Rattle.std.specs.Prelude.{◌≡◌, ◌==◌, ℕ, ◌<◌, Bool, List, [], ◌∷◌, ◌++◌, length, codes, Option, Some, None}
 use Rattle.std.specs.Prelude.{option_and_then, is_some, slice_get, slice_index_or, drop, find, if◌then◌else◌}
 use Rattle.std.specs.Option.{option_map_or}
@@ -26,7 +26,7 @@ pub record Waits (g : Shape) (halts : List Halt) (a c b : ℕ) : Type 0 where
   pub told : short_at halts a ≡ Some c
   pub source : (channel g c).from ≡ b
 
--- so on, from channel to channel, from actor a to actor b
+-- channels from actor a to actor b: each actor on the way waits for the next one
 abbrev pub IsChain : Shape → List Halt → ℕ → List ℕ → ℕ → Type 0
 IsChain g halts a [] b = a ≡ b
 IsChain g halts a (c ∷ cs) b = (m : ℕ) × Waits g halts a c m × IsChain g halts m cs b
@@ -35,7 +35,7 @@ IsChain g halts a (c ∷ cs) b = (m : ℕ) × Waits g halts a c m × IsChain g h
 abbrev pub first_waiting : List Halt → Option ℕ
 first_waiting halts = find (λ a. is_some (short_at halts a)) (range_with_len 0 (length halts))
 
--- no actor waits, or the walk from the first that does comes to one that waits for none
+-- no actor waits, or the walk from the first waiting actor ends at an actor that waits for no channel
 pub data HasNoCycle (g : Shape) (halts : List Halt) : Type 0 where
   none_waits : first_waiting halts ≡ None → HasNoCycle g halts
   ends :
@@ -65,7 +65,7 @@ lack_told d g halts c = lines_of (lack_is g halts c) (entry (codes "link") c d)
 abbrev pub is_among : List ℕ → ℕ → Bool
 is_among cs c = list_any (λ other. other == c) cs
 
--- the link that actor a waits for, if it is none of these
+-- the link that an actor waits for, if it is not one of cs
 abbrev pub other_of : Data → List ℕ → Option ℕ → List ℕ
 other_of d cs None = []
 other_of d cs (Some c) = if is_among cs c then [] else link_told d c
@@ -76,7 +76,7 @@ other_told d halts cs a = other_of d cs (short_at halts a)
 abbrev pub others_told : Data → List Halt → List ℕ → List ℕ
 others_told d halts cs = flat_map (other_told d halts cs) (range_with_len 0 (length halts))
 
--- what the walk from an actor knows: the channels that it took, and of each actor that it left the place there
+-- the state of a walk from an actor: the channels that it took, and for each actor that it left the index in the path
 pub record IsWalk (g : Shape) (halts : List Halt) (first : ℕ) (path : List ℕ) (places : List (Option ℕ)) (actor : ℕ) :
     Type 0 where
   pub all : length places ≡ length halts
@@ -84,7 +84,7 @@ pub record IsWalk (g : Shape) (halts : List Halt) (first : ℕ) (path : List ℕ
   pub left : (a p : ℕ) → slice_index_or places a None ≡ Some p →
       (p < length path) × IsChain g halts a (drop p path) actor
 
--- one cycle and the other links that actors wait for, or nothing where there is no cycle
+-- a cycle and the other links that actors wait for, or nothing if there is no cycle
 pub data IsCycleText (d : Data) (g : Shape) (halts : List Halt) (text : List ℕ) : Type 0 where
   cycle :
       (cs : List ℕ) → IsCycle g halts cs → text ≡ flat_map (lack_told d g halts) cs ++ others_told d halts cs →

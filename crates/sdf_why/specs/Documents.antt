@@ -1,4 +1,4 @@
--- What is told of a graph file that is not read, by the first test that it fails.
+-- The diagnostic for a graph file that is not read, by the first test that it fails.
 use Rattle.std.specs.Prelude.{ℕ, List, [], ◌++◌, codes, decimal, Option, Some, None, option_and_then}
 use Rattle.std.specs.Prelude.{is_some, bytes_eq, if◌then◌else◌}
 use Rattle.toml.specs.Data.{Data, get}
@@ -18,7 +18,7 @@ use Rattle.sdf_why.specs.Near.{near_key, near_kind, near_end}
 
 -- ---- a coefficient file
 
--- the actor that names it
+-- the first actor that names the file
 abbrev pub file_user : List ℕ → Data → List ℕ
 file_user name d = first_told (codes "file") name d
 
@@ -28,14 +28,14 @@ file_key name key limits files =
 
 -- ---- by place
 
--- what a place is, and what stands there at a key
+-- what a place is, and the line of its key
 abbrev pub place_key : List ℕ → Place → List ℕ → Data → Files → List ℕ
 place_key kinds top key d files = key_line key (get key d) None
 place_key kinds (actor a) key d files = actor_key kinds a key d
 place_key kinds (link c) key d files = link_key c key None d
 place_key kinds (file name) key d files = file_user name d ++ file_key name key None files
 
--- what the key `format` wants
+-- the line of the key `format` at a place, with its limits
 abbrev pub place_format : Place → Data → Files → List ℕ
 place_format (file name) d files = file_user name d ++ file_key name (codes "format") (Some (codes "1")) files
 place_format place d files = key_line (codes "format") (get (codes "format") d) (Some (codes "1 or 2"))
@@ -50,7 +50,7 @@ unfoldable pub beside_is : List ℕ → Data → List ℕ
 beside_is key d =
     if bytes_eq key (codes "file") then listed_at (codes "taps") d ++ listed_at (codes "values") d else []
 
--- what the table of kinds says of an actor's kind
+-- the row of a kind in the table of kinds
 unfoldable pub row_is : List ℕ → List ℕ → List ℕ
 row_is kinds kind = lines_of (λ row. codes "  " ++ kind ++ codes ":" ++ row ++ end) (row_of kinds kind)
 
@@ -62,7 +62,7 @@ unfoldable pub known_keys : List ℕ → Place → List ℕ → Data → List �
 known_keys kinds (actor a) key d = lines_of (keys_are kinds key) (entry (codes "actor") a d)
 known_keys kinds place key d = []
 
--- actor a, and the earlier one of its name
+-- the first actor before actor a that has this name
 abbrev pub same_name : ℕ → Data → List ℕ → List ℕ
 same_name a d name = lines_of (actor_told d) (first_saying (codes "name") name d a)
 
@@ -70,12 +70,12 @@ unfoldable pub twice : ℕ → Data → List ℕ
 twice a d = actor_told d a
     ++ lines_of (same_name a d) (actor_text (codes "name") d a)
 
--- what the key `format` is, and which kinds want a later one
+-- the line of the key `format`, with the kinds that need format 2
 abbrev pub kind_format : Data → List ℕ
 kind_format d =
     key_line (codes "format") (get (codes "format") d) (Some (codes "2 for clip, deal, gather and offset"))
 
--- what a name may have
+-- the rule for a name at a key
 unfoldable pub name_rule : List ℕ → List ℕ
 name_rule key =
     if bytes_eq key (codes "file") then
@@ -83,7 +83,7 @@ name_rule key =
     else
     codes "  a name has 1 to 32 of A-Z a-z 0-9 _ -, the first a letter\n"
 
--- so many tables
+-- the limits from least to most
 abbrev pub up_to : ℕ → ℕ → List ℕ
 up_to least most = decimal least ++ codes ".." ++ decimal most
 
@@ -108,6 +108,6 @@ told kinds (bad_port c key) d files =
     link_key c key (Some (codes "NAME or NAME:PORT, a port of 0..15")) d ++ near_end c key d
 told kinds (no_file name) d files = file_user name d
 
--- what is told of the bytes of a graph file
+-- the diagnostic for a fault, from the bytes of a graph file
 unfoldable pub document_text : Fault → List ℕ → Files → List ℕ
 document_text fault graph files = lines_of (λ d. told kinds_text fault d files) (root graph)

@@ -5,8 +5,8 @@ use Rattle.std.specs.Option.{option_or}
 use Rattle.std.specs.List.{before_first, after_first, position_or_len}
 use Rattle.sdf_why.specs.declared.limits.TheConstants.{MOST_KEYS, MOST_ROWS}
 
--- what stands before and behind the first mark, and whether there is one: 10 ends a line, 32 is a space, 40 opens a
--- parenthesis, 44 is a comma, 58 a colon
+-- the parts of a text before and behind the first mark, and whether there is one: 10 ends a line, 32 is a space, 40
+-- opens a parenthesis, 44 is a comma, 58 a colon
 unfoldable pub before : ℕ → List ℕ → List ℕ
 before mark text = before_first (λ b. b == mark) text
 
@@ -16,27 +16,27 @@ behind mark text = after_first (λ b. b == mark) text
 unfoldable pub has : ℕ → List ℕ → Bool
 has mark text = nat_lt (position_or_len (λ b. b == mark) text) (length text)
 
--- what a value has to be, of what stands behind the name of its key
+-- the limits of a value, from the form behind the name of its key
 unfoldable pub form_limits : List ℕ → List ℕ
 form_limits form = if has 40 form then before 32 form else (if has 58 form then behind 32 (behind 58 form) else form)
 
--- an item is of its own key, and of `file` where that may stand in place of a list
+-- an item is for its own key, and for `file` if that may replace a list
 unfoldable pub is_of : List ℕ → List ℕ → List ℕ → Bool
 is_of key name form = bytes_eq key name || (bytes_eq key (codes "file") && has 58 form)
 
--- the limits that an item of a row gives a key
+-- the limits of a key from an item of a row
 unfoldable pub limits_by : List ℕ → List ℕ → List ℕ → Option (List ℕ)
 limits_by key name form = if is_of key name form then Some (form_limits form) else None
 
 abbrev pub limits_in : List ℕ → List ℕ → Option (List ℕ)
 limits_in key item = limits_by key (before 32 (behind 32 item)) (behind 32 (behind 32 item))
 
--- by the first n items of a row
+-- the limits of a key from the first n items of a row
 unfoldable pub limits_among : ℕ → List ℕ → List ℕ → Option (List ℕ)
 limits_among zero key row = None
 limits_among (suc n) key row = option_or (limits_in key (before 44 row)) (limits_among n key (behind 44 row))
 
--- what the first n lines of the table say behind a word
+-- what is behind a word in the first n lines of the table
 unfoldable pub row_among : ℕ → List ℕ → List ℕ → Option (List ℕ)
 row_among zero word table = None
 row_among (suc n) word table =
@@ -46,7 +46,7 @@ row_among (suc n) word table =
 abbrev pub row_of : List ℕ → List ℕ → Option (List ℕ)
 row_of table word = row_among MOST_ROWS word table
 
--- those of a key of a kind, or of one that every kind has
+-- the limits of a key for a kind, or its limits as a key that every kind has
 abbrev pub limits_of : List ℕ → List ℕ → List ℕ → Option (List ℕ)
 limits_of table kind key = option_or
     (option_and_then (limits_among MOST_KEYS key) (row_of table kind))

@@ -1,4 +1,4 @@
--- The loop of links by which a design keeps its samples for ever.
+-- A loop of links through which a design keeps its samples for ever.
 use Rattle.std.specs.Prelude.{◌≡◌, ℕ, ◌<◌, List, [], ◌∷◌, ◌++◌, length, codes, Bool, true, false, slice_index_or}
 use Rattle.std.specs.Prelude.{Option, None, MatchOption, reverse}
 use Rattle.std.specs.List.{flat_map}
@@ -6,12 +6,12 @@ use Rattle.sdf_graph.specs.Rates.{Shape, channel}
 use Rattle.sdf_why.specs.declared.cycle.Halt.{Halt}
 use Rattle.sdf_why.specs.Cycles.{short_at}
 
--- channels against their flow, each from the actor to which the next one leads, from actor a back to actor b
+-- channels that lead from actor a back to actor b, against their flow: each begins at the actor where the next one ends
 abbrev pub LeadBack : Shape → ℕ → List ℕ → ℕ → Type 0
 LeadBack g a [] b = a ≡ b
 LeadBack g a (c ∷ cs) b = (c < length g.channels) × ((channel g c).to ≡ a) × LeadBack g (channel g c).from cs b
 
--- and back to where they begin
+-- the channels of a loop, against its flow
 pub record IsLoop (g : Shape) (cs : List ℕ) : Type 0 where
   pub actor : ℕ
   pub some : 0 < length cs
@@ -40,7 +40,7 @@ AreTargets g n kept = (c : ℕ) → c < n → is_kept kept (channel g c).to ≡ 
 abbrev pub HoldsLoops : Shape → List Bool → Type 0
 HoldsLoops g kept = (a : ℕ) (cs : List ℕ) → 0 < length cs → LeadBack g a cs a → is_kept kept a ≡ true
 
--- the channel by which an actor is fed, if it is kept
+-- short is the channel by which an actor is fed, if it is kept
 pub record IsFedBy (g : Shape) (kept : List Bool) (a : ℕ) (short : Option ℕ) : Type 0 where
   pub yes : is_kept kept a ≡ true → MatchOption short ((c : ℕ) → Feeds g kept a c → ⊥) (Feeds g kept a)
   pub no : is_kept kept a ≡ false → short ≡ None
@@ -48,19 +48,19 @@ pub record IsFedBy (g : Shape) (kept : List Bool) (a : ℕ) (short : Option ℕ)
 abbrev pub AreFed : Shape → List Bool → List Halt → Type 0
 AreFed g kept halts = (a : ℕ) → IsFedBy g kept a (short_at halts a)
 
--- the actor from which channel c leads, by its name
+-- the name of the source of channel c
 abbrev pub name_at : List (List ℕ) → Shape → ℕ → List ℕ
 name_at names g c = slice_index_or names (channel g c).from []
 
 unfoldable pub arrow_to : List (List ℕ) → Shape → ℕ → List ℕ
 arrow_to names g c = codes " -> " ++ name_at names g c
 
--- and of several, with arrows between them
+-- the names of the sources of several channels, with arrows between them
 abbrev pub loop_line : List (List ℕ) → Shape → List ℕ → List ℕ
 loop_line names g [] = []
 loop_line names g (c ∷ cs) = name_at names g c ++ flat_map (arrow_to names g) cs
 
--- the actors of a loop with its flow, or nothing if there is none
+-- the names of the actors of a loop in the order of its flow, or nothing if there is no loop
 pub data IsLoopText (g : Shape) (names : List (List ℕ)) (text : List ℕ) : Type 0 where
   loop : (cs : List ℕ) → IsLoop g cs → text ≡ loop_line names g (reverse cs) → IsLoopText g names text
   none : ((cs : List ℕ) → IsLoop g cs → ⊥) → text ≡ [] → IsLoopText g names text

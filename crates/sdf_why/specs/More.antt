@@ -24,32 +24,32 @@ use Rattle.sdf_why.specs.Ports.{ports_told}
 
 -- ---- actors that are apart
 
--- an actor that has no mark
+-- the line of an actor, if it has no mark
 unfoldable pub apart_told : Data → List Bool → ℕ → List ℕ
 apart_told d marked a = if is_marked marked a then [] else actor_told d a
 
--- all actors that links, walked both ways, do not join to actor 0, in their order
+-- the lines of all actors, in their order, that links in either direction do not join to actor 0
 pub record IsApartText (d : Data) (g : Shape) (text : List ℕ) : Type 0 where
   pub marked : List Bool
   pub joined : AreJoined g marked
   pub told : text ≡ flat_map (apart_told d marked) (range_with_len 0 g.actors)
 
--- ---- what meets at a link
+-- ---- the channel balance at a link
 
--- so many of one thing, by its name
+-- a count and the name of what is counted
 unfoldable pub so_many : ℕ → Option (List ℕ) → List ℕ
 so_many n name = decimal n ++ codes " of " ++ name_text name
 
--- how often the actors at the ends of a link fire
+-- the firings of a link's two actors, as the other links set them
 unfoldable pub firings_line : Meeting → Option (List ℕ) → Option (List ℕ) → List ℕ
 firings_line m source target =
     codes "  firings by the other links: " ++ so_many m.source source ++ codes ", " ++ so_many m.target target ++ end
 
--- how many samples an end of a link moves, by this verb
+-- the samples that an end of a link moves, with the verb for it
 unfoldable pub moves_text : Option (List ℕ) → List ℕ → ℕ → List ℕ
 moves_text at verb n = end_text at ++ verb ++ decimal n
 
--- what these firings put and take
+-- the samples that the firings of m put on a link and take from it
 unfoldable pub samples_line : Meeting → Option (List ℕ) → Option (List ℕ) → List ℕ
 samples_line m from to =
     codes "  samples on this link: " ++ moves_text from (codes " puts ") m.puts ++ codes ", "
@@ -61,26 +61,27 @@ firings_told d e m = firings_line m (actor_text (codes "name") d e.from) (actor_
 unfoldable pub samples_told : Data → ℕ → Meeting → List ℕ
 samples_told d c m = samples_line m (end_at (codes "from") d c) (end_at (codes "to") d c)
 
--- at link c of some channels, where there is one
+-- the lines about link c of some channels, if there is one
 unfoldable pub meeting_told : Data → List Edge → ℕ → Meeting → List ℕ
 meeting_told d channels c m = if nat_lt c (length channels) then
     firings_told d (slice_index_or channels c no_channel) m ++ samples_told d c m else []
 
 -- ---- by fault
 
--- of a fault of the graph. That one is apart is tested of graphs alone whose numbers have no fault
+-- the rest of the diagnostic for a fault of a graph. Connection is only tested if the numbers of the graph have no
+-- fault
 abbrev pub IsGraphMore : Data → Shape → GraphFault → List ℕ → Type 0
 IsGraphMore d g (NotConnected a) text = numbers_fault g ≡ None → IsApartText d g text
 IsGraphMore d g (Inconsistent c m) text = text ≡ meeting_told d g.channels c m
 IsGraphMore d g fault text = text ≡ []
 
--- of a fault of the net of a document
+-- the rest of the diagnostic for a fault of the net of a document
 abbrev pub IsMoreOf : Data → DocumentValue → NetFault → List ℕ → Type 0
 IsMoreOf d document (Graph fault) text = IsGraphMore d (graph_in document) fault text
 IsMoreOf d document (NoPort c) text = text ≡ ports_told document c
 IsMoreOf d document fault text = text ≡ []
 
--- of the document that files say, and nothing if they say none
+-- the rest of the diagnostic for a fault of files, or nothing if they give no document
 pub data IsMore (fault : NetFault) (graph : List ℕ) (files : Files) (text : List ℕ) : Type 0 where
   read :
       (d : Data) (document : DocumentValue) → root graph ≡ Some d → document_of graph files ≡ Ok document →

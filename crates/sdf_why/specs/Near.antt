@@ -1,4 +1,4 @@
--- What the user may have meant: a name that is like one that is not known.
+-- What the user may have meant: a known name that is like an unknown one.
 use Rattle.std.specs.Prelude.{ℕ, List, [], ◌∷◌, ◌++◌, codes, map, Option, Some, None, bytes_eq, if◌then◌else◌}
 use Rattle.std.specs.Option.{option_map_or}
 use Rattle.std.specs.List.{flat_map, range_with_len}
@@ -26,7 +26,7 @@ abbrev pub other_told : List ℕ → Option (List ℕ) → List ℕ
 other_told word None = []
 other_told word (Some name) = if bytes_eq name word then [] else hint_line name
 
--- of some names the first that is most like a word
+-- the first of the names that is most like a word, unless it is the word itself
 unfoldable pub near_told : List (List ℕ) → List ℕ → List ℕ
 near_told names word = other_told word (nearest word names)
 
@@ -35,7 +35,7 @@ near_told names word = other_told word (nearest word names)
 abbrev pub kind_words : List (List ℕ)
 kind_words = map (λ (k : Kind). (row_of k).word) kinds
 
--- the kind that may have been meant by that of actor a
+-- the kind that may have been meant for actor a
 unfoldable pub near_kind : ℕ → Data → List ℕ
 near_kind a d = lines_of (near_told kind_words) (actor_text (codes "kind") d a)
 
@@ -52,7 +52,7 @@ file_beside (ListForm most width) = codes "file" ∷ []
 abbrev pub key_names : KeyRow → List (List ℕ)
 key_names k = k.name ∷ file_beside k.form
 
--- those of a kind, in any format
+-- the names of the keys of a kind, in any format
 abbrev pub kind_keys : List ℕ → List (List ℕ)
 kind_keys word = option_map_or (λ (k : Kind). flat_map key_names (row_of k).keys) (kind_named 4294967295 word) []
 
@@ -64,7 +64,7 @@ actor_keys word = (codes "name" ∷ codes "kind" ∷ []) ++ kind_keys word ++ fl
 unfoldable pub near_actor_key : ℕ → List ℕ → Data → List ℕ
 near_actor_key a key d = lines_of (λ word. near_told (actor_keys word) key) (actor_text (codes "kind") d a)
 
--- and at any place
+-- the key that may have been meant at a place
 abbrev pub near_key : Place → List ℕ → Data → List ℕ
 near_key top key d = near_told top_keys key
 near_key (actor a) key d = near_actor_key a key d

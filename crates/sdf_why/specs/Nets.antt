@@ -1,4 +1,4 @@
--- What is told of a net that is refused, by the first test that it fails.
+-- The diagnostic for a net that is refused, by the first test that it fails.
 use Rattle.std.specs.Prelude.{◌&&◌, ℕ, ℤ, Bool, false, List, [], ◌++◌, codes, decimal, Option, Some, None, find}
 use Rattle.std.specs.Prelude.{option_and_then, bytes_eq, if◌then◌else◌}
 use Rattle.std.specs.Ordering.{int_eq}
@@ -16,15 +16,15 @@ use Rattle.sdf_why.specs.Links.{link_told, link_key, ends_told, first_meeting}
 
 -- ---- actors that are compared
 
--- the first actor of a kind, and what stands at a key of its table
+-- the first actor of a kind, and the line of a key of its table
 unfoldable pub first_of : List ℕ → List ℕ → Data → List ℕ
 first_of kind key d = lines_of (λ a. actor_value a key d) (first_saying (codes "kind") kind d MOST_ACTORS)
 
--- actor a where it is of a kind, and what stands at a key of its table
+-- actor a if it is of a kind, and the line of a key of its table
 unfoldable pub one_of : List ℕ → List ℕ → Data → ℕ → List ℕ
 one_of kind key d a = if says (codes "kind") kind d a then actor_value a key d else []
 
--- all actors of a kind
+-- all actors of a kind, and the lines of a key of their tables
 unfoldable pub all_of : List ℕ → List ℕ → Data → List ℕ
 all_of kind key d = flat_map (one_of kind key d) (range_with_len 0 MOST_ACTORS)
 
@@ -47,29 +47,29 @@ unfoldable pub rival : Data → ℕ → ℕ → Bool
 rival d a b = same_text (actor_text (codes "kind") d a) (actor_text (codes "kind") d b)
     && same_number (number_at (codes "channel") d a) (number_at (codes "channel") d b)
 
--- the first of n actors that is of actor a's kind and channel
+-- the first of n actors that has the kind and the channel of actor a
 unfoldable pub first_rival : Data → ℕ → ℕ → Option ℕ
 first_rival d a n = find (rival d a) (range_with_len 0 n)
 
 -- ---- by fault
 
--- actor a, its channel, and the earlier actor that has the same
+-- actor a, its channel, and the earlier actor with the same kind and channel
 unfoldable pub rivals : Data → ℕ → List ℕ
 rivals d a = actor_value a (codes "channel") d ++ lines_of (actor_told d) (first_rival d a a)
 
--- actor a, its block, and the first actor of its kind
+-- actor a with its block, and the first actor of a kind with its block
 unfoldable pub beside_first : List ℕ → Data → ℕ → List ℕ
 beside_first kind d a = actor_value a (codes "block") d ++ first_of kind (codes "block") d
 
--- link c, and the first before it that shares an end with it
+-- link c, and the first link before it that shares an end with it
 unfoldable pub meeting : Data → ℕ → List ℕ
 meeting d c = link_told d c ++ lines_of (link_told d) (first_meeting d c c)
 
--- link c, and how many samples it begins with
+-- link c and its initial samples, with their limit
 unfoldable pub begun : Data → ℕ → List ℕ
 begun d c = link_key c (codes "initial") (Some (codes "at most " ++ decimal MOST_INITIAL)) d
 
--- of actors that are apart all is told by `More`
+-- for actors that are not connected the whole diagnostic is in `More`
 abbrev pub graph_told : GraphFault → Data → List ℕ
 graph_told graph.OutOfMemory d = []
 graph_told graph.ActorCount d = []

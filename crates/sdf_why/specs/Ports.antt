@@ -9,7 +9,7 @@ use Rattle.sdf_file.specs.Designs.{node_of}
 use Rattle.sdf_why.specs.Words.{end, quoted}
 use Rattle.sdf_why.specs.Actors.{lines_of}
 
--- how many ports there are on a side, by the word for one
+-- the number of ports on a side, with the noun for one
 unfoldable pub count_text : ℕ → List ℕ → List ℕ
 count_text n word = if n == 0 then codes "no " ++ word
     else (if n == 1 then codes "1 " ++ word else decimal n ++ codes " " ++ word ++ codes "s")
@@ -20,18 +20,18 @@ counts_text inputs outputs = count_text inputs (codes "input") ++ codes " and " 
 unfoldable pub ports_line : List ℕ → ℕ → ℕ → List ℕ
 ports_line name inputs outputs = codes "  " ++ quoted name ++ codes " has " ++ counts_text inputs outputs ++ end
 
--- those of an actor, by its kind
+-- the line with the ports of an actor, by its kind
 abbrev pub ports_are : ActorValue → List ℕ
 ports_are a = ports_line a.name (inputs_of kit_steps (node_of a.kind)) (outputs_of kit_steps (node_of a.kind))
 
--- those of actor a
+-- the line with the ports of actor a
 unfoldable pub actor_ports : List ActorValue → ℕ → List ℕ
 actor_ports actors a = lines_of ports_are (slice_get actors a)
 
--- those of the actors from which a link leads and to which it leads
+-- the ports of the source and of the target of a link
 abbrev pub link_ports : List ActorValue → LinkValue → List ℕ
 link_ports actors l = actor_ports actors l.from.0 ++ actor_ports actors l.to.0
 
--- and at link c of a document, where there is one
+-- the ports at link c of a document, if there is one
 unfoldable pub ports_told : DocumentValue → ℕ → List ℕ
 ports_told d c = lines_of (link_ports d.actors) (slice_get d.links c)

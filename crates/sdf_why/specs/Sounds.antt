@@ -1,4 +1,4 @@
--- What is told of a sound that a design does not take.
+-- The diagnostic for a sound that a design does not take.
 use Rattle.std.specs.Prelude.{ℕ, ◌*◌, ◌/◌, ◌%◌, List, ◌++◌, codes, decimal}
 use Rattle.toml.specs.Data.{Data}
 use Rattle.sdf_why.specs.Words.{end}
@@ -11,20 +11,20 @@ reads_text wanted = codes "  the design reads " ++ decimal wanted ++ codes " cha
 unfoldable pub has_text : ℕ → List ℕ
 has_text channels = codes ", the sound has " ++ decimal channels ++ end
 
--- and which inputs read them
+-- the channels of the design and of the sound, and the inputs that read them
 unfoldable pub channels_told : Data → ℕ → ℕ → List ℕ
 channels_told d wanted channels =
     reads_text wanted ++ has_text channels ++ all_of (codes "input") (codes "channel") d
 
--- how a rate comes of another one
+-- the formula of the output's rate
 unfoldable pub product_text : ℕ → ℕ → ℕ → List ℕ
 product_text rate made taken =
     codes "  " ++ decimal rate ++ codes " * " ++ decimal made ++ codes " / " ++ decimal taken ++ codes " = "
 
--- a whole number and a part
+-- a quotient as a whole number and a fraction
 unfoldable pub quotient_text : ℕ → ℕ → List ℕ
 quotient_text all by = decimal (all / by) ++ codes " and " ++ decimal (all % by) ++ codes "/" ++ decimal by ++ end
 
--- the rate that would come of one, where so many samples are made of so many that are taken
+-- the output's rate, if a period makes `made` samples of an output from `taken` samples of an input
 unfoldable pub rate_line : ℕ → ℕ → ℕ → List ℕ
 rate_line rate made taken = product_text rate made taken ++ quotient_text (rate * made) taken

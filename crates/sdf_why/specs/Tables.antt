@@ -1,4 +1,4 @@
--- What stands in the tables of a graph file.
+-- The tables of a graph file.
 use Rattle.std.specs.Prelude.{ℕ, Bool, false, List, codes, Option, option_map, option_and_then, bytes_eq}
 use Rattle.std.specs.Prelude.{find}
 use Rattle.std.specs.Option.{option_map_or}
@@ -6,7 +6,7 @@ use Rattle.std.specs.List.{range_with_len}
 use Rattle.toml.specs.Data.{Data, table, get, at, as_str}
 use Rattle.sdf_document.specs.Tables.{table_in}
 
--- the document that the bytes are
+-- the document in the bytes, if they are one
 abbrev pub root : List ℕ → Option Data
 root bytes = option_map table (table_in bytes)
 
@@ -25,10 +25,10 @@ is_text text said = option_map_or (bytes_eq text) said false
 unfoldable pub actor_text : List ℕ → Data → ℕ → Option (List ℕ)
 actor_text key d a = option_and_then (text_at key) (entry (codes "actor") a d)
 
--- actor a has this text there
+-- actor a has this text at a key
 unfoldable pub says : List ℕ → List ℕ → Data → ℕ → Bool
 says key text d a = is_text text (actor_text key d a)
 
--- the first of n actors that has
+-- the first of n actors that has this text at a key
 unfoldable pub first_saying : List ℕ → List ℕ → Data → ℕ → Option ℕ
 first_saying key text d n = find (says key text d) (range_with_len 0 n)

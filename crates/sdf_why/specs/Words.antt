@@ -1,4 +1,4 @@
--- The words of what is told.
+-- The wording of diagnostics.
 use Rattle.std.specs.Prelude.{ℕ, ℤ, ◌==◌, ◌||◌, Bool, List, [], ◌∷◌, ◌++◌, codes, decimal, Option, Some, None, suc}
 use Rattle.std.specs.Prelude.{slice_index, if◌then◌else◌}
 use Rattle.std.specs.Fmt.{signed_decimal}
@@ -10,7 +10,7 @@ use Rattle.sdf_why.specs.Limits.{has}
 abbrev pub end : List ℕ
 end = 10 ∷ []
 
--- a text of the user's file
+-- a text from the user's file
 abbrev pub quoted : List ℕ → List ℕ
 quoted s = codes "\"" ++ printable_text s ++ codes "\""
 
@@ -18,7 +18,7 @@ abbrev pub item_count : Items → ℕ
 item_count no_items = 0
 item_count (item d ds) = suc (item_count ds)
 
--- a text in quotes, a whole number in digits, of a list how long it is, and of anything else what it is
+-- a text in quotes, a whole number in digits, a list by its length, and anything else by its type
 abbrev pub spelled : Option (List ℕ) → Option ℤ → Option Items → List ℕ → List ℕ
 spelled (Some s) z ds other = quoted s
 spelled None (Some z) ds other = signed_decimal z
@@ -43,17 +43,17 @@ abbrev pub kind_text : Option (List ℕ) → List ℕ
 kind_text None = codes "of no kind"
 kind_text (Some s) = article s ++ printable_text s
 
--- an end of a link as the file writes it, with port 0 where it has no port
+-- an end of a link as the file has it, with port 0 if it names no port
 abbrev pub end_text : Option (List ℕ) → List ℕ
 end_text None = codes "?"
 end_text (Some s) = printable_text s ++ (if has 58 s then [] else codes ":0")
 
--- what an actor is, by its name and its kind
+-- the line of an actor, with its name and its kind
 unfoldable pub actor_line : ℕ → Option (List ℕ) → Option (List ℕ) → List ℕ
 actor_line number name kind =
     codes "  actor " ++ decimal number ++ codes " is " ++ name_text name ++ codes ", " ++ kind_text kind ++ end
 
--- what a link is, by its two ends
+-- the number and the two ends of a link
 unfoldable pub link_words : ℕ → Option (List ℕ) → Option (List ℕ) → List ℕ
 link_words number from to =
     codes "  link " ++ decimal number ++ codes " is " ++ end_text from ++ codes " -> " ++ end_text to
@@ -61,7 +61,7 @@ link_words number from to =
 abbrev pub link_line : ℕ → Option (List ℕ) → Option (List ℕ) → List ℕ
 link_line number from to = link_words number from to ++ end
 
--- and that it holds so many samples where its target takes so many
+-- the line of a link that holds too little for the next firing of its target
 abbrev pub lack_line : ℕ → Option (List ℕ) → Option (List ℕ) → ℕ → ℕ → List ℕ
 lack_line number from to holds wants =
     link_words number from to ++ codes ", holds " ++ decimal holds ++ codes ", wants " ++ decimal wants ++ end
@@ -70,7 +70,7 @@ abbrev pub limits_text : Option (List ℕ) → List ℕ
 limits_text None = []
 limits_text (Some limits) = codes ", wants " ++ limits
 
--- what stands at a key, and what the key wants
+-- the line of a key, with its value and its limits
 unfoldable pub key_line : List ℕ → Option Data → Option (List ℕ) → List ℕ
 key_line key None None = []
 key_line key None (Some limits) = codes "  " ++ printable_text key ++ codes " wants " ++ limits ++ end
@@ -81,6 +81,6 @@ key_line key (Some d) limits =
 unfoldable pub hint_line : List ℕ → List ℕ
 hint_line name = codes "  did you mean " ++ quoted name ++ codes "?" ++ end
 
--- what was said of a file
+-- the line of a file with a message
 unfoldable pub said_line : List ℕ → List ℕ → List ℕ
 said_line name said = codes "  " ++ quoted name ++ codes ": " ++ printable_text said ++ end

@@ -1,4 +1,4 @@
-//! What is told of an actor, by its table.
+//! The lines about an actor, from its table.
 
 ghost use Rattle.std.specs.Prelude.{◌≡◌, ◌++◌, OnOk, option_map, string_bytes};
 ghost use Rattle.toml.specs.View.{view};
@@ -11,7 +11,7 @@ use sdf_limits::MOST_ACTORS;
 use std::alloc::{AllocError, Global};
 use toml::Value;
 
-/// Adds an actor, by the name and the kind in its table.
+/// Adds the line of the actor `number`, whose table is `actor`.
 pub(crate) fn push_actor_table(
     alloc: Global,
     text: &mut String,
@@ -29,7 +29,7 @@ pub(crate) fn push_actor_table(
     )
 }
 
-/// Adds the actor of a number.
+/// Adds the line of the actor `number`, if there is one.
 #[tactic(auto, unfolding(crate::specs::Actors::actor_told))]
 pub(crate) fn push_actor_of(
     alloc: Global,
@@ -45,7 +45,7 @@ pub(crate) fn push_actor_of(
     }
 }
 
-/// The limits of a key in an actor's table, by its kind.
+/// Returns the limits of `key` for the kind of `actor`.
 #[tactic(auto, unfolding(crate::specs::Actors::actor_limits))]
 fn actor_limits<'a>(kinds: &'a str, key: &str, actor: &Value) -> Option<&'a str>
     ensures { option_map (λ s. s.now) result ≡ actor_limits kinds.now key.now (view actor.now) }
@@ -53,7 +53,7 @@ fn actor_limits<'a>(kinds: &'a str, key: &str, actor: &Value) -> Option<&'a str>
     limits_of(kinds, text_at(actor, "kind")?, key)
 }
 
-/// Adds an actor, and what stands at a key of its table.
+/// Adds the line of the actor `number`, and the line of its `key` with the limits.
 #[tactic(auto, unfolding(crate::specs::Actors::actor_key))]
 pub(crate) fn push_actor_key(
     alloc: Global,
@@ -73,7 +73,7 @@ pub(crate) fn push_actor_key(
     push_key(alloc, text, key, value_at(actor, key), limits)
 }
 
-/// Adds an actor, and what stands at a key of its table, but not what the key wants.
+/// Adds the line of the actor `number`, and the line of its `key` without limits.
 #[tactic(auto, unfolding(crate::specs::Actors::actor_value))]
 pub(crate) fn push_actor_value(
     alloc: Global,
@@ -92,7 +92,7 @@ pub(crate) fn push_actor_value(
     push_key(alloc, text, key, value_at(actor, key), None)
 }
 
-/// Adds the first actor that has this text at a key.
+/// Adds the first actor that has the text `said` at `key`.
 #[tactic(auto, unfolding(crate::specs::Actors::first_told))]
 pub(crate) fn push_first(
     alloc: Global,

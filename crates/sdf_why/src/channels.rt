@@ -17,7 +17,7 @@ use sdf_graph::Channel;
 use sdf_kit::{PortRates, Ports};
 use std::alloc::{AllocError, Global};
 
-/// One port, at which every firing moves a run.
+/// Returns one port, at which every firing moves `run` samples.
 fn every(run: u32) -> PortRates
     ensures { result ≡ Every 1 run }
 {
@@ -27,7 +27,7 @@ fn every(run: u32) -> PortRates
     }
 }
 
-/// Ports that are served in turn, a run at each.
+/// Returns `ways` ports that are served in turn, with `run` samples at each.
 fn in_turn(ways: u32, run: u32) -> PortRates
     ensures { result ≡ InTurn ways run }
 {
@@ -37,7 +37,7 @@ fn in_turn(ways: u32, run: u32) -> PortRates
     }
 }
 
-/// The ports of a kind.
+/// Returns the ports of `kind`.
 pub(crate) fn ports_of(kind: &KindEntry) -> Ports
     ensures { ArePortsOf result (node_of kind.now) }
 {
@@ -67,14 +67,14 @@ pub(crate) fn ports_of(kind: &KindEntry) -> Ports
     }
 }
 
-/// The ports of an output that moves nothing.
+/// Returns the ports of an output that moves no samples.
 fn nothing() -> Ports
     ensures { ArePortsOf result (Sink 0 0) }
 {
     Ports::steady(1, 0, 0, 0)
 }
 
-/// The ports of an actor, or none that moves anything where there is no such actor.
+/// Returns the ports of `actor`, or ports that move no samples if there is no actor with this number.
 fn ports_at(actors: &[ActorEntry], actor: usize) -> Ports
     ensures { ArePortsOf result (slice_index_or (nodes_of (map actor_view actors.now)) actor (Sink 0 0)) }
 {
@@ -85,7 +85,7 @@ fn ports_at(actors: &[ActorEntry], actor: usize) -> Ports
     }
 }
 
-/// What the firings of a cycle move at a port.
+/// Returns the number of samples that each firing of a cycle moves at `port`.
 fn rates(alloc: Global, side: PortRates, port: usize, cycle: u32) -> Result<Vec<u32>, AllocError>
     ensures { IfOk result (λ v. v.items ≡ map (moved side port) (range_with_len 0 cycle)) }
 {
@@ -96,7 +96,7 @@ fn rates(alloc: Global, side: PortRates, port: usize, cycle: u32) -> Result<Vec<
     Ok(rates)
 }
 
-/// The channel of a link.
+/// Returns the channel of `link`.
 fn channel_of(alloc: Global, actors: &[ActorEntry], link: &LinkEntry) -> Result<Channel, AllocError>
     ensures { IfOk result (λ c. c ≡
         channel_of kit_steps (nodes_of (map actor_view actors.now)) (wire_of (link_view link.now))) }
@@ -114,7 +114,7 @@ fn channel_of(alloc: Global, actors: &[ActorEntry], link: &LinkEntry) -> Result<
     })
 }
 
-/// The channels of links.
+/// Returns the channels of `links`.
 pub(crate) fn channels_of(
     alloc: Global,
     actors: &[ActorEntry],

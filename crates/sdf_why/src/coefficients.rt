@@ -22,14 +22,14 @@ use sdf_kinds::{Form, KeyForm, Width, row_of};
 use std::alloc::{AllocError, Global};
 use toml::Value;
 
-/// The limits of a list: the most values that it may have, and what they fit into.
+/// The limits of a list: its maximum length, and the width of its values.
 #[derive(Clone, Copy)]
 pub(crate) struct Limits {
     pub(crate) most: usize,
     pub(crate) width: Width,
 }
 
-/// The bytes of the first file of a name.
+/// Returns the bytes of the first file with this `name`.
 fn file_named<'a>(name: &str, files: &'a [(String, Vec<u8>)]) -> Option<&'a [u8]>
     ensures { option_map (λ s. s.now) result ≡ file_named name.now (files_view files.now) }
 {
@@ -41,7 +41,7 @@ fn file_named<'a>(name: &str, files: &'a [(String, Vec<u8>)]) -> Option<&'a [u8]
     None
 }
 
-/// Adds what stands at a key of a coefficient file.
+/// Adds the line of `key` in the coefficient file `name`.
 #[tactic(auto, unfolding(crate::specs::Documents::file_key))]
 pub(crate) fn push_file_key(
     alloc: Global,
@@ -106,14 +106,14 @@ fn fits(width: Width, number: i64) -> bool
     }
 }
 
-/// Returns the whole number at a place of a list.
+/// Returns the whole number at the index `place` of `list`.
 fn number_at(list: &Value, place: usize) -> Option<i64>
     ensures { result ≡ option_and_then as_integer (at place (view list.now)) }
 {
     list.get(place)?.as_integer()
 }
 
-/// Returns whether the item at a place of a list is not a whole number of the width.
+/// Checks whether the item at the index `place` of `list` is not a whole number of this `width`.
 #[tactic(auto, unfolding(crate::specs::Coefficients::is_unfit))]
 fn is_unfit(width: Width, list: &Value, place: usize) -> bool
     ensures { result ≡ is_unfit width (view list.now) place }
@@ -124,7 +124,7 @@ fn is_unfit(width: Width, list: &Value, place: usize) -> bool
     }
 }
 
-/// Returns the first of `count` places whose item is not a whole number of the width.
+/// Returns the first index below `count` whose item in `list` is not a whole number of this `width`.
 #[tactic(auto, unfolding(crate::specs::Coefficients::first_unfit))]
 fn first_unfit(width: Width, list: &Value, count: usize) -> Option<usize>
     ensures { result ≡ first_unfit width (view list.now) count }
@@ -165,7 +165,7 @@ fn push_wants(text: &mut String, width: Width) -> Result<(), AllocError>
     writeln!(text, ", wants {wanted}")
 }
 
-/// Adds a value that does not fit, with its place.
+/// Adds the line of a `value` that does not fit, with its index `place`.
 #[tactic(auto, unfolding(crate::specs::Coefficients::value_line))]
 fn push_line(
     alloc: Global,
@@ -184,7 +184,7 @@ fn push_line(
     push_wants(text, width)
 }
 
-/// Adds the value at a place of a list.
+/// Adds the line of the value at the index `place` of `list`.
 #[tactic(auto, unfolding(crate::specs::Coefficients::value_told))]
 fn push_value_at(
     alloc: Global,
@@ -217,7 +217,7 @@ fn push_most(text: &mut String, most: usize) -> Result<(), AllocError>
     writeln!(text, ", wants 1..{most}")
 }
 
-/// Adds how many values a list has, and how many are wanted.
+/// Adds the line of a list that has `count` values and may have at most `most`.
 #[tactic(auto, unfolding(crate::specs::Coefficients::count_line))]
 fn push_count_line(
     alloc: Global,
@@ -233,7 +233,7 @@ fn push_count_line(
     push_most(text, most)
 }
 
-/// Adds the number of items of a list if it is outside the limits, and otherwise the first item that is.
+/// Adds the number of items of `list` if it is outside the limits, and otherwise the first item that does not fit.
 fn push_items(
     alloc: Global,
     text: &mut String,
@@ -347,7 +347,7 @@ fn push_table(
     }
 }
 
-/// Adds what is outside the limits in the file of an actor, if the fault is of the actor's key `file`.
+/// Adds what is outside the limits in the file of an actor, if the fault is at its key `file`.
 #[tactic(auto, unfolding(crate::specs::Coefficients::values_told))]
 pub(crate) fn push_values(
     alloc: Global,

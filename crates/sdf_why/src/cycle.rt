@@ -1,5 +1,4 @@
-//! The text about a deadlock. It tells of a cycle of links that hold too little, and of the other links for which
-//! actors wait.
+//! The diagnostic for a deadlock: a cycle of links that hold too little, and the other links for which actors wait.
 
 ghost use Rattle.std.specs.Prelude.{◌≡◌, ℕ, ◌*◌, ◌+◌, ◌-◌, ◌^◌, ◌≤◌, ◌<◌, ◌++◌, Some, length, IfOk, OnOk, MatchOption};
 ghost use Rattle.std.specs.Prelude.{string_bytes};
@@ -17,7 +16,7 @@ use sdf_limits::{MOST_INITIAL, MOST_RATE};
 use std::alloc::{AllocError, Global};
 use toml::Value;
 
-/// How often an actor has fired, and the channel that it waits for.
+/// The number of firings of an actor, and the channel that it waits for.
 #[derive(Clone, Copy)]
 pub struct Halt {
     pub done: u32,
@@ -39,14 +38,14 @@ fn short_at(halts: &[Halt], actor: usize) -> Option<usize>
     halts.get(actor)?.short
 }
 
-/// The first actor that waits.
+/// Returns the first actor that waits.
 fn first_waiting(halts: &[Halt]) -> Option<usize>
     ensures { result ≡ first_waiting halts.now }
 {
     (0..halts.len()).find(|actor| short_at(halts, *actor).is_some())
 }
 
-/// The channel that an actor waits for, and the actor that it comes from.
+/// Returns the channel that `actor` waits for, and its source.
 fn next(graph: &Graph, halts: &[Halt], actor: usize) -> Option<(usize, usize)>
     ensures { MatchOption result ((c m : ℕ) → Waits graph.now halts.now actor c m → ⊥)
         (λ r. Waits graph.now halts.now actor r.0 r.1) }
@@ -64,7 +63,7 @@ fn next(graph: &Graph, halts: &[Halt], actor: usize) -> Option<(usize, usize)>
     }
 }
 
-/// The channels of the cycle to which the walk from an actor comes. Each actor on the way waits for the next one.
+/// Returns the channels of the cycle that a walk from `first` reaches. Each actor on the way waits for the next one.
 fn cycle_behind(
     alloc: Global,
     graph: &Graph,
@@ -103,7 +102,7 @@ pub(crate) fn cycle_of(
     }
 }
 
-/// How many samples the first firings of the source put.
+/// Returns the number of samples that the first `firings` firings of the source put.
 fn put_by(channel: &Channel, firings: u32) -> u64
     requires some { 0 < length channel.now.put }
     requires rates { (i : ℕ) → rate_at channel.now.put i ≤ MOST_RATE }
@@ -117,7 +116,7 @@ fn put_by(channel: &Channel, firings: u32) -> u64
     samples
 }
 
-/// And how many those of the target take.
+/// Returns the number of samples that the first `firings` firings of the target take.
 fn taken_by(channel: &Channel, firings: u32) -> u64
     requires some { 0 < length channel.now.take }
     requires rates { (i : ℕ) → rate_at channel.now.take i ≤ MOST_RATE }
@@ -131,7 +130,7 @@ fn taken_by(channel: &Channel, firings: u32) -> u64
     samples
 }
 
-/// What a channel holds.
+/// Returns the number of samples that `channel` holds after `put` samples were put and `taken` samples were taken.
 fn held(channel: &Channel, put: u64, taken: u64) -> u64
     requires initial { channel.now.initial ≤ MOST_INITIAL }
     requires put { put ≤ 2 ^ 63 }
@@ -140,7 +139,7 @@ fn held(channel: &Channel, put: u64, taken: u64) -> u64
     (channel.initial as u64 + put).saturating_sub(taken)
 }
 
-/// What a channel holds, and what the next firing of its target takes.
+/// Returns what the channel `number` holds, and what the next firing of its target takes.
 fn lack_of(graph: &Graph, halts: &[Halt], number: usize) -> Lack
     requires { number < length graph.now.channels }
     ensures holds { result.holds ≡ held graph.now halts.now number }
@@ -155,7 +154,7 @@ fn lack_of(graph: &Graph, halts: &[Halt], number: usize) -> Lack
     }
 }
 
-/// Adds a link of a cycle.
+/// Adds the line of the link `number` of a cycle.
 #[tactic(auto, unfolding(crate::specs::Cycles::lack_told))]
 fn push_lack_of(
     alloc: Global,
@@ -183,7 +182,7 @@ fn push_lack_of(
     )
 }
 
-/// Adds the links of a cycle.
+/// Adds the lines of the `links` of a cycle.
 fn push_lacks(
     alloc: Global,
     text: &mut String,
@@ -202,14 +201,14 @@ fn push_lacks(
     Ok(())
 }
 
-/// Returns whether a link is one of some.
+/// Checks whether `link` is one of `links`.
 fn is_among(links: &[usize], link: usize) -> bool
     ensures { result ≡ is_among links.now link }
 {
     links.iter().any(|other| *other == link)
 }
 
-/// Adds the link that an actor waits for, unless it is one of a cycle.
+/// Adds the link that `actor` waits for, unless it is one of the `links` of a cycle.
 #[tactic(auto, unfolding(crate::specs::Cycles::other_told))]
 fn push_other(
     alloc: Global,
@@ -228,7 +227,7 @@ fn push_other(
     }
 }
 
-/// Adds the links that actors wait for, except those of a cycle.
+/// Adds the links that actors wait for, except the `links` of a cycle.
 fn push_others(
     alloc: Global,
     text: &mut String,
@@ -245,7 +244,7 @@ fn push_others(
     Ok(())
 }
 
-/// What is told of a deadlock of a design's graph, whose actors came so far.
+/// Returns the diagnostic for a deadlock of `graph` whose actors stopped as in `halts`.
 pub fn cycle_text(
     alloc: Global,
     document: &Value,

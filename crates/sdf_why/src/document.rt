@@ -1,4 +1,4 @@
-//! What is told of a graph file that is not read.
+//! The diagnostic for a graph file that is not read.
 
 ghost use Rattle.std.specs.Prelude.{◌≡◌, ◌++◌, IfOk, OnOk, option_map, string_bytes};
 ghost use Rattle.toml.specs.View.{view};
@@ -21,7 +21,7 @@ use sdf_limits::{MOST_ACTORS, MOST_LINKS};
 use std::alloc::{AllocError, Global};
 use toml::Value;
 
-/// Adds what a place is, and what stands there at a key.
+/// Adds what `place` is, and the line of its `key`.
 fn push_place(
     alloc: Global,
     text: &mut String,
@@ -43,7 +43,7 @@ fn push_place(
     }
 }
 
-/// Adds what the key `format` is and wants.
+/// Adds the line of the key `format` at `place`, with its limits.
 fn push_format(
     alloc: Global,
     text: &mut String,
@@ -72,7 +72,7 @@ fn push_format(
     }
 }
 
-/// Adds that the key `file` stands beside a list, where it does.
+/// Adds that the key `file` stands beside the list `key`, if `actor` has the list.
 fn push_listed(text: &mut String, key: &str, actor: &Value) -> Result<(), AllocError>
     ensures { OnOk result (string_bytes text.new ≡ string_bytes text.old ++ listed_at key.now (view actor.now)) }
 {
@@ -93,7 +93,7 @@ fn push_beside(text: &mut String, key: &str, actor: &Value) -> Result<(), AllocE
     push_listed(text, "values", actor)
 }
 
-/// Adds what the table of kinds says of a kind.
+/// Adds the row of `kind` in the table of kinds.
 #[tactic(auto, unfolding(crate::specs::Documents::row_is))]
 fn push_row(text: &mut String, kinds: &str, kind: &str) -> Result<(), AllocError>
     ensures { OnOk result (string_bytes text.new ≡ string_bytes text.old ++ row_is kinds.now kind.now) }
@@ -116,7 +116,7 @@ fn push_keys(text: &mut String, kinds: &str, key: &str, actor: &Value) -> Result
     }
 }
 
-/// Adds the keys that an actor may have, where the place is one.
+/// Adds the keys that an actor may have, if `place` is an actor.
 #[tactic(auto, unfolding(crate::specs::Documents::known_keys))]
 fn push_known(
     text: &mut String,
@@ -136,7 +136,7 @@ fn push_known(
     }
 }
 
-/// Adds the first actor before another that has its name.
+/// Adds the first actor before the actor `number` that has this `name`.
 fn push_same_name(
     alloc: Global,
     text: &mut String,
@@ -153,7 +153,7 @@ fn push_same_name(
     }
 }
 
-/// Adds an actor, and the earlier one of its name.
+/// Adds the actor `number`, and the earlier actor with its name.
 #[tactic(auto, unfolding(crate::specs::Documents::twice))]
 fn push_twice(
     alloc: Global,
@@ -170,7 +170,7 @@ fn push_twice(
     }
 }
 
-/// Adds how many tables an array has, and how many it wants.
+/// Adds the line of `key`, with limits from `least` to `most`. An array of tables is shown by its length.
 pub(crate) fn push_counted(
     alloc: Global,
     text: &mut String,
@@ -192,7 +192,7 @@ pub(crate) fn push_counted(
     )
 }
 
-/// Adds what the key `format` is, and which kinds want a later one.
+/// Adds the line of the key `format`, with the kinds that need format 2.
 fn push_kind_format(alloc: Global, text: &mut String, graph: &Value) -> Result<(), AllocError>
     ensures { OnOk result (string_bytes text.new ≡ string_bytes text.old ++ kind_format (view graph.now)) }
 {
@@ -206,7 +206,7 @@ fn push_kind_format(alloc: Global, text: &mut String, graph: &Value) -> Result<(
     )
 }
 
-/// Adds what a name may have.
+/// Adds the rule for a name at `key`.
 #[tactic(auto, unfolding(crate::specs::Documents::name_rule))]
 fn push_name_rule(text: &mut String, key: &str) -> Result<(), AllocError>
     ensures { OnOk result (string_bytes text.new ≡ string_bytes text.old ++ name_rule key.now) }
@@ -272,8 +272,8 @@ fn push_told(
     }
 }
 
-/// What is told of the first test that a graph file or one of its coefficient files fails: nothing where the graph file
-/// is no TOML document.
+/// Returns the diagnostic for a `fault` of a graph file or one of its coefficient files. It is empty if the graph file
+/// is not TOML.
 #[tactic(auto, unfolding(crate::specs::Documents::document_text))]
 pub fn document_text(
     alloc: Global,

@@ -6,13 +6,14 @@ ghost use Rattle.sdf_why.specs.Limits.{limits_of};
 
 use crate::marks::{before, behind, has};
 
-/// More keys than a row has, and more lines than the table.
+/// An upper bound of the keys in a row of the table.
 pub(crate) const MOST_KEYS: u32 = 8;
 
+/// An upper bound of the lines in the table.
 pub(crate) const MOST_ROWS: u32 = 32;
 
-/// What a value has to be, of what stands behind the name of its key: what it is where it is absent is left out, and of
-/// a list that it may stand in a file.
+/// Returns the limits of a value from the `form` behind the name of its key. Leaves out the default in parentheses, and
+/// the note that a list may be in a file.
 #[tactic(auto, unfolding(crate::specs::Limits::form_limits))]
 fn form_limits(form: &str) -> &str
     ensures { result.now ≡ form_limits form.now }
@@ -26,7 +27,7 @@ fn form_limits(form: &str) -> &str
     }
 }
 
-/// Whether an item of a row is of a key: its own, or `file` in place of a list.
+/// Checks whether an item of a row is for `key`: its own key, or `file` in place of a list.
 #[tactic(auto, unfolding(crate::specs::Limits::is_of))]
 fn is_of(key: &str, name: &str, form: &str) -> bool
     ensures { result ≡ is_of key.now name.now form.now }
@@ -34,7 +35,7 @@ fn is_of(key: &str, name: &str, form: &str) -> bool
     key == name || key == "file" && has(form, ':')
 }
 
-/// The limits of a key, by the name and the form of an item.
+/// Returns the limits of `key` from the `name` and the `form` of an item.
 #[tactic(auto, unfolding(crate::specs::Limits::limits_by))]
 fn limits_by<'a>(key: &str, name: &str, form: &'a str) -> Option<&'a str>
     ensures { option_map (λ s. s.now) result ≡ limits_by key.now name.now form.now }
@@ -46,7 +47,7 @@ fn limits_by<'a>(key: &str, name: &str, form: &'a str) -> Option<&'a str>
     }
 }
 
-/// The limits that an item of a row gives a key.
+/// Returns the limits of `key` from an `item` of a row.
 fn limits_in<'a>(item: &'a str, key: &str) -> Option<&'a str>
     ensures { option_map (λ s. s.now) result ≡ limits_in key.now item.now }
 {
@@ -54,7 +55,7 @@ fn limits_in<'a>(item: &'a str, key: &str) -> Option<&'a str>
     limits_by(key, before(said, ' '), behind(said, ' '))
 }
 
-/// The limits of a key, by the first items of a row.
+/// Returns the limits of `key` from the first `items` items of `row`.
 #[tactic(auto, using(crate::proofs::Pieces::limits_none, crate::proofs::Pieces::limits_step))]
 fn limits_among<'a>(items: u32, key: &str, row: &'a str) -> Option<&'a str>
     ensures { option_map (λ s. s.now) result ≡ limits_among items key.now row.now }
@@ -68,7 +69,7 @@ fn limits_among<'a>(items: u32, key: &str, row: &'a str) -> Option<&'a str>
     }
 }
 
-/// What the first lines of the table of kinds say behind a word.
+/// Returns what is behind `word` in the first `lines` lines of the table of kinds.
 #[tactic(auto, using(crate::proofs::Pieces::row_none, crate::proofs::Pieces::row_step))]
 fn row_among<'a>(lines: u32, word: &str, kinds: &'a str) -> Option<&'a str>
     ensures { option_map (λ s. s.now) result ≡ row_among lines word.now kinds.now }
@@ -83,21 +84,21 @@ fn row_among<'a>(lines: u32, word: &str, kinds: &'a str) -> Option<&'a str>
     row_among(lines - 1, word, behind(kinds, '\n'))
 }
 
-/// What the table of kinds says behind a word.
+/// Returns what is behind `word` in the table of kinds.
 pub(crate) fn row_of<'a>(kinds: &'a str, word: &str) -> Option<&'a str>
     ensures { option_map (λ s. s.now) result ≡ row_of kinds.now word.now }
 {
     row_among(MOST_ROWS, word, kinds)
 }
 
-/// The limits of a key, by a row.
+/// Returns the limits of `key` from `row`.
 fn limits_by_row<'a>(row: &'a str, key: &str) -> Option<&'a str>
     ensures { option_map (λ s. s.now) result ≡ limits_among MOST_KEYS key.now row.now }
 {
     limits_among(MOST_KEYS, key, row)
 }
 
-/// The limits of a key of a kind, or of one that every kind has.
+/// Returns the limits of `key` for `kind`, or its limits as a key that every kind has.
 pub(crate) fn limits_of<'a>(kinds: &'a str, kind: &str, key: &str) -> Option<&'a str>
     ensures { option_map (λ s. s.now) result ≡ limits_of kinds.now kind.now key.now }
 {

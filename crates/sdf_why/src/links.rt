@@ -1,4 +1,4 @@
-//! What is told of a link, by its table.
+//! The lines about a link, from its table.
 
 ghost use Rattle.std.specs.Prelude.{◌≡◌, ◌++◌, OnOk, option_map, string_bytes};
 ghost use Rattle.toml.specs.View.{view};
@@ -12,7 +12,7 @@ use crate::words::{push_key, push_link};
 use std::alloc::{AllocError, Global};
 use toml::Value;
 
-/// Adds a link, by the ends in its table.
+/// Adds the line of the link `number`, whose table is `link`.
 fn push_link_table(
     alloc: Global,
     text: &mut String,
@@ -30,7 +30,7 @@ fn push_link_table(
     )
 }
 
-/// Adds the link of a number.
+/// Adds the line of the link `number`, if there is one.
 #[tactic(auto, unfolding(crate::specs::Links::link_told))]
 pub(crate) fn push_link_of(
     alloc: Global,
@@ -46,7 +46,7 @@ pub(crate) fn push_link_of(
     }
 }
 
-/// Adds a link, and what stands at a key of its table.
+/// Adds the line of the link `number`, and the line of its `key`.
 #[tactic(auto, unfolding(crate::specs::Links::link_key))]
 pub(crate) fn push_link_key(
     alloc: Global,
@@ -66,7 +66,7 @@ pub(crate) fn push_link_key(
     push_key(alloc, text, key, value_at(link, key), limits)
 }
 
-/// What the file writes as an end of a link.
+/// Returns the text of the end `key` of `link`. The key is `from` or `to`.
 #[tactic(auto, unfolding(crate::specs::Links::end_at))]
 pub(crate) fn end_at<'a>(graph: &'a Value, key: &str, link: usize) -> Option<&'a str>
     ensures { option_map (λ s. s.now) result ≡ end_at key.now (view graph.now) link }
@@ -74,7 +74,7 @@ pub(crate) fn end_at<'a>(graph: &'a Value, key: &str, link: usize) -> Option<&'a
     text_at(entry(graph, "link", link)?, key)
 }
 
-/// Adds the actor at an end of a link.
+/// Adds the actor at the end `key` of `link`.
 #[tactic(auto, unfolding(crate::specs::Links::end_told))]
 fn push_end_of(
     alloc: Global,
@@ -91,7 +91,7 @@ fn push_end_of(
     }
 }
 
-/// Adds a link and the actors at its ends.
+/// Adds `link` and the actors at its ends.
 #[tactic(auto, unfolding(crate::specs::Links::ends_told))]
 pub(crate) fn push_ends(
     alloc: Global,
@@ -106,7 +106,7 @@ pub(crate) fn push_ends(
     push_end_of(alloc, text, graph, "to", link)
 }
 
-/// The port of an end.
+/// Returns the port of `end`, 0 if it names none.
 #[tactic(auto, unfolding(crate::specs::Links::port_of))]
 fn port_of(end: &str) -> &str
     ensures { result.now ≡ port_of end.now }
@@ -114,7 +114,7 @@ fn port_of(end: &str) -> &str
     if has(end, ':') { behind(end, ':') } else { "0" }
 }
 
-/// Whether two ends are the same port.
+/// Checks whether two ends are the same port.
 #[tactic(auto, unfolding(crate::specs::Links::same_port))]
 fn same_port(one: &str, other: &str) -> bool
     ensures { result ≡ same_port one.now other.now }
@@ -122,7 +122,7 @@ fn same_port(one: &str, other: &str) -> bool
     before(one, ':') == before(other, ':') && port_of(one) == port_of(other)
 }
 
-/// Whether both ends are there, and the same port.
+/// Checks whether both ends exist and are the same port.
 fn same_end(one: Option<&str>, other: Option<&str>) -> bool
     ensures { result ≡ same_end (option_map (λ s. s.now) one.entry) (option_map (λ s. s.now) other.entry) }
 {
@@ -132,7 +132,7 @@ fn same_end(one: Option<&str>, other: Option<&str>) -> bool
     }
 }
 
-/// Whether two links share an end.
+/// Checks whether `link` and `other` share an end.
 #[tactic(auto, unfolding(crate::specs::Links::meet))]
 fn meet(graph: &Value, link: usize, other: usize) -> bool
     ensures { result ≡ meet (view graph.now) link other }
@@ -141,7 +141,7 @@ fn meet(graph: &Value, link: usize, other: usize) -> bool
         || same_end(end_at(graph, "to", link), end_at(graph, "to", other))
 }
 
-/// The first of so many links that shares an end with a link.
+/// Returns the first of `links` links that shares an end with `link`.
 #[tactic(auto, unfolding(crate::specs::Links::first_meeting))]
 pub(crate) fn first_meeting(graph: &Value, link: usize, links: usize) -> Option<usize>
     ensures { result ≡ first_meeting (view graph.now) link links }

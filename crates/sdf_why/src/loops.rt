@@ -1,4 +1,4 @@
-//! The loop of links by which a design keeps its samples for ever.
+//! A loop of links through which a design keeps its samples for ever.
 
 ghost use Rattle.std.specs.Prelude.{◌≡◌, ◌<◌, ◌++◌, ◌↔◌, ℕ, true, false, [], length, slice_index, slice_index_or};
 ghost use Rattle.std.specs.Prelude.{None, IfOk, OnOk, MatchOption, string_bytes, List};
@@ -13,7 +13,7 @@ use sdf_file::Design;
 use sdf_graph::Graph;
 use std::alloc::{AllocError, Global};
 
-/// Returns whether an actor is kept.
+/// Checks whether `actor` is kept.
 fn is_kept(kept: &[bool], actor: usize) -> bool
     ensures { result ≡ is_kept kept.now actor }
 {
@@ -37,7 +37,7 @@ fn feeder(graph: &Graph, kept: &[bool], actor: usize) -> Option<usize>
     None
 }
 
-/// Returns the first kept actor to which no channel leads from a kept one.
+/// Returns the first kept actor that has no channel from a kept actor.
 fn unfed(graph: &Graph, kept: &[bool]) -> Option<usize>
     ensures { MatchOption result ((a : ℕ) → IsUnfed graph.now kept.now a → ⊥) (IsUnfed graph.now kept.now) }
 {
@@ -49,7 +49,7 @@ fn unfed(graph: &Graph, kept: &[bool]) -> Option<usize>
     None
 }
 
-/// Returns the actors to which channels lead.
+/// Returns which actors have a channel that leads to them.
 fn targets(alloc: Global, graph: &Graph) -> Result<Vec<bool>, AllocError>
     ensures { IfOk result (λ v. AreTargets graph.now (length graph.now.channels) v.items) }
 {
@@ -60,7 +60,7 @@ fn targets(alloc: Global, graph: &Graph) -> Result<Vec<bool>, AllocError>
     Ok(kept)
 }
 
-/// Returns which actors are left if one after another is taken away that none of those left feeds.
+/// Returns the actors that are left after removing, one after another, each actor that no remaining actor feeds.
 fn kept_by_loops(alloc: Global, graph: &Graph) -> Result<Vec<bool>, AllocError>
     ensures loops { IfOk result (λ v. HoldsLoops graph.now v.items) }
     ensures fed { IfOk result (λ v. (a : ℕ) → IsUnfed graph.now v.items a → ⊥) }
@@ -72,7 +72,7 @@ fn kept_by_loops(alloc: Global, graph: &Graph) -> Result<Vec<bool>, AllocError>
     Ok(kept)
 }
 
-/// Returns what feeds an actor, if it is kept.
+/// Returns the channel that feeds `actor`, if the actor is kept. It is a `Halt` so that `cycle_of` can follow it.
 fn halt_of(graph: &Graph, kept: &[bool], actor: usize) -> Halt
     ensures kept { is_kept kept.now actor ≡ true →
         MatchOption result.short ((c : ℕ) → Feeds graph.now kept.now actor c → ⊥) (Feeds graph.now kept.now actor) }
@@ -86,7 +86,7 @@ fn halt_of(graph: &Graph, kept: &[bool], actor: usize) -> Halt
     Halt { done: 0, short }
 }
 
-/// Returns what feeds each actor that is kept.
+/// Returns the channel that feeds each kept actor.
 fn halts_of(alloc: Global, graph: &Graph, kept: &[bool]) -> Result<Vec<Halt>, AllocError>
     ensures { IfOk result (λ v. AreFed graph.now kept.now v.items) }
 {
@@ -110,7 +110,7 @@ fn loop_of(alloc: Global, graph: &Graph) -> Result<Option<Vec<usize>>, AllocErro
     Ok(Some(numbers))
 }
 
-/// Adds the name of the actor from which a channel leads.
+/// Adds the name of the source of the channel `number`.
 fn push_source(text: &mut String, design: &Design, number: usize) -> Result<(), AllocError>
     requires { number < length (graph_of kit_steps design.now.net).channels }
     ensures { OnOk result (string_bytes text.new ≡ string_bytes text.old
@@ -120,7 +120,7 @@ fn push_source(text: &mut String, design: &Design, number: usize) -> Result<(), 
     text.push_str(design.name(channel.from))
 }
 
-/// Adds an arrow to the actor from which a channel leads.
+/// Adds an arrow and the name of the source of the channel `number`.
 #[tactic(auto, unfolding(crate::specs::Loops::arrow_to))]
 fn push_arrow(text: &mut String, design: &Design, number: usize) -> Result<(), AllocError>
     requires { number < length (graph_of kit_steps design.now.net).channels }
@@ -131,7 +131,7 @@ fn push_arrow(text: &mut String, design: &Design, number: usize) -> Result<(), A
     push_source(text, design, number)
 }
 
-/// Adds arrows to the actors from which channels lead.
+/// Adds an arrow and the name of the source of each channel in `numbers`.
 fn push_arrows(text: &mut String, design: &Design, numbers: &[usize]) -> Result<(), AllocError>
     requires { All (λ c. c < length (graph_of kit_steps design.now.net).channels) numbers.now }
     ensures { OnOk result (string_bytes text.new ≡ string_bytes text.old
@@ -143,7 +143,7 @@ fn push_arrows(text: &mut String, design: &Design, numbers: &[usize]) -> Result<
     Ok(())
 }
 
-/// Adds the actors from which channels lead, with arrows between them.
+/// Adds the names of the sources of the channels in `numbers`, with arrows between them.
 fn push_line(text: &mut String, design: &Design, numbers: &[usize]) -> Result<(), AllocError>
     requires { All (λ c. c < length (graph_of kit_steps design.now.net).channels) numbers.now }
     ensures { OnOk result (string_bytes text.new ≡ string_bytes text.old
@@ -156,7 +156,7 @@ fn push_line(text: &mut String, design: &Design, numbers: &[usize]) -> Result<()
     push_arrows(text, design, others)
 }
 
-/// Returns the actors of a loop of a design with its flow, by their names, or nothing if there is none.
+/// Returns the names of the actors of a loop of `design`, in the order of its flow, or nothing if there is no loop.
 pub fn loop_text(alloc: Global, design: &Design) -> Result<String, AllocError>
     ensures { IfOk result (λ text. IsLoopText (graph_of kit_steps design.now.net) design.now.names
         (string_bytes text)) }

@@ -1,9 +1,9 @@
-//! Texts before and behind a mark.
+//! The parts of a text before and behind a mark.
 
 ghost use Rattle.std.specs.Prelude.{◌≡◌, ◌<◌};
 ghost use Rattle.sdf_why.specs.Limits.{before, behind, has};
 
-/// What stands before the first mark, or all where there is none.
+/// Returns the part of `text` before the first `mark`, or all of it if there is none.
 #[tactic(auto, using(std::proofs::lemmas::Str::Pattern::split_once_first), unfolding(crate::specs::Limits::before))]
 pub(crate) fn before(text: &str, mark: char) -> &str
     requires { mark < 128 }
@@ -15,7 +15,7 @@ pub(crate) fn before(text: &str, mark: char) -> &str
     }
 }
 
-/// What stands behind the first mark, or nothing where there is none.
+/// Returns the part of `text` behind the first `mark`, or nothing if there is none.
 #[tactic(auto, using(std::proofs::lemmas::Str::Pattern::split_once_first), unfolding(crate::specs::Limits::behind))]
 pub(crate) fn behind(text: &str, mark: char) -> &str
     requires { mark < 128 }
@@ -27,7 +27,7 @@ pub(crate) fn behind(text: &str, mark: char) -> &str
     }
 }
 
-/// Whether the mark stands in the text.
+/// Checks whether `text` has the `mark`.
 #[tactic(auto, using(std::proofs::lemmas::Str::Pattern::split_once_first), unfolding(crate::specs::Limits::has))]
 pub(crate) fn has(text: &str, mark: char) -> bool
     requires { mark < 128 }

@@ -37,7 +37,7 @@ fn is_marked(marked: &[bool], actor: usize) -> bool
     }
 }
 
-/// Adds an actor that has no mark.
+/// Adds the line of `actor`, if it has no mark.
 #[tactic(auto, unfolding(crate::specs::More::apart_told))]
 fn push_apart(
     alloc: Global,
@@ -56,7 +56,7 @@ fn push_apart(
     }
 }
 
-/// Adds those of the first so many actors that have none.
+/// Adds the lines of the actors without a mark among the first `actors` actors.
 fn push_all_apart(
     alloc: Global,
     text: &mut String,
@@ -73,7 +73,7 @@ fn push_all_apart(
     Ok(())
 }
 
-/// All actors that links do not join to actor 0.
+/// Returns the lines of all actors that links do not join to actor 0.
 fn apart_text(
     alloc: Global,
     tables: &Value,
@@ -91,7 +91,7 @@ fn apart_text(
     Ok(text)
 }
 
-/// Adds so many of one thing, by its name.
+/// Adds `count` and the `name` of what is counted.
 #[tactic(auto, unfolding(crate::specs::More::so_many))]
 fn push_so_many(
     alloc: Global,
@@ -106,7 +106,7 @@ fn push_so_many(
     push_name(alloc, text, name)
 }
 
-/// Adds how often the actors at the ends of a link fire.
+/// Adds the line with the firings of a link's two actors, as the other links set them.
 #[tactic(auto, unfolding(crate::specs::More::firings_line))]
 fn push_firings(
     alloc: Global,
@@ -125,7 +125,7 @@ fn push_firings(
     Ok(text.push_str("\n")?)
 }
 
-/// Adds how many samples an end of a link moves, by this verb.
+/// Adds the `samples` that an `end` of a link moves, with the `verb` for it.
 #[tactic(auto, unfolding(crate::specs::More::moves_text))]
 fn push_moves(
     alloc: Global,
@@ -141,7 +141,7 @@ fn push_moves(
     write!(text, "{verb}{samples}")
 }
 
-/// Adds what these firings put on the link and take from it.
+/// Adds the line with the samples that the firings of `meeting` put on a link and take from it.
 #[tactic(auto, unfolding(crate::specs::More::samples_line))]
 fn push_samples(
     alloc: Global,
@@ -192,7 +192,7 @@ fn push_samples_of(
     push_samples(alloc, text, meeting, from, to)
 }
 
-/// Returns what meets at a link of these channels, or nothing if there is no such link.
+/// Returns the lines about the channel balance at `link`, or nothing if there is no link with this number.
 #[tactic(auto, unfolding(crate::specs::More::meeting_told))]
 fn meeting_text(
     alloc: Global,
@@ -211,7 +211,7 @@ fn meeting_text(
     Ok(text)
 }
 
-/// What more is told of a fault of a document's graph.
+/// Returns the rest of the diagnostic for a `fault` of the graph of `document`.
 fn graph_more(
     alloc: Global,
     fault: GraphFault,
@@ -232,7 +232,7 @@ fn graph_more(
     }
 }
 
-/// Returns what more is told of a fault of a document's net.
+/// Returns the rest of the diagnostic for a `fault` of the net of `document`.
 fn net_more(
     alloc: Global,
     fault: NetFault,
@@ -249,7 +249,7 @@ fn net_more(
     }
 }
 
-/// Returns what more is told of the first test that a net fails, and nothing if the files say no document.
+/// Returns the rest of the diagnostic for a `fault` of a net, or nothing if the files give no document.
 pub(crate) fn more_text(
     alloc: Global,
     fault: NetFault,

@@ -1,4 +1,4 @@
-//! What the user may have meant: a name that is like one that is not known.
+//! What the user may have meant: a known name that is like an unknown one.
 
 ghost use Rattle.std.specs.Prelude.{◌≡◌, ◌++◌, IfOk, OnOk, map, string_bytes};
 ghost use Rattle.std.specs.List.{flat_map};
@@ -19,7 +19,7 @@ use sdf_similar::nearest;
 use std::alloc::{AllocError, Global};
 use toml::Value;
 
-/// Adds the one of `names` that is most like `word`, if one is like it and is not the word itself.
+/// Adds the name in `names` that is most like `word`, if there is one and it is not the word itself.
 #[tactic(auto, unfolding(crate::specs::Near::near_told))]
 fn push_near(alloc: Global, text: &mut String, names: &[&str], word: &str) -> Result<(), AllocError>
     ensures { OnOk result (string_bytes text.new ≡ string_bytes text.old
@@ -43,7 +43,7 @@ fn kind_words(alloc: Global) -> Result<Vec<&'static str>, AllocError>
     Ok(words)
 }
 
-/// Adds the kind that may have been meant by an actor's.
+/// Adds the kind that may have been meant for `actor`.
 #[tactic(auto, unfolding(crate::specs::Near::near_kind))]
 pub(crate) fn push_near_kind(
     alloc: Global,
@@ -60,7 +60,7 @@ pub(crate) fn push_near_kind(
     push_near(alloc, text, &words, word)
 }
 
-/// Adds the name of a key, and `file` behind a list's, in whose place it may stand.
+/// Adds the name of `key`, and for a list also `file`, which may replace it.
 fn push_key_names(names: &mut Vec<&str>, key: &KeyForm) -> Result<(), AllocError>
     ensures { OnOk result (map (λ name. name.now) names.new.items ≡
         map (λ name. name.now) names.old.items ++ key_names (key_view key.now)) }
@@ -107,7 +107,7 @@ fn actor_keys(alloc: Global, word: &str) -> Result<Vec<&'static str>, AllocError
     Ok(names)
 }
 
-/// Adds the key that may have been meant in an actor's table.
+/// Adds the key that may have been meant by `key` in the table of `actor`.
 #[tactic(auto, unfolding(crate::specs::Near::near_actor_key))]
 fn push_near_actor_key(
     alloc: Global,
@@ -126,7 +126,7 @@ fn push_near_actor_key(
     push_near(alloc, text, &names, key)
 }
 
-/// Adds the key that may have been meant at a place.
+/// Adds the key that may have been meant by `key` at `place`.
 pub(crate) fn push_near_key(
     alloc: Global,
     text: &mut String,
@@ -145,7 +145,7 @@ pub(crate) fn push_near_key(
     }
 }
 
-/// Adds the name of an actor, if it has one.
+/// Adds the name of `actor`, if it has one.
 #[tactic(auto, unfolding(crate::specs::Near::name_in))]
 fn push_name_of<'a>(
     names: &mut Vec<&'a str>,
@@ -172,7 +172,7 @@ fn actor_names<'a>(alloc: Global, graph: &'a Value) -> Result<Vec<&'a str>, Allo
     Ok(names)
 }
 
-/// Adds the actor that may have been meant by an end of a link.
+/// Adds the actor that may have been meant by the end `key` of `link`.
 #[tactic(auto, unfolding(crate::specs::Near::near_end))]
 pub(crate) fn push_near_end(
     alloc: Global,

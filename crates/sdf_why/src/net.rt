@@ -1,4 +1,4 @@
-//! What is told of a net that is refused.
+//! The diagnostic for a net that is refused, from its tables.
 
 ghost use Rattle.std.specs.Prelude.{◌≡◌, ◌++◌, OnOk, option_map, string_bytes};
 ghost use Rattle.toml.specs.View.{view};
@@ -14,7 +14,7 @@ use sdf_limits::{MOST_ACTORS, MOST_INITIAL};
 use std::alloc::{AllocError, Global};
 use toml::Value;
 
-/// Adds the first actor of a kind, and what stands at a key of its table.
+/// Adds the first actor of this `kind`, and the line of its `key`.
 #[tactic(auto, unfolding(crate::specs::Nets::first_of))]
 fn push_first_of(
     alloc: Global,
@@ -32,7 +32,7 @@ fn push_first_of(
     }
 }
 
-/// Adds an actor where it is of a kind, and what stands at a key of its table.
+/// Adds `actor` if it is of this `kind`, and the line of its `key`.
 #[tactic(auto, unfolding(crate::specs::Nets::one_of))]
 fn push_one_of(
     alloc: Global,
@@ -52,7 +52,7 @@ fn push_one_of(
     }
 }
 
-/// Adds all actors of a kind, and what stands at a key of their tables.
+/// Adds all actors of this `kind`, and the lines of their `key`.
 #[tactic(auto, unfolding(crate::specs::Nets::all_of))]
 pub(crate) fn push_all_of(
     alloc: Global,
@@ -70,7 +70,7 @@ pub(crate) fn push_all_of(
     Ok(())
 }
 
-/// The whole number at a key of an actor.
+/// Returns the whole number at `key` of `actor`.
 #[tactic(auto, unfolding(crate::specs::Nets::number_at))]
 fn number_at(graph: &Value, key: &str, actor: usize) -> Option<i64>
     ensures { result ≡ number_at key.now (view graph.now) actor }
@@ -96,7 +96,7 @@ fn same_text(one: Option<&str>, other: Option<&str>) -> bool
     }
 }
 
-/// Whether two actors are of one kind and of one channel.
+/// Checks whether two actors have the same kind and the same channel.
 #[tactic(auto, unfolding(crate::specs::Nets::rival))]
 fn rival(graph: &Value, actor: usize, other: usize) -> bool
     ensures { result ≡ rival (view graph.now) actor other }
@@ -110,7 +110,7 @@ fn rival(graph: &Value, actor: usize, other: usize) -> bool
     )
 }
 
-/// The first of so many actors that is of an actor's kind and channel.
+/// Returns the first of `actors` actors that has the kind and the channel of `actor`.
 #[tactic(auto, unfolding(crate::specs::Nets::first_rival))]
 fn first_rival(graph: &Value, actor: usize, actors: usize) -> Option<usize>
     ensures { result ≡ first_rival (view graph.now) actor actors }
@@ -118,7 +118,7 @@ fn first_rival(graph: &Value, actor: usize, actors: usize) -> Option<usize>
     (0..actors).find(|other| rival(graph, actor, *other))
 }
 
-/// Adds an actor, its channel, and the earlier actor that has the same.
+/// Adds `actor`, its channel, and the earlier actor with the same kind and channel.
 #[tactic(auto, unfolding(crate::specs::Nets::rivals))]
 fn push_rivals(
     alloc: Global,
@@ -136,7 +136,7 @@ fn push_rivals(
     }
 }
 
-/// Adds an actor, its block, and the first actor of its kind.
+/// Adds `actor` with its block, and the first actor of this `kind` with its block.
 #[tactic(auto, unfolding(crate::specs::Nets::beside_first))]
 fn push_beside_first(
     alloc: Global,
@@ -152,7 +152,7 @@ fn push_beside_first(
     push_first_of(alloc, text, graph, kind, "block")
 }
 
-/// Adds a link, and the first before it that shares an end with it.
+/// Adds `link`, and the first link before it that shares an end with it.
 #[tactic(auto, unfolding(crate::specs::Nets::meeting))]
 fn push_meeting(
     alloc: Global,
@@ -169,7 +169,7 @@ fn push_meeting(
     }
 }
 
-/// Adds a link, and how many samples it begins with.
+/// Adds `link` and its initial samples, with their limit.
 #[tactic(auto, unfolding(crate::specs::Nets::begun))]
 fn push_begun(
     alloc: Global,

@@ -1,4 +1,4 @@
-//! How many ports the actors at the ends of a link have.
+//! The numbers of ports that the actors at the ends of a link have.
 
 ghost use Rattle.std.specs.Prelude.{◌≡◌, ◌++◌, IfOk, OnOk, map, string_bytes};
 ghost use Rattle.sdf_document.specs.Actors.{actor_view};
@@ -12,7 +12,7 @@ use crate::words::push_quoted;
 use sdf_document::{ActorEntry, Document, LinkEntry};
 use std::alloc::{AllocError, Global};
 
-/// Adds the number of ports on one side, by the `word` for one of them.
+/// Adds the number of ports on one side. `word` is the noun for one of them.
 #[tactic(auto, unfolding(crate::specs::Ports::count_text))]
 fn push_count(text: &mut String, count: usize, word: &str) -> Result<(), AllocError>
     ensures { OnOk result (string_bytes text.new ≡ string_bytes text.old ++ count_text count word.now) }
@@ -35,7 +35,7 @@ fn push_counts(text: &mut String, inputs: usize, outputs: usize) -> Result<(), A
     push_count(text, outputs, "output")
 }
 
-/// Adds the line of an actor with these ports.
+/// Adds the line of the actor `name` with its numbers of ports.
 #[tactic(auto, unfolding(crate::specs::Ports::ports_line))]
 fn push_line(
     alloc: Global,
@@ -63,7 +63,7 @@ fn push_ports(alloc: Global, text: &mut String, actor: &ActorEntry) -> Result<()
     push_line(alloc, text, actor.name.as_str(), inputs, outputs)
 }
 
-/// Adds the ports of the actor of a number.
+/// Adds the ports of the actor `number`, if there is one.
 #[tactic(auto, unfolding(crate::specs::Ports::actor_ports))]
 fn push_ports_at(
     alloc: Global,
@@ -94,7 +94,7 @@ fn push_link_ports(
     push_ports_at(alloc, text, actors, link.to.0)
 }
 
-/// Returns the ports of the actors at the ends of a link, or nothing if there is no such link.
+/// Returns the ports of the actors at the ends of `link`, or nothing if there is no link with this number.
 #[tactic(auto, unfolding(crate::specs::Ports::ports_told))]
 pub(crate) fn ports_text(
     alloc: Global,

@@ -1,4 +1,4 @@
-//! What the system or the reader of TOML said of a file.
+//! Diagnostics with the message of the system or of the TOML parser.
 
 ghost use Rattle.std.specs.Prelude.{◌≡◌, IfOk, string_bytes};
 ghost use Rattle.sdf_why.specs.Words.{said_line};
@@ -9,7 +9,7 @@ use crate::words::push_said;
 use std::alloc::{AllocError, Global};
 use toml::de::Error;
 
-/// What is told of a file by what was said of it, as that it is not there or is a folder.
+/// Returns the diagnostic for the file `name` with the message `said`, for example that it is a folder.
 pub fn device_text(alloc: Global, name: &str, said: &str) -> Result<String, AllocError>
     ensures { IfOk result (λ text. string_bytes text ≡ said_line name.now said.now) }
 {
@@ -18,7 +18,7 @@ pub fn device_text(alloc: Global, name: &str, said: &str) -> Result<String, Allo
     Ok(text)
 }
 
-/// The line and the column of an error, and what is wrong there.
+/// Returns the line and the column of `error`, and its message.
 fn said_of(alloc: Global, error: &Error) -> Result<String, AllocError> {
     let whole = format!(in alloc; "{error}")?;
     let place = before(whole.as_str(), '\n');
@@ -26,7 +26,7 @@ fn said_of(alloc: Global, error: &Error) -> Result<String, AllocError> {
     format!(in alloc; "{place}: {message}")
 }
 
-/// What is told of a file by an error of its reader.
+/// Returns the diagnostic for the file `name` with the `error` of the TOML parser.
 fn error_text(alloc: Global, name: &str, error: &Error) -> Result<String, AllocError>
     ensures { IfOk result (λ text. IsSaid name.now (string_bytes text)) }
 {
@@ -35,7 +35,7 @@ fn error_text(alloc: Global, name: &str, error: &Error) -> Result<String, AllocE
     Ok(text)
 }
 
-/// Returns what is wrong with `bytes` that are not TOML, and where; empty if they are.
+/// Returns the diagnostic for `bytes` that are not TOML, with the line and the column; empty if they are.
 pub fn toml_text(alloc: Global, name: &str, bytes: &[u8]) -> Result<String, AllocError>
     ensures { IfOk result (λ text. IsTomlText name.now bytes.now (string_bytes text)) }
 {

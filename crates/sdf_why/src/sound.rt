@@ -1,4 +1,4 @@
-//! What is told of a sound that a design does not take.
+//! The diagnostic for a sound that a design does not take.
 
 ghost use Rattle.std.specs.Prelude.{◌≡◌, ◌++◌, ◌*◌, ◌<◌, ◌≤◌, OnOk, string_bytes};
 ghost use Rattle.toml.specs.View.{view};
@@ -9,7 +9,7 @@ use crate::net::push_all_of;
 use std::alloc::{AllocError, Global};
 use toml::Value;
 
-/// What the header of a sound says.
+/// The rate in Hz and the number of channels in the header of a sound.
 #[derive(Clone, Copy, Debug, PartialEq, Eq)]
 pub struct Header {
     pub rate: u32,
@@ -51,7 +51,7 @@ pub(crate) fn push_channels(
     push_all_of(alloc, text, graph, "input", "channel")
 }
 
-/// Adds how a rate comes of another one.
+/// Adds the formula of the output's rate: `rate` times `made` over `taken`.
 #[tactic(auto, unfolding(crate::specs::Sounds::product_text))]
 fn push_product(text: &mut String, rate: u32, made: usize, taken: usize) -> Result<(), AllocError>
     ensures { OnOk result (string_bytes text.new ≡ string_bytes text.old ++ product_text rate made taken) }
@@ -60,7 +60,7 @@ fn push_product(text: &mut String, rate: u32, made: usize, taken: usize) -> Resu
     Ok(())
 }
 
-/// Adds a quotient: a whole number and a part.
+/// Adds `all` over `by` as a whole number and a fraction.
 #[tactic(auto, unfolding(crate::specs::Sounds::quotient_text))]
 fn push_quotient(text: &mut String, all: u64, by: u64) -> Result<(), AllocError>
     requires { 0 < by }
@@ -72,7 +72,8 @@ fn push_quotient(text: &mut String, all: u64, by: u64) -> Result<(), AllocError>
     Ok(())
 }
 
-/// Adds the rate that would come of a sound, of which a design takes so many samples in a period where it makes others.
+/// Adds the rate of the output. In a period the design makes `made` samples of an output from `taken` samples of an
+/// input.
 #[tactic(auto, unfolding(crate::specs::Sounds::rate_line))]
 pub(crate) fn push_rate(
     text: &mut String,

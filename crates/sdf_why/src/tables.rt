@@ -1,4 +1,4 @@
-//! What stands in the tables of a graph file.
+//! The tables of a graph file.
 
 ghost use Rattle.std.specs.Prelude.{◌≡◌, IfOk, option_map};
 ghost use Rattle.toml.specs.View.{view};
@@ -8,7 +8,7 @@ ghost use Rattle.sdf_why.specs.Tables.{root, text_at, entry, actor_text, says, f
 use std::alloc::{AllocError, Global};
 use toml::Value;
 
-/// What is told of, and what it is told by: the graph file, its coefficient files and the table of kinds.
+/// The sources of a diagnostic: the graph file, its coefficient files and the table of kinds.
 #[derive(Clone, Copy)]
 pub(crate) struct Source<'a> {
     pub(crate) graph: &'a Value,
@@ -16,7 +16,7 @@ pub(crate) struct Source<'a> {
     pub(crate) kinds: &'a str,
 }
 
-/// The document that the bytes are.
+/// Parses `bytes` as a TOML document, if they are one.
 #[tactic(auto, using(crate::proofs::Roots::root_found, crate::proofs::Roots::root_missing))]
 pub(crate) fn root(alloc: Global, bytes: &[u8]) -> Result<Option<Value>, AllocError>
     ensures { IfOk result (λ r. option_map view r ≡ root bytes.now) }
@@ -28,14 +28,14 @@ pub(crate) fn root(alloc: Global, bytes: &[u8]) -> Result<Option<Value>, AllocEr
     }
 }
 
-/// The value at a key.
+/// Returns the value at `key`.
 pub(crate) fn value_at<'a>(value: &'a Value, key: &str) -> Option<&'a Value>
     ensures { option_map (λ v. view v.now) result ≡ get key.now (view value.now) }
 {
     value.get(key)
 }
 
-/// The text at a key.
+/// Returns the text at `key`.
 #[tactic(auto, unfolding(crate::specs::Tables::text_at))]
 pub(crate) fn text_at<'a>(value: &'a Value, key: &str) -> Option<&'a str>
     ensures { option_map (λ s. s.now) result ≡ text_at key.now (view value.now) }
@@ -43,7 +43,7 @@ pub(crate) fn text_at<'a>(value: &'a Value, key: &str) -> Option<&'a str>
     value_at(value, key)?.as_str()
 }
 
-/// A table of an array, by its number.
+/// Returns the table `number` of `array`.
 #[tactic(auto, unfolding(crate::specs::Tables::entry))]
 pub(crate) fn entry<'a>(value: &'a Value, array: &str, number: usize) -> Option<&'a Value>
     ensures { option_map (λ v. view v.now) result ≡ entry array.now number (view value.now) }
@@ -51,7 +51,7 @@ pub(crate) fn entry<'a>(value: &'a Value, array: &str, number: usize) -> Option<
     value_at(value, array)?.get(number)
 }
 
-/// The text at a key of an actor.
+/// Returns the text at `key` of `actor`.
 #[tactic(auto, unfolding(crate::specs::Tables::actor_text))]
 pub(crate) fn actor_text<'a>(value: &'a Value, key: &str, actor: usize) -> Option<&'a str>
     ensures { option_map (λ s. s.now) result ≡ actor_text key.now (view value.now) actor }
@@ -59,7 +59,7 @@ pub(crate) fn actor_text<'a>(value: &'a Value, key: &str, actor: usize) -> Optio
     text_at(entry(value, "actor", actor)?, key)
 }
 
-/// Whether an actor has this text at a key.
+/// Checks whether `actor` has `text` at `key`.
 #[tactic(auto, unfolding(crate::specs::Tables::says))]
 pub(crate) fn says(value: &Value, key: &str, text: &str, actor: usize) -> bool
     ensures { result ≡ says key.now text.now (view value.now) actor }
@@ -70,7 +70,7 @@ pub(crate) fn says(value: &Value, key: &str, text: &str, actor: usize) -> bool
     }
 }
 
-/// The first of so many actors that has this text at a key.
+/// Returns the first of `actors` actors that has `text` at `key`.
 #[tactic(auto, unfolding(crate::specs::Tables::first_saying))]
 pub(crate) fn first_saying(value: &Value, key: &str, text: &str, actors: usize) -> Option<usize>
     ensures { result ≡ first_saying key.now text.now (view value.now) actors }

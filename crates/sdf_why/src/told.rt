@@ -1,4 +1,4 @@
-//! What is told of a fault, by the files of the design.
+//! The diagnostic for each fault, from the files of the design.
 
 ghost use Rattle.std.specs.Prelude.{◌≡◌, ◌++◌, None, IfOk, OnOk, MatchOption, string_bytes};
 ghost use Rattle.toml.specs.View.{view};
@@ -35,7 +35,7 @@ pub struct Sources<'a> {
     pub files: &'a [(String, Vec<u8>)],
 }
 
-/// What is told of the first test that a net fails, by its tables.
+/// Returns the part of a net's diagnostic that needs only the tables of the graph file.
 #[tactic(auto, unfolding(crate::specs::Told::net_text))]
 fn tables_text(alloc: Global, fault: NetFault, graph: &[u8]) -> Result<String, AllocError>
     ensures { IfOk result (λ text. string_bytes text ≡ net_text fault graph.now) }
@@ -47,7 +47,7 @@ fn tables_text(alloc: Global, fault: NetFault, graph: &[u8]) -> Result<String, A
     Ok(text)
 }
 
-/// What is told of the first test that a net fails.
+/// Returns the diagnostic for a `fault` of a net.
 pub fn net_text(alloc: Global, fault: NetFault, sources: Sources<'_>) -> Result<String, AllocError>
     ensures { IfOk result (λ text. IsNetText fault sources.entry.graph.now (files_view sources.entry.files.now)
         (string_bytes text)) }
@@ -58,7 +58,7 @@ pub fn net_text(alloc: Global, fault: NetFault, sources: Sources<'_>) -> Result<
     Ok(text)
 }
 
-/// What is told of the first test that files fail.
+/// Returns the diagnostic for a `fault` of the files of a design.
 pub fn file_text(
     alloc: Global,
     fault: &FileFault,
@@ -74,7 +74,7 @@ pub fn file_text(
     }
 }
 
-/// Adds the processor of an actor, and those that there are.
+/// Adds the key `processor` of `actor`, with its limits for `workers` workers.
 #[tactic(auto, unfolding(crate::specs::Told::processor_line))]
 fn push_processor(
     alloc: Global,
@@ -94,7 +94,7 @@ fn push_processor(
     )
 }
 
-/// Adds an actor without a home among so many workers.
+/// Adds the actor `number`, which has no home among `workers` workers.
 fn push_home(
     alloc: Global,
     text: &mut String,
@@ -109,7 +109,7 @@ fn push_home(
     push_processor(alloc, text, workers, actor)
 }
 
-/// What is told of an actor without a home among so many workers.
+/// Returns the diagnostic for the actor `number`, which has no home among `workers` workers.
 #[tactic(auto, unfolding(crate::specs::Told::home_text))]
 pub fn home_text(
     alloc: Global,
@@ -130,14 +130,14 @@ pub fn home_text(
     Ok(text)
 }
 
-/// The tables and the design of files, where they are a design's.
+/// The tables of a graph file, and the design that it makes with its coefficient files.
 #[derive(Drop)]
 struct Basis {
     document: Value,
     design: Design,
 }
 
-/// No design, unless it was memory that lacked.
+/// Returns no design for `fault`, and errs if it is a refused allocation.
 fn no_design(fault: &FileFault) -> Result<Option<Design>, AllocError>
     ensures { IfOk result (λ r. (r ≡ None) × (fault.now ≡ OutOfMemory → ⊥)) }
 {
@@ -147,7 +147,7 @@ fn no_design(fault: &FileFault) -> Result<Option<Design>, AllocError>
     }
 }
 
-/// The design of files, if they give one.
+/// Returns the design of `sources`, if they give one.
 fn design_of(alloc: Global, sources: Sources<'_>) -> Result<Option<Design>, AllocError>
     ensures { IfOk result (λ r. MatchOption r (SaysNone sources.entry.graph.now (files_view sources.entry.files.now))
         (IsDesignOf sources.entry.graph.now (files_view sources.entry.files.now))) }
@@ -158,7 +158,7 @@ fn design_of(alloc: Global, sources: Sources<'_>) -> Result<Option<Design>, Allo
     }
 }
 
-/// The tables and the design of files, if they give one.
+/// Returns the tables and the design of `sources`, if they give one.
 fn read(alloc: Global, sources: Sources<'_>) -> Result<Option<Basis>, AllocError>
     ensures { IfOk result (λ r. MatchOption r (SaysNone sources.entry.graph.now (files_view sources.entry.files.now))
         (λ x. Says sources.entry.graph.now (files_view sources.entry.files.now) (view x.document) x.design)) }
@@ -172,7 +172,7 @@ fn read(alloc: Global, sources: Sources<'_>) -> Result<Option<Basis>, AllocError
     }
 }
 
-/// A cycle of a deadlocked design.
+/// Returns the lines of a deadlocked design: a cycle, and the other links that actors wait for.
 fn stall_of(
     alloc: Global,
     halts: &[Halt],
@@ -185,7 +185,7 @@ fn stall_of(
     cycle_text(alloc, document, design.net().graph(), halts)
 }
 
-/// What is told of a deadlock whose actors came so far.
+/// Returns the diagnostic for a deadlock whose actors stopped as in `halts`.
 pub fn stall_text(alloc: Global, halts: &[Halt], sources: Sources<'_>) -> Result<String, AllocError>
     ensures { IfOk result (λ text. IsStallText sources.entry.graph.now (files_view sources.entry.files.now) halts.now
         (string_bytes text)) }
@@ -196,7 +196,7 @@ pub fn stall_text(alloc: Global, halts: &[Halt], sources: Sources<'_>) -> Result
     stall_of(alloc, halts, &basis.document, &basis.design)
 }
 
-/// The channels of a design and of a sound.
+/// Returns the lines about the channels of a design and of a sound.
 fn channels_of(
     alloc: Global,
     header: Header,
@@ -211,7 +211,7 @@ fn channels_of(
     Ok(text)
 }
 
-/// What is told of a sound that has not the channels which a design reads.
+/// Returns the diagnostic for a sound that lacks a channel of the design.
 pub fn channels_text(
     alloc: Global,
     header: Header,
@@ -226,7 +226,7 @@ pub fn channels_text(
     channels_of(alloc, header, &basis.document, &basis.design)
 }
 
-/// The rate that a design would make of a sound's.
+/// Returns the line about the rate of a design's output.
 fn rate_of(alloc: Global, header: Header, design: &Design) -> Result<String, AllocError>
     ensures { IfOk result (λ text. IsRateOf design.now header (string_bytes text)) }
 {
@@ -236,7 +236,7 @@ fn rate_of(alloc: Global, header: Header, design: &Design) -> Result<String, All
     Ok(text)
 }
 
-/// What is told of a sound of which a design would make one whose rate is no whole number.
+/// Returns the diagnostic for a sound for which the rate of the output is not a whole number.
 pub fn rate_text(alloc: Global, header: Header, sources: Sources<'_>) -> Result<String, AllocError>
     ensures { IfOk result (λ text. IsRateText sources.entry.graph.now (files_view sources.entry.files.now) header
         (string_bytes text)) }
@@ -247,7 +247,7 @@ pub fn rate_text(alloc: Global, header: Header, sources: Sources<'_>) -> Result<
     rate_of(alloc, header, &basis.design)
 }
 
-/// The longest block of a design.
+/// Returns the line about the longest block of a design.
 fn block_of(alloc: Global, design: &Design) -> Result<String, AllocError>
     ensures { IfOk result (λ text. IsBlockOf design.now (string_bytes text)) }
 {

@@ -1,4 +1,4 @@
-//! The words of what is told.
+//! The wording of diagnostics.
 
 ghost use Rattle.std.specs.Prelude.{◌≡◌, ◌++◌, OnOk, option_map, string_bytes};
 ghost use Rattle.toml.specs.View.{view};
@@ -12,7 +12,7 @@ use sdf_options::printable::printable;
 use std::alloc::{AllocError, Global};
 use toml::Value;
 
-/// Adds a text of the user's file.
+/// Adds `said`, a text from the user's file, with its control characters escaped.
 fn push_printable(alloc: Global, text: &mut String, said: &str) -> Result<(), AllocError>
     ensures { OnOk result (string_bytes text.new ≡ string_bytes text.old ++ printable_text said.now) }
 {
@@ -20,7 +20,7 @@ fn push_printable(alloc: Global, text: &mut String, said: &str) -> Result<(), Al
     Ok(text.push_str(shown.as_str())?)
 }
 
-/// Adds it in quotes.
+/// Adds `said`, a text from the user's file, in quotes.
 pub(crate) fn push_quoted(alloc: Global, text: &mut String, said: &str) -> Result<(), AllocError>
     ensures { OnOk result (string_bytes text.new ≡ string_bytes text.old ++ quoted said.now) }
 {
@@ -29,7 +29,7 @@ pub(crate) fn push_quoted(alloc: Global, text: &mut String, said: &str) -> Resul
     Ok(text.push_str("\"")?)
 }
 
-/// Adds a value: a text in quotes, a whole number in digits, of a list how long it is, and of anything else what it is.
+/// Adds a value: a text in quotes, a whole number in digits, a list by its length, and anything else by its type.
 #[tactic(auto, using(crate::proofs::Items::item_count_view))]
 pub(crate) fn push_value(alloc: Global, text: &mut String, value: &Value) -> Result<(), AllocError>
     ensures { OnOk result (string_bytes text.new ≡ string_bytes text.old ++ value_text (view value.now)) }
@@ -54,7 +54,7 @@ pub(crate) fn push_value(alloc: Global, text: &mut String, value: &Value) -> Res
     Ok(())
 }
 
-/// The article before a word.
+/// Returns the indefinite article of `word`.
 fn article(word: &str) -> &'static str
     ensures { result.now ≡ article word.now }
 {
@@ -64,7 +64,7 @@ fn article(word: &str) -> &'static str
     }
 }
 
-/// Adds a name.
+/// Adds `name` in quotes, or that there is none.
 pub(crate) fn push_name(
     alloc: Global,
     text: &mut String,
@@ -92,7 +92,7 @@ fn push_kind(alloc: Global, text: &mut String, kind: Option<&str>) -> Result<(),
     }
 }
 
-/// Adds an end of a link.
+/// Adds an `end` of a link, with port 0 if it names no port.
 pub(crate) fn push_end(
     alloc: Global,
     text: &mut String,
@@ -129,7 +129,7 @@ pub(crate) fn push_actor(
     Ok(text.push_str("\n")?)
 }
 
-/// Adds what a link is.
+/// Adds the number and the ends of a link.
 #[tactic(auto, unfolding(crate::specs::Words::link_words))]
 fn push_link_words(
     alloc: Global,
@@ -162,7 +162,7 @@ pub(crate) fn push_link(
     Ok(text.push_str("\n")?)
 }
 
-/// How many samples a link holds, and how many its target takes.
+/// The number of samples that a link holds, and the number that the next firing of its target takes.
 #[derive(Clone, Copy)]
 pub(crate) struct Lack {
     pub(crate) holds: u64,
@@ -197,7 +197,7 @@ fn push_limits(text: &mut String, limits: Option<&str>) -> Result<(), AllocError
     }
 }
 
-/// Adds what stands at a key, and what the key wants.
+/// Adds the line of `key`, with its value and its limits.
 #[tactic(auto, unfolding(crate::specs::Words::key_line))]
 pub(crate) fn push_key(
     alloc: Global,
@@ -236,7 +236,7 @@ pub(crate) fn push_hint(alloc: Global, text: &mut String, name: &str) -> Result<
     Ok(text.push_str("\n")?)
 }
 
-/// Adds what was said of a file.
+/// Adds the line of the file `name` with the message `said`.
 #[tactic(auto, unfolding(crate::specs::Words::said_line))]
 pub(crate) fn push_said(
     alloc: Global,

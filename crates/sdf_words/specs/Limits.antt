@@ -10,7 +10,7 @@ use Rattle.sdf_words.specs.declared.asked.Words.TheVariants.{Design, Batch, Fir,
 use Rattle.sdf_words.specs.declared.asked.Task.{Task}
 use Rattle.sdf_words.specs.declared.asked.Task.TheVariants.{Check, Schedule, Analyze, Draw, Run, Profile}
 
--- there may be so many workers
+-- the number of workers is within its limits
 abbrev pub IsCrew : Crew → Type 0
 IsCrew Processors = Unit {0}
 IsCrew (Workers workers) = (1 ≤ workers) × (workers ≤ MOST_WORKERS)
@@ -24,7 +24,7 @@ IsTaskWithinLimits (Draw options dot) = AreWithinLimits options
 IsTaskWithinLimits (Run run) = AreWithinLimits run.options × IfSome run.parallel IsCrew
 IsTaskWithinLimits (Profile input write) = Unit {0}
 
--- those of a command are
+-- the numbers of a command are within their limits
 abbrev pub IsWithinLimits : Words → Type 0
 IsWithinLimits (Design graph task why) = IsTaskWithinLimits task
 IsWithinLimits (Batch graph batch why) = AreWithinLimits batch.options × IfSome batch.parallel IsCrew

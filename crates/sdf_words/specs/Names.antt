@@ -2,11 +2,11 @@
 use Rattle.std.specs.Prelude.{◌≡◌, ℕ, ◌-◌, ◌≤◌, List, [], ◌++◌, length, map, get_or, codes, decimal}
 use Rattle.sdf_words.specs.declared.explain.names.TheConstants.{NAMES}
 
--- by their numbers, from 1 on
+-- the names of the faults, in the order of their numbers from 1 on
 abbrev pub names : List (List ℕ)
 names = map (λ name. name.now) NAMES.now
 
--- this is the name of the fault of this number
+-- the name of the fault `number` is `name`
 pub record IsNamed (number : ℕ) (name : List ℕ) : Type 0 where
   pub above_0 : 1 ≤ number
   pub within : number ≤ length names
@@ -16,6 +16,6 @@ pub record IsNamed (number : ℕ) (name : List ℕ) : Type 0 where
 unfoldable pub heading : ℕ → List ℕ → List ℕ
 heading number name = decimal number ++ codes " " ++ name ++ codes "\n"
 
--- a text that begins with the number and the name of the fault
+-- the text begins with the number and the name of the fault `number`
 abbrev pub Explains : ℕ → List ℕ → Type 0
 Explains number text = (name rest : List ℕ) × IsNamed number name × (text ≡ heading number name ++ rest)

@@ -11,7 +11,7 @@ use sdf_options::WordFault;
 use std::alloc::Global;
 use std::env::{Env, FillError};
 
-/// What a program was started with.
+/// The arguments that a program was started with.
 #[derive(Drop)]
 pub struct Given {
     /// The words, except those that are not UTF-8.
@@ -20,7 +20,7 @@ pub struct Given {
     pub unread: Option<usize>,
 }
 
-/// Returns the mistake of a word that is not UTF-8, by its number.
+/// Returns the usage error for the word `number`, which is not UTF-8.
 fn no_text(alloc: Global, number: usize) -> WordFault
     ensures { IsUsage result }
 {
@@ -31,7 +31,7 @@ fn no_text(alloc: Global, number: usize) -> WordFault
 }
 
 impl Given {
-    /// Reads the words that were given, which are those of `line`. A word that is not UTF-8 is a mistake.
+    /// Parses `line`, which has the words of `self`. A word that is not UTF-8 is a usage error.
     pub fn read<'a>(&self, alloc: Global, line: &'a [&'a str]) -> Result<Words<'a>, WordFault>
         ensures unread { IfSome self.now.unread (λ (number : ℕ). IsErr result) }
         ensures within { IfOk result IsWithinLimits }
@@ -44,7 +44,7 @@ impl Given {
     }
 }
 
-/// The bytes of an argument, if there are so many.
+/// Returns the bytes of the argument `number`, if there is one. The buffer doubles until it is large enough.
 fn argument(env: &impl Env, alloc: Global, number: usize) -> Result<Option<Vec<u8>>, WordFault> {
     let mut bytes = Vec::new(alloc);
     let mut room = 256usize;

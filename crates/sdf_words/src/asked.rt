@@ -1,4 +1,4 @@
-//! What a command line asks for.
+//! The commands, as a command line asks for them.
 
 ghost use Rattle.std.specs.Prelude.{◌≡◌, true, false};
 
@@ -8,8 +8,7 @@ use sdf_options::Options;
 /// The highest number of a fault.
 pub const MOST_FAULT: u32 = 63;
 
-/// A conversion between two rates: where its design is written, for how many channels, and the attenuation in dB of
-/// what does not belong.
+/// A conversion between two rates in Hz, whose design is written into `folder`. The stopband attenuation is in dB.
 #[derive(Clone, Copy, Debug, PartialEq, Eq)]
 pub struct Conversion<'a> {
     pub from: u32,
@@ -19,16 +18,16 @@ pub struct Conversion<'a> {
     pub attenuation: u32,
 }
 
-/// How many workers a parallel run is asked for.
+/// The number of workers of a parallel run.
 #[derive(Clone, Copy, Debug, PartialEq, Eq)]
 pub enum Crew {
-    /// As many as there are processors.
+    /// One for each processor, at most 16.
     Processors,
-    /// So many, 1 to 16.
+    /// A number from 1 to 16.
     Workers(usize),
 }
 
-/// When more is said of a fault than its line, and of a run that it ends well.
+/// When a diagnostic follows the line of a fault, and when a run that ends well reports on its outputs.
 #[derive(Clone, Copy, Debug, PartialEq, Eq)]
 pub enum Why {
     /// If standard error is a terminal.
@@ -38,7 +37,7 @@ pub enum Why {
 }
 
 impl Why {
-    /// Returns whether more is said. `terminal` is whether standard error is a terminal.
+    /// Returns whether diagnostics and reports are printed. `terminal` is whether standard error is a terminal.
     pub fn is_said(self, terminal: bool) -> bool
         ensures terminal { self ≡ Why.AtTerminal → result ≡ terminal }
         ensures always { self ≡ Why.Always → result ≡ true }
@@ -52,8 +51,8 @@ impl Why {
     }
 }
 
-/// A run from one file to another. With `parallel` the options mean nothing. With `open_ended` the samples are read to
-/// the end of the input.
+/// A run from one file to another. If `parallel` is given, the options have no effect. If `open_ended`, the samples are
+/// read to the end of the input.
 #[derive(Clone, Copy, Debug, PartialEq, Eq)]
 pub struct Run<'a> {
     pub input: &'a str,
@@ -63,7 +62,7 @@ pub struct Run<'a> {
     pub open_ended: bool,
 }
 
-/// Runs of files, each from one of `inputs` to a file of its name in `folder`, as `Run` has one.
+/// Runs from each of `inputs` to a file with its name in `folder`. The other fields are as in `Run`.
 #[derive(Debug, Drop)]
 pub struct Batch<'a> {
     pub inputs: Vec<&'a str>,
@@ -73,31 +72,33 @@ pub struct Batch<'a> {
     pub open_ended: bool,
 }
 
-/// What is asked of a design, with files by their paths. With `json` the answer and a fault are JSON.
+/// A task for a design. Its files are named by their paths. With `json` the output and a fault are JSON.
 #[derive(Clone, Copy, Debug, PartialEq, Eq)]
 pub enum Task<'a> {
     Check {
         json: bool,
     },
-    /// The options but the runner and the patience.
+    /// The schedule of a design. The runner and the spin limit in the options have no effect.
     Schedule {
         options: Options,
         json: bool,
     },
-    /// The options as of a schedule. With `compare` the policy and the placement mean nothing.
+    /// The times of a schedule. The runner and the spin limit in the options have no effect. With `compare` the policy
+    /// and the placement have none either.
     Analyze {
         options: Options,
         compare: bool,
         json: bool,
     },
-    /// The picture of a design and its schedule. The options as of a schedule. With `dot` the graph alone, for
-    /// Graphviz.
+    /// The picture of a design and its schedule. The runner and the spin limit in the options have no effect. With
+    /// `dot` it is the graph alone, for Graphviz.
     Draw {
         options: Options,
         dot: bool,
     },
     Run(Run<'a>),
-    /// Each actor's share of the time of a run. With `write` the graph file is written there with what was measured.
+    /// Each actor's share of the time of a run. With `write` the graph file with the measured costs is written to that
+    /// path.
     Profile {
         input: &'a str,
         write: Option<&'a str>,
@@ -131,7 +132,7 @@ pub enum Words<'a> {
     Kinds {
         json: bool,
     },
-    /// What a fault is, by its number, 1 to 63.
+    /// The meaning of the fault `number`, 1 to 63.
     Explain {
         number: u32,
     },

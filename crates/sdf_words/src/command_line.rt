@@ -20,7 +20,7 @@ use sdf_options::{
 use sdf_similar::nearest;
 use std::alloc::{AllocError, Global};
 
-// The option's parser keeps its number within these limits, so none is lost here.
+/// Returns the number of the argument `id`. The parser of the option already enforces the limits, so none is lost here.
 fn number_of(matches: &ArgMatches<'_>, id: &str, least: u32, most: u32) -> Option<u32>
     ensures { IfSome result (λ n. (least ≤ n) × (n ≤ most)) }
 {
@@ -30,14 +30,14 @@ fn number_of(matches: &ArgMatches<'_>, id: &str, least: u32, most: u32) -> Optio
     }
 }
 
-/// Where a word stands.
+/// Returns the index of `word` in `words`.
 fn place_of(words: &[&str], word: &str) -> Option<usize>
     ensures { result ≡ position (λ known. bytes_eq known.now word.now) words.now }
 {
     words.iter().position(|known| *known == word)
 }
 
-/// What a word means: what stands at its place among the words.
+/// Returns the value at the index in `values` that `word` has in `words`.
 fn meant<T: Copy>(words: &[&str], values: &[T], word: &str) -> Option<T>
     ensures { result ≡ option_and_then (slice_get values.now)
         (position (λ known. bytes_eq known.now word.now) words.now) }
@@ -45,7 +45,7 @@ fn meant<T: Copy>(words: &[&str], values: &[T], word: &str) -> Option<T>
     values.get(place_of(words, word)?).copied()
 }
 
-/// The options of a schedule.
+/// Reads the options of a schedule; the others have their defaults.
 fn plan_options_of(matches: &ArgMatches<'_>) -> Option<Options>
     ensures { IfSome result AreWithinLimits }
 {
@@ -58,7 +58,7 @@ fn plan_options_of(matches: &ArgMatches<'_>) -> Option<Options>
     })
 }
 
-/// The options of a run.
+/// Reads the options of a run.
 fn options_of(matches: &ArgMatches<'_>) -> Option<Options>
     ensures { IfSome result AreWithinLimits }
 {
@@ -69,7 +69,7 @@ fn options_of(matches: &ArgMatches<'_>) -> Option<Options>
     })
 }
 
-/// When more is said of a fault.
+/// Reads when a diagnostic is printed.
 fn why_of(matches: &ArgMatches<'_>) -> Why {
     if matches.get_flag("why") {
         Why::Always
@@ -80,7 +80,7 @@ fn why_of(matches: &ArgMatches<'_>) -> Why {
     }
 }
 
-/// What `schedule` is asked for.
+/// Reads the task of the command `schedule`.
 fn schedule_of<'a>(matches: &ArgMatches<'a>) -> Option<Task<'a>>
     ensures { IfSome result IsTaskWithinLimits }
 {
@@ -90,7 +90,7 @@ fn schedule_of<'a>(matches: &ArgMatches<'a>) -> Option<Task<'a>>
     })
 }
 
-/// What `analyze` is asked for.
+/// Reads the task of the command `analyze`.
 fn analyze_of<'a>(matches: &ArgMatches<'a>) -> Option<Task<'a>>
     ensures { IfSome result IsTaskWithinLimits }
 {
@@ -101,7 +101,7 @@ fn analyze_of<'a>(matches: &ArgMatches<'a>) -> Option<Task<'a>>
     })
 }
 
-/// What `draw` is asked for.
+/// Reads the task of the command `draw`.
 fn draw_of<'a>(matches: &ArgMatches<'a>) -> Option<Task<'a>>
     ensures { IfSome result IsTaskWithinLimits }
 {
@@ -111,7 +111,7 @@ fn draw_of<'a>(matches: &ArgMatches<'a>) -> Option<Task<'a>>
     })
 }
 
-/// What `profile` is asked for.
+/// Reads the task of the command `profile`.
 fn profile_of<'a>(matches: &ArgMatches<'a>) -> Option<Task<'a>>
     ensures { IfSome result IsTaskWithinLimits }
 {
@@ -121,7 +121,7 @@ fn profile_of<'a>(matches: &ArgMatches<'a>) -> Option<Task<'a>>
     })
 }
 
-/// How many workers a parallel run is asked for.
+/// Reads `--parallel`: its number of workers, or one per processor if it has no value.
 fn crew_of(matches: &ArgMatches<'_>) -> Option<Crew>
     ensures { IfSome result IsCrew }
 {
@@ -132,7 +132,7 @@ fn crew_of(matches: &ArgMatches<'_>) -> Option<Crew>
     }
 }
 
-/// What `run` is asked for.
+/// Reads the task of the command `run` for one file.
 fn run_of<'a>(matches: &ArgMatches<'a>) -> Option<Task<'a>>
     ensures { IfSome result IsTaskWithinLimits }
 {
@@ -145,7 +145,7 @@ fn run_of<'a>(matches: &ArgMatches<'a>) -> Option<Task<'a>>
     }))
 }
 
-/// What a command asks of a design, by its name.
+/// Reads the task of a design for the command `name`.
 fn task_of<'a>(name: &str, matches: &ArgMatches<'a>) -> Option<Task<'a>>
     ensures { IfSome result IsTaskWithinLimits }
 {
@@ -162,7 +162,7 @@ fn task_of<'a>(name: &str, matches: &ArgMatches<'a>) -> Option<Task<'a>>
     }
 }
 
-/// What is asked of a design, and when more is said of a fault.
+/// Reads the command `name` of a design: the graph file, the task, and when a diagnostic is printed.
 fn design_of<'a>(name: &str, matches: &ArgMatches<'a>) -> Option<Words<'a>>
     ensures { IfSome result IsWithinLimits }
 {
@@ -173,12 +173,12 @@ fn design_of<'a>(name: &str, matches: &ArgMatches<'a>) -> Option<Words<'a>>
     })
 }
 
-/// A number of 32 bits.
+/// Returns the 32-bit number of the argument `id`.
 fn any_number_of(matches: &ArgMatches<'_>, id: &str) -> Option<u32> {
     number_of(matches, id, 0, u32::MAX)
 }
 
-/// What `fir` is to pass.
+/// Reads the band of a filter, with its edges in Hz.
 fn band_of(matches: &ArgMatches<'_>) -> Option<Band> {
     let pass = any_number_of(matches, "pass")?;
     let stop = any_number_of(matches, "stop")?;
@@ -194,7 +194,7 @@ fn band_of(matches: &ArgMatches<'_>) -> Option<Band> {
     }
 }
 
-/// What `fir` is asked for.
+/// Reads the parameters of the command `fir`.
 fn fir_of<'a>(matches: &ArgMatches<'a>) -> Option<Words<'a>>
     ensures { IfSome result IsWithinLimits }
 {
@@ -208,7 +208,7 @@ fn fir_of<'a>(matches: &ArgMatches<'a>) -> Option<Words<'a>>
     Some(Words::Fir { wanted })
 }
 
-/// What `resample` is asked for.
+/// Reads the parameters of the command `resample`.
 fn resample_of<'a>(matches: &ArgMatches<'a>) -> Option<Words<'a>>
     ensures { IfSome result IsWithinLimits }
 {
@@ -222,7 +222,7 @@ fn resample_of<'a>(matches: &ArgMatches<'a>) -> Option<Words<'a>>
     Some(Words::Resample { conversion })
 }
 
-/// What a command is asked for, by its name.
+/// Reads the arguments of the command `name`.
 fn asked<'a>(name: &str, matches: &ArgMatches<'a>) -> Option<Words<'a>>
     ensures { IfSome result IsWithinLimits }
 {
@@ -239,7 +239,7 @@ fn asked<'a>(name: &str, matches: &ArgMatches<'a>) -> Option<Words<'a>>
     }
 }
 
-/// The mistake of an argument that is missing.
+/// Returns the usage error for a missing argument.
 fn missing(command: &mut Command<'_>) -> WordFault
     ensures { IsUsage result }
 {
@@ -256,7 +256,7 @@ fn words_of<'a>(matches: &ArgMatches<'a>) -> Option<Words<'a>>
     asked(name, inner)
 }
 
-/// What a program's words mean to its command.
+/// Parses `words` by `command`. The first word is the program's name.
 fn read<'a>(command: &mut Command<'a>, words: &'a [&'a str]) -> Result<Words<'a>, WordFault>
     ensures within { IfOk result IsWithinLimits }
     ensures usage { IfErr result IsUsage }
@@ -268,7 +268,7 @@ fn read<'a>(command: &mut Command<'a>, words: &'a [&'a str]) -> Result<Words<'a>
     }
 }
 
-/// Returns whether the words behind `run` name a folder to write into.
+/// Returns whether `words`, which follow `run`, name a folder to write into.
 fn is_batch(words: &[&str]) -> bool {
     for word in words {
         if *word == "--" {
@@ -281,7 +281,7 @@ fn is_batch(words: &[&str]) -> bool {
     false
 }
 
-/// Returns the files that a batch reads.
+/// Returns the paths of the files that a batch reads.
 fn inputs_of<'a>(alloc: Global, matches: &ArgMatches<'a>) -> Result<Vec<&'a str>, AllocError> {
     match matches.get_strs("IN") {
         Some(paths) => Vec::from_slice(alloc, paths),
@@ -289,7 +289,7 @@ fn inputs_of<'a>(alloc: Global, matches: &ArgMatches<'a>) -> Result<Vec<&'a str>
     }
 }
 
-/// Returns a batch of these files.
+/// Returns the batch that reads `inputs`, if no argument is missing.
 fn batch_of<'a>(matches: &ArgMatches<'a>, inputs: Vec<&'a str>) -> Option<Words<'a>>
     ensures { IfSome result IsWithinLimits }
 {
@@ -309,7 +309,7 @@ fn batch_of<'a>(matches: &ArgMatches<'a>, inputs: Vec<&'a str>) -> Option<Words<
     })
 }
 
-/// Returns what the words of a batch mean, if none is missing.
+/// Reads a batch, if no argument is missing.
 fn batch_in<'a>(alloc: Global, matches: &ArgMatches<'a>) -> Result<Option<Words<'a>>, AllocError>
     ensures { IfOk result (λ read. IfSome read IsWithinLimits) }
 {
@@ -320,7 +320,7 @@ fn batch_in<'a>(alloc: Global, matches: &ArgMatches<'a>) -> Result<Option<Words<
     Ok(batch_of(inner, inputs))
 }
 
-/// Reads the words of a batch.
+/// Parses `words` as a `run` of several files. The first word is the program's name.
 fn read_batch<'a>(alloc: Global, words: &'a [&'a str]) -> Result<Words<'a>, WordFault>
     ensures within { IfOk result IsWithinLimits }
     ensures usage { IfErr result IsUsage }
@@ -333,12 +333,12 @@ fn read_batch<'a>(alloc: Global, words: &'a [&'a str]) -> Result<Words<'a>, Word
     }
 }
 
-/// A mistake in the words that no command could read.
+/// Returns the error of the parser with the message `text`.
 fn refuse(alloc: Global, text: &str) -> Result<clap::Error, AllocError> {
     sdfw_command(alloc)?.error(ErrorKind::InvalidValue, text)
 }
 
-/// A mistake in what the words ask for, with what is said of it.
+/// Returns the usage error with the message `text`.
 pub fn mistake(alloc: Global, text: &str) -> WordFault
     ensures { IsUsage result }
 {
@@ -348,12 +348,12 @@ pub fn mistake(alloc: Global, text: &str) -> WordFault
     }
 }
 
-/// Whether a word begins as the names of faults do.
+/// Checks whether `word` begins with a letter, like the name of a fault.
 fn is_name(word: &str) -> bool {
     matches!(word.as_bytes(), [b'A'..=b'Z' | b'a'..=b'z', ..])
 }
 
-/// What is said of a name that no fault has.
+/// Returns the message for a `name` that no fault has, with the most similar name if there is one.
 fn unnamed_text(alloc: Global, name: &str) -> Result<String, AllocError> {
     let shown = printable(alloc, name)?;
     let shown = shown.as_str();
@@ -365,7 +365,7 @@ fn unnamed_text(alloc: Global, name: &str) -> Result<String, AllocError> {
     }
 }
 
-/// The mistake of a name that no fault has.
+/// Returns the usage error for a `name` that no fault has.
 fn unnamed(alloc: Global, name: &str) -> WordFault
     ensures { IsUsage result }
 {
@@ -375,7 +375,7 @@ fn unnamed(alloc: Global, name: &str) -> WordFault
     }
 }
 
-/// The fault of this name is to be explained.
+/// Returns the command that explains the fault with this `name`.
 fn explain<'a>(alloc: Global, name: &str) -> Result<Words<'a>, WordFault>
     ensures within { IfOk result IsWithinLimits }
     ensures usage { IfErr result IsUsage }
@@ -386,7 +386,7 @@ fn explain<'a>(alloc: Global, name: &str) -> Result<Words<'a>, WordFault>
     }
 }
 
-/// Reads a command line, of which the first word is the program's name.
+/// Parses a command line, whose first word is the program's name.
 pub fn words<'a>(alloc: Global, words: &'a [&'a str]) -> Result<Words<'a>, WordFault>
     ensures within { IfOk result IsWithinLimits }
     ensures usage { IfErr result IsUsage }

@@ -1,4 +1,4 @@
-//! The commands: the parser is made of the rows of their tables.
+//! The commands: the parser is built from the rows of their tables.
 
 mod designs;
 mod filters;
@@ -14,47 +14,47 @@ const EXAMPLES: &str = "Examples:
   sdfw check graph.toml
   sdfw run graph.toml in.wav out.wav";
 
-/// What a value has to be.
+/// The type and the range of a value.
 #[derive(Clone, Copy)]
 enum Values {
     Text,
-    /// A path that need not be given.
+    /// A path, which is optional.
     Path,
-    /// A number from one to the other, which may be written below zero.
+    /// A number from the first limit to the second, parsed as a signed one.
     Signed(i64, i64),
-    /// A number from one to the other.
+    /// A number from the first limit to the second.
     Unsigned(u64, u64),
     OneOf(&'static [&'static str]),
 }
 
-/// What a command can be told by a name alone, and others that can't be told beside it. A value may stand behind the
-/// name where it has one.
+/// An option that works without a value, and the options that it conflicts with. If there is a `value`, the option may
+/// also have one: its name in the help and its type.
 #[derive(Clone, Copy)]
 struct Switch {
     against: &'static [&'static str],
     value: Option<(&'static str, Values)>,
 }
 
-/// How a command is given something.
+/// How an argument is given on the command line.
 #[derive(Clone, Copy)]
 enum Given {
-    /// By its place, always.
+    /// Required, by its position.
     Place(Values),
-    /// The same, once or several times.
+    /// Required, by its position, once or several times.
     Places(Values),
-    /// By its name: what its value is called and has to be, and what it is where it is not given; without that it has
-    /// to be given, but for a path.
+    /// By its name: the name of its value in the help, the type, and the default. Without a default it is required,
+    /// unless it is a path.
     Choice(&'static str, Values, Option<&'static str>),
     Switch(Switch),
 }
 
-/// Told by a name alone, beside any other.
+/// A flag without a value that conflicts with no other option.
 const PLAIN: Given = Given::Switch(Switch {
     against: &[],
     value: None,
 });
 
-/// What a command is given. `help` is what `-h` says of it and `more` what `--help` does, here and below.
+/// An argument of a command. `-h` prints `help`, and `--help` prints `more`.
 #[derive(Clone, Copy)]
 struct Argument {
     name: &'static str,
@@ -63,8 +63,8 @@ struct Argument {
     given: Given,
 }
 
-/// A command, and what it is given: the options of a schedule first where it `schedules`. Its help ends with the
-/// examples.
+/// A command and its arguments. If it `schedules`, the options of a schedule come first. `-h` prints `help`, and
+/// `--help` prints `more`. The help ends with the examples.
 #[derive(Clone, Copy)]
 struct Row {
     name: &'static str,
@@ -182,7 +182,7 @@ fn with_commands<'a>(
     Ok(command)
 }
 
-/// The program's command, without its own.
+/// Returns the program's command without subcommands.
 fn program<'a>(alloc: Global) -> Command<'a> {
     Command::new(alloc, "sdfw")
         .about("A workbench for synchronous dataflow graphs over WAV files")
@@ -191,12 +191,12 @@ fn program<'a>(alloc: Global) -> Command<'a> {
         .subcommand_required(true)
 }
 
-/// The program's command, with `run` as it reads several files.
+/// Returns the program's command with `run` for several files.
 pub(crate) fn batch_command<'a>(alloc: Global) -> Result<Command<'a>, AllocError> {
     with_commands(alloc, program(alloc), designs::BATCH)
 }
 
-/// The program's command, with each of its own.
+/// Returns the program's command with all its subcommands.
 pub(crate) fn sdfw_command<'a>(alloc: Global) -> Result<Command<'a>, AllocError> {
     let command = with_commands(alloc, program(alloc), designs::ROWS)?;
     let command = with_commands(alloc, command, views::ROWS)?;

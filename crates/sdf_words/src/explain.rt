@@ -17,7 +17,8 @@ pub(crate) use names::NAMES;
 use repairs::REPAIRS;
 use std::alloc::{AllocError, Global};
 
-/// What a fault means, within which limits it does not come, and what to do about it. `place` is how its line goes on.
+/// The meaning of a fault, the limits within which it does not occur, and a remedy. `place` is the rest of the fault's
+/// line.
 #[derive(Clone, Copy)]
 struct Meaning {
     place: &'static str,
@@ -26,7 +27,7 @@ struct Meaning {
     remedy: &'static str,
 }
 
-/// What the fault of this number means.
+/// Returns the meaning of the fault `number`.
 fn meaning_of(number: u32) -> Option<Meaning>
     ensures { 1 ≤ number → number ≤ MOST_FAULT → IsSome result }
 {
@@ -53,7 +54,7 @@ fn word_at<'a>(words: &[&'a str], place: usize) -> Option<&'a str>
     }
 }
 
-/// Returns the name of the fault of this number.
+/// Returns the name of the fault `number`.
 pub fn fault_name(number: u32) -> Option<&'static str>
     ensures named { IfSome result (λ name. IsNamed number name.now) }
     ensures some { 1 ≤ number → number ≤ MOST_FAULT → IsSome result }
@@ -65,7 +66,7 @@ pub fn fault_name(number: u32) -> Option<&'static str>
     word_at(NAMES, number as usize - 1)
 }
 
-/// Whether this is the whole name of the fault of this number.
+/// Checks whether `name` is the whole name of the fault `number`.
 fn is_named(number: u32, name: &str) -> bool
     ensures named { result ≡ true → IsNamed number name.now }
     ensures other { result ≡ false → IsNamed number name.now → ⊥ }
@@ -76,7 +77,7 @@ fn is_named(number: u32, name: &str) -> bool
     }
 }
 
-/// Returns the number of the fault that has this whole name.
+/// Returns the number of the fault whose whole name is `name`.
 pub(crate) fn number_named(name: &str) -> Option<u32>
     ensures within { IfSome result (λ number. (1 ≤ number) × (number ≤ MOST_FAULT)) }
     ensures named { IfSome result (λ number. IsNamed number name.now) }
@@ -90,7 +91,7 @@ pub(crate) fn number_named(name: &str) -> Option<u32>
     None
 }
 
-/// A line of an explanation, where there is something to say.
+/// Adds the line with this `label` to an explanation, if `said` is not empty.
 fn push_line(text: &mut String, label: &str, said: &str) -> Result<(), AllocError> {
     if said.is_empty() {
         return Ok(());
@@ -107,7 +108,7 @@ fn push_heading(text: &mut String, number: u32, name: &str) -> Result<(), AllocE
     Ok(())
 }
 
-/// Adds lines of a graph file before and after the fault of this number is mended, if there are some.
+/// Adds lines of a graph file before and after the fault `number` is mended, if there are some.
 fn push_repair(text: &mut String, number: u32) -> Result<(), AllocError> {
     for repair in &REPAIRS {
         if repair.number == number {
@@ -118,7 +119,7 @@ fn push_repair(text: &mut String, number: u32) -> Result<(), AllocError> {
     Ok(())
 }
 
-/// The lines below the first one of an explanation.
+/// Returns the lines below the first one of an explanation.
 fn lines(alloc: Global, number: u32, meaning: Meaning) -> Result<String, AllocError> {
     let mut text = String::new(alloc);
     push_line(&mut text, "where", meaning.place)?;
@@ -129,7 +130,7 @@ fn lines(alloc: Global, number: u32, meaning: Meaning) -> Result<String, AllocEr
     Ok(text)
 }
 
-/// What a fault is, line by line, or nothing where no fault has the number.
+/// Returns the explanation of the fault `number`, line by line; empty if no fault has it.
 pub fn explained(alloc: Global, number: u32) -> Result<String, AllocError>
     ensures { 1 ≤ number → number ≤ MOST_FAULT → IfOk result (λ text. Explains number (string_bytes text)) }
 {

@@ -1,10 +1,9 @@
-//! The words of the program: what its command line asks for, and what it says of a fault.
+//! The command line of the program, and what its faults mean.
 //!
-//! It depends on `clap`, on `sdf_options` for the options of a run, on `sdf_filters` for what a filter is asked for by,
-//! on `sdf_similar` for names that are like a word, and on `sdf_limits`; it knows no graph and no sound. Begin at
-//! `asked`, what can be asked for, then `commands`, what each command takes and its help says, and `command_line`,
-//! which reads it; `explain` has what each fault means. The definitions are in `specs/Limits.antt` and
-//! `specs/Names.antt`.
+//! It depends on `clap` and `sdf_limits`, on `sdf_options` for the options of a run, on `sdf_filters` for a filter's
+//! parameters, and on `sdf_similar` for suggestions. It knows neither graphs nor audio. Begin at `asked`, the commands
+//! after parsing, then `commands`, their arguments and help texts, and `command_line`, the parser. `explain` has what
+//! each fault means. The definitions are in `specs/Limits.antt` and `specs/Names.antt`.
 #![tactic(auto)]
 
 pub mod arguments;

@@ -1,4 +1,4 @@
-//! The graphs of the tests by their channels, their periods and the costs of their firings.
+//! The graphs of the tests as channels, their schedules, and the costs of their firings.
 
 ghost use Rattle.std.specs.Prelude.{IfOk};
 ghost use Rattle.sdf_graph.specs.Rates.{rates};
@@ -13,10 +13,10 @@ use std::alloc::Global;
 use std::test::Fail;
 use test_actors::graphs::Row;
 
-/// A source of 2 to a sink of 3.
+/// A source of 2 samples to a sink of 3.
 pub(crate) const BLOCKS: &[Row] = &[(0, &[2], &[3], 1, 0)];
 
-/// Two ways from actor 1 to actor 4 of six.
+/// Six actors, with two ways from actor 1 to actor 4.
 pub(crate) const FORK: &[Row] = &[
     (0, &[1], &[1], 1, 0),
     (1, &[1], &[1], 2, 0),
@@ -26,7 +26,7 @@ pub(crate) const FORK: &[Row] = &[
     (4, &[1], &[1], 5, 0),
 ];
 
-/// As the fork, with one actor more on the second way.
+/// Seven actors, with two ways from actor 1 to actor 5. The second way has one actor more than the first.
 pub(crate) const LONGER_FORK: &[Row] = &[
     (0, &[1], &[1], 1, 0),
     (1, &[1], &[1], 2, 0),
@@ -37,7 +37,7 @@ pub(crate) const LONGER_FORK: &[Row] = &[
     (5, &[1], &[1], 6, 0),
 ];
 
-/// A period of a graph, its actors in rounds.
+/// Returns the schedule of `graph` by the policy `Round`.
 pub(crate) fn period_of(alloc: Global, graph: &Graph) -> Result<Period, Fail>
     ensures { IfOk result (IsPeriodOf (rates graph.now)) }
 {
@@ -45,7 +45,7 @@ pub(crate) fn period_of(alloc: Global, graph: &Graph) -> Result<Period, Fail>
     Ok(class_s(alloc, graph, &reps, &mut Round::new())?)
 }
 
-/// What a firing of each actor costs.
+/// Returns `costs` as the costs of the actors of `graph`.
 pub(crate) fn costs_of(alloc: Global, graph: &Graph, costs: &[u32]) -> Result<Costs, Fail>
     ensures { IfOk result (AreCosts graph.now.actors) }
 {

@@ -13,7 +13,7 @@ use std::test::Fail;
 use test_actors::graphs::{Row, graph};
 use test_texts::says;
 
-/// The table of one period, or of more.
+/// Returns the table of `j` periods by Hu's rule for `m` workers.
 pub(crate) fn table(
     alloc: Global,
     graph: &Graph,
@@ -30,8 +30,7 @@ pub(crate) fn table(
     Ok(hu(alloc, graph, &period, j, team, &costs)?)
 }
 
-/// How many rows a table has, the capacity of channel 0, and the cells, row by row, each as its actor, and 9 where
-/// nothing stands.
+/// Returns the number of rows, the capacity of channel 0, and the actors in the cells, row by row. An empty cell is 9.
 fn cells(alloc: Global, graph: &Graph, table: &Table) -> Result<String, Fail>
     requires { IsExact (rates graph.now) table.now }
 {
@@ -50,12 +49,12 @@ fn cells(alloc: Global, graph: &Graph, table: &Table) -> Result<String, Fail>
     Ok(format!(in alloc; "{} {} {actors:?}", table.rows(), table.cap(0))?)
 }
 
-/// The same of a table of some periods for two workers.
+/// Returns the rows, the capacity and the cells of the table of `j` periods for two workers.
 fn told(alloc: Global, graph: &Graph, j: u32, homed: bool, costs: &[u32]) -> Result<String, Fail> {
     cells(alloc, graph, &table(alloc, graph, j, 2, homed, costs)?)
 }
 
-/// The fault of a table of one period for so many workers, whose firings each cost 1.
+/// Returns the fault of a table of one period for `m` workers at unit costs, or nothing if there is none.
 fn refusal(alloc: Global, graph: &Graph, m: usize) -> Result<String, Fail> {
     let costs = Costs::unit(alloc, graph)?;
     let period = period_of(alloc, graph)?;
@@ -69,8 +68,8 @@ fn refusal(alloc: Global, graph: &Graph, m: usize) -> Result<String, Fail> {
     }
 }
 
-/// How many actors a graph has, its channels, how many periods stand in its table, whether each actor keeps to one
-/// worker, what its firings cost, and the table.
+/// Rows with the number of actors, the channels, the number of periods, whether each actor keeps to one worker, the
+/// costs, and the table.
 const TABLES: &[(usize, &[Row], u32, bool, &[u32], &str)] = &[
     (2, BLOCKS, 1, true, &[1, 1], "4 6 [0, 9, 0, 9, 0, 1, 9, 1]"),
     (2, BLOCKS, 1, false, &[1, 1], "4 6 [0, 9, 0, 9, 0, 1, 1, 9]"),

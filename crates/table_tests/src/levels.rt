@@ -13,7 +13,8 @@ use std::test::Fail;
 use test_actors::graphs::{Row, graph};
 use test_texts::says;
 
-/// The level of a firing of one period, in which each actor fires so often.
+/// Returns the level of the firing `number` of `actor` in one period, or 0 if there is none. `times` is the repetition
+/// vector.
 fn level(of: &Levels, times: &[u32], actor: usize, number: u32) -> u64
     requires { of.now.firings ≡ block 1 times.now }
 {
@@ -23,7 +24,7 @@ fn level(of: &Levels, times: &[u32], actor: usize, number: u32) -> u64
     of.of(Firing { actor, number })
 }
 
-/// The level of each actor's firing with a number, and 0 where it has none.
+/// Returns the level of the firing `number` of each actor, or 0 if it has none. `times` is the repetition vector.
 fn numbered(alloc: Global, of: &Levels, times: &[u32], number: u32) -> Result<String, Fail>
     requires { of.now.firings ≡ block 1 times.now }
 {
@@ -34,7 +35,7 @@ fn numbered(alloc: Global, of: &Levels, times: &[u32], number: u32) -> Result<St
     Ok(format!(in alloc; "{found:?}")?)
 }
 
-/// The same of a graph.
+/// Returns the level of the firing `number` of each actor of `graph`, or 0 if it has none.
 fn levels_of(alloc: Global, graph: &Graph, costs: &[u32], number: u32) -> Result<String, Fail> {
     let costs = costs_of(alloc, graph, costs)?;
     let period = period_of(alloc, graph)?;
@@ -42,7 +43,7 @@ fn levels_of(alloc: Global, graph: &Graph, costs: &[u32], number: u32) -> Result
     numbered(alloc, &of, period.repetitions(), number)
 }
 
-/// How many actors a graph has, its channels, what its firings cost, the number of the firings, and their levels.
+/// Rows with the number of actors, the channels, the costs, the number of the firings, and their levels.
 const LEVELS: &[(usize, &[Row], &[u32], u32, &str)] = &[
     (2, BLOCKS, &[1, 1], 0, "[4, 2]"),
     (2, BLOCKS, &[1, 10], 0, "[22, 20]"),
@@ -74,7 +75,7 @@ const LEVELS: &[(usize, &[Row], &[u32], u32, &str)] = &[
     ),
 ];
 
-/// How many firings each of some firings waits for on channel 0.
+/// Returns the number of firings that each of the firings `numbers` waits for on channel 0.
 fn needs(alloc: Global, graph: &Graph, numbers: &[u32]) -> Result<String, Fail> {
     let mut needs = Vec::new(alloc);
     if !graph.channels().is_empty() {
@@ -85,14 +86,14 @@ fn needs(alloc: Global, graph: &Graph, numbers: &[u32]) -> Result<String, Fail> 
     Ok(format!(in alloc; "{needs:?}")?)
 }
 
-/// The channel between two actors, some firings of the second, and how many of the first each waits for.
+/// A channel between two actors, firings of the second, and how many firings of the first each of them waits for.
 const NEEDS: &[(Row, &[u32], &str)] = &[
     ((0, &[2], &[3], 1, 0), &[0, 1], "[2, 3]"),
     ((0, &[2], &[3], 1, 1), &[0, 1], "[1, 3]"),
     ((0, &[1, 0, 2], &[1], 1, 0), &[0, 1, 3], "[1, 3, 4]"),
 ];
 
-/// Costs are summed along the dearest way.
+/// Tests that a level sums the costs along the most expensive path, and how many firings a firing waits for.
 #[test]
 fn levels_of_firings(rt: HostRuntime) -> Result<(), Fail> {
     let alloc = rt.alloc();
@@ -109,7 +110,7 @@ fn levels_of_firings(rt: HostRuntime) -> Result<(), Fail> {
     Ok(())
 }
 
-/// The fault of a block of some periods, whose firings each cost 1, and nothing where there is none.
+/// Returns the fault of a block of `j` periods at unit costs, or nothing if there is none.
 fn refusal(alloc: Global, graph: &Graph, j: u32) -> Result<String, Fail> {
     let costs = Costs::unit(alloc, graph)?;
     let period = period_of(alloc, graph)?;
@@ -119,7 +120,7 @@ fn refusal(alloc: Global, graph: &Graph, j: u32) -> Result<String, Fail> {
     }
 }
 
-/// The fault of costs, and nothing where there is none.
+/// Returns the fault of `costs`, or nothing if there is none.
 fn costs_refusal(alloc: Global, graph: &Graph, costs: &[u32]) -> Result<String, Fail> {
     match Costs::new(graph, Vec::from_slice(alloc, costs)?) {
         Ok(_) => Ok(String::new(alloc)),
@@ -127,7 +128,7 @@ fn costs_refusal(alloc: Global, graph: &Graph, costs: &[u32]) -> Result<String, 
     }
 }
 
-/// Too many periods of a short graph, and costs that are too few, 0, or too many.
+/// Checks the faults of too many periods, and of costs that are too few, 0 or too many.
 fn has_limits(alloc: Global, short: &Graph) -> Result<(), Fail> {
     says(refusal(alloc, short, 64), "")?;
     says(refusal(alloc, short, 65), "11 BlockingFactor")?;
@@ -139,7 +140,8 @@ fn has_limits(alloc: Global, short: &Graph) -> Result<(), Fail> {
     )
 }
 
-/// What the first two of three actors put, for periods of which two are too many: of 32,769 and of 65,536 firings.
+/// What the first two of three actors put. The periods have 32,769 and 65,536 firings, so two periods are too long for
+/// a block.
 const LONG: &[(&[u32], &[u32])] = &[(&[128], &[255]), (&[255], &[256])];
 
 #[test]

@@ -1,9 +1,9 @@
-//! What no clause says of tables: worked graphs, their levels, their tables by homes and by Hu's rule, and what
-//! `accept` refuses.
+//! Tests of tables, for what no contract covers: worked graphs, their levels, their tables by homes and by Hu's rule,
+//! and what `accept` refuses.
 //!
-//! It depends on `sdf_graph`, `sdf_sched`, `sdf_prec`, `sdf_times`, `test_actors` and `test_texts`, and has no
-//! functions: tests are in a crate of their own, since the functions of a crate are proved once more with its tests.
-//! Begin at `graphs`, the graphs of the tests.
+//! It depends on `sdf_graph`, `sdf_sched`, `sdf_prec`, `sdf_times`, `test_actors` and `test_texts`. It has no
+//! functions: tests are in a crate of their own because the functions of a crate are proved again with its tests. Begin
+//! at `graphs`, the graphs of the tests.
 #![tactic(auto)]
 
 #[cfg(test)]

@@ -1,8 +1,9 @@
-//! A graph at each limit at once, and tables of it: nothing answers that memory was refused where there is plenty.
+//! A graph at each limit at once, and tables of it: no function reports refused memory while there is plenty.
 //!
-//! No clause forbids that answer. Seen to fail here: a `hu`, a `Table::by_homes` and a `Table::by_homes_in_runs` that
-//! give it for blocks of more than 60,000 firings or for 16 workers, and a `Table::accept` for more than 4,000 rows.
-//! The rows of `Table::spread`, `block_levels`, `span` and `Times::of` are for the same; of these it was not tried.
+//! No contract forbids that report. Versions of `hu`, `Table::by_homes` and `Table::by_homes_in_runs` that give it for
+//! blocks of more than 60,000 firings or for 16 workers were seen to fail here. So was a `Table::accept` that gives it
+//! for more than 4,000 rows. The rows of `Table::spread`, `block_levels`, `span` and `Times::of` have the same purpose;
+//! for them this was not tried.
 
 ghost use Rattle.std.specs.Prelude.{◌≡◌, IfOk};
 ghost use Rattle.sdf_graph.specs.Rates.{rates};
@@ -22,7 +23,7 @@ use std::test::Fail;
 use test_actors::graphs::{Row, graph};
 use test_texts::row_says;
 
-/// How often an actor fires in a period, which is 65,536 firings of 64 actors.
+/// Returns the firings of `actor` in a period. Together the 64 actors have 65,536.
 fn times(actor: usize) -> u32 {
     match actor {
         20 | 30 => 1023,
@@ -31,7 +32,7 @@ fn times(actor: usize) -> u32 {
     }
 }
 
-/// What an actor moves in each firing of its cycle on a channel between it and another one.
+/// Returns what `actor` moves in each firing of its cycle on a channel between it and `other`.
 fn moves(alloc: Global, actor: usize, other: usize) -> Result<Vec<u32>, AllocError> {
     let rate = match (times(actor), times(other)) {
         (1024, 1024) => 1,
@@ -42,8 +43,8 @@ fn moves(alloc: Global, actor: usize, other: usize) -> Result<Vec<u32>, AllocErr
     vec![in alloc; rate; if actor == 0 { 64 } else { 1 }]
 }
 
-/// 64 actors in a ring, each with a channel to the next four, which begins with 65,536 samples where it goes back. The
-/// first one has a cycle of 64 firings.
+/// Returns a ring of 64 actors, each with a channel to each of the next four. A channel that goes back begins with
+/// 65,536 samples. The first actor has a cycle of 64 firings.
 fn largest(alloc: Global) -> Result<Graph, Fail> {
     let mut channels = Vec::new(alloc);
     for channel in 0..256usize {
@@ -60,22 +61,22 @@ fn largest(alloc: Global) -> Result<Graph, Fail> {
     Ok(Graph::new(alloc, 64, channels)?)
 }
 
-/// How many firings a period's order by a policy has.
+/// Returns the number of firings in the schedule of a period by the policy `pick`.
 fn firings<P: Pick>(alloc: Global, graph: &Graph, pick: &mut P) -> Result<String, Fail> {
     let reps = graph.repetitions(alloc)?;
     let period = class_s(alloc, graph, &reps, pick)?;
     Ok(format!(in alloc; "{}", period.order().len())?)
 }
 
-/// How many firings a table has.
+/// Returns the number of firings in `table`.
 fn many(alloc: Global, table: &Table) -> Result<String, Fail> {
     Ok(format!(in alloc; "{}", table.order().len())?)
 }
 
-/// As much as a firing may cost, for each actor.
+/// The maximum cost of a firing, for each actor.
 const COSTS: &[u32] = &[1_000_000; 64];
 
-/// The same by Hu's rule on 16 workers.
+/// Returns the number of firings in a table of `j` periods by Hu's rule on 16 workers.
 fn by_rule(
     alloc: Global,
     graph: &Graph,
@@ -86,7 +87,7 @@ fn by_rule(
     many(alloc, &table(alloc, graph, j, 16, homed, costs)?)
 }
 
-/// A home for each actor on 16 workers.
+/// Returns a home for each actor on 16 workers.
 fn homes(alloc: Global) -> Result<Vec<Option<usize>>, AllocError> {
     let mut homes = Vec::new(alloc);
     for actor in 0..64 {
@@ -95,7 +96,8 @@ fn homes(alloc: Global) -> Result<Vec<Option<usize>>, AllocError> {
     Ok(homes)
 }
 
-/// How many firings a table of one firing a row has, or where those of an actor stand in runs.
+/// Returns the number of firings in a table by homes, with one firing a row. If `in_runs`, an actor fires as long as it
+/// is runnable.
 fn at_homes(alloc: Global, graph: &Graph, in_runs: bool) -> Result<String, Fail> {
     let period = period_of(alloc, graph)?;
     let homes = homes(alloc)?;
@@ -107,7 +109,7 @@ fn at_homes(alloc: Global, graph: &Graph, in_runs: bool) -> Result<String, Fail>
     many(alloc, &table)
 }
 
-/// The rows of a table.
+/// Returns the rows of `table`.
 fn rows_of(alloc: Global, table: &Table) -> Result<Vec<Vec<Option<Firing>>>, AllocError> {
     let mut rows = Vec::new(alloc);
     for i in 0..table.rows() {
@@ -116,7 +118,7 @@ fn rows_of(alloc: Global, table: &Table) -> Result<Vec<Vec<Option<Firing>>>, All
     Ok(rows)
 }
 
-/// How many firings a table has that is accepted for 16 workers with the rows of another one.
+/// Returns the number of firings in the table that is accepted for 16 workers with the rows of `other`.
 fn accepted(alloc: Global, graph: &Graph, other: &Table) -> Result<String, Fail> {
     let period = period_of(alloc, graph)?;
     let rows = rows_of(alloc, other)?;
@@ -126,12 +128,12 @@ fn accepted(alloc: Global, graph: &Graph, other: &Table) -> Result<String, Fail>
     )
 }
 
-/// The same with the rows by Hu's rule, whose firings each cost 1.
+/// Returns the number of firings in the table that is accepted with the rows by Hu's rule at unit costs.
 fn by_rule_again(alloc: Global, graph: &Graph) -> Result<String, Fail> {
     accepted(alloc, graph, &table(alloc, graph, 1, 16, true, &[1; 64])?)
 }
 
-/// Periods by each policy.
+/// Checks the length of a period by each policy.
 fn has_periods(alloc: Global, graph: &Graph) -> Result<(), Fail> {
     row_says(
         "by rounds",
@@ -142,7 +144,7 @@ fn has_periods(alloc: Global, graph: &Graph) -> Result<(), Fail> {
     row_says("by runs", firings(alloc, graph, &mut Runs::new()), "65536")
 }
 
-/// Tables by Hu's rule, by homes, and as they are given.
+/// Checks tables by Hu's rule, by homes, and as they are given.
 fn has_tables(alloc: Global, graph: &Graph) -> Result<(), Fail> {
     row_says(
         "by the rule",
@@ -159,7 +161,7 @@ fn has_tables(alloc: Global, graph: &Graph) -> Result<(), Fail> {
     row_says("as given", by_rule_again(alloc, graph), "65536")
 }
 
-/// Some weight for each actor.
+/// Returns a load of 1 for each actor.
 fn weights(alloc: Global, graph: &Graph) -> Result<Vec<u64>, AllocError>
     ensures { IfOk result (λ v. AreLoads graph.now.actors v.items) }
 {
@@ -167,7 +169,7 @@ fn weights(alloc: Global, graph: &Graph) -> Result<Vec<u64>, AllocError>
     vec![in alloc; 1u64; graph.actors()]
 }
 
-/// What 16 workers have to do together by a table, where each firing costs 1.
+/// Returns the total load of 16 workers by `table`, at unit costs.
 fn done_by(alloc: Global, graph: &Graph, table: &Table) -> Result<String, Fail>
     requires { IsBlockTable (rates graph.now) 16 table.now }
 {
@@ -180,8 +182,8 @@ fn done_by(alloc: Global, graph: &Graph, table: &Table) -> Result<String, Fail>
     Ok(format!(in alloc; "{all}")?)
 }
 
-/// How many firings there are in a block of some periods whose actors are spread over 16 workers, and what is done by
-/// its table; or why there is none.
+/// Returns the number of firings and the total load of a block of `j` periods spread over 16 workers, or the text of
+/// the fault.
 fn spread_out(alloc: Global, graph: &Graph, j: u32) -> Result<String, Fail> {
     let period = period_of(alloc, graph)?;
     let weights = weights(alloc, graph)?;
@@ -194,8 +196,8 @@ fn spread_out(alloc: Global, graph: &Graph, j: u32) -> Result<String, Fail> {
     }
 }
 
-/// How long the longest chain of firings is in a block of some periods, whose levels are worked out first; or why there
-/// is none.
+/// Returns the length of the longest chain of firings in a block of `j` periods, or the text of the fault. The levels
+/// are computed first.
 fn longest(alloc: Global, graph: &Graph, j: u32) -> Result<String, Fail> {
     let period = period_of(alloc, graph)?;
     let costs = Costs::unit(alloc, graph)?;
@@ -209,7 +211,7 @@ fn longest(alloc: Global, graph: &Graph, j: u32) -> Result<String, Fail> {
 /// An actor that feeds itself, so that a period is one firing.
 const ALONE: &[Row] = &[(0, &[1], &[1], 0, 1)];
 
-/// Blocks of as many firings as there may be, and of one more.
+/// Checks blocks with the maximum number of firings, and with one more.
 fn has_long_blocks(alloc: Global, graph: &Graph) -> Result<(), Fail> {
     row_says("spread", spread_out(alloc, graph, 65_536), "65536 65536")?;
     row_says(

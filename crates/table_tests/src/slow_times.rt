@@ -1,5 +1,5 @@
-//! Times by a slow model that is written from the definitions, beside those of `sdf_times`: of a fork of two ways with
-//! three rows of costs, and of a source of 2 to a sink of 3.
+//! Compares the times of `sdf_times` with a slow model that is written from the definitions. The graphs are a fork of
+//! two ways with three rows of costs, and a source of 2 to a sink of 3.
 
 ghost use Rattle.std.specs.Prelude.{◌<◌, length};
 ghost use Rattle.sdf_graph.specs.Rates.{rates};
@@ -17,7 +17,7 @@ use std::test::Fail;
 use test_actors::graphs::{Row, graph};
 use test_texts::row_says;
 
-/// A firing, where it stands, and when it starts.
+/// A firing, its row and its column in a table, and its start.
 #[derive(Clone, Copy)]
 struct Standing {
     firing: Firing,
@@ -26,7 +26,7 @@ struct Standing {
     start: u64,
 }
 
-/// What so many firings move, whose cycle has these rates.
+/// Returns the number of samples that the first `firings` firings move. `rates` are the rates of a cycle.
 fn moved(rates: &[u32], firings: u64) -> u64 {
     let mut total = 0u64;
     for number in 0..firings {
@@ -36,7 +36,7 @@ fn moved(rates: &[u32], firings: u64) -> u64 {
     total
 }
 
-/// Whether a channel has too little for a firing of its target before that firing of its source.
+/// Checks whether `channel` has too little for `firing` of its target before `other` of its source has fired.
 fn lacks(channel: &Channel, firing: Firing, other: Firing) -> bool {
     let held = (channel.initial as u64).saturating_add(moved(
         channel.put.as_slice(),
@@ -46,7 +46,7 @@ fn lacks(channel: &Channel, firing: Firing, other: Firing) -> bool {
     channel.to == firing.actor && channel.from == other.actor && held < taken
 }
 
-/// Whether a firing waits for another one.
+/// Checks whether `firing` waits for `other`.
 fn waits_for(graph: &Graph, firing: Firing, other: Firing) -> bool {
     let same = firing.actor == other.actor;
     let next = u64::from(other.number) + 1 == u64::from(firing.number);
@@ -57,17 +57,18 @@ fn waits_for(graph: &Graph, firing: Firing, other: Firing) -> bool {
     waits
 }
 
-/// What a firing of an actor costs.
+/// Returns the cost of a firing of `actor`.
 fn cost(costs: &[u32], actor: usize) -> u64 {
     u64::from(costs.get(actor).copied().unwrap_or(0))
 }
 
-/// When a firing ends.
+/// Returns the time at which the firing `at` ends.
 fn end(costs: &[u32], at: Standing) -> u64 {
     at.start.saturating_add(cost(costs, at.firing.actor))
 }
 
-/// The greatest end of those that a firing waits for, and, where columns count, of those before it in its column.
+/// Returns the latest end of the firings that `at` waits for. If `columns`, the firings before it in its column count
+/// too.
 fn ready(graph: &Graph, costs: &[u32], all: &[Standing], at: Standing, columns: bool) -> u64 {
     let mut most = 0u64;
     for other in all {
@@ -79,7 +80,7 @@ fn ready(graph: &Graph, costs: &[u32], all: &[Standing], at: Standing, columns: 
     most
 }
 
-/// Starts each firing anew by the ends that are known so far.
+/// Sets the start of each firing from the ends that are known so far.
 fn once_more(graph: &Graph, costs: &[u32], all: &mut Vec<Standing>, columns: bool) {
     for i in 0..all.len() {
         let at = all[i];
@@ -88,7 +89,7 @@ fn once_more(graph: &Graph, costs: &[u32], all: &mut Vec<Standing>, columns: boo
     }
 }
 
-/// As often as there are firings, after which nothing changes.
+/// Updates the starts `all.len()` times, after which nothing changes.
 fn settle(graph: &Graph, costs: &[u32], all: &mut Vec<Standing>, columns: bool) {
     for _ in 0..all.len() {
         once_more(graph, costs, all, columns);
@@ -112,7 +113,7 @@ fn add_row(table: &Table, row: usize, all: &mut Vec<Standing>) -> Result<(), All
     Ok(())
 }
 
-/// The firings of a table, in row order.
+/// Returns the firings of `table` in row order.
 fn firings_in(alloc: Global, table: &Table) -> Result<Vec<Standing>, AllocError> {
     let mut all = Vec::new(alloc);
     for row in 0..table.rows() {
@@ -121,7 +122,7 @@ fn firings_in(alloc: Global, table: &Table) -> Result<Vec<Standing>, AllocError>
     Ok(all)
 }
 
-/// When the last of them ends.
+/// Returns the time at which the last firing ends.
 fn last(costs: &[u32], all: &[Standing]) -> u64 {
     let mut most = 0u64;
     for at in all {
@@ -130,7 +131,7 @@ fn last(costs: &[u32], all: &[Standing]) -> u64 {
     most
 }
 
-/// What those of a column cost together, or all of them.
+/// Returns the total cost of the firings in `column`, or of all firings if it is `None`.
 fn load(costs: &[u32], all: &[Standing], column: Option<usize>) -> u64 {
     let mut load = 0u64;
     for at in all {
@@ -141,7 +142,7 @@ fn load(costs: &[u32], all: &[Standing], column: Option<usize>) -> u64 {
     load
 }
 
-/// The least time in which the chain ends and the workers can do the work.
+/// Returns the least time in which the longest chain can end and the workers can do the work.
 fn least(span: u64, work: u64, workers: u64) -> u64 {
     for time in 0..work {
         if span <= time && work <= time.saturating_mul(workers) {
@@ -159,7 +160,8 @@ fn add_starts(all: &[Standing], numbers: &mut Vec<u64>) -> Result<(), AllocError
     Ok(())
 }
 
-/// By the model: the starts, the makespan, the loads of two columns, the span, the work and the bound.
+/// Returns the numbers by the model: the starts, the makespan, the loads of two columns, the span, the work and the
+/// bound.
 fn by_model(alloc: Global, graph: &Graph, table: &Table, costs: &[u32]) -> Result<String, Fail> {
     let mut numbers = Vec::new(alloc);
     let mut all = firings_in(alloc, table)?;
@@ -196,7 +198,7 @@ fn add_starts_of(
     Ok(())
 }
 
-/// By `Times`: the starts, the makespan and the loads of two columns.
+/// Returns the numbers by `Times`: the starts, the makespan and the loads of two columns.
 pub(crate) fn by_times(
     alloc: Global,
     graph: &Graph,
@@ -217,7 +219,7 @@ pub(crate) fn by_times(
     Ok(numbers)
 }
 
-/// By the model and by `Times`, of Hu's table in two columns for a block of one period.
+/// Returns the numbers by the model and by `sdf_times`, for Hu's table of one period in two columns.
 fn both(alloc: Global, graph: &Graph, costs: &[u32]) -> Result<(String, String), Fail> {
     graph.channels();
     let period = period_of(alloc, graph)?;
@@ -237,13 +239,13 @@ fn both(alloc: Global, graph: &Graph, costs: &[u32]) -> Result<(String, String),
     Ok((model, format!(in alloc; "{numbers:?}")?))
 }
 
-/// Whether both are the same.
+/// Checks that the model and `sdf_times` give the same numbers.
 fn is_the_same(alloc: Global, name: &str, graph: &Graph, costs: &[u32]) -> Result<(), Fail> {
     let (model, times) = both(alloc, graph, costs)?;
     row_says(name, Ok(times), model.as_str())
 }
 
-/// A graph by its name, how many actors it has, its channels, and what its firings cost.
+/// Graphs by name: the number of actors, the channels, and the costs of the firings.
 const GRAPHS: &[(&str, usize, &[Row], &[u32])] = &[
     ("an even fork", 7, LONGER_FORK, &[1, 1, 1, 1, 1, 1, 1]),
     ("a dear way", 7, LONGER_FORK, &[1, 1, 3, 1, 1, 1, 1]),

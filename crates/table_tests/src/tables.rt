@@ -12,7 +12,7 @@ use std::test::Fail;
 use test_actors::graphs::graph;
 use test_texts::says;
 
-/// The rows, the capacity of channel 0, and the homes of the first two actors.
+/// Returns the number of rows, the capacity of channel 0, and the homes of the first two actors.
 fn parts_of(alloc: Global, graph: &Graph, table: &Table) -> Result<String, Fail>
     requires { IsExact (rates graph.now) table.now }
 {
@@ -27,7 +27,7 @@ fn parts_of(alloc: Global, graph: &Graph, table: &Table) -> Result<String, Fail>
     )?)
 }
 
-/// The same, or what the fault is and its text.
+/// Returns the parts of a table, or the text and the value of its fault.
 fn told(alloc: Global, graph: &Graph, table: &Result<Table, PrecFault>) -> Result<String, Fail>
     requires { IfOk table.now (IsExact (rates graph.now)) }
 {
@@ -48,7 +48,7 @@ fn given(
     Ok(given)
 }
 
-/// What is told of a table with these rows for two workers.
+/// Returns the parts or the fault of a table with these `rows` for two workers.
 fn accepted(alloc: Global, rows: &[&[Option<Firing>]]) -> Result<String, Fail> {
     let graph = graph(alloc, 2, BLOCKS)?;
     let period = period_of(alloc, &graph)?;
@@ -60,7 +60,7 @@ fn accepted(alloc: Global, rows: &[&[Option<Firing>]]) -> Result<String, Fail> {
     )
 }
 
-/// The firings of the source, with one that it has not, and those of the sink.
+/// The first firing of the source. The source has no firing `A3`, and `B0` and `B1` are the firings of the sink.
 const A0: Option<Firing> = Some(Firing {
     actor: 0,
     number: 0,
@@ -91,7 +91,7 @@ const B1: Option<Firing> = Some(Firing {
     number: 1,
 });
 
-/// The rows of a table, and what is told of it.
+/// The rows of a table, and its parts or its fault.
 const TABLES: &[(&[&[Option<Firing>]], &str)] = &[
     (
         &[&[A0], &[], &[A1], &[A2, B0], &[None, B1]],
@@ -121,7 +121,7 @@ const TABLES: &[(&[&[Option<Firing>]], &str)] = &[
     ),
 ];
 
-/// What is told of a table of one firing a row.
+/// Returns the parts or the fault of a table by `homes` for `m` workers, with one firing a row.
 fn by_homes(alloc: Global, m: usize, homes: &[Option<usize>]) -> Result<String, Fail> {
     let graph = graph(alloc, 2, BLOCKS)?;
     let period = period_of(alloc, &graph)?;
@@ -132,7 +132,7 @@ fn by_homes(alloc: Global, m: usize, homes: &[Option<usize>]) -> Result<String, 
     )
 }
 
-/// For how many workers, the homes, and what is told of the table.
+/// The number of workers, the homes, and the parts or the fault of the table.
 const HOMES: &[(usize, [Option<usize>; 2], &str)] = &[
     (
         1,

@@ -11,8 +11,8 @@ use std::test::Fail;
 use test_actors::graphs::graph;
 use test_texts::says;
 
-/// Of Hu's table of the fork in two columns, homed: the starts in row order, the makespan, the loads of both columns,
-/// the span, the work and the bound.
+/// Returns the times of the fork by Hu's homed table in two columns: the starts in row order, the makespan, the loads
+/// of both columns, the span, the work and the bound.
 fn of_a_fork(alloc: Global, costs: &[u32]) -> Result<String, Fail> {
     let graph = graph(alloc, 7, LONGER_FORK)?;
     graph.channels();
@@ -30,7 +30,7 @@ fn of_a_fork(alloc: Global, costs: &[u32]) -> Result<String, Fail> {
     Ok(format!(in alloc; "{numbers:?} {span} {work} {bound}")?)
 }
 
-/// What each actor costs, and the figures.
+/// The cost of each actor, and the figures.
 const FORKS: &[(&[u32], &str)] = &[
     (
         &[1, 1, 1, 1, 1, 1, 1],
@@ -46,7 +46,8 @@ const FORKS: &[(&[u32], &str)] = &[
     ),
 ];
 
-/// A `Times::of` or a `span` that always says that there is no memory fails here.
+/// Tests the times of forks and of another table, and bounds. A `Times::of` or a `span` that always reports refused
+/// memory fails here.
 #[test]
 fn times_of_a_fork(rt: HostRuntime) -> Result<(), Fail> {
     for (costs, wanted) in FORKS {
@@ -56,13 +57,13 @@ fn times_of_a_fork(rt: HostRuntime) -> Result<(), Fail> {
     says(bounds(rt.alloc()), "2 5 2")
 }
 
-/// Bounds are rounded up.
+/// Returns three bounds. The first is rounded up.
 fn bounds(alloc: Global) -> Result<String, Fail> {
     let (halves, long, even) = (bound(1, 3, 2), bound(5, 3, 2), bound(0, 4, 2));
     Ok(format!(in alloc; "{halves} {long} {even}")?)
 }
 
-/// Cells that are empty, or hold the firing of an actor with a number.
+/// Returns the cells of `row`. An actor from 9 on stands for an empty cell.
 fn cells(alloc: Global, row: &[(usize, u32)]) -> Result<Vec<Option<Firing>>, AllocError> {
     let mut cells = Vec::new(alloc);
     for (actor, number) in row {
@@ -78,7 +79,8 @@ fn cells(alloc: Global, row: &[(usize, u32)]) -> Result<Vec<Option<Firing>>, All
     Ok(cells)
 }
 
-/// A firing starts at a time of its own: the sink's second one waits for its first, which costs 10.
+/// Returns the times of a table that was made for other costs. The sink's second firing waits for its first, which
+/// costs 10.
 fn of_other_rows(alloc: Global) -> Result<String, Fail> {
     let graph = graph(alloc, 2, BLOCKS)?;
     let period = period_of(alloc, &graph)?;

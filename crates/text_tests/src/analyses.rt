@@ -8,7 +8,8 @@ use std::alloc::Global;
 use std::test::Fail;
 use test_texts::says;
 
-/// Two ways from `two` to `sum`, over `a` and over `b` and `c`.
+/// Returns a design with two ways from the actor `two` to `sum`: over `a`, and over `b` and `c`. The parameters are the
+/// costs of `two` and `a`.
 fn fork(alloc: Global, two: u32, a: u32) -> Result<Design, Fail> {
     let text = format!(in alloc;
         "format = 1
@@ -27,13 +28,13 @@ link = [{{ from = \"in\", to = \"two\" }}, {{ from = \"two:0\", to = \"a\" }},
     Ok(read_design(alloc, text.as_bytes(), &[])?)
 }
 
-/// Each link of the fork holds one sample.
+/// The links of the fork, each of which holds one sample.
 const LINKS: &str =
     "samples held 7, 28 bytes\ncapacity in:0 two:0 1, 4 bytes\ncapacity two:0 a:0 1, 4 bytes\n\
     capacity two:1 b:0 1, 4 bytes\ncapacity a:0 sum:0 1, 4 bytes\ncapacity b:0 c:0 1, 4 bytes\n\
     capacity c:0 sum:1 1, 4 bytes\ncapacity sum:0 out:0 1, 4 bytes\n";
 
-/// What is printed of a design on two workers.
+/// Returns the analysis of `design` on two workers.
 fn analysis(alloc: Global, design: &Design, placement: Placement) -> Result<String, Fail> {
     let options = Options {
         workers: 2,
@@ -43,7 +44,7 @@ fn analysis(alloc: Global, design: &Design, placement: Placement) -> Result<Stri
     Ok(analyze(alloc, design, &options)?)
 }
 
-/// What is printed of the fork with these costs, but for its links.
+/// Returns the analysis of the fork with these costs, except its links.
 fn figures(alloc: Global, two: u32, a: u32) -> Result<String, Fail> {
     let text = analysis(alloc, &fork(alloc, two, a)?, Placement::Homed)?;
     match text.as_str().strip_suffix(LINKS) {
@@ -52,7 +53,7 @@ fn figures(alloc: Global, two: u32, a: u32) -> Result<String, Fail> {
     }
 }
 
-/// What `two` and `a` cost, and the figures.
+/// The costs of `two` and `a`, and the figures.
 const FORKS: &[(u32, u32, &str)] = &[
     (
         1,
@@ -71,7 +72,7 @@ const FORKS: &[(u32, u32, &str)] = &[
     ),
 ];
 
-/// An `analyze` that always says that there is no memory fails here.
+/// Tests the figures of forks. An `analyze` that always reports refused memory fails here.
 #[test]
 fn figures_of_forks(rt: HostRuntime) -> Result<(), Fail> {
     for (two, a, wanted) in FORKS {
@@ -86,9 +87,10 @@ actor = [{ name = \"in\", kind = \"input\", channel = 0, block = 2, processor = 
     { name = \"out\", kind = \"output\", channel = 0, block = 3, processor = 1 }]
 link = [{ from = \"in\", to = \"out\" }]";
 
-/// With four workers there would be three lines of each. For one worker `file` has no table, and by `runs` the link of
-/// the other holds six samples where by the other policies it holds four. By `spread` one worker has both actors, and a
-/// block has as many periods as 6 samples go into 1,024, all firings of `in` first.
+/// The comparison of the blocks. With four workers there would be three lines for each policy and placement. On one
+/// worker `file` has no table. On two workers its link holds six samples by the policy `runs`, and four by the others.
+/// With `spread` one worker has both actors. A block then has 170 periods, since 6 samples go 170 times into 1,024, and
+/// all firings of `in` are first.
 const COMPARED: &str =
     "policy placement workers blocking     makespan  speedup    rows        samples
 round  hu              1        1            5     1.00       5              6
@@ -117,7 +119,7 @@ runs   spread          1      170         *850     1.00    *850          *1020
 runs   spread          2      170         *850     1.00    *850          *1020
 ";
 
-/// What is printed of the schedules of the blocks.
+/// Returns the comparison of the schedules of the blocks.
 fn comparison(alloc: Global) -> Result<String, Fail> {
     let design = read_design(alloc, BLOCKS.as_bytes(), &[])?;
     let options = Options {
@@ -128,30 +130,30 @@ fn comparison(alloc: Global) -> Result<String, Fail> {
     Ok(compare(alloc, &design, &options)?)
 }
 
-/// A `compare` that always says that there is no memory fails here.
+/// Tests the comparison. A `compare` that always reports refused memory fails here.
 #[test]
 fn blocks_compared(rt: HostRuntime) -> Result<(), Fail> {
     says(comparison(rt.alloc()), COMPARED)
 }
 
-/// What comes in goes out, a sample at a time.
+/// An input that is linked to an output, one sample at a time.
 const CHAIN: &str = "format = 1
 actor = [{ name = \"in\", kind = \"input\", channel = 0 }, { name = \"out\", kind = \"output\", channel = 0 }]
 link = [{ from = \"in\", to = \"out\" }]";
 
-/// 1,024 samples are a block, and one worker has both actors. Of the firings of a chain each waits for the one before:
-/// all of `in` and the last of `out`, or the first of `in` and all of `out`.
+/// The analysis of a block of 1,024 samples, in which one worker has both actors. In the longest chain each firing
+/// waits for the one before: all of `in` and the last of `out`, or the first of `in` and all of `out`.
 const LONG: &str =
     "makespan 2048\nwork 2048\nspan 1025\nbound 1025\nspeedup 1.00 of 2\nworker 0 0 %\n\
     worker 1 100 %\nsamples held 1024, 4096 bytes\ncapacity in:0 out:0 1024, 4096 bytes\n";
 
-/// What is printed of the long block.
+/// Returns the analysis of the long block.
 fn long_block(alloc: Global) -> Result<String, Fail> {
     let design = read_design(alloc, CHAIN.as_bytes(), &[])?;
     analysis(alloc, &design, Placement::Spread)
 }
 
-/// Figures of blocks of at most 64 periods alone fail here.
+/// Tests the figures of a long block. Code that handles only blocks of at most 64 periods fails here.
 #[test]
 fn figures_of_a_long_block(rt: HostRuntime) -> Result<(), Fail> {
     says(long_block(rt.alloc()), LONG)

@@ -22,7 +22,7 @@ fn checked(alloc: Global) -> Result<String, Fail> {
     Ok(check_json(alloc, &design)?)
 }
 
-/// A `check_json` that always says that there is no memory fails here.
+/// Tests the JSON of a design. A `check_json` that always reports refused memory fails here.
 #[test]
 fn json_of_a_design(rt: HostRuntime) -> Result<(), Fail> {
     says(
@@ -73,7 +73,7 @@ fn json_of_an_analysis(rt: HostRuntime) -> Result<(), Fail> {
     )
 }
 
-/// The two tables of kinds in `docs/FORMATS.md`.
+/// Tests the JSON of the kinds against the two tables in `docs/FORMATS.md`.
 #[test]
 fn json_of_the_kinds(rt: HostRuntime) -> Result<(), Fail> {
     says(

@@ -1,4 +1,4 @@
-//! The JSON of faults: rows of each kind of place, and the texts that a fault owns.
+//! The JSON of faults: rows for each kind of place, and the texts in a fault.
 
 use sdf_actor::{NetFault, Side};
 use sdf_faults::Fault;
@@ -54,7 +54,7 @@ fn net(alloc: Global, fault: NetFault) -> Result<String, Fail> {
     Ok(fault_json(alloc, &Fault::File(FileFault::Net(fault)))?)
 }
 
-/// A `fault_json` that always says that there is no memory fails here.
+/// Tests the JSON of faults of nets. A `fault_json` that always reports refused memory fails here.
 #[test]
 fn json_of_net_faults(rt: HostRuntime) -> Result<(), Fail> {
     for (fault, wanted) in NETS {
@@ -117,7 +117,7 @@ fn json_of_plain_faults(rt: HostRuntime) -> Result<(), Fail> {
     )
 }
 
-/// What a graph file that is no design, or has no schedule, says.
+/// Returns the JSON of the fault of a graph file that is not a design or has no schedule.
 fn refused(alloc: Global, text: &str) -> Result<String, Fail> {
     let fault = match read_design(alloc, text.as_bytes(), &[]) {
         Ok(design) => schedule_json(alloc, &design, &Options::DEFAULT).err(),
@@ -157,7 +157,7 @@ const FILES: &[(&str, &str)] = &[
     ),
 ];
 
-/// The names and keys of the files stand in the lines; a control character as JSON writes it.
+/// Tests that the lines have the names and keys of the files, with a control character escaped as in JSON.
 #[test]
 fn json_of_file_faults(rt: HostRuntime) -> Result<(), Fail> {
     for (text, wanted) in FILES {

@@ -7,7 +7,7 @@ use std::alloc::Global;
 use std::test::Fail;
 use test_texts::says;
 
-/// A sum that is fed its delayed self.
+/// A loop: a sum that is fed its own output, delayed by two samples.
 const LOOP: &str = "format = 1
 actor = [{ name = \"in\", kind = \"input\", channel = 0 }, { name = \"sum\", kind = \"add\", ways = 2 },
     { name = \"two\", kind = \"fork\", ways = 2 }, { name = \"out\", kind = \"output\", channel = 0, block = 3 }]
@@ -27,8 +27,8 @@ const LOOP_DOT: &str = "digraph {
 }
 ";
 
-/// What stands in the picture for two workers: the namespace, boxes in three columns, the arrow that leads back below
-/// them, its two samples, the last bar, the bound and the makespan.
+/// Parts of the picture for two workers: the namespace, boxes in three columns, the arrow back below them, its two
+/// samples, the last bar, the bound and the makespan.
 const PARTS: &[&str] = &[
     "<svg xmlns='http://www.w3.org/2000/svg' ",
     "<polygon class='box s0' points=' 320,86 456,86 470,106 456,126 320,126'/>",
@@ -47,13 +47,13 @@ fn loop_graph(alloc: Global) -> Result<String, Fail> {
     Ok(dot(alloc, &design)?)
 }
 
-/// A `dot` that always says that there is no memory fails here.
+/// Tests the graph for Graphviz. A `dot` that always reports refused memory fails here.
 #[test]
 fn loop_for_graphviz(rt: HostRuntime) -> Result<(), Fail> {
     says(loop_graph(rt.alloc()), LOOP_DOT)
 }
 
-/// The picture of the loop on two workers.
+/// Returns the picture of the loop on two workers.
 fn loop_picture(alloc: Global) -> Result<String, Fail> {
     let design = read_design(alloc, LOOP.as_bytes(), &[])?;
     let options = Options {
@@ -63,7 +63,7 @@ fn loop_picture(alloc: Global) -> Result<String, Fail> {
     Ok(svg(alloc, &design, &options)?)
 }
 
-/// Those of the parts that the picture does not have, each on a line.
+/// Returns the parts that the picture lacks, each on a line.
 fn missing_parts(alloc: Global) -> Result<String, Fail> {
     let picture = loop_picture(alloc)?;
     let mut missing = String::new(alloc);
@@ -75,7 +75,8 @@ fn missing_parts(alloc: Global) -> Result<String, Fail> {
     Ok(missing)
 }
 
-/// A `svg` that always says that there is no memory fails here, and one in another namespace, which no browser shows.
+/// Tests the picture. An `svg` that always reports refused memory fails here, and so does one in another namespace,
+/// which no browser shows.
 #[test]
 fn loop_drawn(rt: HostRuntime) -> Result<(), Fail> {
     says(missing_parts(rt.alloc()), "")

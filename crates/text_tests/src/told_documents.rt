@@ -1,4 +1,4 @@
-//! Graph files that are not read.
+//! Diagnostics for graph files that are not read.
 
 use sdf_document::{ReadFault, read_document};
 use sdf_why::document_text;
@@ -6,7 +6,7 @@ use std::alloc::Global;
 use std::test::Fail;
 use test_texts::row_says;
 
-/// The text of a graph file, the line of its fault, and behind it what is told of the fault.
+/// A graph file, and the line of its fault followed by its diagnostic.
 struct Row {
     graph: &'static str,
     told: &'static str,
@@ -150,7 +150,7 @@ static ROWS: [Row; 24] = [
     },
 ];
 
-/// Coefficient files: an empty list, and one with a value that is too wide for taps and one that is for tables.
+/// Coefficient files: one with an empty list, and one with a value too wide for taps and another too wide for tables.
 static FILES: [(&str, &str); 2] = [
     ("a.toml", "format = 1\nvalues = []\n"),
     (
@@ -168,7 +168,7 @@ fn files(alloc: Global) -> Result<Vec<(String, Vec<u8>)>, Fail> {
     Ok(files)
 }
 
-/// The fault of a graph file, and what is told of it.
+/// Returns the fault of a graph file, followed by its diagnostic.
 fn told(alloc: Global, graph: &[u8]) -> Result<String, Fail> {
     let files = files(alloc)?;
     let Err(ReadFault::Document(fault)) = read_document(alloc, graph, &files) else {
@@ -178,7 +178,7 @@ fn told(alloc: Global, graph: &[u8]) -> Result<String, Fail> {
     Ok(format!(in alloc; "{fault}\n{told}")?)
 }
 
-/// A text that always says that nothing is known fails here.
+/// Tests the diagnostics for faults of documents. A `document_text` that always reports refused memory fails here.
 #[test]
 fn faults_of_documents_are_told(rt: HostRuntime) -> Result<(), Fail> {
     for row in &ROWS {

@@ -1,4 +1,4 @@
-//! Graph files whose nets are refused.
+//! Diagnostics for graph files whose nets are refused.
 
 use sdf_file::read_design;
 use sdf_why::{Sources, file_text};
@@ -6,7 +6,7 @@ use std::alloc::Global;
 use std::test::Fail;
 use test_texts::row_says;
 
-/// Actors and links of a graph file, the line of its fault, and behind it what is told of the fault.
+/// The actors and links of a graph file, and the line of its fault followed by its diagnostic.
 struct Row {
     actors: &'static str,
     links: &'static str,
@@ -18,12 +18,12 @@ const FORKED: &str =
     "{ name = \"in\", kind = \"input\", channel = 0 }, { name = \"two\", kind = \"fork\", ways = 2 },
     { name = \"out\", kind = \"output\", channel = 0 }";
 
-/// A second output of channel 0, and two inputs and an output of which one has no partner.
+/// An input, a fork of two ways, and two outputs of channel 0.
 const RIVALS: &str =
     "{ name = \"in\", kind = \"input\", channel = 0 }, { name = \"two\", kind = \"fork\", ways = 2 },
     { name = \"out\", kind = \"output\", channel = 0 }, { name = \"again\", kind = \"output\", channel = 0 }";
 
-/// An output of channel 1 alone.
+/// An input, and an output of channel 1 without one of channel 0.
 const SECOND: &str =
     "{ name = \"in\", kind = \"input\", channel = 0 }, { name = \"out\", kind = \"output\", channel = 1 }";
 
@@ -32,13 +32,13 @@ const PAIRS: &str =
     "{ name = \"in\", kind = \"input\", channel = 0 }, { name = \"left\", kind = \"input\", channel = 1 },
     { name = \"out\", kind = \"output\", channel = 0 }, { name = \"right\", kind = \"output\", channel = 1 }";
 
-/// One way is halved, and both are added.
+/// A fork of two ways that are added, with one of them halved.
 const HALVED: &str =
     "{ name = \"in\", kind = \"input\", channel = 0 }, { name = \"two\", kind = \"fork\", ways = 2 },
     { name = \"half\", kind = \"decimate\", factor = 2 }, { name = \"sum\", kind = \"add\", ways = 2 },
     { name = \"out\", kind = \"output\", channel = 0 }";
 
-/// The same of runs that are dealt out.
+/// A deal in runs of three to two ways that are added, with one of them halved.
 const DEALT: &str =
     "{ name = \"in\", kind = \"input\", channel = 0 }, { name = \"two\", kind = \"deal\", ways = 2, run = 3 },
     { name = \"half\", kind = \"decimate\", factor = 2 }, { name = \"sum\", kind = \"add\", ways = 2 },
@@ -125,7 +125,7 @@ static ROWS: [Row; 11] = [
     },
 ];
 
-/// The fault of a graph file of these actors and links, and what is told of it.
+/// Returns the fault of the graph file of `row`, followed by its diagnostic.
 fn told(alloc: Global, row: &Row) -> Result<String, Fail> {
     let (actors, links) = (row.actors, row.links);
     let graph = format!(in alloc; "format = 2\nactor = [{actors}]\nlink = [{links}]\n")?;

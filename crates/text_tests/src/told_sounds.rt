@@ -1,4 +1,4 @@
-//! Deadlocks, sounds that a design does not take, and files of which something was said.
+//! Diagnostics for deadlocks, sounds, blocks and homes, and for files with a message.
 
 use sdf_why::{
     Halt, Header, Sources, block_text, channels_text, device_text, home_text, rate_text,
@@ -8,21 +8,21 @@ use std::alloc::{AllocError, Global};
 use std::test::Fail;
 use test_texts::says;
 
-/// A loop on which no sample stands: of four actors only the first can fire.
+/// A loop without initial samples: of four actors only the first can fire.
 const STUCK: &str = "format = 1
 actor = [{ name = \"in\", kind = \"input\", channel = 0 }, { name = \"add\", kind = \"add\", ways = 2 },
     { name = \"fork\", kind = \"fork\", ways = 2 }, { name = \"out\", kind = \"output\", channel = 0 }]
 link = [{ from = \"in\", to = \"add:0\" }, { from = \"add\", to = \"fork\" },
     { from = \"fork:0\", to = \"out\" }, { from = \"fork:1\", to = \"add:1\" }]";
 
-/// The same loop behind an actor that waits for it and comes first.
+/// A loop without initial samples, behind an output that waits for it and is the first actor.
 const BEHIND: &str = "format = 1
 actor = [{ name = \"out\", kind = \"output\", channel = 0 }, { name = \"in\", kind = \"input\", channel = 0 },
     { name = \"add\", kind = \"add\", ways = 2 }, { name = \"fork\", kind = \"fork\", ways = 2 }]
 link = [{ from = \"in\", to = \"add:0\" }, { from = \"add\", to = \"fork\" },
     { from = \"fork:0\", to = \"out\" }, { from = \"fork:1\", to = \"add:1\" }]";
 
-/// Three samples in, two out, of the second channel too.
+/// A design that takes three samples from each of two channels and makes two.
 const DESIGN: &str = "format = 1
 actor = [{ name = \"left\", kind = \"input\", channel = 0, block = 3 },
     { name = \"right\", kind = \"input\", channel = 1, block = 3 },
@@ -39,12 +39,13 @@ fn sources(text: &str) -> Sources<'_> {
     }
 }
 
-/// What was told, as a test has it.
+/// Returns a diagnostic with the error type of a test.
 fn told(text: Result<String, AllocError>) -> Result<String, Fail> {
     Ok(text?)
 }
 
-/// Whether a document that ends in mid-list is told of by the place where it does.
+/// Returns `at its line and column` if the diagnostic for a document that ends within a list has them. Otherwise
+/// returns the diagnostic.
 fn where_toml_stops(alloc: Global) -> Result<String, Fail> {
     let told = toml_text(alloc, "a.toml", b"format = 1\nactor = [\n")?;
     if told
@@ -60,11 +61,11 @@ fn where_toml_stops(alloc: Global) -> Result<String, Fail> {
 const CYCLE: &str =
     "  link 3 is fork:1 -> add:1, holds 0, wants 1\n  link 1 is add:0 -> fork:0, holds 0, wants 1\n  link 2 is fork:0 -> out:0\n";
 
-/// The same links, where the walk to them comes from the output: it enters the loop at the fork.
+/// The links of `BEHIND`: the walk comes from the output and enters the loop at the fork.
 const ENTERED: &str =
     "  link 1 is add:0 -> fork:0, holds 0, wants 1\n  link 3 is fork:1 -> add:1, holds 0, wants 1\n  link 2 is fork:0 -> out:0\n";
 
-/// Where the loop stops: the input has fired, and each other actor waits.
+/// The halts of `STUCK`: the input has fired, and each other actor waits.
 static HALTS: [Halt; 4] = [
     Halt {
         done: 1,
@@ -84,7 +85,7 @@ static HALTS: [Halt; 4] = [
     },
 ];
 
-/// Where it stops if the output comes first.
+/// The halts of `BEHIND`, in which the output is the first actor.
 static LATER: [Halt; 4] = [
     Halt {
         done: 0,
@@ -104,7 +105,8 @@ static LATER: [Halt; 4] = [
     },
 ];
 
-/// A text without a cycle fails here, and one that looks for it only at the first actor that waits.
+/// Tests the diagnostics. A text without a cycle fails here, and so does a search for it only at the first actor that
+/// waits.
 #[test]
 fn sounds_are_told(rt: HostRuntime) -> Result<(), Fail> {
     let alloc = rt.alloc();

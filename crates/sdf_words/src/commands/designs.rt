@@ -1,4 +1,4 @@
-//! The commands that check, schedule and run a design: what each takes, and what its help says.
+//! The commands that check, schedule and run a design: their arguments and help texts.
 
 use super::{Argument, Given, PLAIN, Row, Switch, Values};
 use sdf_limits::{MOST_BLOCKING, MOST_PATIENCE, MOST_WORKERS};
@@ -228,7 +228,7 @@ folder by `sdfw run GRAPH --into FOLDER IN..`, of which `sdfw run --into FOLDER 
     },
 ];
 
-/// The runs of several files.
+/// The command `run` for several files.
 pub(super) const BATCH: &[Row] = &[Row {
     name: "run",
     help: "Processes WAV files, each into a file of its name in a folder",

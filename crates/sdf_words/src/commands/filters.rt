@@ -1,4 +1,4 @@
-//! The commands that make filters and converters: what each takes, and what its help says.
+//! The commands that make filters and converters: their arguments and help texts.
 
 use super::{Argument, Given, Row, Values};
 

@@ -1,4 +1,4 @@
-//! The commands that say what the program knows: what each takes, and what its help says.
+//! The commands that list the kinds and explain the faults: their arguments and help texts.
 
 use super::{Argument, Given, PLAIN, Row, Values};
 use crate::asked::MOST_FAULT;

@@ -1,4 +1,4 @@
-//! The commands that show what a schedule does and what a run costs: what each takes, and what its help says.
+//! The commands that show what a schedule does and what a run costs: their arguments and help texts.
 
 use super::designs::{GRAPH, IN, JSON, NO_WHY, WHY};
 use super::{Argument, Given, PLAIN, Row, Values};

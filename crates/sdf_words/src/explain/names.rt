@@ -1,6 +1,6 @@
 //! The names of the faults.
 
-/// The name of each fault, by its number: that of the first one is 1.
+/// The names of the faults, in the order of their numbers from 1 on.
 pub const NAMES: &[&str] = &[
     "OutOfMemory",
     "ActorCount",

@@ -1,6 +1,6 @@
 //! Lines of graph files that have a fault, and the same lines mended.
 
-/// Lines that have the fault of this number, and lines that don't have it. `make documents` tries both in a design of
+/// Lines that have the fault `number`, and lines that don't have it. `make documents` tries both in a design of
 /// `examples/`.
 #[derive(Clone, Copy)]
 pub(super) struct Repair {
