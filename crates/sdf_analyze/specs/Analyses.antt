@@ -8,13 +8,13 @@ use Rattle.sdf_plan.specs.Schedules.{IsScheduled}
 use Rattle.sdf_analyze.specs.Figures.{Figured, AreFiguresOf}
 use Rattle.sdf_analyze.specs.Texts.{analysis_text}
 
--- the periods of a block and the table that options give a design, and its figures
+-- the periods of a block, the table that options o give design d, and the table's figures
 pub record IsFigured (d : DesignValue) (o : Options) (periods : ℕ) (t : Tabled) (f : Figured) : Type 0 where
   pub period : Schedule
   pub scheduled : IsScheduled d o periods period t
   pub are : AreFiguresOf d periods o.workers period t f
 
--- the text is of these
+-- the text is that of the figures and capacities of the table that options o give design d
 pub record IsAnalysis (d : DesignValue) (o : Options) (text : List ℕ) : Type 0 where
   pub periods : ℕ
   pub table : Tabled

@@ -17,7 +17,7 @@ use Rattle.sdf_analyze.specs.Analyses.{IsFigured}
 use Rattle.sdf_analyze.specs.Ways.{ways}
 use Rattle.sdf_analyze.specs.Columns.{comparison_text}
 
--- what is compared of the table of so many periods and its figures
+-- the compared values of a table and its figures, for a block of this many periods
 abbrev pub measures_of : ℕ → Tabled → Figured → Measures
 measures_of periods t f = record {
   blocking = periods;
@@ -49,7 +49,7 @@ pub record IsMade (d : DesignValue) (o : Options) (m : Measures) : Type 0 where
   pub figured : IsFigured d o periods table figures
   pub is : m ≡ measures_of periods table figures
 
--- they give none, and the number is that of the fault
+-- options o give no table, and the number is that of the fault
 pub record IsRefused (d : DesignValue) (o : Options) (number : ℕ) : Type 0 where
   pub fault : PrecFault
   pub why : IsUnplaced d o fault
@@ -59,12 +59,12 @@ abbrev pub IsOutcome : DesignValue → Options → Outcome → Type 0
 IsOutcome d o (Made m) = IsMade d o m
 IsOutcome d o (Refused number) = IsRefused d o number
 
--- the schedules that are compared, in their order, and what becomes of each
+-- the schedules that are compared, in their order, and the outcome of each
 pub record AreCompared (d : DesignValue) (o : Options) (entries : List Entry) : Type 0 where
   pub ways_are : map (λ (e : Entry). e.options) entries ≡ ways o
   pub each : All (λ (e : Entry). IsOutcome d e.options e.outcome) entries
 
--- a line for each of them
+-- the text is a table with a line for each compared schedule
 pub record IsComparison (d : DesignValue) (o : Options) (text : List ℕ) : Type 0 where
   pub entries : List Entry
   pub compared : AreCompared d o entries
