@@ -1,4 +1,4 @@
-//! What the commands print as JSON: a design, its schedule, its analysis, schedules beside one another, the kinds of
+//! The JSON that the commands print: a design, its schedule, its analysis, a comparison of schedules, the kinds of
 //! actors, and a fault.
 //!
 //! It depends on `sdf_plan`, which schedules a design, and on `sdf_analyze`, which computes what a schedule does.
