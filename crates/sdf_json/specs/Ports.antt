@@ -58,8 +58,8 @@ amount_in k vs Factor = value_of (codes "factor") (row_of k).keys vs
 amount_in k vs Ways = value_of (codes "ways") (row_of k).keys vs
 amount_in k vs Run = value_of (codes "run") (row_of k).keys vs
 
--- the samples that a firing at phase j moves at port p of a side: in a cycle of `ways`, at port j only if the side has
--- `ways` ports
+-- the samples that a firing at phase j moves at port p of a side: only at port j, if the cycle and the side's ports are
+-- both `ways`
 abbrev pub moved_by : Amount → Amount → ℕ → ℕ → ℕ → ℕ
 moved_by Ways Ways n p j = cond (p == j) n 0
 moved_by cycle ports n p j = n
