@@ -1,7 +1,7 @@
 //! Runs the design `graph.toml` on the WAV file at standard input, and prints the WAV file that the design makes.
 //!
-//! It depends on `sdf_file`, which reads the design, on `sdf_plan` and `sdf_options`, which plan it, on `sdf_process`,
-//! which runs it from bytes to bytes, and on `sdf_wav` for its reader and its writer. Begin at `main`.
+//! It depends on `sdf_file`, which reads the design, and on `sdf_plan` and `sdf_options`, which plan it. `sdf_process`
+//! runs it from bytes to bytes. `sdf_wav` has the reader and the writer. Begin at `main`.
 #![tactic(auto)]
 
 use anyhow::Result;

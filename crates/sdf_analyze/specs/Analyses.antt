@@ -1,4 +1,4 @@
--- What the command `analyze` prints.
+-- The text that the command `analyze` prints.
 use Rattle.std.specs.Prelude.{◌≡◌, ℕ, List}
 use Rattle.sdf_sched.specs.Period.{Schedule}
 use Rattle.sdf_prec.specs.Tables.{Tabled}
@@ -14,7 +14,7 @@ pub record IsFigured (d : DesignValue) (o : Options) (periods : ℕ) (t : Tabled
   pub scheduled : IsScheduled d o periods period t
   pub are : AreFiguresOf d periods o.workers period t f
 
--- the text is that of the figures and capacities of the table that options o give design d
+-- the text of the figures and the capacities of the table that options o give design d
 pub record IsAnalysis (d : DesignValue) (o : Options) (text : List ℕ) : Type 0 where
   pub periods : ℕ
   pub table : Tabled

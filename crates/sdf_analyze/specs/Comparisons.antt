@@ -1,4 +1,4 @@
--- What the command `analyze --compare` prints.
+-- The text that the command `analyze --compare` prints.
 use Rattle.std.specs.Prelude.{◌≡◌, ℕ, List, length, map}
 use Rattle.std.specs.List.{All}
 use Rattle.sdf_prec.specs.Tables.{Tabled}
@@ -41,7 +41,7 @@ number_of (prec.TooEarly row firing needs) = 18
 number_of (prec.BadHome actor) = 19
 number_of (prec.BadCost actor) = 62
 
--- the measures are those of the table that the options give
+-- the measures of the table that the options give
 pub record IsMade (d : DesignValue) (o : Options) (m : Measures) : Type 0 where
   pub periods : ℕ
   pub table : Tabled
@@ -49,7 +49,7 @@ pub record IsMade (d : DesignValue) (o : Options) (m : Measures) : Type 0 where
   pub figured : IsFigured d o periods table figures
   pub is : m ≡ measures_of periods table figures
 
--- options o give no table, and the number is that of the fault
+-- the options give no table, but a fault with this number
 pub record IsRefused (d : DesignValue) (o : Options) (number : ℕ) : Type 0 where
   pub fault : PrecFault
   pub why : IsUnplaced d o fault

@@ -188,7 +188,7 @@ fn entries_of(alloc: Global, design: &Design, ways: &[Options]) -> Result<Vec<En
     Ok(entries)
 }
 
-/// Returns the schedules of `design` by each policy and each placement, for 1, 2, 4, .. workers up to those of
+/// Returns the schedules of `design` by each policy and each placement, for 1, 2, 4, .. workers up to the workers of
 /// `options`. Each entry has the periods of its block, the makespan, the speedup, the rows and the samples held. An
 /// entry without a schedule has the number of the fault. A design without a schedule has none by any policy, so that
 /// fault is returned.

@@ -232,7 +232,7 @@ fn frames_text(alloc: Global, front: Front<'_>, bytes: u64) -> Result<String, Al
     format!(in alloc; "has {samples} bytes of samples, wants frames of {frame} bytes")
 }
 
-/// Returns the text for a WAV file that is too long, or whose output would be too long.
+/// Returns the text for a WAV file that is too long, has too many chunks, or whose output would be too long.
 fn length_text(alloc: Global, front: Front<'_>, bytes: u64) -> Result<String, AllocError> {
     match front.data() {
         Some(Chunk { size, .. }) if size != UNKNOWN => {

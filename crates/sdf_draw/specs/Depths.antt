@@ -4,7 +4,7 @@ use Rattle.std.specs.List.{Contains}
 use Rattle.sdf_graph.specs.Rates.{Rates}
 use Rattle.sdf_times.specs.Times.{IsGreatest}
 
--- actor a fires, and actor b does not fire before that
+-- actor a fires at a place of the order, up to which actor b does not fire
 pub record IsSooner (order : List ℕ) (a b : ℕ) : Type 0 where
   pub place : ℕ
   pub within : place < length order

@@ -12,7 +12,7 @@ use Rattle.sdf_draw.specs.declared.page.Drawing.{Drawing}
 use Rattle.sdf_draw.specs.Layouts.{IsLayout}
 use Rattle.sdf_draw.specs.Bars.{AreDrawable}
 
--- the period and the table of a schedule, the table's figures, a box for each actor, a route for each link, and the
+-- the period and the table of a schedule, and the table's figures; a box for each actor, a route for each link, and the
 -- numbers of lanes above the boxes and below them
 pub record Drawn : Type 0 where
   pub period : Schedule

@@ -62,7 +62,7 @@ picture_text d m w =
     ++ origin_text (chart_top w.places w.below)
     ++ chart_text d w.table w.figures m ++ codes "</g>\n</svg>\n"
 
--- the text is that of a drawing of the design by the options
+-- the text of a drawing of the design by the options
 pub record IsPicture (d : DesignValue) (o : Options) (text : List ℕ) : Type 0 where
   pub what : Drawn
   pub drawing : IsDrawing d o what

@@ -26,8 +26,7 @@ fn deepest(graph: &Graph, depths: &[u32], actor: usize) -> u32
     most
 }
 
-/// Returns the depth of `actor`: the one that it has, otherwise one more than the greatest depth from which a channel
-/// leads to it.
+/// Returns the depth that `actor` has, otherwise one more than the greatest depth from which a channel leads to it.
 fn depth_of(graph: &Graph, depths: &[u32], actor: usize) -> u32
     requires known { actor < graph.now.actors }
     requires all { length depths.now ≡ graph.now.actors }

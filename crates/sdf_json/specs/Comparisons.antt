@@ -1,4 +1,4 @@
--- What the command `analyze --compare --json` prints.
+-- The line that the command `analyze --compare --json` prints.
 use Rattle.std.specs.Prelude.{ℕ, List, [], ◌∷◌, ◌++◌, map, codes}
 use Rattle.serde_json.specs.Data.{Data}
 use Rattle.sdf_options.specs.declared.options.Options.{Options}
@@ -30,7 +30,7 @@ entry_value e = object_of (asked e.options ++ outcome_of e.outcome)
 abbrev pub comparison_value : List Entry → Data
 comparison_value entries = list_of (map entry_value entries)
 
--- the text is that of the schedules that are compared, in their order
+-- the text of the schedules that are compared, in their order
 pub record IsComparisonJson (d : DesignValue) (o : Options) (text : List ℕ) : Type 0 where
   pub entries : List Entry
   pub compared : AreCompared d o entries

@@ -1,4 +1,4 @@
--- What the command `check --json` prints.
+-- The line that the command `check --json` prints.
 use Rattle.std.specs.Prelude.{ℕ, List, [], ◌∷◌, length, sum, codes, slice_index}
 use Rattle.serde_json.specs.Data.{Data, string}
 use Rattle.sdf_graph.specs.Rates.{rates}
@@ -29,8 +29,8 @@ ends_of d c =
 abbrev pub link_value : DesignValue → ℕ → Data
 link_value d c = object_of (ends_of d c)
 
--- a design with repetition vector q: its actors and links in file order, the firings of a period, and the samples that
--- each input puts and each output takes in a period
+-- a design with repetition vector q: its actors and links in file order; then the firings, the samples that each input
+-- puts, and the samples that each output takes, all in a period
 abbrev pub check_value : DesignValue → List ℕ → Data
 check_value d q = object_of (
     (codes "actors", list_of (each_to (actor_value d q) (length d.net.nodes)))

@@ -1,4 +1,4 @@
--- What the command `kinds --json` prints.
+-- The line that the command `kinds --json` prints.
 use Rattle.std.specs.Prelude.{ℕ, ℤ, pos, negsuc, true, false, List, [], ◌∷◌, map, codes, Option, Some, None}
 use Rattle.serde_json.specs.Data.{Data, null, boolean, number, string, object, no_members}
 use Rattle.serde_json.specs.Find.{of_integer}

@@ -1,4 +1,4 @@
--- What the command `schedule --json` prints.
+-- The line that the command `schedule --json` prints.
 use Rattle.std.specs.Prelude.{ℕ, List, [], ◌∷◌, ◌++◌, length, map, codes}
 use Rattle.serde_json.specs.Data.{Data, string}
 use Rattle.sdf_sched.specs.Period.{Schedule}
@@ -26,7 +26,7 @@ schedule_value d o s t = object_of (asked o ++
     ∷ (codes "links", list_of (each_to (capacity_value d t.caps) (length d.net.wires)))
     ∷ [])
 
--- the text is that of the period and the table that options o give design d
+-- the text of the period and the table that options o give design d
 pub record IsScheduleJson (d : DesignValue) (o : Options) (text : List ℕ) : Type 0 where
   pub period : Schedule
   pub periods : ℕ

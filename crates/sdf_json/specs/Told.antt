@@ -1,4 +1,4 @@
--- The value of a fault's diagnostic: its number, its name, and everything that it carries.
+-- The parts of a fault's value: its number, its name, and everything that it carries.
 use Rattle.std.specs.Prelude.{ℕ, List, [], ◌∷◌, codes, string_bytes, true}
 use Rattle.serde_json.specs.Data.{Data, Members, boolean, string, object, no_members}
 use Rattle.sdf_document.specs.declared.fault.Place.{Place}

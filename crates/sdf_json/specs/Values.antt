@@ -32,8 +32,8 @@ abbrev pub each_to : (ℕ → Data) → ℕ → List Data
 each_to f zero = []
 each_to f (suc n) = each_to f n ++ f n ∷ []
 
--- the text is one line, with its end; the line reads as the value, has no blanks between its tokens, and has the items
--- and the members of the value in their order, each once
+-- the text is one line, with its end: the line reads as the value, and has no blanks between its tokens; it has the
+-- items and the members of the value in their order, each once
 pub record IsLineOf (d : Data) (text : List ℕ) : Type 0 where
   pub line : List ℕ
   pub reads : read line ≡ Some d

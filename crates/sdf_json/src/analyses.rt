@@ -64,8 +64,8 @@ fn analysis_value(
 }
 
 /// Returns the figures of a design's schedule as a line of JSON. They are the options, the makespan, the work, the
-/// span, the bound, the speedup in hundredths and the load of each worker. Then come the most samples that all links
-/// hold together, and the links. The tests are listed at `sdf_plan::schedule::scheduled`.
+/// span, the bound, the speedup in hundredths and the load of each worker. Then come the sum of the links' capacities,
+/// in samples, and the links. The tests are listed at `sdf_plan::schedule::scheduled`.
 pub fn analysis_json(alloc: Global, design: &Design, options: &Options) -> Result<String, Fault>
     ensures { MatchResult result (λ text. IsAnalysisJson design.now options.now (string_bytes text))
         (IsShowFault design.now options.now) }

@@ -16,7 +16,7 @@ use sdf_options::Options;
 use serde_json::Value;
 use std::alloc::{AllocError, Global};
 
-/// Adds the compared values of a schedule. The periods of its block replace those that were asked for.
+/// Adds the compared values of a schedule. The periods of its block replace the number that was asked for.
 fn put_measures(members: &mut Members, alloc: Global, measures: Measures) -> Result<(), AllocError>
     ensures { OnOk result (members_view members.new.entries ≡
         with (members_view members.old.entries) (measures_of measures)) }
@@ -65,9 +65,8 @@ fn comparison_value(alloc: Global, entries: &[Entry]) -> Result<Value, AllocErro
 }
 
 /// Returns a comparison of schedules as a line of JSON: an array of the schedules that `sdf_analyze::compared`
-/// compares. Each has its options, with the periods of its block, the makespan, the speedup in hundredths, the rows and
-/// the most samples that all links hold together. If there is no schedule, it has its options and the number of the
-/// fault.
+/// compares. Each has its options, and either the number of a fault or its values. The values are the periods of its
+/// block, the makespan, the speedup in hundredths, the rows, and the sum of the links' capacities, in samples.
 pub fn comparison_json(alloc: Global, design: &Design, options: &Options) -> Result<String, Fault>
     requires { AreSizes options.now }
     ensures { MatchResult result (λ text. IsComparisonJson design.now options.now (string_bytes text))

@@ -1,4 +1,4 @@
-//! The value of a fault's diagnostic: its number, its name, and where it is.
+//! The parts of a fault's value: its number, its name, and where it is.
 
 ghost use Rattle.std.specs.Prelude.{◌≡◌, ◌∷◌, [], IfOk, OnOk, codes};
 ghost use Rattle.serde_json.specs.Data.{string, put as with_member};

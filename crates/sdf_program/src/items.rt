@@ -9,7 +9,7 @@ use sdf_words::{Batch, mistake};
 use std::alloc::{AllocError, Global};
 use std::path::Path;
 
-/// A batch that is asked for, of a design that was read.
+/// A requested batch, for a design that was read.
 #[derive(Clone, Copy)]
 pub(crate) struct Batching<'a> {
     pub(crate) graph: &'a str,

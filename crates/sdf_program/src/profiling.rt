@@ -82,7 +82,7 @@ fn costed(
     }
 }
 
-/// A measurement that is asked for: a run of GRAPH on IN. If `write` names a FILE, the graph file is written there with
+/// A requested measurement: a run of GRAPH on IN. If `write` names a FILE, the graph file is written there with
 /// the costs.
 #[derive(Clone, Copy)]
 pub(crate) struct Profiling<'a> {

@@ -32,7 +32,7 @@ use std::time::Clock;
 /// The workers of a parallel run if the system does not report its processors.
 const WORKERS: usize = 4;
 
-/// A run that is asked for, of a design that was read.
+/// A requested run, for a design that was read.
 #[derive(Clone, Copy)]
 pub(crate) struct Running<'a> {
     pub(crate) graph: &'a str,
