@@ -1,4 +1,4 @@
-//! Rounds by hand over rings that were prepared: none of their calls takes memory.
+//! Rounds by hand over prepared rings. Their calls do not allocate memory.
 
 ghost use Rattle.sdf_graph.specs.Rates.{rates};
 ghost use Rattle.sdf_actor.specs.Graphs.{graph_of};
@@ -17,7 +17,8 @@ use sdf_rings::prepare::prepare;
 use sdf_run::NoGate;
 use std::io;
 
-/// Rounds of all seats, each with its end, as many as there are firings, and the output lists where nothing is left.
+/// Runs a round of all seats for each firing that is left, and ends each round. Returns the output lists if nothing is
+/// left then.
 fn finish(mut rings: Rings<'_, Kit>) -> Option<Vec<Vec<i32>>> {
     for _ in 0..rings.left() {
         for seat in 0..rings.seats() {
@@ -41,7 +42,7 @@ fn show_lists(rt: &impl Print, answer: Option<Vec<Vec<i32>>>) -> io::Result<()> 
     }
 }
 
-/// The rounds of a run over rings, behind what prepares them.
+/// Runs the rounds of a run over rings, twice. Each time the rings are prepared before the line is printed.
 pub(crate) fn finish_twice<R: AllocGlobal + Print>(
     rt: &R,
     net: &Net<Kit>,

@@ -1,4 +1,4 @@
-//! Which call is made, by its name.
+//! The choice of a call by its name.
 
 ghost use Rattle.sdf_graph.specs.Rates.{rates};
 ghost use Rattle.sdf_actor.specs.Graphs.{graph_of};
@@ -24,7 +24,7 @@ use std::fs;
 use std::rt::Files;
 use std::thread::Threads;
 
-/// Makes a call that needs a table.
+/// Makes the call named `call`, which needs a table.
 fn make_tabled<R: AllocGlobal + Print + Sync + Threads>(
     rt: &R,
     call: &str,
@@ -42,7 +42,7 @@ fn make_tabled<R: AllocGlobal + Print + Sync + Threads>(
     }
 }
 
-/// Makes a call that needs a plan.
+/// Makes the call named `call`, which needs a plan.
 fn make_planned<R: AllocGlobal + Files + Print + Sync + Threads>(
     rt: &R,
     call: &str,
@@ -63,7 +63,7 @@ fn make_planned<R: AllocGlobal + Files + Print + Sync + Threads>(
     }
 }
 
-/// Makes a call with the files and the options of a run.
+/// Makes the call named `call` with the files and the options of a run.
 pub(crate) fn make<R: AllocGlobal + Files + Print + Sync + Threads>(
     rt: &R,
     call: &str,

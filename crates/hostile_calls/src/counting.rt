@@ -1,5 +1,5 @@
-//! One run in memory of a chain of all kinds of actor, or one schedule, between the lines `begin` and `end`: what is
-//! asked for between the two is the run's own. `scripts/allocations` counts it.
+//! One run in memory of a chain of all kinds of actors, or one schedule, between the lines `begin` and `end`. The
+//! memory that is requested between them is the run's own. `scripts/allocations` counts it.
 
 use anyhow::{Context, Result};
 use sdf_actor::Net;
@@ -13,7 +13,7 @@ use sdf_sched::class_s::class_s;
 use sdf_sched::{Lean, Pick, Round, Runs};
 use std::thread::Threads;
 
-/// Kinds in a chain, and filters between rates.
+/// A chain of actors of all kinds, with filters between different rates.
 const CHAIN: &str = r#"format = 2
 actor = [
     { name = "in", kind = "input", channel = 0 },
@@ -54,7 +54,7 @@ link = [
 ]
 "#;
 
-/// How large a run is: on how many workers, of how many periods in a block, and of how many blocks.
+/// The size of a run: its workers, the periods of a block in `j`, and its blocks.
 #[derive(Clone, Copy)]
 struct Sizes {
     workers: usize,
@@ -62,7 +62,7 @@ struct Sizes {
     blocks: u32,
 }
 
-/// Runs the net, and gives how many samples come out.
+/// Runs `net` by the runner `what`, and returns the number of samples in its first output.
 fn run<R: AllocGlobal + Print + Sync + Threads>(
     rt: &R,
     what: &str,
@@ -104,8 +104,8 @@ fn run<R: AllocGlobal + Print + Sync + Threads>(
     Ok(ran.outputs.first().context("an output")?.len())
 }
 
-/// Schedules a chain whose second actor fires `blocks` times for each firing of the first, and gives how long its
-/// period is.
+/// Schedules a chain whose second actor fires `blocks` times for each firing of the first. Returns the length of its
+/// period.
 fn schedule<R: AllocGlobal + Print, P: Pick>(rt: &R, blocks: u32, pick: &mut P) -> Result<usize> {
     let alloc = rt.alloc();
     let text = format!(in alloc;
@@ -127,8 +127,8 @@ link = [{{ from = \"in\", to = \"up\" }}, {{ from = \"up\", to = \"out\" }}]
     Ok(period.order().len())
 }
 
-/// Makes what is named: a run by a runner, or a schedule by a policy. The words are on how many workers, how many
-/// periods a block has, and how many blocks there are.
+/// Makes what `what` names: a run by a runner, or a schedule by a policy. `words` are the numbers of workers, of
+/// periods in a block, and of blocks.
 pub(crate) fn count<R: AllocGlobal + Print + Sync + Threads>(
     rt: &R,
     what: &str,

@@ -1,4 +1,4 @@
-//! Calls that end in a design or a plan.
+//! Calls that return a design or a plan.
 
 use crate::TURNS;
 use crate::files::Sources;
@@ -57,7 +57,7 @@ fn show_plan(rt: &impl Print, answer: Result<Plan, Fault>) -> Result<()> {
     Ok(())
 }
 
-/// The names of the coefficient files.
+/// Prints the names of the coefficient files, twice.
 pub(crate) fn files_twice<R: AllocGlobal + Print>(rt: &R, sources: &Sources) -> Result<()> {
     for turn in TURNS {
         println!(rt; "{turn}")?;
@@ -66,7 +66,7 @@ pub(crate) fn files_twice<R: AllocGlobal + Print>(rt: &R, sources: &Sources) -> 
     Ok(())
 }
 
-/// The design.
+/// Reads the design and prints it, twice.
 pub(crate) fn read_twice<R: AllocGlobal + Print>(rt: &R, sources: &Sources) -> Result<()> {
     for turn in TURNS {
         println!(rt; "{turn}")?;
@@ -75,7 +75,7 @@ pub(crate) fn read_twice<R: AllocGlobal + Print>(rt: &R, sources: &Sources) -> R
     Ok(())
 }
 
-/// The plan of a design.
+/// Plans the design and prints the plan, twice.
 pub(crate) fn plan_twice<R: AllocGlobal + Print>(
     rt: &R,
     sources: &Sources,

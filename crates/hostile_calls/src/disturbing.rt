@@ -1,4 +1,4 @@
-//! Runs whose workers are held up, beside runs on one thread.
+//! Runs whose workers are delayed, compared with runs on one thread.
 
 ghost use Rattle.sdf_graph.specs.Rates.{rates};
 ghost use Rattle.sdf_actor.specs.Graphs.{graph_of};
@@ -21,31 +21,31 @@ use std::rt::Files;
 use std::sync::atomic::{AtomicU64, Ordering};
 use std::thread::Threads;
 
-/// The turns for which one worker is held, and the most for which all are until another goes on.
+/// The turns for which one worker is delayed, and the most for which each worker waits for another.
 const TURNS: u64 = 1_000_000;
 
-/// Which firings of a run are held up, and for how many turns: in a turn what is shared is read.
+/// The firings of a run that are delayed, and for how many turns. A turn reads a shared counter.
 #[derive(Clone, Copy)]
 enum Hold {
-    /// Each for a number of turns that is seeded by this, its processor, its actor and its number.
+    /// Each firing, for a number of turns that is seeded by this, its processor, its actor and its number.
     Seeded(u64),
-    /// Those of one processor for a million turns.
+    /// The firings of one processor, for a million turns.
     Processor(usize),
-    /// Each until another worker's firing comes, or for a million turns.
+    /// Each firing, until a firing of another worker comes or for a million turns.
     UntilAnother,
 }
 
-/// Holds firings up.
+/// A gate that delays firings.
 #[derive(Drop)]
 struct Holding {
     hold: Hold,
-    /// The firings that have come.
+    /// The number of firings that have come.
     come: AtomicU64,
-    /// The turns that firings were held for.
+    /// The turns for which firings were delayed.
     held: AtomicU64,
 }
 
-/// Mostly few turns, and at most 65,535.
+/// Returns a seeded number of turns: mostly a small one, and at most 65,535.
 fn seeded_turns(seed: u64, processor: usize, actor: ActorId, firing: u64) -> u64 {
     let place = (processor as u64) << 48 | (actor as u64) << 32;
     let word = SplitMix64::seed_from_u64(seed ^ place ^ firing).next_u64();
@@ -62,7 +62,7 @@ impl Holding {
         }
     }
 
-    /// Waits for so many turns, or until as many firings have come.
+    /// Waits for `turns` turns, or until `until` firings have come.
     fn wait(&self, turns: u64, until: u64) {
         let mut waited = 0u64;
         for turn in 0..turns {
@@ -89,12 +89,13 @@ impl Gate for Holding {
     }
 }
 
-/// What holds up the runs of a table, one after another.
+/// The delays of the runs by a table, one run after another.
 #[derive(Drop)]
 enum Holds {
     /// Turns that are seeded anew for each run.
     Seeded(SplitMix64),
-    /// Each of so many processors for a run of each patience, and then all until another goes on.
+    /// A delay of each of this many processors, for one run with each of `PATIENCES`. In the last runs every firing
+    /// waits for another worker.
     OneByOne(usize),
 }
 
@@ -114,10 +115,10 @@ impl Holds {
     }
 }
 
-/// How workers run in turn: by rows, or over rings with this patience.
+/// The runners in turn: by rows, or over rings with this spin limit.
 const PATIENCES: [Option<u32>; 4] = [None, Some(0), Some(1), Some(1_000_000)];
 
-/// A run by rows, or over rings with this patience.
+/// Runs a net by rows, or over rings if `patience`, the spin limit, is given.
 fn run_held<R: AllocGlobal + Sync + Threads>(
     rt: &R,
     net: &Net<Kit>,
@@ -137,20 +138,20 @@ fn run_held<R: AllocGlobal + Sync + Threads>(
     }
 }
 
-/// Whether a run made these lists, in at least one round and at most as many as there are firings.
+/// Checks whether a run made `lists`, in at least one round and at most `firings` rounds.
 fn is_right(ran: &Ran<i32>, lists: &[Vec<i32>], firings: u64) -> bool {
     ran.outputs.as_slice() == lists && 1 <= ran.rounds && ran.rounds <= firings
 }
 
-/// What was counted over runs.
+/// Counts over several runs.
 #[derive(Clone, Copy)]
 struct Counts {
     runs: u64,
-    /// Those that made what one thread makes.
+    /// The runs that made what one thread makes.
     same: u64,
-    /// Those that were refused.
+    /// The runs that were refused.
     refused: u64,
-    /// The turns that firings were held for.
+    /// The turns for which firings were delayed.
     held: u64,
 }
 
@@ -162,7 +163,7 @@ impl Counts {
         held: 0,
     };
 
-    /// A run more, beside what one thread made.
+    /// Counts a run, which is compared with `one`, the run on one thread.
     fn add(&mut self, answer: Result<Ran<i32>, RunFault>, one: &Ran<i32>, firings: u64) {
         self.runs = self.runs.saturating_add(1);
         match answer {
@@ -175,7 +176,7 @@ impl Counts {
     }
 }
 
-/// So many runs by a table, each of them held up anew, beside one on one thread.
+/// Runs a net `runs` times by `table`, each time with new delays, and compares the runs with one on one thread.
 fn disturb_table<R: AllocGlobal + Sync + Threads>(
     rt: &R,
     net: &Net<Kit>,
@@ -200,7 +201,7 @@ fn disturb_table<R: AllocGlobal + Sync + Threads>(
     Ok(counts)
 }
 
-/// So many runs of a design on so many workers, and a line with their counts.
+/// Runs a design `runs` times on `workers` workers, and prints a line with the counts.
 fn disturb_on<R: AllocGlobal + Print + Sync + Threads>(
     rt: &R,
     (graph, design): (&str, &Design),
@@ -227,7 +228,7 @@ fn disturb_on<R: AllocGlobal + Print + Sync + Threads>(
     )?)
 }
 
-/// So many runs of each design on each number of workers from 1 to 16.
+/// Runs each design `runs` times on each number of workers from 1 to 16.
 pub(crate) fn disturb<R: AllocGlobal + Files + Print + Sync + Threads>(
     rt: &R,
     runs: usize,
@@ -244,8 +245,8 @@ pub(crate) fn disturb<R: AllocGlobal + Files + Print + Sync + Threads>(
     Ok(())
 }
 
-/// Runs of each design on 1, 2, 3 and 16 workers, in which one worker is held up before all of its firings, and each
-/// until another goes on.
+/// Runs each design on 1, 2, 3 and 16 workers. One worker at a time is delayed before all of its firings, and then each
+/// waits until another goes on.
 pub(crate) fn hold_each<R: AllocGlobal + Files + Print + Sync + Threads>(
     rt: &R,
     graphs: &[&str],

@@ -12,7 +12,7 @@ pub(crate) struct Sources {
     pub(crate) beside: Vec<(String, Vec<u8>)>,
 }
 
-/// Reads a graph file and the coefficient files that it names, which lie where the program runs.
+/// Reads the graph file `graph`, and the coefficient files that it names from the current directory.
 pub(crate) fn load<R: AllocGlobal + Files>(rt: &R, graph: &str) -> Result<Sources> {
     let graph = fs::read(rt, graph)?;
     let mut beside = Vec::new(rt.alloc());
@@ -23,7 +23,7 @@ pub(crate) fn load<R: AllocGlobal + Files>(rt: &R, graph: &str) -> Result<Source
     Ok(Sources { graph, beside })
 }
 
-/// The design of a graph file.
+/// Reads the design of the graph file `graph`.
 pub(crate) fn design_at<R: AllocGlobal + Files>(rt: &R, graph: &str) -> Result<Design> {
     let sources = load(rt, graph)?;
     Ok(read_design(rt.alloc(), &sources.graph, &sources.beside)?)

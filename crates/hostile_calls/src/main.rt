@@ -1,11 +1,12 @@
-//! Makes one call of the libraries, prints what it answers, and makes the same call again.
+//! Makes one call of the libraries, prints its result, and makes the call again.
 //!
 //! `hostile_calls CALL run GRAPH IN OUT [OPTIONS]` calls with the files and the options of a run of `sdfw`; OUT is not
-//! made. A line `call` stands before the call and a line `again` before the same one. `hostile/calls.py` refuses memory
-//! or threads from the line `call` to the next one, so the second call has both.
+//! written. It prints a line `call` before the call and a line `again` before the repetition. `hostile/calls.py`
+//! refuses memory or threads from the line `call` to the next one, so the second call has both.
 //!
-//! `hostile_calls disturb RUNS SEED GRAPH..` runs designs on workers that gates hold up, and counts the runs that make
-//! what one thread makes. `hostile_calls hold GRAPH..` holds up one worker at a time, and each until another goes on.
+//! `hostile_calls disturb RUNS SEED GRAPH..` runs designs on workers that gates delay, and counts the runs that make
+//! what one thread makes. `hostile_calls hold GRAPH..` delays one worker at a time, and then each until another goes
+//! on.
 //!
 //! `hostile_calls count RUNNER WORKERS PERIODS BLOCKS`, or a policy in place of the runner, makes one run or one
 //! schedule between two lines, for `scripts/allocations`.
@@ -14,7 +15,8 @@
 //! `sdf_faults`, `sdf_process` and `sdf_wav` for runs of files. Calls of single layers also use `sdf_run`, `sdf_rings`,
 //! `sdf_answer`, `sdf_prec`, `sdf_sched`, `sdf_kit`, `sdf_actor` and `sdf_graph`. Begin at `main`, then `calls`, which
 //! names every call. `designs` has the calls that make a design or a plan. `runs`, `sessions`, `by_hand` and `sounds`
-//! have those that begin with a plan. `disturbing` has the gates, and `counting` the runs whose requests are counted.
+//! have the calls that begin with a plan. `disturbing` has the gates, and `counting` the runs whose memory requests are
+//! counted.
 #![tactic(auto)]
 
 mod by_hand;
@@ -41,10 +43,10 @@ const USAGE: &str =
     "hostile_calls CALL run GRAPH IN OUT [OPTIONS]\nhostile_calls disturb RUNS SEED GRAPH..\n\
     hostile_calls hold GRAPH..\nhostile_calls count RUNNER WORKERS PERIODS BLOCKS";
 
-/// The lines before a call and before the same one again.
+/// The lines before a call and before its repetition.
 pub(crate) const TURNS: [&str; 2] = ["call", "again"];
 
-/// Does what the words ask for, of which the first is the name of a call.
+/// Does what the words of `line` ask for. The first word is the name of a call.
 fn obey<R: AllocGlobal + Files + Print + Sync + Threads>(rt: &R, line: &[&str]) -> Result<()> {
     match line {
         ["disturb", runs, seed, graphs @ ..] => {

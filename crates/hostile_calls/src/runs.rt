@@ -1,4 +1,4 @@
-//! Calls that run a net whole, and the samples that runs are given.
+//! Calls that run a whole net, and the samples of their runs.
 
 ghost use Rattle.sdf_graph.specs.Rates.{rates};
 ghost use Rattle.sdf_actor.specs.Graphs.{graph_of};
@@ -17,10 +17,11 @@ use std::alloc::{AllocError, Global};
 use std::io;
 use std::thread::Threads;
 
-/// How many blocks a run has.
+/// The number of blocks of a run.
 pub(crate) const BLOCKS: u32 = 2;
 
-/// As many input lists as a net reads, each of the samples 0, 1, 2 and so on, as many as so many periods read.
+/// Returns a list of samples for each input of `net`, as long as `periods` periods need. The samples are 0, 1, 2 and so
+/// on, below 30,000.
 pub(crate) fn inputs_of(
     alloc: Global,
     net: &Net<Kit>,
@@ -48,7 +49,7 @@ pub(crate) fn show_ran(rt: &impl Print, answer: Result<Ran<i32>, RunFault>) -> i
     }
 }
 
-/// A run by workers, as the plan says: over rings, or else by rows.
+/// Runs a net by workers as `plan` says: over rings, otherwise by rows.
 pub(crate) fn run_blocks<R: AllocGlobal + Sync + Threads, G: Gate>(
     rt: &R,
     net: &Net<Kit>,
@@ -82,7 +83,7 @@ fn blocking(plan: &Plan) -> u32 {
     }
 }
 
-/// A run by the plan's runner.
+/// Runs a net by the plan's runner, twice.
 pub(crate) fn run_twice<R: AllocGlobal + Print + Sync + Threads>(
     rt: &R,
     net: &Net<Kit>,

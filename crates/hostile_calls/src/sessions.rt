@@ -17,7 +17,7 @@ use std::alloc::Global;
 use std::io;
 use std::thread::Threads;
 
-/// A session by the plan's runner.
+/// Opens a session of the plan's runner.
 fn open<'a>(
     alloc: Global,
     net: &'a Net<Kit>,
@@ -52,7 +52,7 @@ fn show_closed(rt: &impl Print, session: Session<'_, Kit>) -> io::Result<()> {
     }
 }
 
-/// The opening of a session.
+/// Opens a session, twice.
 pub(crate) fn open_twice<R: AllocGlobal + Print>(
     rt: &R,
     net: &Net<Kit>,
@@ -68,7 +68,7 @@ pub(crate) fn open_twice<R: AllocGlobal + Print>(
     Ok(())
 }
 
-/// The first feed of a session; then the same feed, one of no samples, and the end.
+/// Feeds a session, feeds it the same samples again, feeds it no samples, and closes it. Does all this twice.
 pub(crate) fn feed_twice<R: AllocGlobal + Print + Sync + Threads>(
     rt: &R,
     net: &Net<Kit>,

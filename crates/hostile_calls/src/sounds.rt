@@ -1,4 +1,4 @@
-//! Calls that run a design on a sound.
+//! Calls that run a design on a WAV file.
 
 ghost use Rattle.sdf_plan.specs.Plans.{Suits};
 
@@ -12,7 +12,7 @@ use sdf_wav::{FromRead, ToWrite};
 use std::io;
 use std::thread::Threads;
 
-/// Room for what is written, so that the writer asks for no memory.
+/// The capacity for what is written, so that the writer does not request memory.
 const MOST_WRITTEN: usize = 65_536;
 
 fn show_end(rt: &impl Print, answer: Result<(), Fault>, written: &[u8]) -> io::Result<()> {
@@ -23,7 +23,7 @@ fn show_end(rt: &impl Print, answer: Result<(), Fault>, written: &[u8]) -> io::R
     println!(rt; "wrote {written:?}")
 }
 
-/// A run of a design from a file in memory to another.
+/// Runs a design from one WAV file in memory to another, twice.
 pub(crate) fn process_twice<R: AllocGlobal + Print + Sync + Threads>(
     rt: &R,
     design: &Design,

@@ -1,4 +1,4 @@
--- What the command `analyze` prints.
+-- The text that the command `analyze` prints.
 use Rattle.std.specs.Prelude.{◌≡◌, ℕ, List}
 use Rattle.sdf_sched.specs.Period.{Schedule}
 use Rattle.sdf_prec.specs.Tables.{Tabled}
@@ -8,13 +8,13 @@ use Rattle.sdf_plan.specs.Schedules.{IsScheduled}
 use Rattle.sdf_analyze.specs.Figures.{Figured, AreFiguresOf}
 use Rattle.sdf_analyze.specs.Texts.{analysis_text}
 
--- the periods of a block and the table that options give a design, and its figures
+-- the periods of a block, the table that options o give design d, and the table's figures
 pub record IsFigured (d : DesignValue) (o : Options) (periods : ℕ) (t : Tabled) (f : Figured) : Type 0 where
   pub period : Schedule
   pub scheduled : IsScheduled d o periods period t
   pub are : AreFiguresOf d periods o.workers period t f
 
--- the text is of these
+-- the text of the figures and the capacities of the table that options o give design d
 pub record IsAnalysis (d : DesignValue) (o : Options) (text : List ℕ) : Type 0 where
   pub periods : ℕ
   pub table : Tabled

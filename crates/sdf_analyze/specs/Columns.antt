@@ -29,31 +29,31 @@ placement_word Spread = codes "spread"
 abbrev pub spaces : ℕ → List ℕ
 spaces n = replicate n 32
 
--- a text at the left of so many places, and at their right; what is longer stands as it is
+-- a text padded with spaces on its right (left) or on its left (right); a longer text is left as it is
 abbrev pub left : ℕ → List ℕ → List ℕ
 left places text = text ++ spaces (places - length text)
 
 abbrev pub right : ℕ → List ℕ → List ℕ
 right places text = spaces (places - length text) ++ text
 
--- what a schedule has in a column
+-- the value of a schedule in a column
 abbrev pub value_in : Column → Measures → ℕ
 value_in Makespan m = m.makespan
 value_in Speedup m = m.speedup
 value_in Rows m = m.rows
 value_in Samples m = m.held
 
--- of speedups the greater is better, of all others the less, where the blocks have as many periods
+-- a greater speedup is better; in other columns a smaller value is, if both blocks have equally many periods
 abbrev pub beats : Column → Measures → Measures → Bool
 beats Speedup a b = nat_lt b.speedup a.speedup
 beats column a b = (a.blocking == b.blocking) && nat_lt (value_in column a) (value_in column b)
 
--- the schedule, where there is one, does not beat this one
+-- the schedule of an outcome, if there is one, does not beat these measures
 abbrev pub lets : Column → Measures → Outcome → Bool
 lets column m (Made other) = not (beats column other m)
 lets column m (Refused number) = true
 
--- no schedule beats it
+-- no schedule beats these measures
 abbrev pub is_best : List Entry → Column → Measures → Bool
 is_best entries column m = list_all (λ (e : Entry). lets column m e.outcome) entries
 
@@ -73,7 +73,7 @@ heading Speedup = codes "speedup"
 heading Rows = codes "rows"
 heading Samples = codes "samples"
 
--- the value, after a star where no schedule has a better one
+-- the value, after a star if no schedule has a better one
 unfoldable pub cell : List Entry → Measures → Column → List ℕ
 cell entries m column =
     right (places_of column) ((if is_best entries column m then codes "*" else []) ++ value_text column m)
@@ -93,7 +93,7 @@ made_text entries m = blocking_text (decimal m.blocking) ++ cells_text entries m
 unfoldable pub refused_text : List ℕ → ℕ → List ℕ
 refused_text word number = blocking_text [] ++ right (places_of Makespan) word ++ codes " " ++ decimal number
 
--- the periods of a block and the columns of its schedule, or the number of the fault why there is none
+-- the periods of a block and the columns of its schedule, or the number of the fault if there is no schedule
 abbrev pub outcome_text : List Entry → Outcome → List ℕ
 outcome_text entries (Made m) = made_text entries m
 outcome_text entries (Refused number) = refused_text (codes "refused") number

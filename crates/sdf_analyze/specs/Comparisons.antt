@@ -1,4 +1,4 @@
--- What the command `analyze --compare` prints.
+-- The text that the command `analyze --compare` prints.
 use Rattle.std.specs.Prelude.{◌≡◌, ℕ, List, length, map}
 use Rattle.std.specs.List.{All}
 use Rattle.sdf_prec.specs.Tables.{Tabled}
@@ -17,7 +17,7 @@ use Rattle.sdf_analyze.specs.Analyses.{IsFigured}
 use Rattle.sdf_analyze.specs.Ways.{ways}
 use Rattle.sdf_analyze.specs.Columns.{comparison_text}
 
--- what is compared of the table of so many periods and its figures
+-- the compared values of a table and its figures, for a block of this many periods
 abbrev pub measures_of : ℕ → Tabled → Figured → Measures
 measures_of periods t f = record {
   blocking = periods;
@@ -41,7 +41,7 @@ number_of (prec.TooEarly row firing needs) = 18
 number_of (prec.BadHome actor) = 19
 number_of (prec.BadCost actor) = 62
 
--- the measures are those of the table that the options give
+-- the measures of the table that the options give
 pub record IsMade (d : DesignValue) (o : Options) (m : Measures) : Type 0 where
   pub periods : ℕ
   pub table : Tabled
@@ -49,7 +49,7 @@ pub record IsMade (d : DesignValue) (o : Options) (m : Measures) : Type 0 where
   pub figured : IsFigured d o periods table figures
   pub is : m ≡ measures_of periods table figures
 
--- they give none, and the number is that of the fault
+-- the options give no table, but a fault with this number
 pub record IsRefused (d : DesignValue) (o : Options) (number : ℕ) : Type 0 where
   pub fault : PrecFault
   pub why : IsUnplaced d o fault
@@ -59,12 +59,12 @@ abbrev pub IsOutcome : DesignValue → Options → Outcome → Type 0
 IsOutcome d o (Made m) = IsMade d o m
 IsOutcome d o (Refused number) = IsRefused d o number
 
--- the schedules that are compared, in their order, and what becomes of each
+-- the schedules that are compared, in their order, and the outcome of each
 pub record AreCompared (d : DesignValue) (o : Options) (entries : List Entry) : Type 0 where
   pub ways_are : map (λ (e : Entry). e.options) entries ≡ ways o
   pub each : All (λ (e : Entry). IsOutcome d e.options e.outcome) entries
 
--- a line for each of them
+-- the text is a table with a line for each compared schedule
 pub record IsComparison (d : DesignValue) (o : Options) (text : List ℕ) : Type 0 where
   pub entries : List Entry
   pub compared : AreCompared d o entries

@@ -1,4 +1,4 @@
--- What a table does with its time and its channels, in numbers.
+-- The figures of a table: its times, its work and what its channels hold.
 use Rattle.std.specs.Prelude.{◌≡◌, ℕ, ◌<◌, List, length, slice_index, sum}
 use Rattle.sdf_graph.specs.Rates.{Rates}
 use Rattle.sdf_sched.specs.Period.{Schedule}
@@ -9,8 +9,8 @@ use Rattle.sdf_times.specs.Times.{IsBound}
 use Rattle.sdf_file.specs.Designs.{DesignValue}
 use Rattle.sdf_plan.specs.Placements.{rates_of, firings_of}
 
--- of each actor when its firings in a table start, and when the last firing of all ends; of the table's block the work,
--- the span and the bound; the load of each column; and the sum of the channels' capacities
+-- for each actor the times at which its firings start; the time at which the last firing ends; the work, the span and
+-- the bound of the table's block; the load of each column; and the sum of the channels' capacities
 pub record Figured : Type 0 where
   pub starts : List (List ℕ)
   pub makespan : ℕ
@@ -20,7 +20,7 @@ pub record Figured : Type 0 where
   pub loads : List ℕ
   pub held : ℕ
 
--- the figures of a table in m columns, for a block of j periods, where each firing of actor a costs: cost a
+-- the figures of a table in m columns, for a block of j periods, if each firing of actor a costs: cost a
 pub record AreFigures (r : Rates) (cost : ℕ → ℕ) (j m : ℕ) (s : Schedule) (t : Tabled) (f : Figured) : Type 0 where
   pub starts : AreStarts r cost t.rows (start_in f.starts)
   pub has : (g : Firing) → IsInTable t.rows g → HasStart f.starts g
@@ -32,6 +32,6 @@ pub record AreFigures (r : Rates) (cost : ℕ → ℕ) (j m : ℕ) (s : Schedule
   pub loads : (k : ℕ) → k < m → slice_index f.loads k ≡ load_of cost t.rows k
   pub held : f.held ≡ sum t.caps
 
--- those of a table of a design
+-- the figures of a table of design d
 abbrev pub AreFiguresOf : DesignValue → ℕ → ℕ → Schedule → Tabled → Figured → Type 0
 AreFiguresOf d j m s t f = AreFigures (rates_of d) (slice_index d.costs) j m s t f

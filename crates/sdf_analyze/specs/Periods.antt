@@ -8,13 +8,13 @@ use Rattle.sdf_options.specs.declared.options.Policy.TheVariants.{Round, Lean, R
 use Rattle.sdf_plan.specs.Plans.{IsScheduleBy}
 use Rattle.sdf_analyze.specs.declared.periods.Periods.{Periods}
 
--- that by a policy
+-- the period by a policy
 abbrev pub period_in : Periods → Policy → Schedule
 period_in p Round = p.round
 period_in p Lean = p.lean
 period_in p Runs = p.runs
 
--- each is the design's by its policy
+-- each period is the one of design d by its policy
 pub record AreByPolicies (d : DesignValue) (p : Periods) : Type 0 where
   pub round : IsScheduleBy Round (graph_of kit_steps d.net) p.round
   pub lean : IsScheduleBy Lean (graph_of kit_steps d.net) p.lean

@@ -7,16 +7,16 @@ use Rattle.sdf_file.specs.Schedules.{link_text}
 use Rattle.sdf_analyze.specs.declared.lines.TheConstants.{SAMPLE_BYTES}
 use Rattle.sdf_analyze.specs.Figures.{Figured}
 
--- the lines of the first n
+-- the first n lines
 abbrev pub lines_to : (ℕ → List ℕ) → ℕ → List ℕ
 lines_to line zero = []
 lines_to line (suc n) = lines_to line n ++ line n
 
--- how many hundredths of the whole a part is, rounded down; of nothing 0
+-- a part in hundredths of the whole, rounded down; 0 if the whole is 0
 abbrev pub hundredths : ℕ → ℕ → ℕ
 hundredths part whole = part * 100 / whole
 
--- so many hundredths, with two digits behind the point
+-- n hundredths as a decimal number with two digits behind the point
 abbrev pub with_point : ℕ → List ℕ
 with_point n = decimal (n / 100) ++ codes "." ++ decimal (n / 10 % 10) ++ decimal (n % 10)
 
@@ -28,7 +28,7 @@ time_lines f =
     number_line (codes "makespan") f.makespan ++ number_line (codes "work") f.work
     ++ number_line (codes "span") f.span ++ number_line (codes "bound") f.bound
 
--- how often the makespan goes into the work, of as many times as there are workers
+-- the work over the makespan, and the number of workers
 unfoldable pub speedup_line : Figured → List ℕ
 speedup_line f =
     codes "speedup " ++ with_point (hundredths f.work f.makespan) ++ codes " of " ++ decimal (length f.loads) ++ end
@@ -39,18 +39,18 @@ worker_line f k =
     codes "worker " ++ decimal k ++ codes " " ++ decimal (hundredths (slice_index f.loads k) f.makespan)
     ++ codes " %" ++ end
 
--- so many samples, and their bytes
+-- n samples, and their size in bytes
 abbrev pub samples_text : ℕ → List ℕ
 samples_text n = decimal n ++ codes ", " ++ decimal (n * SAMPLE_BYTES) ++ codes " bytes" ++ end
 
--- what link c holds at most
+-- the capacity of link c: the most samples that it holds
 unfoldable pub share_line : DesignValue → List ℕ → ℕ → List ℕ
 share_line d caps c = codes "capacity " ++ link_text d c ++ codes " " ++ samples_text (slice_index caps c)
 
 unfoldable pub held_line : Figured → List ℕ
 held_line f = codes "samples held " ++ samples_text f.held
 
--- what `analyze` prints of figures and capacities: times, workers, samples, and the links in file order
+-- the text that `analyze` prints for figures and capacities: times, workers, samples, and the links in file order
 abbrev pub analysis_text : DesignValue → Figured → List ℕ → List ℕ
 analysis_text d f caps =
     time_lines f ++ speedup_line f ++ lines_to (worker_line f) (length f.loads) ++ held_line f

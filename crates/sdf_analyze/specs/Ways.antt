@@ -11,7 +11,7 @@ use Rattle.sdf_options.specs.declared.options.Placement.TheVariants.{Hu, Homed, 
 abbrev pub way : Options → Policy → Placement → ℕ → Options
 way o policy placement workers = record o { policy = policy; placement = placement; workers = workers }
 
--- 1, 2, 4, .. up to so many
+-- 1, 2, 4, .. up to most
 abbrev pub crews : ℕ → List ℕ
 crews most = filter (λ workers. nat_le workers most) (1 ∷ 2 ∷ 4 ∷ 8 ∷ 16 ∷ [])
 
@@ -22,6 +22,6 @@ abbrev pub ways_by : Options → Policy → List Options
 ways_by o policy =
     ways_placed o policy Hu ++ ways_placed o policy Homed ++ ways_placed o policy File ++ ways_placed o policy Spread
 
--- all of them: a policy's stand together, and of these a placement's
+-- all options in their order: by policy first, then by placement
 abbrev pub ways : Options → List Options
 ways o = ways_by o Round ++ ways_by o Lean ++ ways_by o Runs

@@ -1,4 +1,4 @@
-//! What a schedule does with its time and its links, as a text.
+//! The figures of a design's schedule, as a text.
 
 ghost use Rattle.std.specs.Prelude.{MatchResult, string_bytes};
 ghost use Rattle.sdf_sched.specs.Period.{IsPeriodOf};
@@ -43,8 +43,8 @@ fn figures_of(
     Ok(Figures::of(alloc, design, &placed, period, table)?)
 }
 
-/// The periods of a block and the table that options give a design, and its figures. The tests are those of
-/// `sdf_plan::schedule::scheduled`.
+/// Returns the periods of a block, the table that `options` give `design`, and the table's figures. The tests are
+/// listed at `sdf_plan::schedule::scheduled`.
 pub fn figured(
     alloc: Global,
     design: &Design,
@@ -58,10 +58,11 @@ pub fn figured(
     Ok((blocking, table, figures))
 }
 
-/// What the command `analyze` prints of the schedule that `schedule` prints: when its last firing ends, where each
-/// firing starts as soon as it may and takes its cost; the work, the span and the bound of its block; the speedup,
-/// which is the work over the makespan, and the part of the makespan in which each worker fires; what all links hold at
-/// most, and what each of them does. Hundredths are rounded down. The tests are those of `figured`.
+/// Returns the text that the command `analyze` prints about the schedule that `schedule` prints. It gives the makespan,
+/// which is the end of the last firing. Each firing starts as soon as it may and takes its cost. Then come the work,
+/// the span and the bound of the block, and the speedup, which is the work over the makespan. For each worker it gives
+/// the part of the makespan in which the worker fires. Last are the links' capacities, the most samples that they hold:
+/// their sum, then each of them. Hundredths are rounded down. The tests are listed at `sdf_plan::schedule::scheduled`.
 pub fn analyze(alloc: Global, design: &Design, options: &Options) -> Result<String, Fault>
     ensures { MatchResult result (λ s. IsAnalysis design.now options.now (string_bytes s))
         (IsShowFault design.now options.now) }

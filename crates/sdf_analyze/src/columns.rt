@@ -11,7 +11,7 @@ use crate::lines::push_with_point;
 use sdf_options::{Options, Placement, Policy};
 use std::alloc::{AllocError, Global};
 
-/// A column that schedules are compared in.
+/// A column of the comparison of schedules.
 #[derive(Clone, Copy)]
 pub(crate) enum Column {
     Makespan,
@@ -20,7 +20,7 @@ pub(crate) enum Column {
     Samples,
 }
 
-/// The periods of a block, and what its schedule has in each column; the speedup in hundredths.
+/// The periods of a block, and its schedule's value in each column. The speedup is in hundredths.
 #[derive(Clone, Copy)]
 pub struct Measures {
     pub blocking: u32,
@@ -30,21 +30,21 @@ pub struct Measures {
     pub held: u64,
 }
 
-/// A schedule's columns, or the number of the fault why there is none.
+/// The values of a schedule, or the number of the fault if there is no schedule.
 #[derive(Clone, Copy)]
 pub enum Outcome {
     Made(Measures),
     Refused(u32),
 }
 
-/// A line of a comparison: options, and what becomes of the schedule that they ask for.
+/// A line of a comparison: options, and the outcome of the schedule that they ask for.
 #[derive(Clone, Copy)]
 pub struct Entry {
     pub options: Options,
     pub outcome: Outcome,
 }
 
-/// The word of a policy on the command line.
+/// Returns the word of `policy` on the command line.
 pub fn policy_word(policy: Policy) -> &'static str
     ensures { result.now ≡ policy_word policy }
 {
@@ -55,7 +55,7 @@ pub fn policy_word(policy: Policy) -> &'static str
     }
 }
 
-/// The word of a placement there.
+/// Returns the word of `placement` on the command line.
 pub fn placement_word(placement: Placement) -> &'static str
     ensures { result.now ≡ placement_word placement }
 {
@@ -68,7 +68,7 @@ pub fn placement_word(placement: Placement) -> &'static str
 }
 
 impl Column {
-    /// What a schedule has in it.
+    /// Returns the value of a schedule with these `measures` in this column.
     fn value_in(self, measures: Measures) -> u64
         ensures { result ≡ value_in self measures }
     {
@@ -80,7 +80,8 @@ impl Column {
         }
     }
 
-    /// Whether the one schedule is better in it than the other.
+    /// Checks whether schedule `one` is better in this column than schedule `other`. Except for speedups, blocks are
+    /// compared only if they have equal numbers of periods.
     fn beats(self, one: Measures, other: Measures) -> bool
         ensures { result ≡ beats self one other }
     {
@@ -90,7 +91,7 @@ impl Column {
         }
     }
 
-    /// Whether a line's schedule, where there is one, is no better in it than this one.
+    /// Checks whether an entry's schedule, if it has one, is not better in this column than `measures`.
     fn lets(self, measures: Measures, outcome: Outcome) -> bool
         ensures { result ≡ lets self measures outcome }
     {
@@ -100,7 +101,7 @@ impl Column {
         }
     }
 
-    /// Whether no schedule is better in it than this one.
+    /// Checks whether no schedule among `entries` is better in this column than `measures`.
     fn is_best(self, entries: &[Entry], measures: Measures) -> bool
         ensures { result ≡ is_best entries.now self measures }
     {
@@ -149,7 +150,7 @@ fn push_spaces(text: &mut String, count: usize) -> Result<(), AllocError>
     Ok(())
 }
 
-/// Adds a text at the left of so many places.
+/// Adds `word`, padded with spaces on its right to `places` bytes.
 fn push_left(text: &mut String, places: usize, word: &str) -> Result<(), AllocError>
     ensures { OnOk result (string_bytes text.new ≡ string_bytes text.old ++ left places word.now) }
 {
@@ -157,7 +158,7 @@ fn push_left(text: &mut String, places: usize, word: &str) -> Result<(), AllocEr
     push_spaces(text, places.saturating_sub(word.len()))
 }
 
-/// Adds a text at the right of so many places.
+/// Adds `word`, padded with spaces on its left to `places` bytes.
 fn push_right(text: &mut String, places: usize, word: &str) -> Result<(), AllocError>
     ensures { OnOk result (string_bytes text.new ≡ string_bytes text.old ++ right places word.now) }
 {
@@ -165,7 +166,7 @@ fn push_right(text: &mut String, places: usize, word: &str) -> Result<(), AllocE
     Ok(text.push_str(word)?)
 }
 
-/// Adds what a schedule has in a column.
+/// Adds the value of `measures` in `column`.
 fn push_value(text: &mut String, measures: Measures, column: Column) -> Result<(), AllocError>
     ensures { OnOk result (string_bytes text.new ≡ string_bytes text.old ++ value_text column measures) }
 {
@@ -179,7 +180,7 @@ fn push_value(text: &mut String, measures: Measures, column: Column) -> Result<(
     }
 }
 
-/// Adds a schedule's cell of a column.
+/// Adds the cell of `column` for `measures`, with a star if no entry is better.
 #[tactic(auto, unfolding(crate::specs::Columns::cell))]
 fn push_cell(
     alloc: Global,
@@ -198,7 +199,7 @@ fn push_cell(
     push_right(text, column.places(), word.as_str())
 }
 
-/// Adds a schedule's cells.
+/// Adds the cells of all columns for `measures`.
 fn push_cells(
     alloc: Global,
     text: &mut String,
@@ -213,14 +214,14 @@ fn push_cells(
     Ok(())
 }
 
-/// Adds what a line says of the periods of its block.
+/// Adds `word` in the column of a block's periods.
 fn push_blocking(text: &mut String, word: &str) -> Result<(), AllocError>
     ensures { OnOk result (string_bytes text.new ≡ string_bytes text.old ++ blocking_text word.now) }
 {
     push_right(text, 9, word)
 }
 
-/// Adds a schedule's periods and its cells.
+/// Adds the periods of a schedule's block, and its cells.
 #[tactic(auto, unfolding(crate::specs::Columns::made_text))]
 fn push_made(
     alloc: Global,
@@ -236,7 +237,7 @@ fn push_made(
     push_cells(alloc, text, entries, measures)
 }
 
-/// Adds that there is no schedule, in the first column, and the number of the fault why.
+/// Adds `word`, which says that there is no schedule, in the first column, and then the `number` of the fault.
 #[tactic(auto, unfolding(crate::specs::Columns::refused_text))]
 fn push_refused(text: &mut String, word: &str, number: u32) -> Result<(), AllocError>
     ensures { OnOk result (string_bytes text.new ≡ string_bytes text.old ++ refused_text word.now number) }
@@ -247,7 +248,7 @@ fn push_refused(text: &mut String, word: &str, number: u32) -> Result<(), AllocE
     Ok(())
 }
 
-/// Adds what a line says behind its options.
+/// Adds the part of a line behind its options.
 fn push_outcome(
     alloc: Global,
     text: &mut String,
@@ -262,7 +263,7 @@ fn push_outcome(
     }
 }
 
-/// Adds what a line begins with.
+/// Adds the part of a line that names its options.
 fn push_way(
     text: &mut String,
     policy: &str,
@@ -277,7 +278,7 @@ fn push_way(
     push_right(text, 7, workers)
 }
 
-/// Adds a line.
+/// Adds the line of `entry`.
 #[tactic(auto, unfolding(crate::specs::Columns::entry_line))]
 fn push_entry(
     alloc: Global,
@@ -320,8 +321,8 @@ fn push_head(text: &mut String) -> Result<(), AllocError>
     text.push_str("\n")
 }
 
-/// A table with a line for each entry. The best of each column has a star, each of them where there are several; of
-/// makespans, rows and samples those of blocks of as many periods are compared.
+/// Returns a table with a line for each of `entries`. A star marks the best of each column, or each of them if several
+/// are equally good. Makespans, rows and samples are compared only among blocks of equally many periods.
 pub fn comparison_text(alloc: Global, entries: &[Entry]) -> Result<String, AllocError>
     ensures { IfOk result (λ s. string_bytes s ≡ comparison_text entries.now) }
 {

@@ -1,4 +1,4 @@
-//! Schedules beside one another.
+//! Comparison of schedules.
 
 ghost use Rattle.std.specs.Prelude.{◌≡◌, ◌↔◌, MatchResult, IfSome, IsTrue, map, string_bytes};
 ghost use Rattle.std.specs.List.{All, Contains};
@@ -28,7 +28,7 @@ use sdf_prec::{PrecFault, Table};
 use sdf_sched::Period;
 use std::alloc::Global;
 
-/// What is compared of a table of so many periods.
+/// Returns the compared values of `table`, whose block has `periods` periods.
 fn measures_of(periods: u32, table: &Table, figures: &Figures) -> Measures
     ensures { result ≡ measures_of periods table.now figures.now }
 {
@@ -41,7 +41,7 @@ fn measures_of(periods: u32, table: &Table, figures: &Figures) -> Measures
     }
 }
 
-/// The number that the text of a fault begins with.
+/// Returns the number that the text of `fault` begins with.
 fn number_of(fault: PrecFault) -> u32
     ensures { result ≡ number_of fault }
 {
@@ -60,7 +60,7 @@ fn number_of(fault: PrecFault) -> u32
     }
 }
 
-/// The number of a fault where it is a table that is wanting, or else the fault.
+/// Returns the number of `fault` if it is a fault of the table, otherwise `fault` itself.
 fn refusal(fault: Fault) -> Result<Outcome, Fault>
     ensures { MatchResult result
         (λ o. (p : PrecFault) × (fault ≡ faults.Table p) × (o ≡ Refused (number_of p)))
@@ -72,7 +72,8 @@ fn refusal(fault: Fault) -> Result<Outcome, Fault>
     }
 }
 
-/// What is compared of the table that options give a period by their policy. A span that is new goes to `spans`.
+/// Returns the values of the table that `options` give `period`, which is by their policy. Adds the span of its block
+/// to `spans` if it is not there yet.
 #[tactic(auto, using(crate::proofs::Refusals::memory_shows))]
 fn made(
     alloc: Global,
@@ -97,7 +98,7 @@ fn made(
     Ok(measures_of(blocking, &table, &figures))
 }
 
-/// What becomes of the schedule that options give a period by their policy.
+/// Returns the outcome of the schedule that `options` give `period`, which is by their policy.
 fn outcome_of(
     alloc: Global,
     design: &Design,
@@ -117,7 +118,8 @@ fn outcome_of(
     }
 }
 
-/// Whether options give the same table, since they differ in the policy alone and their placement looks at no order.
+/// Checks whether both options give the same table: they differ only in the policy, and their placement does not depend
+/// on the order of firings.
 fn share_table(options: &Options, other: &Options) -> bool
     ensures { IsTrue result ↔ ShareTable options.now other.now }
 {
@@ -128,7 +130,7 @@ fn share_table(options: &Options, other: &Options) -> bool
     options.placement != Placement::File && by_policy == *other
 }
 
-/// The outcome of the first entry whose table is that of some options too.
+/// Returns the outcome of the first entry that has the table of `options`.
 fn shared(entries: &[Entry], options: &Options) -> Option<Outcome>
     ensures { IfSome result (λ w. (e : Entry) × Contains entries.now e × ShareTable e.options options.now
         × (w ≡ e.outcome)) }
@@ -141,7 +143,7 @@ fn shared(entries: &[Entry], options: &Options) -> Option<Outcome>
     None
 }
 
-/// What becomes of a schedule beside those that are known.
+/// Returns the outcome of the schedule that `options` ask for, taken from `entries` if one of them has its table.
 fn outcome_beside(
     alloc: Global,
     design: &Design,
@@ -164,7 +166,8 @@ fn outcome_beside(
     }
 }
 
-/// What becomes of each of some schedules. A table that several of them have is made once, and so is a block's span.
+/// Returns an entry for each of `ways`. A table that several of them share is made only once, and so is the span of a
+/// block.
 fn entries_of(alloc: Global, design: &Design, ways: &[Options]) -> Result<Vec<Entry>, Fault>
     requires { All AreSizes ways.now }
     ensures { MatchResult result
@@ -185,9 +188,10 @@ fn entries_of(alloc: Global, design: &Design, ways: &[Options]) -> Result<Vec<En
     Ok(entries)
 }
 
-/// The schedules of a design by each policy, each placement, and 1, 2, 4, .. workers up to those of the options: of
-/// each the periods of its block, the makespan, the speedup, the rows and the samples held, or the number of the fault
-/// why there is none. A design without a schedule has none by any policy, and that is the answer.
+/// Returns the schedules of `design` by each policy and each placement, for 1, 2, 4, .. workers up to the workers of
+/// `options`. Each entry has the periods of its block, the makespan, the speedup, the rows and the samples held. An
+/// entry without a schedule has the number of the fault. A design without a schedule has none by any policy, so that
+/// fault is returned.
 #[tactic(auto, using(crate::proofs::Crews::sizes_of_ways))]
 pub fn compared(alloc: Global, design: &Design, options: &Options) -> Result<Vec<Entry>, Fault>
     requires { AreSizes options.now }
@@ -198,8 +202,9 @@ pub fn compared(alloc: Global, design: &Design, options: &Options) -> Result<Vec
     Ok(entries)
 }
 
-/// What the command `analyze --compare` prints: a table with a line for each schedule that is compared. A star stands
-/// at the best speedup, and at the best of each other column among blocks of as many periods, at each of several.
+/// Returns the text that the command `analyze --compare` prints: a table with a line for each compared schedule. A star
+/// marks the best speedup, and the best of each other column among blocks of equally many periods. If several are
+/// equally good, each of them has a star.
 pub fn compare(alloc: Global, design: &Design, options: &Options) -> Result<String, Fault>
     requires { AreSizes options.now }
     ensures { MatchResult result (λ s. IsComparison design.now options.now (string_bytes s))

@@ -1,4 +1,4 @@
-//! What a table does with its time and its channels.
+//! The figures of a table: its times, its work and what its channels hold.
 
 ghost use Rattle.std.specs.Prelude.{◌≡◌, ◌<◌, length, slice_index, MatchResult, IfOk};
 ghost use Rattle.sdf_sched.specs.Period.{IsPeriodOf};
@@ -21,10 +21,11 @@ use sdf_times::{Times, bound, held, work};
 use std::alloc::Global;
 use std::marker::Model;
 
-/// No block has more work.
+/// A limit on the work of a block, in units of cost.
 const MOST_WORK: u64 = MOST_ACTORS as u64 * MOST_BLOCK as u64 * MOST_COST as u64;
 
-/// When the firings of a table start and end, how short any table of its block may be, and what its channels hold.
+/// The start and end times of a table's firings, the work, span and bound of its block, and what its channels hold. No
+/// table of the block for these workers is shorter than the bound.
 #[derive(Drop)]
 pub struct Figures {
     times: Times,
@@ -55,8 +56,8 @@ impl Model for Figures {
 }
 
 impl Figures {
-    /// Those of the table of a design's period for a block of the options, which may have more than 64 periods. The
-    /// only fault is that memory was refused.
+    /// Returns the figures of `table`, which schedules a block of `period` as `options` say. The blocking factor may be
+    /// above 64. The only fault is that memory was refused.
     pub fn of(
         alloc: Global,
         design: &Design,
@@ -78,7 +79,7 @@ impl Figures {
         Ok(figures)
     }
 
-    /// Returns the same figures, given the span of the block.
+    /// Returns the figures of `table`, as `of` does, but with a `span` of its block that is already known.
     pub(crate) fn with_span(
         alloc: Global,
         design: &Design,
@@ -112,7 +113,7 @@ impl Figures {
         })
     }
 
-    /// When a firing starts.
+    /// Returns the time at which `firing` starts.
     pub fn start(&self, firing: Firing) -> u64
         requires { HasStart self.now.starts firing }
         ensures { result ≡ start_in self.now.starts firing }
@@ -120,21 +121,21 @@ impl Figures {
         self.times.start(firing)
     }
 
-    /// When the last firing ends.
+    /// Returns the time at which the last firing ends.
     pub fn makespan(&self) -> u64
         ensures { result ≡ self.now.makespan }
     {
         self.times.makespan()
     }
 
-    /// What the firings of the block cost together.
+    /// Returns the cost of all firings of the block together.
     pub fn work(&self) -> u64
         ensures { result ≡ self.now.work }
     {
         self.work
     }
 
-    /// How often the makespan goes into the work, in hundredths, rounded down; of no time 0.
+    /// Returns the work over the makespan in hundredths, rounded down, or 0 if the makespan is 0.
     pub fn speedup(&self) -> u64
         ensures { result ≡ hundredths self.now.work self.now.makespan }
     {
@@ -143,21 +144,21 @@ impl Figures {
             .unwrap_or(0)
     }
 
-    /// What the costliest chain of the block's firings costs.
+    /// Returns the cost of the costliest chain of the block's firings.
     pub fn span(&self) -> u64
         ensures { result ≡ self.now.span }
     {
         self.span
     }
 
-    /// The least time in which the costliest chain ends and the workers can do the work.
+    /// Returns the least time in which the costliest chain can end and the workers can do the work.
     pub fn bound(&self) -> u64
         ensures { result ≡ self.now.bound }
     {
         self.bound
     }
 
-    /// What the firings of a column cost together.
+    /// Returns the cost of all firings in `column` together.
     pub fn load(&self, column: usize) -> u64
         requires { column < length self.now.loads }
         ensures { result ≡ slice_index self.now.loads column }
@@ -165,7 +166,7 @@ impl Figures {
         self.times.load(column)
     }
 
-    /// The sum of the channels' capacities, in samples.
+    /// Returns the sum of the channels' capacities, in samples.
     pub fn held(&self) -> u64
         ensures { result ≡ self.now.held }
     {

@@ -1,4 +1,4 @@
-//! What a schedule does with its time and its links, and schedules beside one another, in numbers and as texts.
+//! Figures of a design's schedule, and a comparison of schedules, as numbers and as texts.
 //!
 //! It depends on `sdf_plan`, which schedules a design, and on `sdf_times`, which computes the times of a schedule.
 //! `sdf_options` has the options, `sdf_faults` the reasons that there is no schedule, `sdf_file` the names of links,

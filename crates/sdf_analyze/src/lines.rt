@@ -9,10 +9,10 @@ use sdf_file::{Design, push_link};
 use sdf_prec::Table;
 use std::alloc::{AllocError, Global};
 
-/// The bytes of a sample on a link, where samples have 32 bits.
+/// The bytes of a sample on a link. Samples have 32 bits.
 pub const SAMPLE_BYTES: u32 = 4;
 
-/// How many hundredths of the whole a part is, rounded down; of nothing 0.
+/// Returns `part` in hundredths of `whole`, rounded down, or 0 if `whole` is 0.
 fn hundredths(part: u64, whole: u64) -> u128
     ensures { result ≡ hundredths part whole }
 {
@@ -21,7 +21,7 @@ fn hundredths(part: u64, whole: u64) -> u128
         .unwrap_or(0)
 }
 
-/// Adds so many hundredths with two digits behind the point.
+/// Adds a number of `hundredths` as a decimal number with two digits behind the point.
 pub(crate) fn push_with_point(text: &mut String, hundredths: u64) -> Result<(), AllocError>
     ensures { OnOk result (string_bytes text.new ≡ string_bytes text.old ++ with_point hundredths) }
 {
@@ -32,7 +32,7 @@ pub(crate) fn push_with_point(text: &mut String, hundredths: u64) -> Result<(), 
     Ok(())
 }
 
-/// Adds the line of a number.
+/// Adds a line of `word` and `number`.
 fn push_number(text: &mut String, word: &str, number: u64) -> Result<(), AllocError>
     ensures { OnOk result (string_bytes text.new ≡ string_bytes text.old ++ number_line word.now number) }
 {
@@ -40,7 +40,7 @@ fn push_number(text: &mut String, word: &str, number: u64) -> Result<(), AllocEr
     Ok(())
 }
 
-/// Adds the lines of times.
+/// Adds the lines of the makespan, the work, the span and the bound.
 #[tactic(auto, unfolding(crate::specs::Texts::time_lines))]
 fn push_times(text: &mut String, figures: &Figures) -> Result<(), AllocError>
     ensures { OnOk result (string_bytes text.new ≡ string_bytes text.old ++ time_lines figures.now) }
@@ -51,7 +51,7 @@ fn push_times(text: &mut String, figures: &Figures) -> Result<(), AllocError>
     push_number(text, "bound", figures.bound())
 }
 
-/// Adds the line of the speedup by so many workers.
+/// Adds the line of the speedup on `workers` workers.
 #[tactic(auto, unfolding(crate::specs::Texts::speedup_line))]
 fn push_speedup(text: &mut String, figures: &Figures, workers: usize) -> Result<(), AllocError>
     requires { workers ≡ length figures.now.loads }
@@ -63,7 +63,7 @@ fn push_speedup(text: &mut String, figures: &Figures, workers: usize) -> Result<
     Ok(())
 }
 
-/// Adds the line of a worker.
+/// Adds the line of `worker`: the part of the makespan in which it fires, in percent.
 fn push_worker(text: &mut String, figures: &Figures, worker: usize) -> Result<(), AllocError>
     requires { worker < length figures.now.loads }
     ensures { OnOk result (string_bytes text.new ≡ string_bytes text.old ++ worker_line figures.now worker) }
@@ -85,7 +85,7 @@ fn push_workers(text: &mut String, figures: &Figures, workers: usize) -> Result<
     Ok(())
 }
 
-/// Adds so many samples, and their bytes.
+/// Adds a number of `samples` and their size in bytes.
 fn push_samples(text: &mut String, samples: u64) -> Result<(), AllocError>
     ensures { OnOk result (string_bytes text.new ≡ string_bytes text.old ++ samples_text samples) }
 {
@@ -94,7 +94,7 @@ fn push_samples(text: &mut String, samples: u64) -> Result<(), AllocError>
     Ok(())
 }
 
-/// Adds the line of what all links hold.
+/// Adds the line of the samples that all links can hold together.
 #[tactic(auto, unfolding(crate::specs::Texts::held_line))]
 fn push_held(text: &mut String, figures: &Figures) -> Result<(), AllocError>
     ensures { OnOk result (string_bytes text.new ≡ string_bytes text.old ++ held_line figures.now) }
@@ -103,7 +103,7 @@ fn push_held(text: &mut String, figures: &Figures) -> Result<(), AllocError>
     push_samples(text, figures.held())
 }
 
-/// Adds the line of a link.
+/// Adds the line of the capacity of `link`.
 #[tactic(auto, unfolding(crate::specs::Texts::share_line))]
 fn push_share(
     text: &mut String,
@@ -122,7 +122,7 @@ fn push_share(
     push_samples(text, table.cap(link))
 }
 
-/// Adds the lines of the links, in file order.
+/// Adds the lines of the links' capacities, in file order.
 fn push_shares(text: &mut String, design: &Design, table: &Table) -> Result<(), AllocError>
     requires { length table.now.caps ≡ length design.now.net.wires }
     ensures { OnOk result (string_bytes text.new ≡
@@ -134,7 +134,7 @@ fn push_shares(text: &mut String, design: &Design, table: &Table) -> Result<(), 
     Ok(())
 }
 
-/// The text of a table's figures, for so many workers, and of its capacities.
+/// Returns the text of the figures of `table` for `workers` workers, and of its capacities.
 pub(crate) fn analysis_text(
     alloc: Global,
     design: &Design,

@@ -1,4 +1,4 @@
-//! The orders of firings that the policies give a design.
+//! The schedules of one period that the policies give a design.
 
 ghost use Rattle.std.specs.Prelude.{◌≡◌, MatchResult};
 ghost use Rattle.sdf_plan.specs.Plans.{IsScheduleFault};
@@ -20,7 +20,7 @@ pub(crate) struct Periods {
 }
 
 impl Periods {
-    /// Those of a design, which has all of them or none.
+    /// Returns the periods of `design` by all policies. A design has all of them or none.
     pub(crate) fn of(alloc: Global, design: &Design) -> Result<Periods, Fault>
         ensures { MatchResult result (AreByPolicies design.now) (IsScheduleFault design.now) }
     {
@@ -31,7 +31,7 @@ impl Periods {
         })
     }
 
-    /// That by a policy.
+    /// Returns the period by `policy`.
     pub(crate) fn by(&self, policy: Policy) -> &Period
         ensures { result.now ≡ period_in self.now policy }
     {

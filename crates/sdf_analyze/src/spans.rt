@@ -15,7 +15,7 @@ use sdf_sched::Period;
 use sdf_times::span;
 use std::alloc::{AllocError, Global};
 
-/// The periods of a block, and its span.
+/// The number of periods of a block, and its span.
 #[derive(Clone, Copy)]
 pub(crate) struct BlockSpan {
     pub(crate) periods: u32,

@@ -7,7 +7,7 @@ ghost use Rattle.sdf_analyze.specs.Ways.{ways_placed, ways_by, ways};
 use sdf_options::{Options, Placement, Policy};
 use std::alloc::{AllocError, Global};
 
-/// Adds those by a policy and a placement, for 1, 2, 4, .. workers.
+/// Adds the options with `policy` and `placement`, for 1, 2, 4, .. workers.
 fn push_placed(
     ways: &mut Vec<Options>,
     options: &Options,
@@ -29,7 +29,7 @@ fn push_placed(
     Ok(())
 }
 
-/// Adds those by a policy.
+/// Adds the options with `policy` and each placement.
 fn push_by(ways: &mut Vec<Options>, options: &Options, policy: Policy) -> Result<(), AllocError>
     ensures { IfOk result (λ _. ways.new.items ≡ ways.old.items ++ ways_by options.now policy) }
 {
@@ -39,7 +39,7 @@ fn push_by(ways: &mut Vec<Options>, options: &Options, policy: Policy) -> Result
     push_placed(ways, options, policy, Placement::Spread)
 }
 
-/// The options with each policy, each placement, and 1, 2, 4, .. workers up to theirs.
+/// Returns `options` with each policy, each placement, and 1, 2, 4, .. workers up to theirs.
 pub(crate) fn ways(alloc: Global, options: &Options) -> Result<Vec<Options>, AllocError>
     ensures { IfOk result (λ v. v.items ≡ ways options.now) }
 {

@@ -1,4 +1,4 @@
--- What is said of the numbers in a comparison of schedules.
+-- The lines that explain the fault numbers in a comparison of schedules.
 use Rattle.std.specs.Prelude.{◌≡◌, ℕ, ◌-◌, ◌+◌, ◌==◌, Bool, false, List, [], ◌++◌, if◌then◌else◌, get_or, codes}
 use Rattle.std.specs.Prelude.{decimal}
 use Rattle.std.specs.List.{flat_map, list_any, range_with_len}
@@ -17,7 +17,7 @@ abbrev pub is_by : ℕ → Outcome → Bool
 is_by number (Made measures) = false
 is_by number (Refused other) = other == number
 
--- one of the schedules is
+-- one of the schedules is refused by the fault of this number
 abbrev pub is_refused : List Entry → ℕ → Bool
 is_refused entries number = list_any (λ (e : Entry). is_by number e.outcome) entries
 
@@ -25,7 +25,7 @@ is_refused entries number = list_any (λ (e : Entry). is_by number e.outcome) en
 unfoldable pub pointer : ℕ → List ℕ
 pointer number = codes "sdfw explain " ++ decimal number ++ codes " says what to do\n"
 
--- the name of the fault, and that command
+-- the number and the name of the fault, and the command that explains it
 unfoldable pub refusal_line : ℕ → List ℕ → List ℕ
 refusal_line number name = codes "  " ++ decimal number ++ codes " is " ++ name ++ codes ": " ++ pointer number
 
@@ -37,7 +37,7 @@ refusal_of entries number =
 abbrev pub refusals_text : List Entry → List ℕ
 refusals_text entries = flat_map (λ before. refusal_of entries (before + 1)) (range_with_len 0 MOST_FAULT)
 
--- the table of the schedules that are compared, and what its numbers are
+-- the table of the compared schedules, and the lines that explain the fault numbers in it
 pub record IsExplainedComparison (d : DesignValue) (o : Options) (table refusals : List ℕ) : Type 0 where
   pub entries : List Entry
   pub compared : AreCompared d o entries

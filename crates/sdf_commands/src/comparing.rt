@@ -16,7 +16,7 @@ use sdf_words::{MOST_FAULT, fault_name};
 use std::alloc::{AllocError, Global};
 use std::io::Write;
 
-/// Returns whether a schedule is refused by the fault of this number.
+/// Checks whether `outcome` is a refusal by the fault of this `number`.
 fn is_by(number: u32, outcome: Outcome) -> bool
     ensures { result ≡ is_by number outcome }
 {
@@ -26,14 +26,14 @@ fn is_by(number: u32, outcome: Outcome) -> bool
     }
 }
 
-/// Returns whether one of the schedules is refused by the fault of this number.
+/// Checks whether one of `entries` is refused by the fault of this `number`.
 fn is_refused(entries: &[Entry], number: u32) -> bool
     ensures { result ≡ is_refused entries.now number }
 {
     entries.iter().any(|entry| is_by(number, entry.outcome))
 }
 
-/// Adds the command that explains the fault of this number.
+/// Adds the command that explains the fault of this `number`.
 #[tactic(auto, unfolding(crate::specs::Refusals::pointer))]
 fn push_pointer(text: &mut String, number: u32) -> Result<(), AllocError>
     ensures { OnOk result (string_bytes text.new ≡ string_bytes text.old ++ pointer number) }
@@ -41,7 +41,7 @@ fn push_pointer(text: &mut String, number: u32) -> Result<(), AllocError>
     writeln!(text, "sdfw explain {number} says what to do")
 }
 
-/// Adds the line of a fault, by its number and its name.
+/// Adds the line of a fault, with its `number` and its `name`.
 #[tactic(auto, unfolding(crate::specs::Refusals::refusal_line))]
 fn push_line(text: &mut String, number: u32, name: &str) -> Result<(), AllocError>
     ensures { OnOk result (string_bytes text.new ≡ string_bytes text.old ++ refusal_line number name.now) }
@@ -50,7 +50,7 @@ fn push_line(text: &mut String, number: u32, name: &str) -> Result<(), AllocErro
     push_pointer(text, number)
 }
 
-/// Adds the line of the fault of this number, if it refuses a schedule.
+/// Adds the line of the fault of this `number`, if it refuses a schedule.
 #[tactic(auto, unfolding(crate::specs::Refusals::refusal_of))]
 fn push_refusal(text: &mut String, entries: &[Entry], number: u32) -> Result<(), AllocError>
     requires some { 1 ≤ number }
@@ -74,14 +74,14 @@ fn refusals_text(alloc: Global, entries: &[Entry]) -> Result<String, AllocError>
     Ok(text)
 }
 
-/// A comparison of schedules: its table, and the lines that say what the numbers in it are.
+/// A comparison of schedules: its table, and the lines that explain the fault numbers in it.
 #[derive(Drop)]
 struct ComparedTexts {
     table: String,
     refusals: String,
 }
 
-/// Returns the texts of the comparison of a design's schedules.
+/// Returns the texts of the comparison of the schedules of `design`.
 fn compared_texts(alloc: Global, design: &Design, options: &Options) -> Result<ComparedTexts, Fault>
     requires { AreWithinLimits options.now }
     ensures { MatchResult result (λ c. IsExplainedComparison design.now options.now
@@ -94,8 +94,8 @@ fn compared_texts(alloc: Global, design: &Design, options: &Options) -> Result<C
     })
 }
 
-/// Prints the comparison of a design's schedules. If more is said than faults, standard error gets what its numbers
-/// are.
+/// Prints the comparison of the schedules of `design` on `out`. If `is_said` is set, prints the lines that explain its
+/// fault numbers on `err`.
 pub fn print_comparison<O: Write, E: Write>(
     alloc: Global,
     out: &mut O,

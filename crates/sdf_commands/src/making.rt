@@ -15,7 +15,7 @@ use std::io::{ErrorKind, Write};
 /// The name of a converter's graph file.
 const GRAPH: &str = "graph.toml";
 
-/// What is asked for is a mistake on the command line.
+/// Returns `fault` as a mistake on the command line, or `OutOfMemory` if memory was refused.
 fn filter_fault(alloc: Global, fault: FilterFault) -> Fault {
     match fault.to_string(alloc) {
         Ok(text) if fault != FilterFault::OutOfMemory => Fault::from(mistake(alloc, text.as_str())),
@@ -23,7 +23,7 @@ fn filter_fault(alloc: Global, fault: FilterFault) -> Fault {
     }
 }
 
-/// Prints the coefficient file of a filter, and on standard error what its taps do.
+/// Prints the coefficient file of the `wanted` filter on `out`, and a description of its taps on `err`.
 pub fn fir<S, T: AllocGlobal, O: Write, E: Write>(
     world: &World<S, T>,
     out: &mut O,
@@ -40,7 +40,7 @@ pub fn fir<S, T: AllocGlobal, O: Write, E: Write>(
     }
 }
 
-/// The design that texts say.
+/// Returns the design that `texts` describe.
 fn design_of(alloc: Global, texts: &ConverterTexts) -> Result<Design, Fault> {
     let mut files = Vec::new(alloc);
     for file in &texts.files {
@@ -50,7 +50,7 @@ fn design_of(alloc: Global, texts: &ConverterTexts) -> Result<Design, Fault> {
     Ok(read_design(alloc, texts.graph.as_bytes(), &files)?)
 }
 
-/// Refuses a folder that has one of the files of a converter.
+/// Checks that `folder` does not have any file of a converter, and errs if it does.
 fn keep_all<S: Storage>(
     alloc: Global,
     storage: &S,
@@ -63,7 +63,8 @@ fn keep_all<S: Storage>(
     keep_file(alloc, storage, folder, GRAPH)
 }
 
-/// Makes a folder that is not there, or notes how the system refused it. Another program may make it at the same time.
+/// Makes `folder` if it does not exist, or notes in `refused` how the system refused it. Another program may make it at
+/// the same time.
 pub fn make_folder<S: Storage>(
     alloc: Global,
     storage: &S,
@@ -80,7 +81,7 @@ pub fn make_folder<S: Storage>(
     }
 }
 
-/// Writes a file into a folder.
+/// Writes `text` into the file `name` of `folder`.
 fn write_into<S: Storage, T: AllocGlobal>(
     world: &World<S, T>,
     folder: &str,
@@ -99,7 +100,7 @@ fn write_into<S: Storage, T: AllocGlobal>(
     )
 }
 
-/// Writes the files of a converter into a folder, and on standard error what the taps of each stage do.
+/// Writes the files of a converter into `folder`, and a description of the taps of each stage to `err`.
 fn write_all<S: Storage, T: AllocGlobal, E: Write>(
     world: &World<S, T>,
     err: &mut E,
@@ -120,14 +121,14 @@ fn write_all<S: Storage, T: AllocGlobal, E: Write>(
     write_into(world, folder, GRAPH, texts.graph.as_str(), refused)
 }
 
-/// Tests that the design that texts say can be scheduled.
+/// Checks that the design that `texts` describe can be scheduled.
 fn test_texts(alloc: Global, texts: &ConverterTexts) -> Result<(), Fault> {
     let design = design_of(alloc, texts)?;
     test_plan(alloc, &design)
 }
 
-/// Writes the files of a converter into a folder, once their design is read and scheduled: what is written can be run,
-/// and no file that was there is gone.
+/// Writes the files of a converter into `folder`, after its design was read and scheduled. So the written design can be
+/// run, and no existing file is replaced.
 fn write_design<S: Storage, T: AllocGlobal, E: Write>(
     world: &World<S, T>,
     err: &mut E,
@@ -142,7 +143,7 @@ fn write_design<S: Storage, T: AllocGlobal, E: Write>(
     write_all(world, err, folder, texts, refused)
 }
 
-/// Writes the design of a conversion. How the system refused a file stands in `sources`.
+/// Writes the design of `conversion`. Notes in `sources` how the system refused a file.
 pub fn resample<S: Storage, T: AllocGlobal, E: Write>(
     world: &World<S, T>,
     err: &mut E,

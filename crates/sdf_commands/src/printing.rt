@@ -17,23 +17,23 @@ use sdf_words::explained;
 use std::alloc::{AllocError, Global};
 use std::io::Write;
 
-/// Prints an answer.
+/// Prints `answer`.
 pub fn show<O: Write>(out: &mut O, answer: &str) -> Result<(), Fault> {
     put(out, answer.as_bytes())
 }
 
-/// Prints an answer that was made, if it was.
+/// Prints `answer` if it was made, otherwise returns its fault.
 pub fn show_made<O: Write>(out: &mut O, answer: Result<String, Fault>) -> Result<(), Fault> {
     show(out, answer?.as_str())
 }
 
-/// Tests that a design can be scheduled.
+/// Checks that `design` can be scheduled.
 pub(crate) fn test_plan(alloc: Global, design: &Design) -> Result<(), Fault> {
     plan(alloc, design, &Options::DEFAULT)?;
     Ok(())
 }
 
-/// What a design is, where it can be scheduled.
+/// Returns a description of `design`, if it can be scheduled.
 pub fn checked(alloc: Global, design: &Design, json: bool) -> Result<String, Fault> {
     test_plan(alloc, design)?;
     if json {
@@ -43,7 +43,7 @@ pub fn checked(alloc: Global, design: &Design, json: bool) -> Result<String, Fau
     }
 }
 
-/// The schedule of a design.
+/// Returns the schedule of `design`.
 pub fn scheduled(
     alloc: Global,
     design: &Design,
@@ -57,7 +57,7 @@ pub fn scheduled(
     }
 }
 
-/// How long the schedule of a design takes.
+/// Returns the figures of the schedule of `design`.
 pub fn analyzed(
     alloc: Global,
     design: &Design,
@@ -73,7 +73,7 @@ pub fn analyzed(
     }
 }
 
-/// The picture of a design and its schedule, or its graph for Graphviz.
+/// Returns the picture of `design` and its schedule, or its graph for Graphviz if `as_dot` is set.
 pub fn drawn(
     alloc: Global,
     design: &Design,
@@ -105,7 +105,7 @@ pub fn print_kinds<S, T: AllocGlobal, O: Write>(
     show(out, listed(world.threads.alloc(), json)?.as_str())
 }
 
-/// Prints what the fault of this number means.
+/// Prints the explanation of the fault of this `number`.
 pub fn print_meaning<S, T: AllocGlobal, O: Write>(
     world: &World<S, T>,
     out: &mut O,

@@ -1,4 +1,4 @@
-//! What stands in a sound that is refused.
+//! The diagnostics of WAV files that are refused, from their first bytes.
 
 use byteorder::{ByteOrder, LittleEndian};
 use sdf_files::input::InputTrace;
@@ -6,22 +6,22 @@ use sdf_wav::FormatFault;
 use sdf_why::{Header, device_text};
 use std::alloc::{AllocError, Global};
 
-/// The tag of a format that has its own format in a longer chunk.
+/// The format tag of an extensible format, which has its real tag later in a longer chunk.
 const EXTENSIBLE: u32 = 0xFFFE;
 
-/// The size of samples that was never filled in.
+/// The data size in a WAV file whose writer never filled it in.
 const UNKNOWN: u32 = 0xFFFF_FFFF;
 
-/// The most bytes of samples that are written.
+/// The most bytes of samples in a WAV file that is written.
 const MOST_WRITTEN: u32 = 4_294_967_259;
 
-/// The front of a sound.
+/// The first bytes of a WAV file.
 #[derive(Clone, Copy)]
 struct Front<'a> {
     bytes: &'a [u8],
 }
 
-/// A chunk: the place of its content, and the size that it says.
+/// A chunk: the position of its content, and the size that its header gives.
 #[derive(Clone, Copy)]
 struct Chunk {
     at: usize,
@@ -29,13 +29,13 @@ struct Chunk {
 }
 
 impl<'a> Front<'a> {
-    /// Returns the number of 2 bytes at `at`.
+    /// Returns the 16-bit little-endian number at `at`.
     fn short(self, at: usize) -> Option<u32> {
         let bytes = self.bytes.get(at..at.checked_add(2)?)?;
         Some(u32::from(LittleEndian::read_u16(bytes)))
     }
 
-    /// Returns the number of 4 bytes at `at`.
+    /// Returns the 32-bit little-endian number at `at`.
     fn long(self, at: usize) -> Option<u32> {
         let bytes = self.bytes.get(at..at.checked_add(4)?)?;
         Some(LittleEndian::read_u32(bytes))
@@ -46,7 +46,7 @@ impl<'a> Front<'a> {
         self.bytes.get(at..at.checked_add(4)?)
     }
 
-    /// Returns the first chunk with this id, if it stands in the front.
+    /// Returns the first chunk with this `id`, if its header is among the first bytes.
     fn chunk(self, id: &[u8]) -> Option<Chunk> {
         let mut at = 12usize;
         for _ in 0..self.bytes.len() {
@@ -72,7 +72,7 @@ impl<'a> Front<'a> {
         self.chunk(b"data".as_slice())
     }
 
-    /// Returns the number of 2 bytes at `at` in the format.
+    /// Returns the 16-bit number at `at` in the chunk of the format.
     fn in_format(self, at: usize) -> Option<u32> {
         self.short(self.format()?.at.checked_add(at)?)
     }
@@ -86,7 +86,7 @@ impl<'a> Front<'a> {
         })
     }
 
-    /// Returns the tag of the format of the samples, that of a longer chunk if it has one.
+    /// Returns the format tag of the samples. An extensible format has it later in its chunk.
     fn tag(self) -> Option<u32> {
         match self.in_format(0)? {
             EXTENSIBLE => self.in_format(24),
@@ -95,19 +95,19 @@ impl<'a> Front<'a> {
     }
 }
 
-/// Returns what is known of the front of a sound.
+/// Returns the first bytes of the WAV file of `trace`.
 fn front_of(trace: &InputTrace) -> Front<'_> {
     Front {
         bytes: trace.front.as_slice(),
     }
 }
 
-/// Returns the channels and the rate that a sound says, if they are among its first bytes.
+/// Returns the channels and the rate of a WAV file, if they are among its first bytes.
 pub(crate) fn header_of(trace: &InputTrace) -> Option<Header> {
     front_of(trace).header()
 }
 
-/// Returns the text of the four bytes at `at`, where others are wanted.
+/// Returns the text for a WAV file that has other bytes than `wanted` at `at`.
 fn id_text(alloc: Global, front: Front<'_>, at: usize, wanted: &str) -> Result<String, AllocError> {
     let Some(bytes) = front.id(at) else {
         return Ok(String::new(alloc));
@@ -118,7 +118,7 @@ fn id_text(alloc: Global, front: Front<'_>, at: usize, wanted: &str) -> Result<S
     )
 }
 
-/// Returns the text of a format that does not stand before the samples.
+/// Returns the text for a WAV file without a chunk of the format before its samples.
 fn missing_text(alloc: Global, front: Front<'_>, bytes: u64) -> Result<String, AllocError> {
     match front.data() {
         Some(Chunk { at, .. }) => {
@@ -134,7 +134,7 @@ fn missing_text(alloc: Global, front: Front<'_>, bytes: u64) -> Result<String, A
     }
 }
 
-/// Returns the text of a chunk of the format that is too short.
+/// Returns the text for a chunk of the format that is too short.
 fn short_text(alloc: Global, front: Front<'_>) -> Result<String, AllocError> {
     let Some(Chunk { size, .. }) = front.format() else {
         return Ok(String::new(alloc));
@@ -143,7 +143,7 @@ fn short_text(alloc: Global, front: Front<'_>) -> Result<String, AllocError> {
     format!(in alloc; "has a chunk \"fmt \" of {size} bytes, wants {wanted}")
 }
 
-/// Returns the name of the format with this tag, if it is a common one.
+/// Returns the name of the format with this `tag` if it is a common one, otherwise an empty text.
 fn format_name(tag: u32) -> &'static str {
     match tag {
         1 => " (PCM)",
@@ -157,7 +157,7 @@ fn format_name(tag: u32) -> &'static str {
     }
 }
 
-/// Returns the text of samples that are not 16-bit PCM.
+/// Returns the text for samples that are not 16-bit PCM.
 fn samples_text(alloc: Global, front: Front<'_>) -> Result<String, AllocError> {
     let (Some(tag), Some(bits)) = (front.tag(), front.in_format(14)) else {
         return Ok(String::new(alloc));
@@ -166,7 +166,7 @@ fn samples_text(alloc: Global, front: Front<'_>) -> Result<String, AllocError> {
     format!(in alloc; "has samples of {bits} bits in format {tag}{name}, wants 16 bits in format 1")
 }
 
-/// Returns the end of a word for this number of things.
+/// Returns the plural ending of a word for `count` things.
 fn plural_of(count: u32) -> &'static str {
     if count == 1 { "" } else { "s" }
 }
@@ -180,7 +180,7 @@ fn header_text(alloc: Global, front: Front<'_>) -> Result<String, AllocError> {
     format!(in alloc; "has {rate} samples a second in {channels} channel{plural}")
 }
 
-/// Returns the text of the channels and the rate, and behind it `wanted`.
+/// Returns the text of the channels and the rate, followed by `wanted`.
 fn wanted_text(alloc: Global, front: Front<'_>, wanted: &str) -> Result<String, AllocError> {
     let said = header_text(alloc, front)?;
     if said.is_empty() {
@@ -190,7 +190,7 @@ fn wanted_text(alloc: Global, front: Front<'_>, wanted: &str) -> Result<String, 
     format!(in alloc; "{said}, {wanted}")
 }
 
-/// Returns the text of the size of a frame that is not that of its channels.
+/// Returns the text for a size of frames that does not match the channels.
 fn align_text(alloc: Global, front: Front<'_>) -> Result<String, AllocError> {
     let (Some(align), Some(channels)) = (front.in_format(12), front.in_format(2)) else {
         return Ok(String::new(alloc));
@@ -200,10 +200,10 @@ fn align_text(alloc: Global, front: Front<'_>) -> Result<String, AllocError> {
     format!(in alloc; "has frames of {align} bytes, wants {wanted} for {channels} channel{plural}")
 }
 
-/// A size that programs write which do not know it yet, or a greater one.
+/// The least data size that is taken for a placeholder, written by a program that does not know the size yet.
 const STREAMED: u32 = 0x7FFF_F000;
 
-/// Returns the text of a sound that ends too early.
+/// Returns the text for a WAV file that ends too early.
 fn end_text(alloc: Global, front: Front<'_>, bytes: u64) -> Result<String, AllocError> {
     match front.data() {
         Some(Chunk { at, size }) if size != UNKNOWN => {
@@ -219,7 +219,7 @@ fn end_text(alloc: Global, front: Front<'_>, bytes: u64) -> Result<String, Alloc
     }
 }
 
-/// Returns the text of samples that are no whole frames.
+/// Returns the text for samples that are not whole frames.
 fn frames_text(alloc: Global, front: Front<'_>, bytes: u64) -> Result<String, AllocError> {
     let (Some(data), Some(channels)) = (front.data(), front.in_format(2)) else {
         return Ok(String::new(alloc));
@@ -232,7 +232,7 @@ fn frames_text(alloc: Global, front: Front<'_>, bytes: u64) -> Result<String, Al
     format!(in alloc; "has {samples} bytes of samples, wants frames of {frame} bytes")
 }
 
-/// Returns the text of a sound that is too long, or of which a longer one would come.
+/// Returns the text for a WAV file that is too long, has too many chunks, or whose output would be too long.
 fn length_text(alloc: Global, front: Front<'_>, bytes: u64) -> Result<String, AllocError> {
     match front.data() {
         Some(Chunk { size, .. }) if size != UNKNOWN => {
@@ -248,7 +248,7 @@ fn length_text(alloc: Global, front: Front<'_>, bytes: u64) -> Result<String, Al
     }
 }
 
-/// Returns the text of what stands in a sound that has this fault, or no text if that is not known.
+/// Returns the text about the contents of a WAV file with this `fault`, or no text if they are not known.
 fn said_of(
     alloc: Global,
     fault: FormatFault,
@@ -278,7 +278,7 @@ fn said_of(
     }
 }
 
-/// Returns the line of the file `name`, if something is said of it.
+/// Returns the line of the file `name`, or no line if `said` is empty.
 fn line_of(alloc: Global, name: &str, said: &str) -> Result<String, AllocError> {
     if said.is_empty() {
         return Ok(String::new(alloc));
@@ -286,7 +286,7 @@ fn line_of(alloc: Global, name: &str, said: &str) -> Result<String, AllocError> 
     device_text(alloc, name, said)
 }
 
-/// Returns the line of a sound with the fault `fault`: its file and what stands there.
+/// Returns the line of a WAV file with this `fault`: its name and what it contains.
 pub(crate) fn format_text(
     alloc: Global,
     fault: FormatFault,
@@ -296,7 +296,7 @@ pub(crate) fn format_text(
     line_of(alloc, trace.name.as_str(), said.as_str())
 }
 
-/// Returns the line of a sound that does not suit a design: its file, its rate and its channels.
+/// Returns the line of a WAV file that does not suit a design: its name, its rate and its channels.
 pub(crate) fn unsuited_text(alloc: Global, trace: &InputTrace) -> Result<String, AllocError> {
     let said = header_text(alloc, front_of(trace))?;
     line_of(alloc, trace.name.as_str(), said.as_str())

@@ -1,4 +1,4 @@
-//! What more is told of a fault.
+//! The diagnostics of faults.
 
 use crate::sounds::{format_text, header_of, unsuited_text};
 use sdf_document::DocumentFault;
@@ -16,7 +16,7 @@ use sdf_words::{Task, Words};
 use std::alloc::{AllocError, Global};
 use std::io::Write;
 
-/// How far the actors of a deadlock came.
+/// Returns how far each actor got before a deadlock.
 fn halts_of(alloc: Global, stalled: &Stalled) -> Result<Vec<Halt>, AllocError> {
     let mut halts = Vec::new(alloc);
     for actor in &stalled.actors {
@@ -28,7 +28,7 @@ fn halts_of(alloc: Global, stalled: &Stalled) -> Result<Vec<Halt>, AllocError> {
     Ok(halts)
 }
 
-/// What the system said of the files that it refused.
+/// Returns what the system reported about the files that it refused.
 fn refusals(alloc: Global, sources: &Sources) -> Result<String, AllocError> {
     let mut text = String::new(alloc);
     for refused in &sources.refused {
@@ -38,7 +38,7 @@ fn refusals(alloc: Global, sources: &Sources) -> Result<String, AllocError> {
     Ok(text)
 }
 
-/// What the reader of TOML said of the files that are no documents.
+/// Returns what the TOML reader reported about the files that are not TOML.
 fn no_documents(alloc: Global, sources: &Sources) -> Result<String, AllocError> {
     let mut text = toml_text(alloc, sources.path.as_str(), &sources.graph)?;
     for (name, bytes) in &sources.files {
@@ -48,7 +48,7 @@ fn no_documents(alloc: Global, sources: &Sources) -> Result<String, AllocError> 
     Ok(text)
 }
 
-/// What is told of the first test that files fail, with what the system and the reader of TOML said of them.
+/// Returns the diagnostic for the first test that files fail, with the reports of the system and the TOML reader.
 fn design_text(
     alloc: Global,
     fault: &FileFault,
@@ -65,7 +65,7 @@ fn design_text(
     format!(in alloc; "{told}{said}")
 }
 
-/// What is told of a sound that does not suit a design: its file, and how it does not.
+/// Returns the diagnostic for a WAV file that does not suit a design: the line of the file, then the reason `told`.
 fn unsuited(
     alloc: Global,
     trace: &InputTrace,
@@ -76,7 +76,7 @@ fn unsuited(
     Ok(text)
 }
 
-/// What is told of a sound that is refused, or does not suit a design.
+/// Returns the diagnostic for a WAV file that is refused or does not suit a design.
 fn sound_text(
     alloc: Global,
     fault: &Fault,
@@ -95,7 +95,7 @@ fn sound_text(
     }
 }
 
-/// The number at the front of a fault's text.
+/// Returns the number at the beginning of a fault's text.
 fn number_of(told: &str) -> &str {
     match told.split_once(' ') {
         Some((number, _)) => number,
@@ -103,7 +103,7 @@ fn number_of(told: &str) -> &str {
     }
 }
 
-/// Returns the line that names `explain`, or no line for a mistake in the words.
+/// Returns the line that names `explain`, or no line for a mistake on the command line.
 fn pointer(alloc: Global, fault: &Fault) -> Result<String, AllocError> {
     if let Fault::Words(_) = fault {
         return Ok(String::new(alloc));
@@ -113,7 +113,7 @@ fn pointer(alloc: Global, fault: &Fault) -> Result<String, AllocError> {
     format!(in alloc; "  sdfw explain {number} says what to do\n")
 }
 
-/// Returns what stands in the files that were read, if it explains the fault, or else no text.
+/// Returns the diagnostic for `fault` from the files that were read, or no text if they do not explain it.
 fn known(
     alloc: Global,
     fault: &Fault,
@@ -136,8 +136,8 @@ fn known(
     }
 }
 
-/// Returns the lines behind a fault's line: what stands in the files that were read, or else the command that explains
-/// the fault.
+/// Returns the lines behind a fault's line: the diagnostic from the files that were read, otherwise the command that
+/// explains the fault.
 pub fn why(
     alloc: Global,
     fault: &Fault,
@@ -151,7 +151,7 @@ pub fn why(
     Ok(told)
 }
 
-/// What is told of a fault: its line, with what more is known where these are the options, or JSON in its place.
+/// The form of a fault's report: its line, its line with a diagnostic for these options, or JSON.
 #[derive(Clone, Copy, PartialEq, Eq)]
 enum Telling {
     Line,
@@ -159,7 +159,7 @@ enum Telling {
     Json,
 }
 
-/// The options of a task, by which its faults are told.
+/// Returns the options of `task`, which the diagnostics of its faults use.
 fn options_of(task: &Task<'_>) -> Options {
     match task {
         Task::Schedule { options, .. }
@@ -170,7 +170,7 @@ fn options_of(task: &Task<'_>) -> Options {
     }
 }
 
-/// How the faults of a task are told.
+/// Returns the form in which the faults of `task` are reported. Diagnostics need `is_said`.
 fn telling_of(task: &Task<'_>, is_said: bool) -> Telling {
     match task {
         Task::Check { json: true }
@@ -181,7 +181,7 @@ fn telling_of(task: &Task<'_>, is_said: bool) -> Telling {
     }
 }
 
-/// What a fault can be told by: what was read, and how it is to be told.
+/// The background of a fault: what was read, and the form of the report.
 #[derive(Drop)]
 pub struct Background {
     pub sources: Sources,
@@ -189,7 +189,7 @@ pub struct Background {
 }
 
 impl Background {
-    /// Before anything is read or asked for.
+    /// Returns the background before anything is read or asked for.
     pub fn new(alloc: Global) -> Background {
         Background {
             sources: Sources::new(alloc),
@@ -197,7 +197,7 @@ impl Background {
         }
     }
 
-    /// A fault is told as is asked for. `terminal` is whether standard error is a terminal.
+    /// Sets the form of the report that `words` ask for. `terminal` says whether standard error is a terminal.
     pub fn asked(&mut self, words: &Words<'_>, terminal: bool) {
         match words {
             Words::Design { task, why, .. } => {
@@ -213,19 +213,19 @@ impl Background {
         }
     }
 
-    /// A mistake in the words of `line` is told in JSON if they ask for that.
+    /// Sets the form of the report to JSON if `line`, which has a mistake, asks for JSON.
     pub fn misread(&mut self, line: &[&str]) {
         if line.iter().any(|word| *word == "--json") {
             self.telling = Telling::Json;
         }
     }
 
-    /// Whether a fault is told in JSON.
+    /// Checks whether a fault is reported in JSON.
     pub fn is_json(&self) -> bool {
         self.telling == Telling::Json
     }
 
-    /// Tells what more is known of a fault, where that is asked for, unless memory is refused for it.
+    /// Writes the diagnostic of `fault` to `err` if diagnostics are asked for, unless memory is refused for it.
     pub fn tell<E: Write>(&self, alloc: Global, err: &mut E, fault: &Fault) {
         let Telling::Why(options) = self.telling else {
             return;

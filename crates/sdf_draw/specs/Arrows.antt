@@ -17,11 +17,11 @@ use Rattle.sdf_draw.specs.Layouts.{place, route, left_of, right_of, lane_above, 
 use Rattle.sdf_draw.specs.Edges.{edge}
 use Rattle.sdf_draw.specs.Texts.{number_text, pair_text, rate_text}
 
--- how high a port stands at a box: the ports of a side have its middle in theirs
+-- the y of a port at a box: the ports of a side are centred on it
 abbrev pub port_height : Place → ℕ → ℕ → ℕ
 port_height p ports port = p.y + (p.height - PORT * ports) / 2 + PORT * port + PORT / 2
 
--- a link begins at the right side of a box, and ends at the left one of a box
+-- a link begins at the right side of a box, and ends at the left side of a box
 abbrev pub start_at : DesignValue → List Place → ℕ × ℕ → Spot
 start_at d ps e = record {
   x = right_of (place ps e.0);
@@ -47,23 +47,23 @@ curve_text start end =
     ++ number_text (codes " ") (end.x - (TAIL + 40)) ++ number_text (codes " ") end.y
     ++ number_text (codes " ") (end.x - TAIL) ++ number_text (codes " ") end.y
 
--- corners to a lane at this height, and from it
+-- corners to a lane at this y, and from it
 unfoldable pub turns_text : Spot → Spot → ℕ → ℕ → List ℕ
 turns_text start end lane shift =
     number_text (codes " H") (start.x + STUB + shift) ++ number_text (codes " V") lane
     ++ number_text (codes " H") (end.x - (TAIL + shift)) ++ number_text (codes " V") end.y
 
--- lines that go up or down stand beside one another
+-- vertical lines of links with successive numbers lie beside one another
 abbrev pub shift_of : ℕ → ℕ
 shift_of c = c % SHIFTS * SHIFT
 
--- the way between the straight parts of an arrow
+-- the part of an arrow between its straight parts
 abbrev pub way_text : List Place → Route → ℕ → Spot → Spot → List ℕ
 way_text ps Across shift start end = curve_text start end
 way_text ps (Above lane) shift start end = turns_text start end (lane_above lane) shift
 way_text ps (Below lane) shift start end = turns_text start end (lane_below ps lane) shift
 
--- the straight part that a line begins with, in a colour
+-- the straight part at the beginning of a line, in a colour
 unfoldable pub stub_text : ℕ → Spot → List ℕ
 stub_text colour start =
     number_text (codes "<path class='way s") colour ++ number_text (codes "' d='M") start.x
@@ -74,27 +74,27 @@ line_text ps r c colour start end =
     stub_text colour start ++ way_text ps r (shift_of c) start end
     ++ number_text (codes " H") (end.x - 2) ++ codes "'/>"
 
--- what a text begins with, and where it stands
+-- the beginning of a text, and its position
 abbrev pub at_text : List ℕ → ℕ → ℕ → List ℕ
 at_text word x y = pair_text word x (codes "' y='") y
 
--- what firings put on a link
+-- the samples that firings put on a link
 unfoldable pub put_text : List ℕ → Spot → List ℕ
 put_text put start =
     at_text (codes "<text x='") (start.x + 5) (start.y - 4) ++ codes "'>" ++ rate_text put ++ codes "</text>"
 
--- what they take from it
+-- the samples that firings take from a link
 unfoldable pub take_text : List ℕ → Spot → List ℕ
 take_text take end =
     at_text (codes "<text class='end' x='") (end.x - 9) (end.y - 4) ++ codes "'>" ++ rate_text take ++ codes "</text>"
 
--- what it holds at most
+-- the most samples that a link holds
 unfoldable pub capacity_text : ℕ → Spot → List ℕ
 capacity_text capacity end =
     at_text (codes "<text class='end soft' x='") (end.x - 9) (end.y + 11) ++ number_text (codes "'>") capacity
     ++ codes "</text>"
 
--- the samples that it begins with: none, or a dot and their number
+-- the samples that a link begins with: none, or a dot and their number
 unfoldable pub dot_text : ℕ → Spot → List ℕ
 dot_text initial end =
     pair_text DOT.now (end.x - (TAIL - 4)) (codes "' cy='") end.y
@@ -104,7 +104,7 @@ dot_text initial end =
 abbrev pub initial_text : ℕ → Spot → List ℕ
 initial_text initial end = if initial == 0 then [] else dot_text initial end
 
--- the numbers at both ends
+-- the numbers at both ends of an arrow
 unfoldable pub ends_text : Edge → Spot → Spot → List ℕ
 ends_text e start end = put_text e.put start ++ initial_text e.initial end ++ take_text e.take end
 

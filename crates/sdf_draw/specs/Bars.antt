@@ -9,20 +9,20 @@ use Rattle.sdf_file.specs.Designs.{DesignValue}
 use Rattle.sdf_draw.specs.declared.bars.Bar.{Bar}
 use Rattle.sdf_draw.specs.declared.chart.TheConstants.{CHART}
 
--- the bar of a firing: from its start so long as it costs
+-- the bar of a firing: from its start, for as long as its cost
 abbrev pub bar_of : (ℕ → ℕ) → (Firing → ℕ) → Firing → Bar
 bar_of cost start f = record { actor = f.actor; start = start f; end = start f + cost f.actor }
 
--- bar b goes on with bar a: it is of the same actor, and begins where that ends
+-- bar b goes on with bar a: it is of the same actor, and begins when bar a ends
 abbrev pub goes_on : Bar → Bar → Bool
 goes_on a b = (a.actor == b.actor) && (a.end == b.start)
 
--- two bars, as one where bars are joined and the second goes on with the first
+-- two bars, as one if bars are joined and the second goes on with the first
 abbrev pub two_bars : Bool → Bar → Bar → List Bar
 two_bars joined a b =
     if joined && goes_on a b then record { actor = a.actor; start = a.start; end = b.end } ∷ [] else a ∷ b ∷ []
 
--- a bar more, of which one is made with the last where bars are joined and it goes on with that
+-- bars with one more, which lengthens the last one if bars are joined and it goes on with that
 abbrev pub with_bar : Bool → List Bar → Bar → List Bar
 with_bar joined [] b = b ∷ []
 with_bar joined (a ∷ []) b = two_bars joined a b
@@ -43,11 +43,11 @@ pub record IsDrawable (costs : List ℕ) (starts : List (List ℕ)) (f : Firing)
   pub known : f.actor < length costs
   pub small : start_in starts f + slice_index costs f.actor < 2 ^ 64
 
--- what bars are made of: rows with so many columns, and firings that can be drawn
+-- a table that can be drawn: its rows have m columns, and its firings can be drawn
 pub record AreDrawable (d : DesignValue) (m : ℕ) (t : Tabled) (starts : List (List ℕ)) : Type 0 where
   pub wide : (i : ℕ) → i < length t.rows → length (row t.rows i) ≡ m
   pub each : (f : Firing) → IsInTable t.rows f → IsDrawable d.costs starts f
 
--- how far from the left a time stands, where the makespan is as wide as the chart
+-- the distance of a time from the left, when the makespan is as wide as the chart
 abbrev pub scaled : ℕ → ℕ → ℕ
 scaled time makespan = time * CHART / makespan

@@ -21,7 +21,7 @@ point_text p = number_text (codes " ") p.0 ++ number_text (codes ",") p.1
 abbrev pub points_text : List (ℕ × ℕ) → List ℕ
 points_text ps = flat_map point_text ps
 
--- the corners of each shape, going round
+-- the corners of each shape, clockwise
 abbrev pub source_corners : Place → List (ℕ × ℕ)
 source_corners p =
     (left_of p, p.y) ∷ (right_of p - POINT, p.y) ∷ (right_of p, middle_of p) ∷ (right_of p - POINT, bottom_of p)
@@ -57,12 +57,12 @@ outline_text a shape p =
     number_text (codes "<polygon class='box s") (a % COLOURS) ++ codes "' points='" ++ corners_text shape p
     ++ codes "'/>"
 
--- where a line of a box stands: in its middle, and so far down
+-- the beginning of a text, and its position: in the middle of a box, at y
 abbrev pub line_text : List ℕ → Place → ℕ → List ℕ
 line_text word p y =
     word ++ number_text (codes " x='") (left_of p + WIDTH / 2) ++ number_text (codes "' y='") y
 
--- more letters than fit are pressed together
+-- a name of more bytes than fit is compressed
 abbrev pub pressed_text : ℕ → List ℕ
 pressed_text letters =
     if nat_lt LETTERS letters then number_text (codes "' lengthAdjust='spacingAndGlyphs' textLength='") (WIDTH - 36)
@@ -80,11 +80,11 @@ firings_text firings p =
     line_text (codes "<text class='mid soft'") p (middle_of p + 13) ++ number_text (codes "'>q ") firings
     ++ codes "</text>\n"
 
--- the box of actor a, which fires so often in a period
+-- the box of actor a, which fires this often in a period
 unfoldable pub box_text : DesignValue → ℕ → Place → ℕ → List ℕ
 box_text d a p firings =
     outline_text a (shape_of (node d.net a)) p ++ label_text d a p ++ firings_text firings p
 
--- a box for each actor, in order, in a period q
+-- a box for each actor, in order, for repetition vector q
 abbrev pub boxes_text : DesignValue → List ℕ → List Place → List ℕ
 boxes_text d q ps = lines_to (λ a. box_text d a (place ps a) (slice_index q a)) (length d.net.nodes)

@@ -12,13 +12,13 @@ use Rattle.sdf_draw.specs.declared.texts.TheConstants.{COLOURS}
 use Rattle.sdf_draw.specs.Bars.{bar_of, bars_to, scaled}
 use Rattle.sdf_draw.specs.Texts.{number_text, pair_text, name_text}
 
--- a bar in a colour, from a time on and so long, so far down, up to what is told of it
+-- a bar in a colour up to its title: its start and its width as times, and its y
 unfoldable pub rect_text : ℕ → ℕ → ℕ → ℕ → List ℕ
 rect_text colour start width y =
     number_text (codes "<rect class='f") colour ++ number_text (codes "' x='") start
     ++ number_text (codes "' width='") width ++ number_text (codes "' y='") y ++ codes "' height='22'><title>"
 
--- the name of its actor and its times
+-- the name of a bar's actor, and the bar's times
 unfoldable pub title_text : DesignValue → ℕ → ℕ → ℕ → List ℕ
 title_text d a start end =
     name_text d a ++ pair_text (codes " ") start (codes " to ") end ++ codes "</title></rect>\n"
@@ -28,7 +28,7 @@ abbrev pub bar_text : DesignValue → ℕ → Bar → List ℕ
 bar_text d k b =
     rect_text (b.actor % COLOURS) b.start (b.end - b.start) (ROW * k + 4) ++ title_text d b.actor b.start b.end
 
--- the bars of worker k: of its firings in row order, which are joined where the table has many firings
+-- the bars of worker k: of its firings in row order, joined if the table has many firings
 abbrev pub bars_of : DesignValue → Tabled → List (List ℕ) → ℕ → List Bar
 bars_of d t starts k =
     bars_to (nat_lt MOST_BARS (length t.order)) (bar_of (slice_index d.costs) (start_in starts)) t.rows k
@@ -37,7 +37,7 @@ bars_of d t starts k =
 unfoldable pub lane_text : DesignValue → Tabled → List (List ℕ) → ℕ → List ℕ
 lane_text d t starts k = flat_map (bar_text d k) (bars_of d t starts k)
 
--- where the bars begin: so many units of time are as wide as the chart
+-- the beginning of the bars' frame: the makespan, in units of time, is as wide as the chart
 unfoldable pub frame_text : ℕ → ℕ → List ℕ
 frame_text makespan end =
     number_text (codes "<svg preserveAspectRatio='none' width='") CHART ++ number_text (codes "' height='") end
@@ -47,7 +47,7 @@ frame_text makespan end =
 abbrev pub rows_text : DesignValue → Tabled → List (List ℕ) → ℕ → List ℕ
 rows_text d t starts m = lines_to (lane_text d t starts) m
 
--- in units of time
+-- the bars of m workers in their frame, in units of time
 abbrev pub lanes_text : DesignValue → Tabled → Figured → ℕ → List ℕ
 lanes_text d t f m =
     frame_text f.makespan (ROW * m) ++ rows_text d t f.starts m ++ codes "</svg>\n"
@@ -62,12 +62,12 @@ worker_text k =
 abbrev pub workers_text : ℕ → List ℕ
 workers_text m = lines_to worker_text m
 
--- a line down to the end, so far from the left
+-- a vertical line at x `place`, down to y `end`
 unfoldable pub mark_text : ℕ → ℕ → List ℕ
 mark_text place end =
     number_text (codes "<path class='bound' d='M") place ++ number_text (codes " -8 V") end ++ codes "'/>"
 
--- the number of the bound above it
+-- the bound above its line
 unfoldable pub label_text : ℕ → ℕ → List ℕ
 label_text place bound =
     number_text (codes "<text class='end' x='") place ++ number_text (codes "' y='-12'>bound ") bound
@@ -89,13 +89,13 @@ makespan_text makespan y =
     number_text (codes "<text class='end' x='") CHART ++ number_text (codes "' y='") y
     ++ number_text (codes "'>makespan ") makespan ++ codes "</text>\n"
 
--- the times at the ends
+-- the times at both ends
 abbrev pub axis_text : ℕ → ℕ → List ℕ
 axis_text makespan end =
     rules_text end ++ number_text (codes "<text y='") (end + 16) ++ codes "'>0</text>"
     ++ makespan_text makespan (end + 16)
 
--- a table in m columns with its figures, against time
+-- the chart of a table in m columns, with its figures, against time
 abbrev pub chart_text : DesignValue → Tabled → Figured → ℕ → List ℕ
 chart_text d t f m =
     workers_text m ++ lanes_text d t f m ++ axis_text f.makespan (ROW * m) ++ bound_text f (ROW * m)

@@ -1,4 +1,4 @@
--- What is drawn of a design by options.
+-- The drawing of a design by options.
 use Rattle.std.specs.Prelude.{◌≡◌, ℕ, List, length}
 use Rattle.sdf_sched.specs.Period.{Schedule}
 use Rattle.sdf_prec.specs.Tables.{Tabled}
@@ -12,8 +12,8 @@ use Rattle.sdf_draw.specs.declared.page.Drawing.{Drawing}
 use Rattle.sdf_draw.specs.Layouts.{IsLayout}
 use Rattle.sdf_draw.specs.Bars.{AreDrawable}
 
--- the period and the table of a schedule, the table's figures, a box for each actor, a route for each link, and how
--- many lanes there are above the boxes and below them
+-- the period and the table of a schedule, and the table's figures; a box for each actor, a route for each link, and the
+-- numbers of lanes above the boxes and below them
 pub record Drawn : Type 0 where
   pub period : Schedule
   pub table : Tabled

@@ -28,7 +28,7 @@ unfoldable pub node_line : DesignValue → ℕ → List ℕ
 node_line d a =
     codes "  " ++ quoted_name d a ++ codes " [shape=" ++ shape_word (shape_of (node d.net a)) ++ codes "];\n"
 
--- the samples that a link begins with, where there are some
+-- the samples that a link begins with, if there are any
 abbrev pub initial_label : ℕ → List ℕ
 initial_label initial = if initial == 0 then [] else number_text (codes "\" label=\"") initial
 
@@ -36,7 +36,7 @@ initial_label initial = if initial == 0 then [] else number_text (codes "\" labe
 unfoldable pub label_text : List ℕ → List ℕ → List ℕ
 label_text word rates = word ++ rate_text rates
 
--- what firings put on a link and take from it, and those samples
+-- what firings put on a link and take from it, and the samples that it begins with
 unfoldable pub labels_text : Edge → List ℕ
 labels_text e =
     label_text (codes " [taillabel=\"") e.put ++ label_text (codes "\" headlabel=\"") e.take

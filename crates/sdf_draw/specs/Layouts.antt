@@ -1,4 +1,4 @@
--- Where the boxes of actors stand, and which way the arrows of links go.
+-- The places of the actors' boxes, and the routes of the links' arrows.
 use Rattle.std.specs.Prelude.{◌≡◌, ℕ, ◌+◌, ◌*◌, ◌/◌, ◌<◌, ◌≤◌, ◌⊎◌, ◌==◌, if◌then◌else◌, List, [], ◌∷◌, length, take}
 use Rattle.std.specs.Prelude.{slice_index}
 use Rattle.std.specs.Prelude.{slice_index_or, max}
@@ -20,54 +20,54 @@ no_place = record { depth = 0; y = 0; height = 0 }
 abbrev pub place : List Place → ℕ → Place
 place ps a = slice_index_or ps a no_place
 
--- where a box begins from the left
+-- the x of a box's left side
 abbrev pub left_of : Place → ℕ
 left_of p = PITCH * p.depth
 
--- and where it ends
+-- the x of a box's right side
 abbrev pub right_of : Place → ℕ
 right_of p = left_of p + WIDTH
 
--- where it ends from above, and half way down
+-- the y of a box's bottom, and half way down
 abbrev pub bottom_of : Place → ℕ
 bottom_of p = p.y + p.height
 
 abbrev pub middle_of : Place → ℕ
 middle_of p = p.y + p.height / 2
 
--- the greatest of what f gives for some boxes, or 0 where there is none
+-- the greatest value of f on some boxes, or 0 if there are none
 abbrev pub greatest_by : (Place → ℕ) → List Place → ℕ
 greatest_by f [] = 0
 greatest_by f (p ∷ ps) = max (f p) (greatest_by f ps)
 
--- where the lowest box ends, and the one farthest to the right
+-- the bottom of the lowest box, and the right side of the rightmost one
 abbrev pub lowest : List Place → ℕ
 lowest ps = greatest_by bottom_of ps
 
 abbrev pub rightmost : List Place → ℕ
 rightmost ps = greatest_by right_of ps
 
--- how far down a lane above the boxes is, and one below them
+-- the y of a lane above the boxes, and of a lane below them
 abbrev pub lane_above : ℕ → ℕ
 lane_above lane = HEAD + LANE * lane
 
 abbrev pub lane_below : List Place → ℕ → ℕ
 lane_below ps lane = lowest ps + GAP + LANE * lane
 
--- the room that a box takes in its column where that is the one of this depth
+-- the height that a box takes in the column of this depth: 0 if it is in another column
 abbrev pub room_in : ℕ → Place → ℕ
 room_in depth p = if p.depth == depth then p.height + GAP else 0
 
--- and of all boxes together
+-- the height that all boxes of this depth take
 abbrev pub stacked : List Place → ℕ → ℕ
 stacked ps depth = sum_by (room_in depth) ps
 
--- as high as its ports are at the side with more of them
+-- the height of an actor's box, given by the side with more ports
 abbrev pub height_of : DesignValue → ℕ → ℕ
 height_of d a =
     PORT * max (max (inputs_of kit_steps (node d.net a)) (outputs_of kit_steps (node d.net a))) 1 + MARGIN
 
--- the box of actor a: in the column of its depth, below those of earlier actors there
+-- the box of actor a: in the column of its depth, below the boxes of earlier actors there
 pub record IsPlaced (d : DesignValue) (depths : List ℕ) (top : ℕ) (ps : List Place) (a : ℕ) : Type 0 where
   pub depth : (place ps a).depth ≡ slice_index depths a
   pub y : (place ps a).y ≡ top + stacked (take a ps) (slice_index depths a)
@@ -78,7 +78,7 @@ pub record ArePlaces (d : DesignValue) (depths : List ℕ) (top : ℕ) (ps : Lis
   pub all : length ps ≡ length d.net.nodes
   pub each : (a : ℕ) → a < length ps → IsPlaced d depths top ps a
 
--- the one box is above the other or at its left, with space between
+-- box p is above box q or to its left, with space between them
 abbrev pub IsClear : Place → Place → Type 0
 IsClear p q = (right_of p < left_of q) ⊎ (bottom_of p < q.y)
 
@@ -86,14 +86,14 @@ IsClear p q = (right_of p < left_of q) ⊎ (bottom_of p < q.y)
 abbrev pub AreApart : List Place → Type 0
 AreApart ps = (a b : ℕ) → a < b → b < length ps → IsClear (place ps a) (place ps b) ⊎ IsClear (place ps b) (place ps a)
 
--- the way of an arrow between two depths: one that leads back goes below the boxes, one to the next depth across the
--- gap, and one that goes farther above the boxes
+-- the route of an arrow between two depths: below the boxes if it leads back, across the gap if it leads to the next
+-- depth, above the boxes if it leads farther
 abbrev pub IsRoute : ℕ → ℕ → Route → Type 0
 IsRoute from to Across = to ≡ from + 1
 IsRoute from to (Above lane) = from + 1 < to
 IsRoute from to (Below lane) = to ≤ from
 
--- there are so many lanes
+-- the route's lane is one of this many lanes above or below the boxes
 abbrev pub IsWithin : ℕ → ℕ → Route → Type 0
 IsWithin above below Across = Unit {0}
 IsWithin above below (Above lane) = lane < above
@@ -102,14 +102,14 @@ IsWithin above below (Below lane) = lane < below
 abbrev pub route : List Route → ℕ → Route
 route rs c = slice_index_or rs c Across
 
--- an arrow for each link, in order, each in one of the lanes of its side
+-- a route for each link, in order, each in one of the lanes of its side
 pub record AreRoutes (d : DesignValue) (depths : List ℕ) (above below : ℕ) (rs : List Route) : Type 0 where
   pub all : length rs ≡ length d.net.wires
   pub each : (c : ℕ) → c < length rs → IsRoute (slice_index depths (wire d.net c).from.0)
       (slice_index depths (wire d.net c).to.0) (route rs c)
   pub within : (c : ℕ) → c < length rs → IsWithin above below (route rs c)
 
--- the layout of a design whose period has this order of firings: the highest boxes stand below the lanes above them
+-- the layout of a design whose period has this order of firings: the highest boxes are below the lanes above the boxes
 pub record IsLayout (d : DesignValue) (order : List ℕ) (ps : List Place) (above below : ℕ) (rs : List Route) : Type 0
   where
     pub depths : List ℕ

@@ -12,7 +12,7 @@ use Rattle.sdf_draw.specs.Arrows.{arrows_text}
 use Rattle.sdf_draw.specs.Boxes.{boxes_text}
 use Rattle.sdf_draw.specs.Charts.{chart_text}
 
--- where it begins: it is so wide and so high, and which part is seen
+-- the beginning of a picture, with its width and height; then the part that is shown
 unfoldable pub size_text : ℕ → ℕ → List ℕ
 size_text width height = HEAD_TEXT.now ++ number_text (codes " width='") width
     ++ number_text (codes "' height='") height
@@ -22,7 +22,7 @@ view_text width height =
     number_text (codes "' viewBox='") LEFT ++ number_text (codes " 0 ") width ++ number_text (codes " ") height
     ++ codes "'>\n"
 
--- the colours, and the page that all stands on
+-- the styles, and the page behind everything
 unfoldable pub page_text : ℕ → ℕ → List ℕ
 page_text width height =
     STYLE.now ++ number_text (codes "<rect class='page' x='") LEFT ++ number_text (codes "' width='") width
@@ -32,7 +32,7 @@ unfoldable pub legend_text : List ℕ
 legend_text = number_text (codes "<text class='soft' y='24' x='") (LEFT + 20) ++ codes "'>" ++ LEGEND.now
     ++ codes "</text>\n"
 
--- what stands before the arrows
+-- the text before the arrows
 abbrev pub head_text : ℕ → ℕ → List ℕ
 head_text width height =
     size_text width height ++ view_text width height ++ page_text width height ++ legend_text
@@ -40,19 +40,20 @@ head_text width height =
 unfoldable pub origin_text : ℕ → List ℕ
 origin_text top = number_text (codes "<g transform='translate(") ZERO ++ number_text (codes ",") top ++ codes ")'>\n"
 
--- how far down the times begin: below the lanes below the boxes
+-- the y at which the times begin: below the lanes under the boxes
 abbrev pub chart_top : List Place → ℕ → ℕ
 chart_top ps below = lane_below ps below + 80
 
--- as wide as the boxes and the times, and as high as these with a lane for each of m workers
+-- wide enough for the boxes and for the times; high enough for the boxes with the times below them, which have a lane
+-- for each of m workers
 abbrev pub width_of : List Place → ℕ
 width_of ps = max (rightmost ps) (ZERO + CHART) + 100 - LEFT
 
 abbrev pub height_of : List Place → ℕ → ℕ → ℕ
 height_of ps below m = chart_top ps below + ROW * m + 40
 
--- the text of what is drawn for m workers, part after part: an arrow for each link, a box for each actor, and the bars
--- of each worker
+-- the text of a drawing for m workers, part after part: an arrow for each link, a box for each actor, and the bars of
+-- each worker
 abbrev pub picture_text : DesignValue → ℕ → Drawn → List ℕ
 picture_text d m w =
     head_text (width_of w.places) (height_of w.places w.below m)
@@ -61,7 +62,7 @@ picture_text d m w =
     ++ origin_text (chart_top w.places w.below)
     ++ chart_text d w.table w.figures m ++ codes "</g>\n</svg>\n"
 
--- the text is that of a drawing of the design by the options
+-- the text of a drawing of the design by the options
 pub record IsPicture (d : DesignValue) (o : Options) (text : List ℕ) : Type 0 where
   pub what : Drawn
   pub drawing : IsDrawing d o what

@@ -1,4 +1,4 @@
--- What is drawn for an actor.
+-- The shape that an actor is drawn as.
 use Rattle.sdf_actor.specs.declared.node.Node.{Node}
 use Rattle.sdf_actor.specs.declared.node.Node.TheVariants as nodes
 use Rattle.sdf_kit.specs.declared.kit.Kit.{Kit}

@@ -16,7 +16,7 @@ number_text word n = word ++ decimal n
 unfoldable pub pair_text : List ℕ → ℕ → List ℕ → ℕ → List ℕ
 pair_text one x other y = number_text one x ++ number_text other y
 
--- a character as it stands in a document of marks, & < > " and ' by their names, or between quotes, " and \ behind a \
+-- a character escaped for markup (& < > " and ' by their names) or for a text between quotes (" and \ behind a \)
 abbrev pub escaped_char : Within → ℕ → List ℕ
 escaped_char Marks c =
     if c == 38 then codes "&amp;" else (if c == 60 then codes "&lt;" else (if c == 62 then codes "&gt;"
@@ -29,7 +29,7 @@ escaped within text = flat_map (escaped_char within) (chars text)
 unfoldable pub name_text : DesignValue → ℕ → List ℕ
 name_text d a = escaped Marks (slice_index_or d.names a [])
 
--- what firings move whose rates are these: the one rate, or what a cycle of so many moves
+-- the samples that firings with these rates move: the only rate, or the sum of a cycle and its number of firings
 unfoldable pub rate_text : List ℕ → List ℕ
 rate_text rates =
     number_text [] (sum rates) ++ (if length rates == 1 then [] else number_text (codes "/") (length rates))

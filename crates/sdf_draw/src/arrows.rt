@@ -18,16 +18,16 @@ use sdf_graph::Channel;
 use sdf_prec::Table;
 use std::alloc::AllocError;
 
-/// The straight part of an arrow at its beginning, under the rate there.
+/// The length of the straight part at the beginning of an arrow, under the rate there.
 const STUB: u64 = 40;
 
-/// And at its end, beside the rate, the samples and the capacity.
+/// The length of the straight part at the end of an arrow, beside the rate, the samples and the capacity.
 const TAIL: u64 = 72;
 
-/// What a dot begins with.
+/// The beginning of a dot's text.
 const DOT: &str = "<circle class='dot' r='4' cx='";
 
-/// Lines that go up or down stand at so many places in a gap, this far from one another.
+/// The number of places for vertical lines in a gap. They are `SHIFT` apart.
 const SHIFTS: usize = 11;
 
 const SHIFT: u64 = 4;
@@ -39,7 +39,7 @@ pub(crate) struct Spot {
     pub(crate) y: u64,
 }
 
-/// How high a port stands at a box.
+/// Returns the y of `port` at the box in `place`. The `ports` of a side are centred on it.
 fn port_height(place: Place, ports: usize, port: usize) -> u64
     requires { (ports ≤ MOST_PORTS) × (port < MOST_PORTS) }
     ensures is { result ≡ port_height place ports port }
@@ -49,7 +49,7 @@ fn port_height(place: Place, ports: usize, port: usize) -> u64
     place.top() + rest / 2 + PORT * port as u64 + PORT / 2
 }
 
-/// The end of a link that it comes from: an actor and a port.
+/// Returns the actor and the port that `link` comes from.
 fn from_of(design: &Design, link: usize) -> (usize, usize)
     requires { link < length design.now.net.wires }
     ensures is { result ≡ (wire design.now.net link).from }
@@ -63,7 +63,7 @@ fn from_of(design: &Design, link: usize) -> (usize, usize)
     (actor, port)
 }
 
-/// The end of a link that it goes to.
+/// Returns the actor and the port that `link` goes to.
 fn to_of(design: &Design, link: usize) -> (usize, usize)
     requires { link < length design.now.net.wires }
     ensures is { result ≡ (wire design.now.net link).to }
@@ -77,7 +77,7 @@ fn to_of(design: &Design, link: usize) -> (usize, usize)
     (actor, port)
 }
 
-/// Where a link begins.
+/// Returns the point at which the arrow of `link` begins.
 fn start_of(design: &Design, layout: &Layout, link: usize) -> Spot
     requires link { link < length design.now.net.wires }
     requires boxes { length layout.now.places.items ≡ length design.now.net.nodes }
@@ -92,7 +92,7 @@ fn start_of(design: &Design, layout: &Layout, link: usize) -> Spot
     }
 }
 
-/// Where it ends.
+/// Returns the point at which the arrow of `link` ends.
 fn end_of(design: &Design, layout: &Layout, link: usize) -> Spot
     requires link { link < length design.now.net.wires }
     requires boxes { length layout.now.places.items ≡ length design.now.net.nodes }
@@ -121,7 +121,7 @@ fn push_curve(text: &mut String, start: Spot, end: Spot) -> Result<(), AllocErro
     push_number(text, " ", end.y)
 }
 
-/// Adds the corners of an arrow in a lane at this height.
+/// Adds the corners of an arrow that uses the lane at y `lane`. Its vertical lines are moved by `shift`.
 #[tactic(auto, unfolding(crate::specs::Arrows::turns_text))]
 fn push_turns(
     text: &mut String,
@@ -140,7 +140,7 @@ fn push_turns(
     push_number(text, " V", end.y)
 }
 
-/// Adds the way between the straight parts of an arrow.
+/// Adds the part of an arrow between its straight parts.
 fn push_way(
     text: &mut String,
     layout: &Layout,
@@ -161,7 +161,7 @@ fn push_way(
     }
 }
 
-/// Adds the straight part that a line begins with, in a colour.
+/// Adds the straight part at the beginning of a line, in `colour`.
 #[tactic(auto, unfolding(crate::specs::Arrows::stub_text))]
 fn push_stub(text: &mut String, colour: usize, start: Spot) -> Result<(), AllocError>
     requires { IsNear start }
@@ -173,7 +173,7 @@ fn push_stub(text: &mut String, colour: usize, start: Spot) -> Result<(), AllocE
     push_number(text, " H", start.x + STUB)
 }
 
-/// Adds the line of an arrow, in the colour of the actor that it comes from.
+/// Adds the line of an arrow, in the `colour` of the actor that it comes from.
 #[tactic(auto, unfolding(crate::specs::Arrows::line_text))]
 fn push_line(
     text: &mut String,
@@ -194,14 +194,14 @@ fn push_line(
     text.push_str("'/>")
 }
 
-/// Adds what a text begins with, and where it stands.
+/// Adds `word`, which begins a text, and the text's position.
 fn push_at(text: &mut String, word: &str, x: u64, y: u64) -> Result<(), AllocError>
     ensures { OnOk result (string_bytes text.new ≡ string_bytes text.old ++ at_text word.now x y) }
 {
     push_pair(text, word, x, "' y='", y)
 }
 
-/// Adds what firings put at the beginning of an arrow.
+/// Adds the samples that firings put on a link, at the beginning of its arrow.
 #[tactic(auto, unfolding(crate::specs::Arrows::put_text))]
 fn push_put(text: &mut String, channel: &Channel, start: Spot) -> Result<(), AllocError>
     requires start { IsNear start }
@@ -214,7 +214,7 @@ fn push_put(text: &mut String, channel: &Channel, start: Spot) -> Result<(), All
     text.push_str("</text>")
 }
 
-/// Adds what firings take at its end.
+/// Adds the samples that firings take from a link, at the end of its arrow.
 #[tactic(auto, unfolding(crate::specs::Arrows::take_text))]
 fn push_take(text: &mut String, channel: &Channel, end: Spot) -> Result<(), AllocError>
     requires { length channel.now.take ≤ MOST_CYCLE }
@@ -227,7 +227,7 @@ fn push_take(text: &mut String, channel: &Channel, end: Spot) -> Result<(), Allo
     text.push_str("</text>")
 }
 
-/// Adds what the link holds at most, below its end.
+/// Adds the capacity of a link, below the end of its arrow.
 #[tactic(auto, unfolding(crate::specs::Arrows::capacity_text))]
 fn push_capacity(text: &mut String, capacity: u64, end: Spot) -> Result<(), AllocError>
     requires { IsNear end }
@@ -239,7 +239,7 @@ fn push_capacity(text: &mut String, capacity: u64, end: Spot) -> Result<(), Allo
     text.push_str("</text>")
 }
 
-/// Adds a dot before the end of an arrow, and the number of the samples that the link begins with.
+/// Adds a dot before the end of an arrow, and the number of samples that the link begins with.
 #[tactic(auto, unfolding(crate::specs::Arrows::dot_text))]
 fn push_dot(text: &mut String, initial: usize, end: Spot) -> Result<(), AllocError>
     ensures { OnOk result (string_bytes text.new ≡ string_bytes text.old ++ dot_text initial end) }
@@ -252,7 +252,7 @@ fn push_dot(text: &mut String, initial: usize, end: Spot) -> Result<(), AllocErr
     text.push_str("</text>")
 }
 
-/// Adds the samples that a link begins with, where there are some.
+/// Adds the samples that a link begins with, if there are any.
 fn push_initial(text: &mut String, initial: usize, end: Spot) -> Result<(), AllocError>
     ensures { OnOk result (string_bytes text.new ≡ string_bytes text.old ++ initial_text initial end) }
 {
@@ -275,7 +275,7 @@ fn push_ends(text: &mut String, channel: &Channel, start: Spot, end: Spot) -> Re
     push_take(text, channel, end)
 }
 
-/// Adds the arrow of a link.
+/// Adds the arrow of `link`.
 fn push_arrow(
     text: &mut String,
     design: &Design,

@@ -20,7 +20,7 @@ pub(crate) struct Bar {
 }
 
 impl Bar {
-    /// Whether another bar is of the same actor and begins where it ends.
+    /// Checks whether `other` is of the same actor and begins when this bar ends.
     fn goes_on(self, other: Bar) -> bool
         ensures { result ≡ goes_on self other }
     {
@@ -28,7 +28,7 @@ impl Bar {
     }
 }
 
-/// The bar of a firing.
+/// Returns the bar of `firing`.
 fn bar_of(figures: &Figures, costs: &[u32], firing: Firing) -> Bar
     requires { IsDrawable costs.now figures.now.starts firing }
     ensures { result ≡ bar_of (slice_index costs.now) (start_in figures.now.starts) firing }
@@ -41,7 +41,7 @@ fn bar_of(figures: &Figures, costs: &[u32], firing: Firing) -> Bar
     }
 }
 
-/// Adds two bars, as one where bars are joined and the second goes on with the first.
+/// Adds `last` and `bar`, as one bar if `joined` is set and `bar` goes on with `last`.
 fn add_two(bars: &mut Vec<Bar>, joined: bool, last: Bar, bar: Bar) -> Result<(), AllocError>
     ensures { IfOk result (λ _. bars.new.items ≡ bars.old.items ++ two_bars joined last bar) }
 {
@@ -59,7 +59,7 @@ fn add_two(bars: &mut Vec<Bar>, joined: bool, last: Bar, bar: Bar) -> Result<(),
     Ok(())
 }
 
-/// Adds a bar, or lengthens the last one where bars are joined and the new one goes on with it.
+/// Adds `bar`, or lengthens the last bar if `joined` is set and `bar` goes on with it.
 #[tactic(auto, using(crate::proofs::Joined::with_bar_last))]
 fn add_bar(bars: &mut Vec<Bar>, joined: bool, bar: Bar) -> Result<(), AllocError>
     ensures { IfOk result (λ _. bars.new.items ≡ with_bar joined bars.old.items bar) }
@@ -70,7 +70,7 @@ fn add_bar(bars: &mut Vec<Bar>, joined: bool, bar: Bar) -> Result<(), AllocError
     }
 }
 
-/// Adds the bar of the firing in a cell, where there is one.
+/// Adds the bar of the firing in `cell`, if there is one.
 fn add_cell(
     bars: &mut Vec<Bar>,
     joined: bool,
@@ -88,7 +88,7 @@ fn add_cell(
     }
 }
 
-/// The bars of a column.
+/// Returns the bars of `column`.
 pub(crate) fn bars_in(
     alloc: Global,
     table: &Table,

@@ -14,13 +14,13 @@ use sdf_file::Design;
 use sdf_sched::Period;
 use std::alloc::AllocError;
 
-/// How far a point of a shape stands out.
+/// The length of the point at the side of a source or a sink.
 const POINT: u64 = 14;
 
-/// How much of a corner is cut.
+/// The size of the cut at each corner of a filter.
 const CUT: u64 = 9;
 
-/// The letters of a name that stands in a box as it is; more are pressed together.
+/// The bytes of the longest name that is drawn at its natural width. A longer name is compressed.
 const LETTERS: usize = 16;
 
 fn push_point(text: &mut String, x: u64, y: u64) -> Result<(), AllocError>
@@ -50,7 +50,7 @@ fn push_sink(text: &mut String, place: Place) -> Result<(), AllocError>
     push_point(text, place.left(), place.middle())
 }
 
-/// The upper corners of a filter.
+/// Adds the upper corners of a filter.
 fn push_upper(text: &mut String, place: Place) -> Result<(), AllocError>
     ensures { OnOk result (string_bytes text.new ≡ string_bytes text.old ++ points_text (upper_corners place)) }
 {
@@ -60,7 +60,7 @@ fn push_upper(text: &mut String, place: Place) -> Result<(), AllocError>
     push_point(text, place.right(), place.top() + CUT)
 }
 
-/// The lower corners of a filter.
+/// Adds the lower corners of a filter.
 fn push_lower(text: &mut String, place: Place) -> Result<(), AllocError>
     ensures { OnOk result (string_bytes text.new ≡ string_bytes text.old ++ points_text (lower_corners place)) }
 {
@@ -80,7 +80,7 @@ fn push_plain(text: &mut String, place: Place) -> Result<(), AllocError>
     push_point(text, place.left(), place.bottom())
 }
 
-/// Adds the corners of a shape.
+/// Adds the corners of `shape`.
 #[tactic(auto, unfolding(crate::specs::Boxes::corners_text))]
 fn push_corners(text: &mut String, shape: Shape, place: Place) -> Result<(), AllocError>
     ensures { OnOk result (string_bytes text.new ≡ string_bytes text.old ++ corners_text shape place) }
@@ -96,7 +96,7 @@ fn push_corners(text: &mut String, shape: Shape, place: Place) -> Result<(), All
     }
 }
 
-/// Adds the outline of an actor, in its colour.
+/// Adds the outline of `actor`, in its colour.
 #[tactic(auto, unfolding(crate::specs::Boxes::outline_text))]
 fn push_outline(
     text: &mut String,
@@ -112,7 +112,7 @@ fn push_outline(
     text.push_str("'/>")
 }
 
-/// Adds where a line of a box stands: in its middle, and so far down.
+/// Adds `word`, which begins a text, and the text's position: in the middle of the box, at `y`.
 fn push_line(text: &mut String, word: &str, place: Place, y: u64) -> Result<(), AllocError>
     ensures { OnOk result (string_bytes text.new ≡ string_bytes text.old ++ line_text word.now place y) }
 {
@@ -121,7 +121,7 @@ fn push_line(text: &mut String, word: &str, place: Place, y: u64) -> Result<(), 
     push_number(text, "' y='", y)
 }
 
-/// Presses a text of so many letters together where they are more than fit.
+/// Adds the attributes that compress a name of `letters` bytes, if it has more than fit.
 fn push_pressed(text: &mut String, letters: usize) -> Result<(), AllocError>
     ensures { OnOk result (string_bytes text.new ≡ string_bytes text.old ++ pressed_text letters) }
 {
@@ -135,7 +135,7 @@ fn push_pressed(text: &mut String, letters: usize) -> Result<(), AllocError>
     Ok(())
 }
 
-/// Adds the name of an actor in the middle of its box.
+/// Adds the name of `actor` in the middle of its box.
 #[tactic(auto, unfolding(crate::specs::Boxes::label_text))]
 fn push_label(
     text: &mut String,
@@ -158,7 +158,7 @@ fn push_label(
     text.push_str("</text>")
 }
 
-/// Adds how often an actor fires in a period, below its name.
+/// Adds the `firings` of an actor in a period, below its name.
 #[tactic(auto, unfolding(crate::specs::Boxes::firings_text))]
 fn push_firings(text: &mut String, firings: u32, place: Place) -> Result<(), AllocError>
     ensures { OnOk result (string_bytes text.new ≡ string_bytes text.old ++ firings_text firings place) }
@@ -168,7 +168,7 @@ fn push_firings(text: &mut String, firings: u32, place: Place) -> Result<(), All
     text.push_str("</text>\n")
 }
 
-/// Adds the box of an actor that fires so often in a period.
+/// Adds the box of `actor`, which fires `firings` times in a period.
 #[tactic(auto, unfolding(crate::specs::Boxes::box_text))]
 fn push_box(
     text: &mut String,
@@ -186,7 +186,7 @@ fn push_box(
     push_firings(text, firings, place)
 }
 
-/// Adds the box of an actor where it stands.
+/// Adds the box of `actor` at its place in `layout`.
 fn push_placed(
     text: &mut String,
     design: &Design,

@@ -18,16 +18,16 @@ use sdf_file::Design;
 use sdf_prec::Table;
 use std::alloc::{AllocError, Global};
 
-/// How wide the makespan is.
+/// The width of the makespan.
 pub(crate) const CHART: u64 = 1100;
 
-/// From one worker's lane to the next.
+/// The distance from one worker's lane to the next.
 pub(crate) const ROW: u64 = 30;
 
-/// More bars than these are joined.
+/// The most firings of a table that are drawn as separate bars. If it has more, adjacent bars of an actor are joined.
 const MOST_BARS: usize = 400;
 
-/// How far from the left a time stands, where the makespan is as wide as the chart.
+/// Returns the distance of `time` from the left, when the makespan is as wide as the chart.
 fn scaled(time: u64, makespan: u64) -> u128
     ensures { result ≡ scaled time makespan }
 {
@@ -36,8 +36,7 @@ fn scaled(time: u64, makespan: u64) -> u128
         .unwrap_or(0)
 }
 
-/// Adds the shape of a bar in a colour: it begins at a time, is so long, and stands so far
-/// down. What is told of it follows.
+/// Adds the beginning of a bar in `colour`: its `start` and its `width` as times, and its `y`. Its title follows.
 #[tactic(auto, unfolding(crate::specs::Charts::rect_text))]
 fn push_rect(
     text: &mut String,
@@ -55,7 +54,7 @@ fn push_rect(
     text.push_str("' height='22'><title>")
 }
 
-/// Adds what is told of a bar, the name of its actor and its times, and ends the bar.
+/// Adds the title of a bar, which is the name of its actor and its times, and ends the bar.
 #[tactic(auto, unfolding(crate::specs::Charts::title_text))]
 fn push_title(
     text: &mut String,
@@ -72,7 +71,7 @@ fn push_title(
     text.push_str("</title></rect>\n")
 }
 
-/// Adds a bar: its place and its width are times.
+/// Adds a bar of `worker`. Its position and its width are times.
 fn push_bar(text: &mut String, design: &Design, worker: usize, bar: Bar) -> Result<(), AllocError>
     requires worker { worker < MOST_WORKERS }
     requires actor { bar.actor < length design.now.net.nodes }
@@ -84,7 +83,7 @@ fn push_bar(text: &mut String, design: &Design, worker: usize, bar: Bar) -> Resu
     push_title(text, design, actor, start, end)
 }
 
-/// Adds these bars of a worker.
+/// Adds these `bars` of `worker`.
 fn push_bars(
     text: &mut String,
     design: &Design,
@@ -102,7 +101,7 @@ fn push_bars(
     Ok(())
 }
 
-/// Adds the bars of a worker.
+/// Adds the bars of all firings of `worker`.
 #[tactic(auto, unfolding(crate::specs::Charts::lane_text))]
 fn push_lane(
     alloc: Global,
@@ -125,7 +124,7 @@ fn push_lane(
     push_bars(text, design, worker, bars.as_slice())
 }
 
-/// Adds where the bars begin: the makespan is as wide as the chart.
+/// Adds the beginning of the bars' frame, which scales the makespan to the width of the chart.
 #[tactic(auto, unfolding(crate::specs::Charts::frame_text))]
 fn push_frame(text: &mut String, makespan: u64, end: u64) -> Result<(), AllocError>
     ensures { OnOk result (string_bytes text.new ≡ string_bytes text.old ++ frame_text makespan end) }
@@ -176,7 +175,7 @@ fn push_lanes(
     text.push_str("</svg>\n")
 }
 
-/// Adds the name of a worker's lane, and a line under it.
+/// Adds the name of the lane of `worker`, and a line under it.
 #[tactic(auto, unfolding(crate::specs::Charts::worker_text))]
 fn push_worker(text: &mut String, worker: usize) -> Result<(), AllocError>
     requires { worker < MOST_WORKERS }
@@ -201,7 +200,7 @@ fn push_workers(text: &mut String, workers: usize) -> Result<(), AllocError>
     Ok(())
 }
 
-/// Adds a line down to the end at so far from the left.
+/// Adds a vertical line at x `place`, down to y `end`.
 #[tactic(auto, unfolding(crate::specs::Charts::mark_text))]
 fn push_mark(text: &mut String, place: u128, end: u64) -> Result<(), AllocError>
     ensures { OnOk result (string_bytes text.new ≡ string_bytes text.old ++ mark_text place end) }
@@ -209,7 +208,7 @@ fn push_mark(text: &mut String, place: u128, end: u64) -> Result<(), AllocError>
     write!(text, "<path class='bound' d='M{place} -8 V{end}'/>")
 }
 
-/// Adds the number of the bound above it.
+/// Adds the `bound` above its line.
 #[tactic(auto, unfolding(crate::specs::Charts::label_text))]
 fn push_label(text: &mut String, place: u128, bound: u64) -> Result<(), AllocError>
     ensures { OnOk result (string_bytes text.new ≡ string_bytes text.old ++ label_text place bound) }
@@ -239,7 +238,7 @@ fn push_rules(text: &mut String, end: u64) -> Result<(), AllocError>
     )
 }
 
-/// Adds the time at the right end.
+/// Adds the `makespan` at the right end of the times.
 #[tactic(auto, unfolding(crate::specs::Charts::makespan_text))]
 fn push_makespan(text: &mut String, makespan: u64, y: u64) -> Result<(), AllocError>
     ensures { OnOk result (string_bytes text.new ≡ string_bytes text.old ++ makespan_text makespan y) }
@@ -250,7 +249,7 @@ fn push_makespan(text: &mut String, makespan: u64, y: u64) -> Result<(), AllocEr
     )
 }
 
-/// Adds the times at the ends.
+/// Adds the times at both ends.
 fn push_axis(text: &mut String, makespan: u64, end: u64) -> Result<(), AllocError>
     requires { end < 100000 }
     ensures { OnOk result (string_bytes text.new ≡ string_bytes text.old ++ axis_text makespan end) }
@@ -261,7 +260,7 @@ fn push_axis(text: &mut String, makespan: u64, end: u64) -> Result<(), AllocErro
     push_makespan(text, makespan, below)
 }
 
-/// Adds a table against time.
+/// Adds the chart of `table` against time.
 pub(crate) fn push_chart(
     alloc: Global,
     text: &mut String,

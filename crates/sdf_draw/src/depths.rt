@@ -1,4 +1,4 @@
-//! How deep each actor stands in a graph.
+//! The depth of each actor in a graph.
 
 ghost use Rattle.std.specs.Prelude.{◌≡◌, ◌≢◌, ℕ, ◌+◌, ◌<◌, ◌≤◌, length, slice_index, IfOk};
 ghost use Rattle.sdf_limits.specs.declared.TheConstants.{MOST_PERIOD};
@@ -10,7 +10,7 @@ ghost use Rattle.sdf_draw.specs.Feeds.{IsInDepth};
 use sdf_graph::Graph;
 use std::alloc::{AllocError, Global};
 
-/// The greatest depth from which a channel leads to an actor, or 0 where there is none.
+/// Returns the greatest depth from which a channel leads to `actor`, or 0 if there is none.
 fn deepest(graph: &Graph, depths: &[u32], actor: usize) -> u32
     requires known { actor < graph.now.actors }
     requires all { length depths.now ≡ graph.now.actors }
@@ -26,7 +26,7 @@ fn deepest(graph: &Graph, depths: &[u32], actor: usize) -> u32
     most
 }
 
-/// The depth of an actor: the one that it has, or else one more than those from which channels lead to it.
+/// Returns the depth that `actor` has, otherwise one more than the greatest depth from which a channel leads to it.
 fn depth_of(graph: &Graph, depths: &[u32], actor: usize) -> u32
     requires known { actor < graph.now.actors }
     requires all { length depths.now ≡ graph.now.actors }
@@ -42,7 +42,7 @@ fn depth_of(graph: &Graph, depths: &[u32], actor: usize) -> u32
     deepest(graph, depths, actor) + 1
 }
 
-/// Gives an actor that fires its depth, where it has none.
+/// Gives `actor`, which fires, its depth if it does not have one yet.
 fn fire(graph: &Graph, depths: &mut Vec<u32>, actor: usize)
     requires known { actor < graph.now.actors }
     requires all { length depths.old.items ≡ graph.now.actors }
@@ -59,8 +59,8 @@ fn fire(graph: &Graph, depths: &mut Vec<u32>, actor: usize)
     depths[actor] = depth;
 }
 
-/// The depth of each actor: one more than the greatest depth of those that fire before it in this order and from which
-/// channels lead to it.
+/// Returns the depth of each actor. It is one more than the greatest depth of its predecessors that fire before it in
+/// `order`.
 pub(crate) fn depths(alloc: Global, graph: &Graph, order: &[usize]) -> Result<Vec<u32>, AllocError>
     requires known { (i : ℕ) → i < length order.now → slice_index order.now i < graph.now.actors }
     requires short { length order.now ≤ MOST_PERIOD }

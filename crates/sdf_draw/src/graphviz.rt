@@ -12,7 +12,7 @@ use sdf_file::Design;
 use sdf_graph::Channel;
 use std::alloc::{AllocError, Global};
 
-/// Adds a text between quotes.
+/// Adds `word` between quotes.
 fn push_quoted(text: &mut String, word: &str) -> Result<(), AllocError>
     ensures { OnOk result (string_bytes text.new ≡ string_bytes text.old ++ quoted word.now) }
 {
@@ -32,7 +32,7 @@ fn shape_word(shape: Shape) -> &'static str
     }
 }
 
-/// Adds the line of an actor.
+/// Adds the line of `actor`.
 #[tactic(auto, unfolding(crate::specs::Graphviz::node_line))]
 fn push_node(text: &mut String, design: &Design, actor: usize) -> Result<(), AllocError>
     requires { actor < length design.now.net.nodes }
@@ -45,7 +45,7 @@ fn push_node(text: &mut String, design: &Design, actor: usize) -> Result<(), All
     text.push_str("];\n")
 }
 
-/// Adds a word, and what firings move whose rates are these.
+/// Adds `word`, and what firings with these `rates` move.
 #[tactic(auto, unfolding(crate::specs::Graphviz::label_text))]
 fn push_label(text: &mut String, word: &str, rates: &[u32]) -> Result<(), AllocError>
     requires { length rates.now ≤ MOST_CYCLE }
@@ -55,7 +55,7 @@ fn push_label(text: &mut String, word: &str, rates: &[u32]) -> Result<(), AllocE
     push_rate(text, rates)
 }
 
-/// Adds the samples that a link begins with, where there are some.
+/// Adds the samples that a link begins with, if there are any.
 fn push_initial(text: &mut String, initial: usize) -> Result<(), AllocError>
     ensures { OnOk result (string_bytes text.new ≡ string_bytes text.old ++ initial_label initial) }
 {
@@ -65,7 +65,7 @@ fn push_initial(text: &mut String, initial: usize) -> Result<(), AllocError>
     push_number(text, "\" label=\"", initial as u64)
 }
 
-/// Adds the rates of a link, and the samples that it begins with.
+/// Adds the rates of `channel`, and the samples that it begins with.
 #[tactic(auto, unfolding(crate::specs::Graphviz::labels_text))]
 fn push_labels(text: &mut String, channel: &Channel) -> Result<(), AllocError>
     requires put { length channel.now.put ≤ MOST_CYCLE }
@@ -78,7 +78,7 @@ fn push_labels(text: &mut String, channel: &Channel) -> Result<(), AllocError>
     text.push_str("\"];\n")
 }
 
-/// Adds the line of a link.
+/// Adds the line of `link`.
 #[tactic(auto, unfolding(crate::specs::Graphviz::edge_line))]
 fn push_edge(text: &mut String, design: &Design, link: usize) -> Result<(), AllocError>
     requires { link < length design.now.net.wires }
@@ -112,7 +112,7 @@ fn push_edges(text: &mut String, design: &Design) -> Result<(), AllocError>
     Ok(())
 }
 
-/// The graph of a design for Graphviz: a line for each actor in file order, then one for each link.
+/// Returns the graph of `design` as a text for Graphviz: a line for each actor in file order, then one for each link.
 pub fn dot(alloc: Global, design: &Design) -> Result<String, AllocError>
     ensures { IfOk result (λ s. string_bytes s ≡ dot_text design.now) }
 {

@@ -1,4 +1,4 @@
-//! Where the boxes of actors stand, and which way the arrows of links go. All lengths are pixels.
+//! The places of the actors' boxes, and the routes of the links' arrows. All lengths are pixels.
 
 ghost use Rattle.std.specs.Prelude.{◌≡◌, ℕ, ◌+◌, ◌*◌, ◌<◌, ◌≤◌, ◌^◌, length, slice_index, max, IfOk};
 ghost use Rattle.sdf_limits.specs.declared.TheConstants.{MOST_ACTORS, MOST_LINKS, MOST_PERIOD, MOST_PORTS};
@@ -15,25 +15,25 @@ use std::alloc::{AllocError, Global};
 /// The width of a box.
 pub(crate) const WIDTH: u64 = 150;
 
-/// From the left side of a box to that of a box one deeper.
+/// The distance between the left sides of boxes whose depths differ by one.
 pub(crate) const PITCH: u64 = 320;
 
 /// The space between a box and the one below it.
 pub(crate) const GAP: u64 = 26;
 
-/// The room of a port at the side of a box.
+/// The height that a port takes at the side of a box.
 pub(crate) const PORT: u64 = 30;
 
-/// The height of a box beside its ports.
+/// The height of a box beyond its ports.
 pub(crate) const MARGIN: u64 = 10;
 
-/// From one lane of arrows to the next.
+/// The distance from one lane of arrows to the next.
 pub(crate) const LANE: u64 = 10;
 
-/// Where the highest lane is.
+/// The y of the highest lane.
 pub(crate) const HEAD: u64 = 60;
 
-/// Where a box stands: its column, how far down it begins, and how high it is.
+/// The place of a box: its column, the y of its top, and its height.
 #[derive(Clone, Copy, Debug, PartialEq, Eq)]
 pub(crate) struct Place {
     pub(crate) depth: u32,
@@ -41,7 +41,7 @@ pub(crate) struct Place {
     pub(crate) height: u16,
 }
 
-/// Which way an arrow goes: across the gap to the next boxes, in a lane above all boxes or in one below them.
+/// The route of an arrow: across the gap to the next boxes, in a lane above all boxes, or in a lane below them.
 #[derive(Clone, Copy, Debug, PartialEq, Eq)]
 pub(crate) enum Route {
     Across,
@@ -49,7 +49,7 @@ pub(crate) enum Route {
     Below(u32),
 }
 
-/// A box for each actor, a route for each link, and how many lanes there are above the boxes and below them.
+/// A box for each actor, a route for each link, and the numbers of lanes above the boxes and below them.
 #[derive(Drop)]
 pub(crate) struct Layout {
     pub(crate) places: Vec<Place>,
@@ -59,7 +59,7 @@ pub(crate) struct Layout {
 }
 
 impl Place {
-    /// Where it begins from the left.
+    /// Returns the x of the left side.
     pub(crate) fn left(self) -> u64
         ensures is { result ≡ left_of self }
         ensures small { result < 1500000000000 }
@@ -67,7 +67,7 @@ impl Place {
         PITCH * u64::from(self.depth)
     }
 
-    /// Where it ends.
+    /// Returns the x of the right side.
     pub(crate) fn right(self) -> u64
         ensures is { result ≡ right_of self }
         ensures small { result < 1500000000000 }
@@ -75,14 +75,14 @@ impl Place {
         self.left() + WIDTH
     }
 
-    /// Where it begins from above.
+    /// Returns the y of the top.
     pub(crate) fn top(self) -> u64
         ensures { result ≡ self.y }
     {
         u64::from(self.y)
     }
 
-    /// Where it ends.
+    /// Returns the y of the bottom.
     pub(crate) fn bottom(self) -> u64
         ensures is { result ≡ bottom_of self }
         ensures small { result < 1000000000000 }
@@ -90,7 +90,7 @@ impl Place {
         self.top() + u64::from(self.height)
     }
 
-    /// Half way down.
+    /// Returns the y half way down.
     pub(crate) fn middle(self) -> u64
         ensures { result ≡ middle_of self }
     {
@@ -98,7 +98,7 @@ impl Place {
     }
 }
 
-/// The height of a box with so many ports.
+/// Returns the height of a box with these `ports`.
 fn height_of(ports: PortCounts) -> u16
     requires { (ports.inputs ≤ MOST_PORTS) × (ports.outputs ≤ MOST_PORTS) }
     ensures { result ≡ PORT * max (max ports.inputs ports.outputs) 1 + MARGIN }
@@ -106,7 +106,7 @@ fn height_of(ports: PortCounts) -> u16
     (PORT * ports.inputs.max(ports.outputs).max(1) as u64 + MARGIN) as u16
 }
 
-/// The room of the boxes of a depth.
+/// Returns the height that all boxes of `depth` take, each with the gap below it.
 fn stacked(places: &[Place], depth: u32) -> u64
     requires { length places.now ≤ MOST_ACTORS }
     ensures is { result ≡ stacked places.now depth }
@@ -121,7 +121,7 @@ fn stacked(places: &[Place], depth: u32) -> u64
     room
 }
 
-/// The boxes, the highest of them at this place from above.
+/// Returns the places of the boxes. The highest boxes begin at y `top`.
 fn places_of(
     alloc: Global,
     design: &Design,
@@ -147,7 +147,7 @@ fn places_of(
     Ok(places)
 }
 
-/// The actors at the ends of a link.
+/// Returns the actor that `link` comes from and the actor that it goes to.
 fn actors_of(design: &Design, link: usize) -> (usize, usize)
     requires { link < length design.now.net.wires }
     ensures from { result.0 ≡ (wire design.now.net link).from.0 }
@@ -160,14 +160,14 @@ fn actors_of(design: &Design, link: usize) -> (usize, usize)
     (link.from.0, link.to.0)
 }
 
-/// How many lanes are taken above the boxes and below them.
+/// The numbers of lanes that are taken above the boxes and below them.
 #[derive(Clone, Copy)]
 struct Lanes {
     above: u32,
     below: u32,
 }
 
-/// The route between two depths where so many lanes are taken, and how many are taken then.
+/// Returns the route from depth `from` to depth `to` when `lanes` are taken, and the lanes that are taken after it.
 fn route_between(from: u32, to: u32, lanes: Lanes) -> (Route, Lanes)
     requires { (lanes.above < MOST_LINKS) × (lanes.below < MOST_LINKS) }
     ensures is { IsRoute from to result.0 }
@@ -186,7 +186,7 @@ fn route_between(from: u32, to: u32, lanes: Lanes) -> (Route, Lanes)
     }
 }
 
-/// The routes of all links, and the lanes that they take.
+/// Returns the routes of all links, and the lanes that they take.
 fn routes_of(
     alloc: Global,
     design: &Design,
@@ -208,7 +208,7 @@ fn routes_of(
     Ok((routes, lanes))
 }
 
-/// The layout of a design whose period has this order of firings.
+/// Returns the layout of `design`, whose period fires its actors in `order`.
 pub(crate) fn laid_out(
     alloc: Global,
     design: &Design,
@@ -234,7 +234,7 @@ pub(crate) fn laid_out(
 }
 
 impl Layout {
-    /// Where the lowest box ends, or 0 where there is none.
+    /// Returns the y of the lowest box's bottom, or 0 if there are no boxes.
     #[tactic(auto, using(crate::proofs::Lowest::greatest_take))]
     pub(crate) fn bottom(&self) -> u64
         ensures is { result ≡ lowest self.now.places.items }
@@ -249,7 +249,7 @@ impl Layout {
         most
     }
 
-    /// Where the box farthest to the right ends.
+    /// Returns the x of the rightmost box's right side, or 0 if there are no boxes.
     #[tactic(auto, using(crate::proofs::Lowest::greatest_take))]
     pub(crate) fn right(&self) -> u64
         ensures is { result ≡ rightmost self.now.places.items }
@@ -264,7 +264,7 @@ impl Layout {
         most
     }
 
-    /// How far down a lane below the boxes is.
+    /// Returns the y of `lane` below the boxes.
     pub(crate) fn lane_below(&self, lane: u32) -> u64
         ensures is { result ≡ lane_below self.now.places.items lane }
         ensures below { (a : ℕ) → a < length self.now.places.items →
@@ -275,7 +275,7 @@ impl Layout {
     }
 }
 
-/// How far down a lane above the boxes is.
+/// Returns the y of `lane` above the boxes.
 pub(crate) fn lane_above(lane: u32) -> u64
     ensures { result ≡ lane_above lane }
 {

@@ -22,16 +22,16 @@ use sdf_prec::Table;
 use sdf_sched::Period;
 use std::alloc::{AllocError, Global};
 
-/// The part left of the first boxes that is shown.
+/// The x of the picture's left edge, left of the first boxes.
 const LEFT: u64 = 150;
 
-/// Where times begin.
+/// The x at which the times begin.
 const ZERO: u64 = 250;
 
 const HEAD_TEXT: &str = "<svg xmlns='http://www.w3.org/2000/svg' font-size='12' \
     font-family='ui-monospace, Menlo, Consolas, DejaVu Sans Mono, monospace'";
 
-/// The colours, which those that see few colours tell apart, in light and in dark.
+/// The styles, with colours for light and dark pages that colour-blind readers can distinguish.
 const STYLE: &str = "<style>
 .page{fill:#ffffff}text{fill:#1a1a1a}.soft{fill:#5a5a5a}.mid{text-anchor:middle}.end{text-anchor:end}
 .box{fill:#f3f3f1;stroke-width:2}.way{fill:none;stroke-width:1.4;marker-end:url(#head)}.way:hover{stroke-width:5}
@@ -46,12 +46,12 @@ const STYLE: &str = "<style>
 markerUnits='userSpaceOnUse' orient='auto'><path class='dot' d='M0 0 L8 4 L0 8 z'/></marker></defs>
 ";
 
-/// What the numbers are.
+/// The explanation of the numbers.
 const LEGEND: &str =
     "Above an arrow's ends: samples of a firing, as 4 or as 4/16, which is 4 in 16 firings. \
     Below its end: its capacity. A dot: samples that it begins with. q: firings of a period.";
 
-/// Adds where the picture begins: it is so wide and so high.
+/// Adds the beginning of the picture, with its width and its height.
 #[tactic(auto, unfolding(crate::specs::Pictures::size_text))]
 fn push_size(text: &mut String, width: u64, height: u64) -> Result<(), AllocError>
     ensures { OnOk result (string_bytes text.new ≡ string_bytes text.old ++ size_text width height) }
@@ -61,7 +61,7 @@ fn push_size(text: &mut String, width: u64, height: u64) -> Result<(), AllocErro
     push_number(text, "' height='", height)
 }
 
-/// Adds which part is seen.
+/// Adds the part of the plane that is shown, from `LEFT` on.
 #[tactic(auto, unfolding(crate::specs::Pictures::view_text))]
 fn push_view(text: &mut String, width: u64, height: u64) -> Result<(), AllocError>
     ensures { OnOk result (string_bytes text.new ≡ string_bytes text.old ++ view_text width height) }
@@ -72,7 +72,7 @@ fn push_view(text: &mut String, width: u64, height: u64) -> Result<(), AllocErro
     text.push_str("'>\n")
 }
 
-/// Adds the colours, and the page that all stands on.
+/// Adds the styles, and the page behind everything.
 #[tactic(auto, unfolding(crate::specs::Pictures::page_text))]
 fn push_page(text: &mut String, width: u64, height: u64) -> Result<(), AllocError>
     ensures { OnOk result (string_bytes text.new ≡ string_bytes text.old ++ page_text width height) }
@@ -84,7 +84,7 @@ fn push_page(text: &mut String, width: u64, height: u64) -> Result<(), AllocErro
     text.push_str("'/>\n")
 }
 
-/// Adds what the numbers are.
+/// Adds the explanation of the numbers.
 #[tactic(auto, unfolding(crate::specs::Pictures::legend_text))]
 fn push_legend(text: &mut String) -> Result<(), AllocError>
     ensures { OnOk result (string_bytes text.new ≡ string_bytes text.old ++ legend_text) }
@@ -95,7 +95,7 @@ fn push_legend(text: &mut String) -> Result<(), AllocError>
     text.push_str("</text>\n")
 }
 
-/// Adds what stands before the arrows.
+/// Adds the text before the arrows.
 fn push_head(text: &mut String, width: u64, height: u64) -> Result<(), AllocError>
     ensures { OnOk result (string_bytes text.new ≡ string_bytes text.old ++ head_text width height) }
 {
@@ -105,7 +105,7 @@ fn push_head(text: &mut String, width: u64, height: u64) -> Result<(), AllocErro
     push_legend(text)
 }
 
-/// Where the times begin from above: below the lanes below the boxes.
+/// Returns the y at which the times begin, below the lanes under the boxes.
 fn chart_top(layout: &Layout) -> u64
     ensures is { result ≡ chart_top layout.now.places.items layout.now.below }
     ensures small { result < 3000000000000 }
@@ -113,14 +113,14 @@ fn chart_top(layout: &Layout) -> u64
     layout.lane_below(layout.below) + 80
 }
 
-/// How wide the picture is.
+/// Returns the width of the picture.
 fn width_of(layout: &Layout) -> u64
     ensures { result ≡ width_of layout.now.places.items }
 {
     layout.right().max(ZERO + CHART) + 100 - LEFT
 }
 
-/// Adds where the times begin.
+/// Adds the beginning of the chart's group, whose origin is at `ZERO` and `top`.
 #[tactic(auto, unfolding(crate::specs::Pictures::origin_text))]
 fn push_origin(text: &mut String, top: u64) -> Result<(), AllocError>
     ensures { OnOk result (string_bytes text.new ≡ string_bytes text.old ++ origin_text top) }
@@ -130,7 +130,7 @@ fn push_origin(text: &mut String, top: u64) -> Result<(), AllocError>
     text.push_str(")'>\n")
 }
 
-/// What is drawn: the period and the table of a schedule, the table's figures, and the layout of the graph.
+/// The period and the table of a schedule, the table's figures, and the layout of the graph.
 #[derive(Drop)]
 struct Drawing {
     period: Period,
@@ -139,7 +139,7 @@ struct Drawing {
     layout: Layout,
 }
 
-/// The picture.
+/// Returns the text of the picture.
 fn picture(
     alloc: Global,
     design: &Design,
@@ -173,7 +173,7 @@ fn picture(
     Ok(text)
 }
 
-/// What is drawn of a design by options.
+/// Returns the drawing of `design` by `options`.
 #[tactic(auto, using(crate::proofs::Drawable::memory_shows))]
 fn drawn(alloc: Global, design: &Design, options: &Options) -> Result<Drawing, Fault>
     ensures { MatchResult result (λ w. IsDrawing design.now options.now (drawn_of w))
@@ -196,8 +196,8 @@ fn drawn(alloc: Global, design: &Design, options: &Options) -> Result<Drawing, F
     })
 }
 
-/// What the command `draw` prints: one SVG of a design, its actors as boxes and its links as arrows, and below them the
-/// firings of its schedule against time. The tests are those of `sdf_plan::schedule::scheduled`.
+/// Returns the SVG that the command `draw` prints. It shows the actors of `design` as boxes, its links as arrows, and
+/// below them the firings of its schedule against time. The tests are listed at `sdf_plan::schedule::scheduled`.
 pub fn svg(alloc: Global, design: &Design, options: &Options) -> Result<String, Fault>
     ensures { MatchResult result (λ s. IsPicture design.now options.now (string_bytes s))
         (IsShowFault design.now options.now) }

@@ -1,4 +1,4 @@
-//! The shapes of actors, their ports, and the links between these.
+//! The shapes of actors, their ports, and the links between the ports.
 
 ghost use Rattle.std.specs.Prelude.{◌≡◌, ◌<◌, ◌≤◌, length};
 ghost use Rattle.sdf_limits.specs.declared.TheConstants.{MOST_CYCLE, MOST_PORTS};
@@ -12,7 +12,7 @@ use sdf_file::Design;
 use sdf_graph::Channel;
 use sdf_kit::Kit;
 
-/// What is drawn for an actor.
+/// The shape that an actor is drawn as.
 #[derive(Clone, Copy, Debug, PartialEq, Eq)]
 pub(crate) enum Shape {
     Source,
@@ -21,7 +21,7 @@ pub(crate) enum Shape {
     Plain,
 }
 
-/// How many ports an actor has.
+/// The numbers of input and output ports of an actor.
 #[derive(Clone, Copy)]
 pub(crate) struct PortCounts {
     pub(crate) inputs: usize,
@@ -48,7 +48,7 @@ pub(crate) fn shape_of(design: &Design, actor: usize) -> Shape
     }
 }
 
-/// How many ports one of the kinds has.
+/// Returns the numbers of ports of `kit`.
 fn kit_ports(kit: &Kit) -> PortCounts
     ensures inputs { result.inputs ≡ kit_steps.inputs kit.now }
     ensures outputs { result.outputs ≡ kit_steps.outputs kit.now }
@@ -80,7 +80,7 @@ pub(crate) fn ports_of(design: &Design, actor: usize) -> PortCounts
     }
 }
 
-/// A link, with what firings put on it and take from it.
+/// Returns the channel of `link`, with what firings put on it and take from it.
 pub(crate) fn channel_of(design: &Design, link: usize) -> &Channel
     requires { link < length design.now.net.wires }
     ensures is { result.now ≡ edge design.now link }

@@ -7,10 +7,10 @@ ghost use Rattle.sdf_draw.specs.Texts.{number_text, pair_text, escaped_char, esc
 use sdf_file::Design;
 use std::alloc::AllocError;
 
-/// How many colours there are.
+/// The number of colours.
 pub(crate) const COLOURS: usize = 7;
 
-/// Adds a text and a number.
+/// Adds `word` and `number`.
 pub(crate) fn push_number(text: &mut String, word: &str, number: u64) -> Result<(), AllocError>
     ensures { OnOk result (string_bytes text.new ≡ string_bytes text.old ++ number_text word.now number) }
 {
@@ -18,7 +18,7 @@ pub(crate) fn push_number(text: &mut String, word: &str, number: u64) -> Result<
     Ok(())
 }
 
-/// Adds two texts, each with a number behind it.
+/// Adds `one` with `x` behind it, and `other` with `y` behind it.
 #[tactic(auto, unfolding(crate::specs::Texts::pair_text))]
 pub(crate) fn push_pair(
     text: &mut String,
@@ -33,14 +33,14 @@ pub(crate) fn push_pair(
     push_number(text, other, y)
 }
 
-/// Where a name stands: in a document of marks, or between quotes.
+/// The context that a name is escaped for: markup, or a text between quotes.
 #[derive(Clone, Copy)]
 pub(crate) enum Within {
     Marks,
     Quotes,
 }
 
-/// Adds a character as it stands there.
+/// Adds `character`, escaped for `within`.
 fn push_character(text: &mut String, within: Within, character: char) -> Result<(), AllocError>
     ensures { OnOk result (string_bytes text.new ≡ string_bytes text.old ++ escaped_char within character) }
 {
@@ -56,7 +56,7 @@ fn push_character(text: &mut String, within: Within, character: char) -> Result<
     }
 }
 
-/// Adds a text as it stands there.
+/// Adds `word`, escaped for `within`.
 pub(crate) fn push_escaped(text: &mut String, within: Within, word: &str) -> Result<(), AllocError>
     ensures { OnOk result (string_bytes text.new ≡ string_bytes text.old ++ escaped within word.now) }
 {
@@ -66,7 +66,7 @@ pub(crate) fn push_escaped(text: &mut String, within: Within, word: &str) -> Res
     Ok(())
 }
 
-/// Adds the name of an actor.
+/// Adds the name of `actor`, escaped for markup.
 #[tactic(auto, unfolding(crate::specs::Texts::name_text))]
 pub(crate) fn push_name(text: &mut String, design: &Design, actor: usize) -> Result<(), AllocError>
     requires { actor < length design.now.net.nodes }
@@ -75,7 +75,7 @@ pub(crate) fn push_name(text: &mut String, design: &Design, actor: usize) -> Res
     push_escaped(text, Within::Marks, design.name(actor))
 }
 
-/// The sum of the rates of a cycle.
+/// Returns the sum of the `rates` of a cycle.
 fn total(rates: &[u32]) -> u64
     requires { length rates.now ≤ MOST_CYCLE }
     ensures { result ≡ sum rates.now }
@@ -87,7 +87,7 @@ fn total(rates: &[u32]) -> u64
     total
 }
 
-/// Adds what firings move whose rates are these.
+/// Adds the samples that a cycle with these `rates` moves, and its number of firings if it has several.
 #[tactic(auto, unfolding(crate::specs::Texts::rate_text))]
 pub(crate) fn push_rate(text: &mut String, rates: &[u32]) -> Result<(), AllocError>
     requires { length rates.now ≤ MOST_CYCLE }

@@ -1,4 +1,4 @@
--- What the command `analyze --json` prints.
+-- The line that the command `analyze --json` prints.
 use Rattle.std.specs.Prelude.{ℕ, List, [], ◌∷◌, ◌++◌, length, map, codes}
 use Rattle.serde_json.specs.Data.{Data}
 use Rattle.sdf_prec.specs.Tables.{Tabled}
@@ -11,13 +11,13 @@ use Rattle.sdf_json.specs.Values.{natural, object_of, list_of, each_to, IsLineOf
 use Rattle.sdf_json.specs.Tables.{capacity_value}
 use Rattle.sdf_json.specs.Schedules.{asked}
 
--- how often the makespan goes into the work, in hundredths, is the speedup
+-- the speedup is the work over the makespan, in hundredths
 abbrev pub times_of : Figured → List (List ℕ × Data)
 times_of f =
     (codes "makespan", natural f.makespan) ∷ (codes "work", natural f.work) ∷ (codes "span", natural f.span)
     ∷ (codes "bound", natural f.bound) ∷ (codes "speedup_hundredths", natural (hundredths f.work f.makespan)) ∷ []
 
--- the options, the times, the load of each worker, the samples that all links hold, and the links in file order
+-- the options, the times, the load of each worker, the sum of the links' capacities, and the links in file order
 abbrev pub analysis_value : DesignValue → Options → Tabled → Figured → Data
 analysis_value d o t f = object_of (asked o ++ times_of f ++
     (codes "loads", list_of (map natural f.loads))
@@ -25,7 +25,7 @@ analysis_value d o t f = object_of (asked o ++ times_of f ++
     ∷ (codes "links", list_of (each_to (capacity_value d t.caps) (length d.net.wires)))
     ∷ [])
 
--- the text is of the figures of the table that the options give
+-- the text of the figures of the table that options o give design d
 pub record IsAnalysisJson (d : DesignValue) (o : Options) (text : List ℕ) : Type 0 where
   pub periods : ℕ
   pub table : Tabled

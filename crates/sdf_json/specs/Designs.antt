@@ -1,4 +1,4 @@
--- What the command `check --json` prints.
+-- The line that the command `check --json` prints.
 use Rattle.std.specs.Prelude.{ℕ, List, [], ◌∷◌, length, sum, codes, slice_index}
 use Rattle.serde_json.specs.Data.{Data, string}
 use Rattle.sdf_graph.specs.Rates.{rates}
@@ -12,7 +12,7 @@ use Rattle.sdf_file.specs.Designs.{DesignValue}
 use Rattle.sdf_file.specs.Schedules.{name_of}
 use Rattle.sdf_json.specs.Values.{natural, object_of, list_of, each_to, IsLineOf}
 
--- an actor, and how often it fires in a period q
+-- actor a, and how often it fires in a period: q is the repetition vector
 abbrev pub actor_value : DesignValue → List ℕ → ℕ → Data
 actor_value d q a =
     object_of ((codes "name", string (name_of d a)) ∷ (codes "firings", natural (slice_index q a)) ∷ [])
@@ -29,8 +29,8 @@ ends_of d c =
 abbrev pub link_value : DesignValue → ℕ → Data
 link_value d c = object_of (ends_of d c)
 
--- a design with period vector q: its actors and links in file order, the firings of a period, and the samples that each
--- input puts and each output takes in one
+-- a design with repetition vector q: its actors and links in file order; then the firings, the samples that each input
+-- puts, and the samples that each output takes, all in a period
 abbrev pub check_value : DesignValue → List ℕ → Data
 check_value d q = object_of (
     (codes "actors", list_of (each_to (actor_value d q) (length d.net.nodes)))
@@ -40,7 +40,7 @@ check_value d q = object_of (
     ∷ (codes "output", natural (period_samples d.net.nodes Outputs q))
     ∷ [])
 
--- the text of a design, whose period vector is the least
+-- the text of a design, whose repetition vector is the least
 pub record IsCheckJson (d : DesignValue) (text : List ℕ) : Type 0 where
   pub period : List ℕ
   pub least : IsLeastPeriod (rates (graph_of kit_steps d.net)) period

@@ -11,7 +11,7 @@ use Rattle.sdf_json.specs.Told.{told, plain}
 use Rattle.sdf_json.specs.DesignFaults.{file_value}
 use Rattle.sdf_json.specs.RunFaults.{prec_value, format_value}
 
--- how far an actor of a deadlock came, and the link that holds too little
+-- how far an actor got before a deadlock, and the link that holds too little
 abbrev pub progress_value : Progress → Data
 progress_value p = object_of (
     (codes "name", string (string_bytes p.name)) ∷ (codes "done", natural p.done) ∷ (codes "of", natural p.of)
@@ -21,11 +21,11 @@ abbrev pub stalled_value : List Progress → Data
 stalled_value actors =
     told 10 (codes "Deadlock") ((codes "actors", list_of (map progress_value actors)) ∷ [])
 
--- a mistake of usage has no number
+-- a mistake of usage has the number 0 and the parser's text
 abbrev pub usage_value : List ℕ → Data
 usage_value text = told 0 (codes "Usage") ((codes "text", string text) ∷ [])
 
--- of a mistake of usage the text is the parser's own
+-- the text of a mistake of usage is the parser's own
 abbrev pub IsWordsValue : WordFault → Data → Type 0
 IsWordsValue words.OutOfMemory d = d ≡ plain 1 (codes "OutOfMemory")
 IsWordsValue (words.Usage e) d = (text : List ℕ) × (d ≡ usage_value text)

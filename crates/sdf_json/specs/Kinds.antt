@@ -1,4 +1,4 @@
--- What the command `kinds --json` prints.
+-- The line that the command `kinds --json` prints.
 use Rattle.std.specs.Prelude.{ℕ, ℤ, pos, negsuc, true, false, List, [], ◌∷◌, map, codes, Option, Some, None}
 use Rattle.serde_json.specs.Data.{Data, null, boolean, number, string, object, no_members}
 use Rattle.serde_json.specs.Find.{of_integer}
@@ -17,7 +17,7 @@ use Rattle.sdf_json.specs.Ports.{ports_of}
 
 -- ---- ports
 
--- a number, or the name of the key that says it
+-- a number, or the name of the key that gives it
 abbrev pub amount_value : Amount → Data
 amount_value Zero = natural 0
 amount_value One = natural 1
@@ -42,7 +42,7 @@ needed least most = record { least = least; most = most; default = None; needed 
 abbrev pub optional : ℤ → ℤ → Option ℤ → Range
 optional least most default = record { least = least; most = most; default = default; needed = false }
 
--- the numbers of a form, which those of a list have each
+-- the numbers of a form; for a list, the range of each of its numbers
 abbrev pub range_of : Form → Range
 range_of (Natural least most None) = needed (pos least) (pos most)
 range_of (Natural least most (Some n)) = optional (pos least) (pos most) (Some (pos n))
@@ -63,7 +63,7 @@ range_members r =
     (codes "least", number (of_integer r.least)) ∷ (codes "most", number (of_integer r.most))
     ∷ (codes "default", absent r.default) ∷ (codes "needed", boolean r.needed) ∷ []
 
--- which key a number may not be below, and how many numbers a list may have
+-- the key that a number may not be below, or the most numbers that a list may have
 abbrev pub more_members : Form → List (List ℕ × Data)
 more_members (Natural least most absent) = []
 more_members (Optional least most) = []

@@ -21,7 +21,7 @@ abbrev pub steady : Amount → Amount → Amount → Amount → PortRow
 steady inputs takes outputs puts =
     record { inputs = inputs; takes = takes; outputs = outputs; puts = puts; cycle = One }
 
--- the ports of one side in turn, a run at each
+-- the ports of one side are served in turn, a run at each
 abbrev pub turned : Amount → Amount → PortRow
 turned inputs outputs = record { inputs = inputs; takes = Run; outputs = outputs; puts = Run; cycle = Ways }
 
@@ -43,7 +43,7 @@ ports_of kind.Offset = steady One One One One
 
 -- ---- that a kind has them
 
--- the number at a key, by the keys of a row and their values
+-- the number at the key `name`, by the keys of a row and their values
 abbrev pub value_of : List ℕ → List KeyRow → List KeyValue → ℕ
 value_of name [] vs = 0
 value_of name (k ∷ ks) vs = if bytes_eq k.name name then natural (first vs) else value_of name ks (rest vs)
@@ -58,12 +58,13 @@ amount_in k vs Factor = value_of (codes "factor") (row_of k).keys vs
 amount_in k vs Ways = value_of (codes "ways") (row_of k).keys vs
 amount_in k vs Run = value_of (codes "run") (row_of k).keys vs
 
--- the samples that a firing at phase j moves at port p of a side: in a cycle of `ways` at one of its `ways` ports
+-- the samples that a firing at phase j moves at port p of a side: only at port j, if the cycle and the side's ports are
+-- both `ways`
 abbrev pub moved_by : Amount → Amount → ℕ → ℕ → ℕ → ℕ
 moved_by Ways Ways n p j = cond (p == j) n 0
 moved_by cycle ports n p j = n
 
--- the node of an actor has the ports and the firings of the row, and moves its samples at each port
+-- a node has the ports and the firings of the row, and moves the row's samples at each port
 pub record HasPorts (row : PortRow) (amount : Amount → ℕ) (node : Node Kit) : Type 0 where
   pub inputs : inputs_of kit_steps node ≡ amount row.inputs
   pub outputs : outputs_of kit_steps node ≡ amount row.outputs

@@ -1,4 +1,4 @@
--- What the command `schedule --json` prints.
+-- The line that the command `schedule --json` prints.
 use Rattle.std.specs.Prelude.{ℕ, List, [], ◌∷◌, ◌++◌, length, map, codes}
 use Rattle.serde_json.specs.Data.{Data, string}
 use Rattle.sdf_sched.specs.Period.{Schedule}
@@ -10,13 +10,13 @@ use Rattle.sdf_analyze.specs.Columns.{policy_word, placement_word}
 use Rattle.sdf_json.specs.Values.{natural, object_of, list_of, each_to, IsLineOf}
 use Rattle.sdf_json.specs.Tables.{order_value, row_value, homed_value, capacity_value}
 
--- the options that a schedule was asked for with, and the periods of its block
+-- the options that a schedule was asked for with; an analysis or a schedule sets blocking to the periods of its block
 abbrev pub asked : Options → List (List ℕ × Data)
 asked o =
     (codes "policy", string (policy_word o.policy)) ∷ (codes "placement", string (placement_word o.placement))
     ∷ (codes "blocking", natural o.blocking) ∷ (codes "workers", natural o.workers) ∷ []
 
--- a period and a table of a design
+-- the period and the table of a design
 abbrev pub schedule_value : DesignValue → Options → Schedule → Tabled → Data
 schedule_value d o s t = object_of (asked o ++
     (codes "period", natural (length s.order))
@@ -26,7 +26,7 @@ schedule_value d o s t = object_of (asked o ++
     ∷ (codes "links", list_of (each_to (capacity_value d t.caps) (length d.net.wires)))
     ∷ [])
 
--- the text is of the period and the table that the options give
+-- the text of the period and the table that options o give design d
 pub record IsScheduleJson (d : DesignValue) (o : Options) (text : List ℕ) : Type 0 where
   pub period : Schedule
   pub periods : ℕ

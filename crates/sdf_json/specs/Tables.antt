@@ -1,4 +1,4 @@
--- What a table shows, as values.
+-- The parts of a table, as values.
 use Rattle.std.specs.Prelude.{ℕ, List, [], ◌∷◌, ◌++◌, map, codes, slice_index, Option, Some, None}
 use Rattle.serde_json.specs.Data.{Data, null, string}
 use Rattle.sdf_sched.specs.Period.{Schedule}
@@ -9,7 +9,7 @@ use Rattle.sdf_file.specs.Schedules.{Stretch, stretches, name_of}
 use Rattle.sdf_json.specs.Values.{natural, perhaps, object_of, list_of}
 use Rattle.sdf_json.specs.Designs.{ends_of}
 
--- so many firings of one actor, one after another
+-- several firings of one actor, one after another
 abbrev pub stretch_value : DesignValue → Stretch → Data
 stretch_value d s =
     object_of ((codes "actor", string (name_of d s.actor)) ∷ (codes "firings", natural s.firings) ∷ [])
@@ -18,7 +18,7 @@ stretch_value d s =
 abbrev pub order_value : DesignValue → List ℕ → Data
 order_value d order = list_of (map (stretch_value d) (stretches order))
 
--- the firing in a cell of a row, or null where none stands there
+-- the firing in a cell of a row, or null if the cell is empty
 abbrev pub cell_value : DesignValue → Option Firing → Data
 cell_value d None = null
 cell_value d (Some f) =
@@ -27,7 +27,7 @@ cell_value d (Some f) =
 abbrev pub row_value : DesignValue → List (Option Firing) → Data
 row_value d cells = list_of (map (cell_value d) cells)
 
--- an actor, how often it fires in the period, and the worker that all its firings are with, or null
+-- an actor, how often it fires in the period, and the worker of all its firings, or null
 abbrev pub homed_value : DesignValue → Schedule → Tabled → ℕ → Data
 homed_value d s t a = object_of (
     (codes "name", string (name_of d a)) ∷ (codes "firings", natural (slice_index s.repetitions a))

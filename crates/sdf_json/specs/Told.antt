@@ -1,4 +1,4 @@
--- What is told of a fault: its number, its name, and all that it carries.
+-- The parts of a fault's value: its number, its name, and everything that it carries.
 use Rattle.std.specs.Prelude.{ℕ, List, [], ◌∷◌, codes, string_bytes, true}
 use Rattle.serde_json.specs.Data.{Data, Members, boolean, string, object, no_members}
 use Rattle.sdf_document.specs.declared.fault.Place.{Place}
@@ -9,18 +9,18 @@ use Rattle.sdf_json.specs.Values.{natural, with}
 abbrev pub begun : ℕ → List ℕ → Members
 begun number name = with no_members ((codes "fault", natural number) ∷ (codes "name", string name) ∷ [])
 
--- these, and what else is told
+-- a number and a name, with more members
 abbrev pub told : ℕ → List ℕ → List (List ℕ × Data) → Data
 told number name more = object (with (begun number name) more)
 
 abbrev pub plain : ℕ → List ℕ → Data
 plain number name = told number name []
 
--- with a number under a word
+-- a fault with the number n under the key `word`
 abbrev pub at : ℕ → List ℕ → List ℕ → ℕ → Data
 at number name word n = told number name ((word, natural n) ∷ [])
 
--- a place by its word; the top of the graph file has no number
+-- a place under its key; the top of the graph file has no number
 abbrev pub place_member : Place → List ℕ × Data
 place_member place.Top = (codes "top", boolean true)
 place_member (place.Actor number) = (codes "actor", natural number)

@@ -1,4 +1,4 @@
--- What the values of the schemas are made of, and the line that is printed of one.
+-- The parts of the schemas' values, and the printed line of a value.
 use Rattle.std.specs.Prelude.{◌≡◌, ℕ, zero, suc, List, [], ◌∷◌, ◌++◌, Option, Some, None}
 use Rattle.serde_json.specs.Data.{Data, Members, null, number, unsigned, array, object, no_members, put}
 use Rattle.serde_json.specs.View.{items_of}
@@ -10,12 +10,12 @@ use Rattle.json.specs.Print.{print}
 abbrev pub natural : ℕ → Data
 natural n = number (unsigned n)
 
--- a number, or null where there is none
+-- a number, or null if there is none
 abbrev pub perhaps : Option ℕ → Data
 perhaps None = null
 perhaps (Some n) = natural n
 
--- members with more of them, each a key and its value
+-- members with more of them put in, each a key and its value
 abbrev pub with : Members → List (List ℕ × Data) → Members
 with ms [] = ms
 with ms (m ∷ more) = with (put m.0 m.1 ms) more
@@ -27,13 +27,13 @@ object_of ms = object (with no_members ms)
 abbrev pub list_of : List Data → Data
 list_of ds = array (items_of ds)
 
--- what f gives for 0, 1, .. below n
+-- the values of f for 0, 1, .. below n
 abbrev pub each_to : (ℕ → Data) → ℕ → List Data
 each_to f zero = []
 each_to f (suc n) = each_to f n ++ f n ∷ []
 
--- the text is one line, with its end: it reads as the value, has no blanks between its tokens, and has the items and
--- the members of the value in their order, each once
+-- the text is one line, with its end: the line reads as the value, and has no blanks between its tokens; it has the
+-- items and the members of the value in their order, each once
 pub record IsLineOf (d : Data) (text : List ℕ) : Type 0 where
   pub line : List ℕ
   pub reads : read line ≡ Some d

@@ -18,7 +18,7 @@ use sdf_prec::Table;
 use serde_json::{Value, put};
 use std::alloc::{AllocError, Global};
 
-/// The loads of the workers.
+/// Returns the loads of the workers.
 fn loads(alloc: Global, figures: &Figures, workers: usize) -> Result<Vec<Value>, AllocError>
     requires { workers ≡ length figures.now.loads }
     ensures { IfOk result (λ list. map view list.items ≡ map natural figures.now.loads) }
@@ -30,7 +30,7 @@ fn loads(alloc: Global, figures: &Figures, workers: usize) -> Result<Vec<Value>,
     Ok(list)
 }
 
-/// Adds the times.
+/// Adds the makespan, the work, the span, the bound and the speedup in hundredths.
 fn put_times(members: &mut Members, alloc: Global, figures: &Figures) -> Result<(), AllocError>
     ensures { OnOk result (members_view members.new.entries ≡
         with (members_view members.old.entries) (times_of figures.now)) }
@@ -63,9 +63,9 @@ fn analysis_value(
     Ok(Value::Object(members))
 }
 
-/// What a schedule does with its time and its links, as a line of JSON: the options, the makespan, the work, the span,
-/// the bound, the speedup in hundredths, the load of each worker, the samples that all links hold at most, and the
-/// links. The tests are those of `sdf_analyze::figured`.
+/// Returns the figures of a design's schedule as a line of JSON. They are the options, the makespan, the work, the
+/// span, the bound, the speedup in hundredths and the load of each worker. Then come the sum of the links' capacities,
+/// in samples, and the links. The tests are listed at `sdf_plan::schedule::scheduled`.
 pub fn analysis_json(alloc: Global, design: &Design, options: &Options) -> Result<String, Fault>
     ensures { MatchResult result (λ text. IsAnalysisJson design.now options.now (string_bytes text))
         (IsShowFault design.now options.now) }

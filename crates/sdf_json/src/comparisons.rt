@@ -1,4 +1,4 @@
-//! Schedules beside one another as lines.
+//! Comparisons of schedules as lines.
 
 ghost use Rattle.std.specs.Prelude.{◌≡◌, ◌++◌, IfOk, OnOk, MatchResult, map, take, string_bytes};
 ghost use Rattle.serde_json.specs.View.{view, members_view};
@@ -16,7 +16,7 @@ use sdf_options::Options;
 use serde_json::Value;
 use std::alloc::{AllocError, Global};
 
-/// Adds what is compared of a schedule; the periods of its block come in the place of those that were asked for.
+/// Adds the compared values of a schedule. The periods of its block replace the number that was asked for.
 fn put_measures(members: &mut Members, alloc: Global, measures: Measures) -> Result<(), AllocError>
     ensures { OnOk result (members_view members.new.entries ≡
         with (members_view members.old.entries) (measures_of measures)) }
@@ -28,7 +28,7 @@ fn put_measures(members: &mut Members, alloc: Global, measures: Measures) -> Res
     put_number(members, alloc, "samples", measures.held)
 }
 
-/// Adds this, or the number of the fault why there is no schedule.
+/// Adds the compared values of a schedule, or the number of the fault if there is no schedule.
 fn put_outcome(members: &mut Members, alloc: Global, outcome: Outcome) -> Result<(), AllocError>
     ensures { OnOk result (members_view members.new.entries ≡
         with (members_view members.old.entries) (outcome_of outcome)) }
@@ -47,7 +47,7 @@ fn entry_value(alloc: Global, entry: Entry) -> Result<Value, AllocError>
     Ok(Value::Object(members))
 }
 
-/// The schedules that are compared.
+/// Returns the values of `entries`, in their order.
 fn entry_values(alloc: Global, entries: &[Entry]) -> Result<Vec<Value>, AllocError>
     ensures { IfOk result (λ list. map view list.items ≡ map entry_value entries.now) }
 {
@@ -64,9 +64,9 @@ fn comparison_value(alloc: Global, entries: &[Entry]) -> Result<Value, AllocErro
     Ok(Value::Array(entry_values(alloc, entries)?))
 }
 
-/// Schedules beside one another, as a line of JSON: an array of the schedules that `sdf_analyze::compared` compares, of
-/// each the options, with the periods that its block has, and the makespan, the speedup in hundredths, the rows and the
-/// samples that all links hold at most, or the number of the fault why there is none.
+/// Returns a comparison of schedules as a line of JSON: an array of the schedules that `sdf_analyze::compared`
+/// compares. Each has its options, and either the number of a fault or its values. The values are the periods of its
+/// block, the makespan, the speedup in hundredths, the rows, and the sum of the links' capacities, in samples.
 pub fn comparison_json(alloc: Global, design: &Design, options: &Options) -> Result<String, Fault>
     requires { AreSizes options.now }
     ensures { MatchResult result (λ text. IsComparisonJson design.now options.now (string_bytes text))

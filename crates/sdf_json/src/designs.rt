@@ -36,7 +36,7 @@ fn actor_value(
     Ok(Value::Object(members))
 }
 
-/// The actors, in file order.
+/// Returns the values of the actors, in file order.
 fn actors(
     alloc: Global,
     design: &Design,
@@ -63,7 +63,7 @@ fn end_value(alloc: Global, design: &Design, end: (usize, usize)) -> Result<Valu
     Ok(Value::Object(members))
 }
 
-/// The ends of a link.
+/// Returns the members of the ends of `link`.
 pub(crate) fn ends_of(alloc: Global, design: &Design, link: usize) -> Result<Members, AllocError>
     requires { link < length design.now.net.wires }
     ensures { IfOk result (λ m. members_view m.entries ≡ with no_members (ends_of design.now link)) }
@@ -84,7 +84,7 @@ fn link_value(alloc: Global, design: &Design, link: usize) -> Result<Value, Allo
     Ok(Value::Object(ends_of(alloc, design, link)?))
 }
 
-/// The links, in file order.
+/// Returns the values of the links, in file order.
 fn links(alloc: Global, design: &Design) -> Result<Vec<Value>, AllocError>
     ensures { IfOk result (λ list. map view list.items ≡
         each_to (link_value design.now) (length design.now.net.wires)) }
@@ -121,8 +121,8 @@ fn check_value(
     Ok(Value::Object(members))
 }
 
-/// What a design is, as a line of JSON: its actors with how often each fires in a period, its links, the firings of a
-/// period, and the samples that each input puts and each output takes in one.
+/// Returns `design` as a line of JSON: its actors with their firings in a period, its links, and the firings of a
+/// period. Last are the samples that each input puts and each output takes in a period.
 pub fn check_json(alloc: Global, design: &Design) -> Result<String, AllocError>
     ensures { IfOk result (λ text. IsCheckJson design.now (string_bytes text)) }
 {

@@ -27,7 +27,7 @@ fn progress_value(alloc: Global, progress: &Progress) -> Result<Value, AllocErro
     Ok(Value::Object(members))
 }
 
-/// How far each actor came.
+/// Returns how far each actor got before a deadlock.
 fn progresses(alloc: Global, actors: &[Progress]) -> Result<Vec<Value>, AllocError>
     ensures { IfOk result (λ list. map view list.items ≡ map progress_value actors.now) }
 {
@@ -47,7 +47,7 @@ fn stalled_value(alloc: Global, stalled: &Stalled) -> Result<Value, AllocError>
     Ok(Value::Object(members))
 }
 
-/// A mistake of usage, with the parser's own text.
+/// Returns a mistake of usage, with the parser's own text.
 fn usage_value(alloc: Global, text: &str) -> Result<Value, AllocError>
     ensures { IfOk result (λ v. view v ≡ usage_value text.now) }
 {
@@ -68,7 +68,7 @@ fn words_value(alloc: Global, fault: &WordFault) -> Result<Value, AllocError>
     }
 }
 
-/// A fault's number, its name, and all that it carries.
+/// Returns the number of a fault, its name, and everything that it carries.
 fn fault_value(alloc: Global, fault: &Fault) -> Result<Value, AllocError>
     ensures { IfOk result (λ v. IsFaultValue fault.now (view v)) }
 {
@@ -93,8 +93,8 @@ fn fault_value(alloc: Global, fault: &Fault) -> Result<Value, AllocError>
     }
 }
 
-/// What the program prints of a fault on standard error where it prints JSON: a line that reads as the fault's number,
-/// its name, and all that it carries under its own name.
+/// Returns the line that the program prints about `fault` on standard error when it prints JSON. It reads as the
+/// fault's number, its name, and everything that the fault carries, each under its own name.
 pub fn fault_json(alloc: Global, fault: &Fault) -> Result<String, AllocError>
     ensures { IfOk result (λ text. IsFaultJson fault.now (string_bytes text)) }
 {

@@ -15,7 +15,7 @@ use sdf_kinds::{Form, KeyForm, Kind, Width, kinds, row_of, shared_keys};
 use serde_json::{Map, Value, put};
 use std::alloc::{AllocError, Global};
 
-/// Returns a number, or the name of the key that says it.
+/// Returns a number, or the name of the key that gives it.
 fn amount_value(alloc: Global, amount: Amount) -> Result<Value, AllocError>
     ensures { IfOk result (λ v. view v ≡ amount_value amount) }
 {
@@ -57,7 +57,7 @@ fn put_ports(members: &mut Members, alloc: Global, kind: Kind) -> Result<(), All
     put_amount(members, alloc, "cycle", ports.cycle)
 }
 
-/// The limits of the numbers at a key, what the number is if the key is absent, and whether the key has to be there.
+/// The limits of the numbers at a key, the number if the key is absent, and whether the key is needed.
 #[derive(Clone, Copy, Debug, PartialEq, Eq)]
 pub struct Range {
     pub least: i64,
@@ -66,7 +66,7 @@ pub struct Range {
     pub needed: bool,
 }
 
-/// Returns the range of a key that has to be there.
+/// Returns the range of a key that is needed.
 fn needed(least: i64, most: i64) -> Range
     ensures { result ≡ needed least most }
 {
@@ -134,7 +134,7 @@ fn put_range(members: &mut Members, alloc: Global, range: Range) -> Result<(), A
     put(members, alloc, "needed", Value::Bool(range.needed))
 }
 
-/// Adds which key a number may not be below, or how many numbers a list may have.
+/// Adds the key that a number may not be below, or the most numbers that a list may have.
 fn put_more(members: &mut Members, alloc: Global, form: Form) -> Result<(), AllocError>
     ensures { OnOk result (members_view members.new.entries ≡
         with (members_view members.old.entries) (more_members form)) }

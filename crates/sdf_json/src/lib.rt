@@ -1,7 +1,7 @@
-//! What the commands print as JSON: a design, its schedule, its analysis, schedules beside one another, the kinds of
+//! The JSON that the commands print: a design, its schedule, its analysis, a comparison of schedules, the kinds of
 //! actors, and a fault.
 //!
-//! It depends on `sdf_plan`, which schedules a design, and on `sdf_analyze`, which computes what a schedule does.
+//! It depends on `sdf_plan`, which schedules a design, and on `sdf_analyze`, which computes the figures of a schedule.
 //! `sdf_file` and `sdf_document` read designs, `sdf_kinds` has the rows of the kinds, and `sdf_faults` gathers the
 //! faults of the program. The values printed belong to `sdf_options`, `sdf_wav`, `sdf_kit`, `sdf_actor`, `sdf_prec`,
 //! `sdf_sched` and `sdf_graph`. Begin at `designs`, then `schedules`, `analyses`, `comparisons`, `kinds` and `faults`.

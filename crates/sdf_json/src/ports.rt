@@ -1,4 +1,4 @@
-//! The ports of each kind, and the law that a kind has them.
+//! The ports of each kind, and the law that a kind has these ports.
 
 ghost use Rattle.std.specs.Prelude.{◌≡◌};
 ghost use Rattle.sdf_json.specs.Ports.{steady, ports_of, KindsHaveTheirPorts};
@@ -30,7 +30,7 @@ pub struct PortRow {
     pub cycle: Amount,
 }
 
-/// Returns the ports of a kind each firing of which does the same.
+/// Returns the ports of a kind whose firings all do the same.
 fn steady(inputs: Amount, takes: Amount, outputs: Amount, puts: Amount) -> PortRow
     ensures { result ≡ steady inputs takes outputs puts }
 {
@@ -83,7 +83,7 @@ pub(crate) fn ports_of(kind: Kind) -> PortRow
     }
 }
 
-/// The node of each kind has the ports of its row, by the values of its keys.
+/// States that the node of each kind has the ports of its row, by the values of its keys.
 pub fn kinds_have_their_ports()
     ensures { KindsHaveTheirPorts }
 {}

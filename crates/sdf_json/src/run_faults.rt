@@ -23,7 +23,7 @@ fn firing_value(alloc: Global, firing: Firing) -> Result<Value, AllocError>
     Ok(Value::Object(members))
 }
 
-/// A fault of a firing.
+/// Returns the value of the fault that `firing` is missing in a table.
 fn missing_value(alloc: Global, firing: Firing) -> Result<Value, AllocError>
     ensures { IfOk result (λ v. view v ≡
         told 14 (codes "FiringMissing") ((codes "firing", firing_value firing) ∷ [])) }
@@ -33,7 +33,7 @@ fn missing_value(alloc: Global, firing: Firing) -> Result<Value, AllocError>
     Ok(Value::Object(members))
 }
 
-/// The members of a fault of a firing in a row.
+/// Returns the members of a fault of `firing` in `row`.
 fn in_row(
     alloc: Global,
     number: u32,

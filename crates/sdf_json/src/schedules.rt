@@ -19,7 +19,8 @@ use sdf_sched::Period;
 use serde_json::{Map, Value, put};
 use std::alloc::{AllocError, Global};
 
-/// The options that a schedule was asked for with, and the periods of its block.
+/// Returns the members of the `options` that a schedule was asked for with. `analysis_json` and `schedule_json` set
+/// their `blocking` to the periods of the block.
 pub(crate) fn asked(alloc: Global, options: &Options) -> Result<Members, AllocError>
     ensures { IfOk result (λ m. members_view m.entries ≡ with no_members (asked options.now)) }
 {
@@ -61,8 +62,8 @@ fn schedule_value(
     Ok(Value::Object(members))
 }
 
-/// What a schedule is, as a line of JSON: the options, the period with its actors and its order, and the table with its
-/// rows and links. The tests are those of `sdf_plan::schedule::scheduled`.
+/// Returns the schedule of `design` as a line of JSON: the options, the period with its actors and its order, and the
+/// table with its rows and links. The tests are listed at `sdf_plan::schedule::scheduled`.
 pub fn schedule_json(alloc: Global, design: &Design, options: &Options) -> Result<String, Fault>
     ensures { MatchResult result (λ text. IsScheduleJson design.now options.now (string_bytes text))
         (IsShowFault design.now options.now) }

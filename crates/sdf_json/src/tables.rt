@@ -1,4 +1,4 @@
-//! What a table shows, as values.
+//! The parts of a table, as values.
 
 ghost use Rattle.std.specs.Prelude.{◌≡◌, ◌<◌, ◌+◌, ◌≤◌, ◌∷◌, IfOk, length, map, drop, slice_index};
 ghost use Rattle.serde_json.specs.View.{view};
@@ -28,7 +28,7 @@ fn stretch_value(
     Ok(Value::Object(members))
 }
 
-/// An item for each longest stretch of one actor.
+/// Returns an item for each longest stretch of one actor in `order`.
 pub(crate) fn order_items(
     alloc: Global,
     design: &Design,
@@ -79,7 +79,7 @@ pub(crate) fn rows(alloc: Global, design: &Design, table: &Table) -> Result<Vec<
     Ok(list)
 }
 
-/// An actor, with how often it fires in a period and its worker.
+/// Returns `actor`, with its firings in a period and its worker.
 fn homed_value(
     alloc: Global,
     design: &Design,
@@ -99,7 +99,7 @@ fn homed_value(
     Ok(Value::Object(members))
 }
 
-/// The actors, in file order.
+/// Returns the actors with their firings and workers, in file order.
 pub(crate) fn homed_actors(
     alloc: Global,
     design: &Design,
@@ -118,7 +118,7 @@ pub(crate) fn homed_actors(
     Ok(list)
 }
 
-/// A link and its capacity.
+/// Returns `link` and its capacity.
 fn capacity_value(
     alloc: Global,
     design: &Design,
@@ -134,7 +134,7 @@ fn capacity_value(
     Ok(Value::Object(members))
 }
 
-/// The links and their capacities, in file order.
+/// Returns the links and their capacities, in file order.
 pub(crate) fn capacities(
     alloc: Global,
     design: &Design,

@@ -1,4 +1,4 @@
-//! What is told of a fault: its number, its name, and where it is.
+//! The parts of a fault's value: its number, its name, and where it is.
 
 ghost use Rattle.std.specs.Prelude.{◌≡◌, ◌∷◌, [], IfOk, OnOk, codes};
 ghost use Rattle.serde_json.specs.Data.{string, put as with_member};
@@ -11,7 +11,7 @@ use sdf_document::Place;
 use serde_json::{Map, Value, put};
 use std::alloc::{AllocError, Global};
 
-/// A number and a name.
+/// Returns the members that every fault has: its number and its name.
 pub(crate) fn begun(alloc: Global, number: u32, name: &str) -> Result<Members, AllocError>
     ensures { IfOk result (λ m. members_view m.entries ≡ begun number name.now) }
 {
@@ -21,14 +21,14 @@ pub(crate) fn begun(alloc: Global, number: u32, name: &str) -> Result<Members, A
     Ok(members)
 }
 
-/// A fault that carries nothing else.
+/// Returns a fault that carries nothing else.
 pub(crate) fn plain(alloc: Global, number: u32, name: &str) -> Result<Value, AllocError>
     ensures { IfOk result (λ v. view v ≡ plain number name.now) }
 {
     Ok(Value::Object(begun(alloc, number, name)?))
 }
 
-/// A fault with a number under a word.
+/// Returns a fault that has the number `place` under the key `word`.
 pub(crate) fn at(
     alloc: Global,
     number: u32,
@@ -43,7 +43,7 @@ pub(crate) fn at(
     Ok(Value::Object(members))
 }
 
-/// Adds a place by its word.
+/// Adds `place` under its key.
 fn put_place(members: &mut Members, alloc: Global, place: &Place) -> Result<(), AllocError>
     ensures { OnOk result (members_view members.new.entries ≡
         with (members_view members.old.entries) (place_member place.now ∷ [])) }
@@ -56,7 +56,7 @@ fn put_place(members: &mut Members, alloc: Global, place: &Place) -> Result<(), 
     }
 }
 
-/// A fault at a place.
+/// Returns a fault at `place`.
 pub(crate) fn at_place(
     alloc: Global,
     number: u32,
@@ -70,7 +70,7 @@ pub(crate) fn at_place(
     Ok(Value::Object(members))
 }
 
-/// A fault of a key.
+/// Returns a fault of `key` at `place`.
 pub(crate) fn at_key(
     alloc: Global,
     number: u32,

@@ -1,4 +1,4 @@
-//! What values are made of, and the line of one.
+//! The parts of values, and the line of a value.
 
 ghost use Rattle.std.specs.Prelude.{◌≡◌, ◌++◌, ◌∷◌, ◌≤◌, [], IfOk, OnOk, string_bytes};
 ghost use Rattle.serde_json.specs.Data.{no_members, put as with_member, depth, string, object, array};
@@ -9,7 +9,7 @@ ghost use Rattle.sdf_json.specs.Values.{natural, perhaps, IsLineOf};
 use serde_json::{Map, Value, put};
 use std::alloc::{AllocError, Global};
 
-/// The members of an object.
+/// The members of an object, by their keys.
 pub(crate) type Members = Map<String, Value>;
 
 /// Adds a member that is a text.
@@ -39,7 +39,7 @@ pub(crate) fn put_number(
     put(members, alloc, key, Value::from(number))
 }
 
-/// A number, or null where there is none.
+/// Returns a number, or null if there is none.
 pub(crate) fn perhaps(number: Option<usize>) -> Value
     ensures { view result ≡ perhaps number }
 {
@@ -49,7 +49,7 @@ pub(crate) fn perhaps(number: Option<usize>) -> Value
     }
 }
 
-/// The line of a value.
+/// Returns the line of `value`.
 pub(crate) fn line_of(alloc: Global, value: &Value) -> Result<String, AllocError>
     requires { depth (view value.now) ≤ max_depth }
     ensures { IfOk result (λ text. IsLineOf (view value.now) (string_bytes text)) }

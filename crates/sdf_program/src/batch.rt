@@ -1,4 +1,4 @@
-//! The command that makes sounds of several others.
+//! The command that runs a design on several WAV files.
 
 ghost use Rattle.std.specs.Prelude.{◌≡◌, ◌≤◌, IfSome};
 ghost use Rattle.sdf_plan.specs.Plans.{Suits};
@@ -23,7 +23,7 @@ use std::sync::atomic::{AtomicUsize, Ordering};
 use std::thread::{self, Threads};
 use std::time::Clock;
 
-/// Returns the run from one file to another.
+/// Returns the run of a batch from the file `input` to the file `output`.
 fn running_of<'a>(batching: Batching<'a>, input: &'a str, output: &'a str) -> Running<'a>
     ensures design { result.loaded ≡ batching.entry.loaded }
     ensures crew { result.asked.parallel ≡ batching.entry.asked.now.parallel }
@@ -56,7 +56,7 @@ struct Course<'a> {
     prepared: &'a Prepared,
 }
 
-/// Refuses a file to write that the run which writes it reads, and names it.
+/// Errs if a run would write a file that it reads, and names that file.
 fn keep_inputs<S: Storage>(
     alloc: Global,
     storage: &S,
@@ -81,7 +81,7 @@ fn keep_inputs<S: Storage>(
     Ok(())
 }
 
-/// Runs a plan on a file.
+/// Runs a plan on the file of `item`, and returns the outcome.
 fn run_item<'a, S: Storage, T: Threads + AllocGlobal + Clock + Sync>(
     world: &World<S, T>,
     course: Course<'_>,
@@ -110,7 +110,7 @@ fn run_item<'a, S: Storage, T: Threads + AllocGlobal + Clock + Sync>(
     );
     let settled = settle(alloc, world.storage, item, ended, &mut heard.refused);
     if settled.is_ok() {
-        // The outcome may wait for those of earlier files, and nothing more is told of the sound.
+        // The outcome may wait for the outcomes of earlier files, and a file that is done needs no diagnostic.
         heard = Sources::new(alloc);
     }
     Outcome {
@@ -121,7 +121,7 @@ fn run_item<'a, S: Storage, T: Threads + AllocGlobal + Clock + Sync>(
     }
 }
 
-/// The files of a batch, of which workers take one after the other.
+/// The files of a batch, which workers take one after another.
 #[derive(Drop)]
 struct Line<'b, 'a> {
     items: &'b [Item<'a>],
@@ -162,10 +162,10 @@ struct Left<'a> {
     ended: Result<(), AllocError>,
 }
 
-/// Runs a plan on one file after the other, until none is left.
+/// Runs a plan on one file after another, until none is left.
 ///
-/// An outcome that meets another worker at the desk is handed over with the next one, or tried once more at the end. A
-/// file is taken only if memory for its outcome is there, so each file that was taken is reported.
+/// If another worker is at the desk, an outcome is handed over with the next one, or tried once more at the end. A file
+/// is taken only after memory for its outcome is reserved, so each file that is taken is reported.
 fn work<'a, S: Storage, T: Threads + AllocGlobal + Clock + Sync, O: Write + Send, E: Write + Send>(
     world: &World<S, T>,
     course: Course<'_>,
@@ -194,7 +194,8 @@ fn work<'a, S: Storage, T: Threads + AllocGlobal + Clock + Sync, O: Write + Send
     Left { done, ended }
 }
 
-/// Returns how many files are run at once: one if the processors serve within it, else one for each processor.
+/// Returns how many files run at the same time: one if the processors work on one file together, otherwise one for each
+/// processor.
 fn files_at_once<T: Threads>(threads: &T, batch: &Batch<'_>) -> usize
     ensures { 1 ≤ result }
 {
@@ -204,7 +205,7 @@ fn files_at_once<T: Threads>(threads: &T, batch: &Batch<'_>) -> usize
     }
 }
 
-/// Runs a plan on files, as many at once as there are processors, and gives the greatest exit status of these runs.
+/// Runs a plan on `items`, at most `files_at_once` of them at a time. Returns the greatest exit status of the runs.
 fn serve_items<
     'd,
     'a,
@@ -246,7 +247,7 @@ fn serve_items<
     desk.worst()
 }
 
-/// Runs a plan on the files of a batch, and gives the greatest exit status of these runs.
+/// Runs a plan on the files of a batch. Returns the greatest exit status of the runs.
 fn serve_batch<
     S: Storage,
     T: Threads + AllocGlobal + Clock + Sync,
@@ -275,8 +276,8 @@ fn serve_batch<
     serve_items(world, course, &items, desk)
 }
 
-/// Runs a design on files, once its plan stands, and gives the greatest exit status of these runs. A file whose run
-/// fails is not written.
+/// Plans a design, and runs it on the files of a batch. Returns the greatest exit status of the runs. The output of a
+/// run that fails is not kept.
 pub(crate) fn run_batch<
     S: Storage,
     T: Threads + AllocGlobal + Clock + Sync,

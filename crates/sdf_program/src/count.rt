@@ -1,22 +1,22 @@
-//! How many files of a batch are done, on one line of a terminal.
+//! The number of files of a batch that are done, on one line of a terminal.
 
 use sdf_files::progress::GONE;
 use std::alloc::{AllocError, Global};
 use std::io::Write;
 
-/// How many files of a batch are done, and whether that is shown.
+/// The number of files of a batch that are done, and whether it is shown.
 #[derive(Clone, Copy)]
 pub(crate) struct Count {
     pub(crate) done: usize,
     all: usize,
     /// Whether there is a terminal to show it on.
     is_shown: bool,
-    /// Whether the line stands there now.
+    /// Whether the line is on the terminal now.
     is_there: bool,
 }
 
 impl Count {
-    /// Begins with none of `all` files.
+    /// Begins a batch of `all` files. None of them is done yet.
     pub(crate) fn new(all: usize, is_shown: bool) -> Count {
         Count {
             done: 0,
@@ -33,7 +33,7 @@ impl Count {
         format!(in alloc; "\r{done} of {all} file{plural} done\x1b[K")
     }
 
-    /// Shows how many files are done while others are not, unless memory is refused for it.
+    /// Shows how many files are done if others are not, unless memory is refused for it.
     pub(crate) fn show<E: Write>(&mut self, alloc: Global, err: &mut E) {
         if !self.is_shown || self.done >= self.all {
             return;
@@ -44,7 +44,7 @@ impl Count {
         }
     }
 
-    /// Takes the line away, if it is there.
+    /// Removes the line, if it is on the terminal.
     pub(crate) fn hide<E: Write>(&mut self, err: &mut E) {
         if self.is_there {
             let _ = err.write_all(GONE);

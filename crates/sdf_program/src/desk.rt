@@ -31,7 +31,7 @@ pub(crate) struct Desk<'d, 'a, O, E> {
 }
 
 impl<'d, 'a, O: Write, E: Write> Desk<'d, 'a, O, E> {
-    /// Begins a batch of `files` files, none of which is done.
+    /// Begins a batch of `files` files. None of them is done yet.
     pub(crate) fn new(
         alloc: Global,
         out: &'d mut O,
@@ -73,7 +73,7 @@ impl<'d, 'a, O: Write, E: Write> Desk<'d, 'a, O, E> {
         true
     }
 
-    /// Takes the line of files done away.
+    /// Removes the line that shows how many files are done.
     pub(crate) fn hide_count(&mut self) {
         self.count.hide(self.err);
     }
@@ -88,7 +88,7 @@ impl<'d, 'a, O: Write, E: Write> Desk<'d, 'a, O, E> {
         self.tell_on(alloc);
     }
 
-    /// Puts an outcome in the place of its file.
+    /// Puts the outcome `done` in the place of its file.
     fn put(&mut self, done: Done<'a>) {
         let Done { number, outcome } = done;
         if let Some(place) = self.outcomes.get_mut(number) {
@@ -114,7 +114,7 @@ impl<'d, 'a, O: Write, E: Write> Desk<'d, 'a, O, E> {
         Some(outcome)
     }
 
-    /// Reports an outcome, unless an earlier report failed.
+    /// Reports `outcome`, unless an earlier report failed.
     fn tell(&mut self, alloc: Global, outcome: &mut Outcome<'a>) {
         if let Ok(worst) = &mut self.worst {
             match outcome.tell(alloc, self.out, self.err, self.batching, self.sources) {

@@ -1,4 +1,4 @@
-//! What a batch is asked for, and its files: where each is written.
+//! A batch that is asked for, and the places where its files are written.
 
 use sdf_faults::Fault;
 use sdf_files::files::{Loaded, Refused, refuse};
@@ -9,19 +9,19 @@ use sdf_words::{Batch, mistake};
 use std::alloc::{AllocError, Global};
 use std::path::Path;
 
-/// A batch that is asked for, of a design that was read.
+/// A requested batch, for a design that was read.
 #[derive(Clone, Copy)]
 pub(crate) struct Batching<'a> {
     pub(crate) graph: &'a str,
     pub(crate) loaded: &'a Loaded,
     pub(crate) asked: &'a Batch<'a>,
-    /// Whether more is said than faults.
+    /// Whether more than faults is reported.
     pub(crate) is_said: bool,
-    /// Whether it is shown how many files are done.
+    /// Whether it shows how many files are done.
     pub(crate) is_shown: bool,
 }
 
-/// A file that is read, where its sound is written while it is made, and where that stands once it is whole.
+/// A file that is read, the path of its output while it is written, and the path of the output once it is complete.
 #[derive(Drop)]
 pub(crate) struct Item<'a> {
     pub(crate) input: &'a str,
@@ -29,7 +29,7 @@ pub(crate) struct Item<'a> {
     pub(crate) output: String,
 }
 
-/// Returns the name that a file is written by, if it has one.
+/// Returns the name by which the output of `input` is written, if there is one.
 fn name_of(input: &str) -> Option<&str> {
     if input == STANDARD {
         return None;
@@ -37,28 +37,28 @@ fn name_of(input: &str) -> Option<&str> {
     Path::new(input).file_name()
 }
 
-/// The mistake of a file that has no name.
+/// Returns the mistake of a file without a name.
 fn unnamed(alloc: Global, input: &str) -> Result<Fault, AllocError> {
     let shown = printable(alloc, input)?;
     let text = format!(in alloc; "IN {} has no name for a file in FOLDER", shown.as_str())?;
     Ok(Fault::from(mistake(alloc, text.as_str())))
 }
 
-/// The mistake of two files of one name.
+/// Returns the mistake of two files with the same name.
 fn named_twice(alloc: Global, name: &str) -> Result<Fault, AllocError> {
     let shown = printable(alloc, name)?;
     let text = format!(in alloc; "two files IN have the name {}", shown.as_str())?;
     Ok(Fault::from(mistake(alloc, text.as_str())))
 }
 
-/// The mistake of a file whose part has the name of another file, or the other way round.
+/// Returns the mistake of two files whose names differ only by `.part`.
 fn named_as_a_part(alloc: Global, name: &str) -> Result<Fault, AllocError> {
     let shown = printable(alloc, name)?;
     let text = format!(in alloc; "IN {} and another IN differ only by .part", shown.as_str())?;
     Ok(Fault::from(mistake(alloc, text.as_str())))
 }
 
-/// Returns whether a file is written here.
+/// Checks whether one of `items` is written to `output`.
 fn is_taken(items: &[Item<'_>], output: &str) -> bool {
     for item in items {
         if item.output.as_str() == output {
@@ -68,7 +68,7 @@ fn is_taken(items: &[Item<'_>], output: &str) -> bool {
     false
 }
 
-/// Returns whether a file would be written where the part of another one is. They are written at once.
+/// Checks whether `output` is the part of one of `items`, or `part` is its output. Both are written at the same time.
 fn is_part(items: &[Item<'_>], output: &str, part: &str) -> bool {
     for item in items {
         if item.part.as_str() == output || item.output.as_str() == part {
@@ -78,7 +78,7 @@ fn is_part(items: &[Item<'_>], output: &str, part: &str) -> bool {
     false
 }
 
-/// Adds a file that is read, unless it has no name or its place is that of an earlier one.
+/// Adds the file `input`. Errs if it has no name, or if its output or its part collides with an earlier file.
 fn push_item<'a>(
     alloc: Global,
     items: &mut Vec<Item<'a>>,
@@ -113,7 +113,7 @@ pub(crate) fn items_of<'a>(alloc: Global, batch: &Batch<'a>) -> Result<Vec<Item<
     Ok(items)
 }
 
-/// Puts a sound that is whole in its place, or notes how the system refused that.
+/// Moves a complete output to its final path, or notes in `refused` how the system refused that.
 fn place<S: Storage>(
     alloc: Global,
     storage: &S,
@@ -126,7 +126,8 @@ fn place<S: Storage>(
     }
 }
 
-/// Puts a sound that is whole in its place, and removes one that is not, or that has no place.
+/// Moves the output of a run that ended well to its final path. Removes the output if the run failed or the move
+/// failed.
 pub(crate) fn settle<S: Storage>(
     alloc: Global,
     storage: &S,

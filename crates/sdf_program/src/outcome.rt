@@ -11,7 +11,7 @@ use sdf_options::printable::printable;
 use std::alloc::{AllocError, Global};
 use std::io::Write;
 
-/// The outcome of the file `input`: the text of its run, the result, and what is known of the sound.
+/// The outcome of the file `input`: the text of its run, the result, and what is known about the WAV file.
 #[derive(Drop)]
 pub(crate) struct Outcome<'a> {
     pub(crate) input: &'a str,
@@ -28,7 +28,7 @@ fn first_line(text: &str) -> &str {
     }
 }
 
-/// Returns the line of a fault without the name of the program.
+/// Returns the line of a fault without the program's name.
 fn bare(line: &str) -> &str {
     match line.strip_prefix("sdfw: ") {
         Some(rest) => rest,
@@ -36,7 +36,7 @@ fn bare(line: &str) -> &str {
     }
 }
 
-/// Adds the lines of `said`, each behind the name of a file.
+/// Adds the lines of `said`, with `name` before each of them.
 fn push_named(text: &mut String, name: &str, said: &str) -> Result<(), AllocError> {
     for line in said.lines() {
         writeln!(text, "{name}: {line}")?;
@@ -64,7 +64,7 @@ impl Outcome<'_> {
         put(out, line.as_bytes())
     }
 
-    /// Returns the text of the run, each line behind the name of the file.
+    /// Returns the text of the run, with the name of the file before each line.
     fn said_text(&self, alloc: Global) -> Result<String, AllocError> {
         let mut text = String::new(alloc);
         if let Ok(said) = str::from_utf8(&self.said) {
@@ -97,7 +97,7 @@ impl Outcome<'_> {
     }
 
     /// Reports the outcome, with diagnostics if they are asked for, and returns the exit status of the run. Leaves what
-    /// is known of the sound in `sources`.
+    /// is known about the WAV file in `sources`.
     pub(crate) fn tell<O: Write, E: Write>(
         &mut self,
         alloc: Global,

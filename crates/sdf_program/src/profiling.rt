@@ -14,7 +14,7 @@ use std::io::{self, Read, Write};
 use std::thread::Threads;
 use std::time::Clock;
 
-/// Reads all bytes of a file, or of standard input.
+/// Reads all bytes of the file at `path`, or of standard input.
 fn read_input<S: Storage, T: AllocGlobal, I: Read>(
     world: &World<S, T>,
     stdin: &mut I,
@@ -27,7 +27,8 @@ fn read_input<S: Storage, T: AllocGlobal, I: Read>(
     read_at(alloc, world.storage, path, world.most)
 }
 
-/// Reads all bytes of a sound, which is noted, or how the system refused it.
+/// Reads all bytes of the WAV file at `path`, or of standard input. Notes in `sources` what was read, or how the system
+/// refused it.
 fn bytes_at<S: Storage, T: AllocGlobal, I: Read>(
     world: &World<S, T>,
     stdin: &mut I,
@@ -45,7 +46,7 @@ fn bytes_at<S: Storage, T: AllocGlobal, I: Read>(
     }
 }
 
-/// What is wrong with the graph file of a design if no costs can be written into its text.
+/// Returns the mistake for a graph file into whose text costs cannot be written.
 fn unwritten(alloc: Global, design: &Design, fault: Unwritten) -> Result<Fault, AllocError> {
     let text = match fault {
         Unwritten::OutOfMemory => return Ok(Fault::OutOfMemory),
@@ -68,7 +69,7 @@ fn unwritten(alloc: Global, design: &Design, fault: Unwritten) -> Result<Fault, 
     Ok(Fault::from(mistake(alloc, text.as_str())))
 }
 
-/// The text of the graph file of a design that was read, with these costs.
+/// Returns the text of the graph file that was read, with these `costs`.
 fn costed(
     alloc: Global,
     sources: &Sources,
@@ -81,7 +82,8 @@ fn costed(
     }
 }
 
-/// What is measured: a run of GRAPH on IN. Where a FILE is named, the graph file is written there with the costs.
+/// A requested measurement: a run of GRAPH on IN. If `write` names a FILE, the graph file is written there with
+/// the costs.
 #[derive(Clone, Copy)]
 pub(crate) struct Profiling<'a> {
     pub(crate) graph: &'a str,
@@ -90,7 +92,7 @@ pub(crate) struct Profiling<'a> {
     pub(crate) write: Option<&'a str>,
 }
 
-/// Writes the text of a graph file, and prints a profile where that text does not stand there.
+/// Writes the text of a graph file to `output`, and prints `profile` unless `output` is standard output.
 fn put_written<S: Storage, T: AllocGlobal, O: Write>(
     world: &World<S, T>,
     out: &mut O,
@@ -112,7 +114,8 @@ fn put_written<S: Storage, T: AllocGlobal, O: Write>(
     show(out, profile)
 }
 
-/// Writes the graph file with the costs that were measured, and prints the profile where it does not stand there.
+/// Writes the graph file with the `measured` costs to `output`, and prints the profile unless `output` is standard
+/// output.
 fn write_measured<S: Storage, T: AllocGlobal, O: Write>(
     world: &World<S, T>,
     out: &mut O,
@@ -126,8 +129,8 @@ fn write_measured<S: Storage, T: AllocGlobal, O: Write>(
     put_written(world, out, output, &written, profile, &mut sources.refused)
 }
 
-/// Measures a run once it is tested that the file to write is none of those that are read, and that the graph file can
-/// be written with costs.
+/// Measures a run, and writes the graph file with the costs to `output`. Before the run it checks that `output` is not
+/// a file that is read, and that costs can be written into the graph file.
 fn measure_into<S: Storage, T, O: Write>(
     world: &World<S, T>,
     out: &mut O,
@@ -158,7 +161,7 @@ where
     write_measured(world, out, design, output, sources, &measured)
 }
 
-/// Measures a run of what was read.
+/// Measures a run on `bytes` of the design that was read, and prints or writes the result.
 fn measure<S: Storage, T, O: Write>(
     world: &World<S, T>,
     out: &mut O,
@@ -178,7 +181,8 @@ where
     }
 }
 
-/// Prints what each actor's firings take of the time of a run, or writes the costs into a file that is named.
+/// Prints the part of a run's time that each actor's firings take. If `write` names a FILE, writes the graph file there
+/// with the costs. If FILE is standard output, does not print the profile.
 pub(crate) fn print_profile<S: Storage, T, I: Read, O: Write>(
     world: &World<S, T>,
     stdin: &mut I,

@@ -1,4 +1,4 @@
-//! The whole program, over what it works on.
+//! The whole program, over a file system, streams and threads.
 
 ghost use Rattle.std.specs.Prelude.{◌≡◌, ◌⊎◌, IfSome};
 ghost use Rattle.sdf_faults.specs.Statuses.{status_of};
@@ -29,7 +29,7 @@ use std::io::{Read, Write};
 use std::thread::Threads;
 use std::time::Clock;
 
-/// A task for a design, and when more is said than faults.
+/// A task for a design, and when more than faults is reported.
 #[derive(Clone, Copy)]
 struct Asked<'a> {
     graph: &'a str,
@@ -43,7 +43,7 @@ struct Job<'a> {
     graph: &'a str,
     task: Task<'a>,
     loaded: &'a Loaded,
-    /// Whether more is said than faults.
+    /// Whether more than faults is reported.
     is_said: bool,
 }
 
@@ -114,7 +114,7 @@ fn work<
     }
 }
 
-/// Reads a design, and does a task for it. What was read stands in `sources`.
+/// Reads a design, and does a task for it. Leaves what was read in `sources`.
 fn work_on<
     S: Storage,
     T: Threads + AllocGlobal + Clock + Clone + Drop + Sync,
@@ -143,7 +143,7 @@ fn work_on<
     work(world, stdin, out, err, job, sources)
 }
 
-/// Runs of a design, and when more is said than faults.
+/// Runs of a design, and when more than faults is reported.
 #[derive(Clone, Copy)]
 struct Runs<'a> {
     graph: &'a str,
@@ -151,7 +151,7 @@ struct Runs<'a> {
     why: Why,
 }
 
-/// Reads a design, and runs it on several files. What was read stands in `sources`. Gives the exit status.
+/// Reads a design, and runs it on several files. Leaves what was read in `sources`, and returns the exit status.
 fn run_on<S: Storage, T: Threads + AllocGlobal + Clock + Sync, O: Write + Send, E: Write + Send>(
     world: &World<S, T>,
     out: &mut O,
@@ -175,13 +175,13 @@ fn run_on<S: Storage, T: Threads + AllocGlobal + Clock + Sync, O: Write + Send, 
     run_batch(world, out, err, batching, sources)
 }
 
-/// The exit status of what ended well.
+/// Returns the exit status 0 if `done` ended well, otherwise its fault.
 fn ended_well(done: Result<(), Fault>) -> Result<u8, Fault> {
     done?;
     Ok(0)
 }
 
-/// Does what is asked for, and gives the exit status. What was read stands in `sources`.
+/// Does what is asked for, and returns the exit status. Leaves what was read in `sources`.
 fn obey<
     S: Storage,
     T: Threads + AllocGlobal + Clock + Clone + Drop + Sync,
@@ -224,7 +224,7 @@ fn show_help<O: Write>(alloc: Global, out: &mut O, told: &clap::Error) -> Result
     show(out, text.as_str())
 }
 
-/// What is answered where the words ask for nothing that can be done. Help or the version is an answer.
+/// Prints help or the version if the words ask for that, otherwise returns `fault`.
 fn help_or_fault<O: Write>(alloc: Global, out: &mut O, fault: WordFault) -> Result<(), Fault> {
     match &fault {
         WordFault::Usage(told) if !told.use_stderr() => show_help(alloc, out, told),
@@ -232,7 +232,8 @@ fn help_or_fault<O: Write>(alloc: Global, out: &mut O, fault: WordFault) -> Resu
     }
 }
 
-/// The text of a mistake, for standard error. The usage does not help where only a value is wrong.
+/// Returns the text of a mistake, for standard error. The usage is left out if only a value is wrong, because it does
+/// not help then.
 fn mistake_text(alloc: Global, told: &clap::Error) -> Result<String, AllocError> {
     let whole = format!(in alloc; "{told}")?;
     match whole.as_str().split_once("\n\nUsage: ") {
@@ -243,7 +244,7 @@ fn mistake_text(alloc: Global, told: &clap::Error) -> Result<String, AllocError>
     }
 }
 
-/// The text of a fault, for standard error.
+/// Returns the text of `fault`, for standard error.
 fn told(alloc: Global, fault: &Fault, background: &Background) -> Result<String, AllocError> {
     match fault {
         other if background.is_json() => fault_json(alloc, other),
@@ -252,7 +253,7 @@ fn told(alloc: Global, fault: &Fault, background: &Background) -> Result<String,
     }
 }
 
-/// The text of the fault of memory, for which none is needed.
+/// Returns the text of the fault that memory was refused. It takes no memory.
 fn told_without_memory(json: bool) -> &'static [u8] {
     if json {
         b"{\"fault\":1,\"name\":\"OutOfMemory\"}\n"
@@ -261,8 +262,8 @@ fn told_without_memory(json: bool) -> &'static [u8] {
     }
 }
 
-/// Tells a fault on standard error and what more is known of it, and gives its exit status; that of memory where there
-/// is none for its text.
+/// Reports `fault` and its diagnostic on standard error, and returns its exit status. If there is no memory for the
+/// text, reports `OutOfMemory` and returns its status instead.
 fn tell<E: Write>(alloc: Global, err: &mut E, fault: &Fault, background: &Background) -> u8
     ensures { (result ≡ status_of fault.now) ⊎ (result ≡ status_of OutOfMemory) }
 {
@@ -279,7 +280,7 @@ fn tell<E: Write>(alloc: Global, err: &mut E, fault: &Fault, background: &Backgr
     }
 }
 
-/// The words that a command line is read as.
+/// Returns the words of a command line as slices.
 fn line_of(alloc: Global, given: &[String]) -> Result<Vec<&str>, AllocError> {
     let mut line = Vec::new(alloc);
     for word in given {
@@ -288,7 +289,8 @@ fn line_of(alloc: Global, given: &[String]) -> Result<Vec<&str>, AllocError> {
     Ok(line)
 }
 
-/// Does what the given words ask for, and gives the exit status. What a fault can be told by is left in `background`.
+/// Does what the given words ask for, and returns the exit status. Leaves in `background` what the report of a fault
+/// needs.
 fn answer<
     S: Storage,
     T: Threads + AllocGlobal + Clock + Clone + Drop + Sync,
@@ -317,7 +319,7 @@ fn answer<
     }
 }
 
-/// The exit status of what was done. A fault is told on standard error.
+/// Returns the exit status of what was done. Reports a fault on standard error.
 fn ended<E: Write>(
     alloc: Global,
     err: &mut E,
@@ -334,8 +336,8 @@ fn ended<E: Write>(
     }
 }
 
-/// The whole program: what it was started with, what it works on and standard input come in, what it prints and
-/// its exit status come out.
+/// Runs the whole program on its command line `given`, and returns its exit status. It works on `world` and `stdin`,
+/// and prints on `out` and `err`.
 pub fn serve<
     S: Storage,
     T: Threads + AllocGlobal + Clock + Clone + Drop + Sync,

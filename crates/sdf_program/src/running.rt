@@ -1,4 +1,4 @@
-//! The command that makes a sound of another.
+//! The command that runs a design on a WAV file.
 
 ghost use Rattle.std.specs.Prelude.{◌≤◌, IfOk, IfSome};
 ghost use Rattle.sdf_limits.specs.declared.TheConstants.{MOST_WORKERS};
@@ -29,23 +29,23 @@ use std::io::{ErrorKind, Read, Write};
 use std::thread::{Threads, available_parallelism};
 use std::time::Clock;
 
-/// Workers of a parallel run where the system does not tell its processors.
+/// The workers of a parallel run if the system does not report its processors.
 const WORKERS: usize = 4;
 
-/// A run that is asked for, of a design that was read.
+/// A requested run, for a design that was read.
 #[derive(Clone, Copy)]
 pub(crate) struct Running<'a> {
     pub(crate) graph: &'a str,
     pub(crate) loaded: &'a Loaded,
     pub(crate) asked: Run<'a>,
-    /// Whether more is said than faults.
+    /// Whether more than faults is reported.
     pub(crate) is_said: bool,
-    /// Whether it is shown how far the run has come.
+    /// Whether the progress of the run is shown.
     pub(crate) is_shown: bool,
 }
 
 impl<'a> Running<'a> {
-    /// What is read and written.
+    /// Returns the paths of the files that are read and written.
     fn paths(self) -> Paths<'a> {
         Paths {
             graph: self.graph,
@@ -55,7 +55,7 @@ impl<'a> Running<'a> {
     }
 }
 
-/// The plan of a run, and how a parallel run goes by it.
+/// The plan of a run, and how a parallel run uses it.
 #[derive(Drop)]
 pub(crate) struct Prepared {
     pub(crate) plan: Plan,
@@ -70,7 +70,7 @@ pub(crate) struct Planned<'a> {
     pub(crate) pace: Option<Pace>,
 }
 
-/// Runs a plan from the first byte of one stream to the last of another.
+/// Runs `plan` from the first byte of `from` to the last byte of `to`.
 fn run_between<T: Threads + AllocGlobal + Sync, R: Read, W: Write>(
     threads: &T,
     from: &mut R,
@@ -89,7 +89,7 @@ fn run_between<T: Threads + AllocGlobal + Sync, R: Read, W: Write>(
     )
 }
 
-/// Returns how a run in parts went that made `frames` frames, or no text for any other run.
+/// Returns a description of a run in parts that made `frames` frames, or no text for any other run.
 fn parts_text(alloc: Global, planned: Planned<'_>, frames: u64) -> Result<String, AllocError> {
     let Some(
         Pace::Parts {
@@ -111,7 +111,7 @@ fn parts_text(alloc: Global, planned: Planned<'_>, frames: u64) -> Result<String
     )
 }
 
-/// Says how a sound was run in parts, and how loud its outputs are, if they were counted.
+/// Reports how a run went in parts and how loud its outputs are. Reports nothing if the levels were not counted.
 fn tell_end<E: Write>(
     alloc: Global,
     err: &mut E,
@@ -127,7 +127,7 @@ fn tell_end<E: Write>(
     Ok(())
 }
 
-/// How a run ended, what it has written, and how the system refused the rest.
+/// The result of a run, the levels of its output, and how the system refused the output.
 #[derive(Drop)]
 struct Ran {
     ended: Result<(), Fault>,
@@ -136,7 +136,7 @@ struct Ran {
 }
 
 impl Ran {
-    /// Notes how the system refused the output, and says how the run went if it ended well.
+    /// Notes in `refused` how the system refused the output, and reports how the run went if it ended well.
     fn finish<E: Write>(
         self,
         alloc: Global,
@@ -152,7 +152,7 @@ impl Ran {
     }
 }
 
-/// Runs a plan on a stream into another one, and shows how far it has come.
+/// Runs a plan from `from` to `to`, and shows its progress.
 fn run_shown<T: Threads + AllocGlobal + Clock + Sync, R: Read, W: Write, E: Write>(
     threads: &T,
     from: &mut R,
@@ -183,7 +183,7 @@ fn run_shown<T: Threads + AllocGlobal + Clock + Sync, R: Read, W: Write, E: Writ
     }
 }
 
-/// Runs a plan on a stream into another one. A run that ends well says how it went if more is said than faults.
+/// Runs a plan from `from` to `to`. A run that ends well reports how it went, if more than faults is reported.
 fn run_into<T: Threads + AllocGlobal + Clock + Sync, R: Read, W: Write, E: Write>(
     threads: &T,
     from: &mut R,
@@ -198,7 +198,7 @@ fn run_into<T: Threads + AllocGlobal + Clock + Sync, R: Read, W: Write, E: Write
     ran.finish(threads.alloc(), err, planned, refused)
 }
 
-/// Runs a plan on a stream that is open. OUT is made or emptied where none of the files that are read is OUT.
+/// Runs a plan from `from`, which is open. Creates or empties OUT if it is not one of the files that are read.
 fn run_from<S: Storage, T: Threads + AllocGlobal + Clock + Sync, R: Read, O: Write, E: Write>(
     world: &World<S, T>,
     from: &mut R,
@@ -222,7 +222,7 @@ fn run_from<S: Storage, T: Threads + AllocGlobal + Clock + Sync, R: Read, O: Wri
     }
 }
 
-/// Runs a plan on a stream that is open, of which is noted what is read.
+/// Runs a plan from `from`, which is open, and notes in `sources` what is read.
 fn run_traced<S: Storage, T: Threads + AllocGlobal + Clock + Sync, R: Read, O: Write, E: Write>(
     world: &World<S, T>,
     from: &mut R,
@@ -249,8 +249,8 @@ fn run_traced<S: Storage, T: Threads + AllocGlobal + Clock + Sync, R: Read, O: W
     ended
 }
 
-/// Runs a design by its plan on a WAV file. OUT is made or emptied once IN is open, and none of the files that are read
-/// is OUT.
+/// Runs a design by its plan on a WAV file. Creates or empties OUT once IN is open, if OUT is not one of the files that
+/// are read.
 pub(crate) fn run_planned<
     S: Storage,
     T: Threads + AllocGlobal + Clock + Sync,
@@ -280,7 +280,7 @@ pub(crate) fn run_planned<
     }
 }
 
-/// How many workers are asked for.
+/// Returns the number of workers that `crew` asks for.
 pub(crate) fn workers_of<T: Threads>(threads: &T, crew: Crew) -> usize
     requires { IsCrew crew }
     ensures some { 1 ≤ result }
@@ -295,7 +295,7 @@ pub(crate) fn workers_of<T: Threads>(threads: &T, crew: Crew) -> usize
     }
 }
 
-/// Returns why a design that does not forget is run in one thread.
+/// Returns why a design that does not forget runs in one thread.
 fn lasting_text(alloc: Global, design: &Design) -> Result<String, AllocError> {
     let told = loop_text(alloc, design)?;
     if told.is_empty() {
@@ -304,7 +304,7 @@ fn lasting_text(alloc: Global, design: &Design) -> Result<String, AllocError> {
     format!(in alloc; "one thread: the loop {told} keeps its samples for ever\n")
 }
 
-/// Returns why a parallel run goes in one thread, if that is known before it begins.
+/// Returns why a parallel run uses one thread, if that is known before it begins.
 fn pace_text(alloc: Global, design: &Design, pace: Pace) -> Result<String, AllocError> {
     match pace {
         Pace::Parts { .. } => Ok(String::new(alloc)),
@@ -313,7 +313,7 @@ fn pace_text(alloc: Global, design: &Design, pace: Pace) -> Result<String, Alloc
     }
 }
 
-/// Tells why a parallel run goes in one thread, if that is known before it begins.
+/// Reports why a parallel run uses one thread, if that is known before it begins.
 fn tell_pace<E: Write>(
     alloc: Global,
     err: &mut E,
@@ -325,7 +325,7 @@ fn tell_pace<E: Write>(
     Ok(())
 }
 
-/// Returns the plan of a parallel run. If `is_said`, prints why one thread runs the design.
+/// Returns the plan of a parallel run. If `is_said` is set, reports why it uses one thread.
 fn crew_plan<T: Threads + AllocGlobal, E: Write>(
     threads: &T,
     err: &mut E,
@@ -355,7 +355,7 @@ fn crew_plan<T: Threads + AllocGlobal, E: Write>(
     }
 }
 
-/// The plan of a run.
+/// Returns the plan of a run.
 pub(crate) fn plan_of<T: Threads + AllocGlobal, E: Write>(
     threads: &T,
     err: &mut E,
@@ -374,7 +374,7 @@ pub(crate) fn plan_of<T: Threads + AllocGlobal, E: Write>(
     }
 }
 
-/// Runs a design on a WAV file, once its plan stands: in parts of the sound if that is asked for and the design
+/// Plans a design, and runs it on a WAV file. The file is divided into parts if that is asked for and the design
 /// forgets.
 pub(crate) fn run<S: Storage, T: Threads + AllocGlobal + Clock + Sync, I: Read, O: Write, E: Write>(
     world: &World<S, T>,

@@ -1,8 +1,8 @@
 //! The program `sdfw`: synchronous dataflow graphs over 16-bit PCM WAV files.
 //!
-//! `main` names the streams, the arguments, the threads and the files of the system. It depends on `sdf_words`, which
-//! has the arguments, on `sdf_files` for the system's files, and on `sdf_program`, which does the rest. Begin there, at
-//! `program::serve`.
+//! `main` provides the streams, the arguments, the threads and the files of the system. It depends on `sdf_words`,
+//! which reads the arguments, on `sdf_files` for the system's files, and on `sdf_program`, which does the rest. Begin
+//! there, at `program::serve`.
 #![tactic(auto)]
 
 use sdf_files::files::MOST_BYTES;
