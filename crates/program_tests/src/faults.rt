@@ -202,8 +202,8 @@ const BESIDE: &[Row] = &[
     ),
 ];
 
-/// Files that a profile does not write. Refuses a file that is read and written, lines that are printed although the
-/// file is not written, and a sound that is looked at before the graph file.
+/// Files that a profile does not write. Refuses a file that is read and written, and lines that are printed although
+/// the file is not written. Refuses also a sound that is looked at before the graph file.
 const UNWRITTEN: &[Row] = &[
     (
         "a FILE that is GRAPH",

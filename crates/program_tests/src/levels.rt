@@ -69,7 +69,7 @@ fn levels_of(rt: &HostRuntime, sound: &[u8], most: usize) -> Result<String, Fail
     }
 }
 
-/// Compares the levels of a sound that is written in pieces with those of the same sound, written byte by byte.
+/// Compares the levels of a sound that is written in pieces with its levels if it is written byte by byte.
 fn is_counted(rt: &HostRuntime, outputs: u8, samples: u32) -> Result<(), Fail> {
     let sound = sound_of(rt.alloc(), outputs, samples)?;
     let plain = levels_of(rt, &sound, 1)?;

@@ -237,7 +237,7 @@ const LIMITS: &[(&str, &str, &str)] = &[
     ),
 ];
 
-/// Checks that `line` reports `wanted` if `longest` is as long as the limit, and fault 47 if the limit is a byte less.
+/// Checks that `line` reports `wanted` if `longest` is as long as the limit, and `47 Read` if the limit is a byte less.
 fn fits<T: Threads + AllocGlobal + Clock + Clone + Drop + Sync>(
     rt: &T,
     longest: &str,

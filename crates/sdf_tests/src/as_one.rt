@@ -1,4 +1,4 @@
-//! Tests of runs in which workers are held up: outputs are those of one thread, and rounds are within their bounds.
+//! Tests of runs in which workers are held up: outputs equal one thread's, and rounds are within their bounds.
 
 ghost use Rattle.sdf_graph.specs.Rates.{rates};
 ghost use Rattle.sdf_actor.specs.Graphs.{graph_of};
@@ -235,8 +235,8 @@ fn a_fork(rt: HostRuntime) -> Result<(), Fail> {
     are_as_one(&rt, &HELD_FORK)
 }
 
-/// Tests small nets and the largest one. Refuses also runs that report missing memory when there is plenty, as from a
-/// `Sizes::new`, `places`, `seats`, `make_jobs` or `make_works` that errs for over 60 actors or for 16 workers.
+/// Tests small nets and the largest one. Refuses also out-of-memory faults when there is plenty, for over 60 actors or
+/// for 16 workers: from `Sizes::new`, `places`, `seats`, `make_jobs` or `make_works`.
 #[test]
 fn nets(rt: HostRuntime) -> Result<(), Fail> {
     for row in NETS {

@@ -50,7 +50,7 @@ fn both_and_meet<A: Actor>(rt: &impl Abort, rings: &mut Rings<A>, turn: [usize; 
     rings.meet();
 }
 
-/// Works the sink's seat, then the source's, and a second round. Reports the firings left before, those of each seat,
+/// Works the sink's seat, then the source's, and a second round. Reports the firings left before, each seat's firings,
 /// the channel's samples after the first round, and the firings left at the end.
 fn seats<A: Actor<Token = i32>>(
     rt: &(impl Abort + AllocGlobal),

@@ -39,7 +39,7 @@ const THE_SINK: Hold<'static> = Hold {
     ..ACROSS
 };
 
-/// A hold of the first three firings of three branches: those of the same number wait for each other.
+/// A hold of the first three firings of three branches: firings of the same number wait for each other.
 const THREE: Hold<'static> = Hold {
     held: &[2, 3, 4],
     first: 0,
@@ -337,8 +337,8 @@ fn told_of<R: Threads + AllocGlobal + Sync>(rt: &R, row: &Row) -> Result<String,
     told(rt, &row.net.net(rt.alloc())?, row)
 }
 
-/// Tests which firings overlap. Refuses fewer threads than seats or than a row has firings, a round that ends with its
-/// block, and a worker that never looks at its neighbour within a round. Refuses also rows in place of rings, and rings
+/// Tests which firings overlap. Refuses fewer threads than seats or than a row has firings, and a round that ends with
+/// its block. Refuses also a worker that never looks at its neighbour within a round, rows in place of rings, and rings
 /// of another size.
 #[test]
 fn who_meets_whom(rt: HostRuntime) -> Result<(), Fail> {

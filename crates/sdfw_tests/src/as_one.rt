@@ -1,4 +1,4 @@
-//! Tests of designs run by workers, in blocks or by another policy: the output is that of one thread.
+//! Tests of designs run by workers, in blocks or by another policy: the output equals one thread's.
 
 use crate::designs::{BLOCKS, CHAIN, INITIAL, LOOP, SECOND_DOUBLED, SWAP};
 use crate::running::Samples::{Counted, These};

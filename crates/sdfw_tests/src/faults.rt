@@ -9,7 +9,7 @@ use std::test::Fail;
 use std::thread::Threads;
 use test_texts::{row_says, says};
 
-/// A run of `graph` with `options` on a file of `samples`. From `place` on, `bytes` replace those of the file, which is
+/// A run of `graph` with `options` on a file of `samples`. From `place` on, `bytes` replace the file's, and the file is
 /// cut after `kept` bytes. `told` gives how many bytes are written, and how the run ends.
 #[derive(Clone, Copy)]
 struct Row {

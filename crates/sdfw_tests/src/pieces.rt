@@ -14,8 +14,8 @@ use std::thread::Threads;
 use test_devices::Faulty;
 use test_texts::row_says;
 
-/// The runner of `HALF`, the number of samples that it reads (also more than 16 bits count), and how many bytes the
-/// calls of the reader and of the writer ask for.
+/// The name of a row, the runner of `HALF`, the samples that it reads, and the bytes that the calls of the reader and
+/// of the writer ask for. Some rows have more samples than 16 bits count.
 const ASKED: &[(&str, Runner, usize, &str)] = &[
     (
         "one thread reads the content whole",

@@ -9,7 +9,7 @@ use std::alloc::Global;
 use std::test::Fail;
 use test_texts::{row_says, says};
 
-/// Two branches: a gain, and two gains one behind the other. `FORK` and `LONG` stand for costs.
+/// Two branches: a gain, and two gains one after the other. `FORK` and `LONG` stand for costs.
 const SIDES: &str = r#"format = 1
 actor = [{ name = "in", kind = "input", channel = 0 }, { name = "fork", kind = "fork", ways = 2, cost = FORK },
     { name = "x", kind = "gain", gain = 1, shift = 0, cost = LONG }, { name = "y", kind = "gain", gain = 1, shift = 0 },

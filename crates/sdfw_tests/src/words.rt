@@ -126,7 +126,7 @@ const RUNS: &[Row] = &[
     ),
 ];
 
-/// Other commands, in full. Refuses defaults other than those of the help.
+/// Other commands, in full. Refuses defaults that differ from the help's.
 const COMMANDS: &[Row] = &[
     ("kinds", "kinds", "Kinds { json: false }"),
     ("kinds in JSON", "kinds --json", "Kinds { json: true }"),
