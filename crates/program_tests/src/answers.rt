@@ -1,4 +1,4 @@
-//! What commands answer over files in memory.
+//! Tests of what commands print, over files in memory.
 
 use crate::commands::{Row, are_told, told};
 use std::test::Fail;
@@ -27,9 +27,9 @@ every kind: processor 0..15 or absent, cost 1..1000000 (1)
 --
 ";
 
-/// The schedules of `begun.toml` for one worker. There is none with `in` on processor 1, and all others are alike: the
-/// tables don't go by the policy, and `in` comes first, as the lower of two actors of one level. A long block has as
-/// many periods as samples of a channel.
+/// The schedules of `begun.toml` for one worker. There is none with `in` on processor 1, and all others are alike. The
+/// tables don't depend on the policy, and `in` comes first, as the lower of two actors of one level. A long block has
+/// 1,024 periods, which move 1,024 samples on a channel.
 const COMPARED: &str = "0
 policy placement workers blocking     makespan  speedup    rows        samples
 round  hu              1        1           *2    *1.00      *2             *3
@@ -48,7 +48,7 @@ runs   spread          1     1024        *2048    *1.00   *2048          *1026
 --
 ";
 
-/// Answers on standard output. Refuses a program that schedules by the default options, or that takes help for a fault.
+/// Commands on standard output. Refuses a program that schedules by the default options, or takes help for a fault.
 const ANSWERS: &[Row] = &[
     (
         "a check",
@@ -111,7 +111,7 @@ const ANSWERS: &[Row] = &[
     ("kinds", "kinds", KINDS),
 ];
 
-/// Answers in JSON. Refuses an answer that is text, one of another command, and a fault that is a line of text.
+/// Commands that print JSON. Refuses text in its place, output of another command, and a fault that is a line of text.
 const IN_JSON: &[Row] = &[
     (
         "kinds",
@@ -169,8 +169,8 @@ const IN_JSON: &[Row] = &[
     ),
 ];
 
-/// Pictures and profiles. Refuses a picture without the design's names, a graph for Graphviz that is a picture or wants
-/// a schedule, a fault that is drawn, a profile that lacks an actor or its firings, and one that writes a sound.
+/// Pictures and profiles. Refuses a picture without the design's names, a graph for Graphviz that is a picture or needs
+/// a schedule, and a fault that is drawn. Refuses also a profile that lacks an actor or its firings, or writes a sound.
 const VIEWS: &[Row] = &[
     (
         "a picture, with the names of its workers",
@@ -204,8 +204,8 @@ const VIEWS: &[Row] = &[
     ),
 ];
 
-/// Runs follow their options. Refuses a program that plans by the default options: with `in` on processor 1 a plan for
-/// one worker has a fault, and so has one by rings without homes, or of a long block.
+/// Runs that follow their options. Refuses a program that plans by the default options. With `in` on processor 1 a plan
+/// for one worker has a fault, and so has one over rings without homes, or with a long block.
 const RUNS: &[Row] = &[
     (
         "all options",
@@ -257,10 +257,10 @@ fn what_commands_answer(rt: HostRuntime) -> Result<(), Fail> {
     are_told(&rt, RUNS)
 }
 
-/// What is counted in what is told of a line, and how often it stands there: the ends of the lines that compare
-/// schedules by one worker and by two, of which four are not the table's; the schedules by two; and the coefficient
-/// files of a conversion. Refuses a comparison that is made by the default options, where each policy and placement has
-/// a line for two workers, and a conversion in two stages of which the first alone is written.
+/// A name, a line, the text that is counted in its report, and its number: line ends, four of which are not of
+/// schedules, schedules by two workers, and coefficient files. Refuses a comparison by the default options, since each
+/// policy and placement has a line for two workers. Refuses also a conversion in two stages that writes the first
+/// alone.
 const COUNTED: &[(&str, &str, &str, &str)] = &[
     (
         "lines",
@@ -300,7 +300,7 @@ fn how_often(rt: HostRuntime) -> Result<(), Fail> {
     Ok(())
 }
 
-/// Whether a fault is explained by its name as by its number.
+/// Checks that a fault is explained by its name as by its number.
 fn is_named<T: Threads + AllocGlobal + Clock + Clone + Drop + Sync>(
     rt: &T,
     number: u32,
@@ -319,7 +319,7 @@ fn is_named<T: Threads + AllocGlobal + Clock + Clone + Drop + Sync>(
     )
 }
 
-/// Refuses a name that is not looked for.
+/// Tests that each fault is explained by name. Refuses a program that does not look names up.
 #[test]
 fn names_are_explained(rt: HostRuntime) -> Result<(), Fail> {
     for number in 1..=63 {

@@ -1,4 +1,4 @@
-//! Runs of several files into a folder.
+//! Tests of runs of several files into a folder.
 
 use crate::commands::{Around, OPEN, Row, Served, is_told, told_around};
 use crate::files::{HALVES, PLAIN, are_told, folder, has_bytes, put, served, told, with_files};
@@ -24,8 +24,8 @@ const MUTE: Around<'static> = Around {
     ..OPEN
 };
 
-/// Batches over files in memory. Refuses a program that stops at a file that fails, one that keeps what that has
-/// written, the least or the last of the exit statuses, and two files that are written in one place.
+/// Batches over files in memory. Refuses a program that stops at a file that fails, or keeps what this file has
+/// written. Refuses also the least or the last exit status, and two files that are written in one place.
 const BATCHES: &[Row] = &[
     (
         "a file",
@@ -99,8 +99,8 @@ const BATCHES: &[Row] = &[
     ),
 ];
 
-/// The same at a terminal, where more is said. Refuses levels that don't say of which file they are, a program that
-/// ignores `--no-why`, one that counts files only once several are done, and one that leaves that line there.
+/// Batches at a terminal, where more is printed. Refuses levels without the name of their file, and a program that
+/// ignores `--no-why`. Refuses also one that counts files only once several are done, or leaves this line there.
 const SAID: &[Row] = &[
     (
         "a file that ends well, and one that does not",
@@ -152,7 +152,7 @@ const SAID: &[Row] = &[
     ),
 ];
 
-/// Compares what each row prints with what it wants.
+/// Compares what the words of each row print in these surroundings with the wanted text.
 fn are_batches<T: Threads + AllocGlobal + Clock + Clone + Drop + Sync>(
     rt: &T,
     around: &Around<'_>,
@@ -181,14 +181,14 @@ fn what_batches_tell(rt: HostRuntime) -> Result<(), Fail> {
     Ok(())
 }
 
-/// Refuses a file that is written over while it is read.
+/// Lines that would write over a file while it is read, and their reports.
 const ITSELF: &[crate::files::Row] = &[(
     "a file that would be written over",
     "run @/graph.toml --into @ @/in.wav",
     "2 error: …/in.wav is the same file as IN\n",
 )];
 
-/// Refuses a file that is left half written, one that was there and is gone, and a part that stays.
+/// Tests the files that a batch leaves. Refuses a half-written file, an old one that is gone, and a part that stays.
 #[test]
 fn files_in_a_folder(rt: HostRuntime) -> Result<(), Fail> {
     let above = with_files(&rt, "batch")?;
@@ -229,7 +229,7 @@ fn sound_at(alloc: Global, number: u8, count: u8) -> Result<Vec<u8>, AllocError>
     sound_of(alloc, number, behind.saturating_mul(3_000))
 }
 
-/// Files of a batch, which are numbered, and the one of them that is only a header.
+/// The numbered files of a batch in the folder `above`. File `cut` is only a header.
 #[derive(Clone, Copy)]
 struct Takes<'a> {
     above: &'a str,
@@ -265,7 +265,7 @@ fn words_for(alloc: Global, takes: Takes<'_>, option: &str) -> Result<String, Al
     Ok(words)
 }
 
-/// Returns the status and the lines that a batch is to have.
+/// Returns the wanted status and lines of a batch.
 fn lines_of(alloc: Global, takes: Takes<'_>) -> Result<String, AllocError> {
     let mut lines = String::from_str(alloc, if takes.cut.is_some() { "4\n" } else { "0\n" })?;
     for number in 0..takes.count {
@@ -291,7 +291,7 @@ fn lines_told<T: Threads + AllocGlobal + Clock + Clone + Drop + Sync>(
     Ok(format!(in rt.alloc(); "{status}\n{out}")?)
 }
 
-/// Fails if a file of a batch is not written as it was read, or if one that is cut or a part is there.
+/// Fails if a file of a batch is not written as it was read, or if a cut file or a part is there.
 fn are_written(rt: &HostRuntime, takes: Takes<'_>, words: &str) -> Result<(), Fail> {
     let into = format!(in rt.alloc(); "{}/out", takes.above)?;
     for number in 0..takes.count {
@@ -338,8 +338,8 @@ fn is_run<T: Threads + AllocGlobal + Clock + Clone + Drop + Sync>(
     are_written(rt, takes, &words)
 }
 
-/// Refuses outputs of two files that are mixed up, lines in the order in which files are done, files past those that
-/// are run at once and are not run, and a file that fails and takes another with it.
+/// Tests files that are run at once. Refuses mixed-up outputs of two files, and lines in the order in which files are
+/// done. Refuses also files that are never run, past those that are run at once, and a file whose fault stops another.
 #[test]
 fn files_at_once(rt: HostRuntime) -> Result<(), Fail> {
     is_run(&rt, &rt, "many", 20, None, "")?;

@@ -1,4 +1,4 @@
-//! Commands over files in memory, and what is told of them.
+//! Commands over files in memory, and reports on them.
 
 use crate::shelf::{HEADER, NEW_SOUND, SOUND, Shelf, places};
 use sdf_files::files::MOST_BYTES;
@@ -11,10 +11,10 @@ use std::test::Fail;
 use std::thread::Threads;
 use std::time::Clock;
 
-/// The name of a row, the words behind the program's name, and what is told of them, with `…` in the place of any text.
+/// The name of a row, the words after the program's name, and the report, with `…` in place of any text.
 pub(crate) type Row = (&'static str, &'static str, &'static str);
 
-/// A stream that keeps what is written, or refuses it by this kind of error.
+/// A stream that keeps what is written, or refuses it with an error of this kind.
 #[derive(Drop)]
 pub(crate) struct Stream {
     pub(crate) refuses: Option<ErrorKind>,
@@ -37,7 +37,7 @@ impl Write for Stream {
     }
 }
 
-/// The exit status of some words, the program's name in front of them.
+/// Serves `words`, with the program's name before them, and returns the exit status.
 pub(crate) fn status_of<S: Storage, T: Threads + AllocGlobal + Clock + Clone + Drop + Sync>(
     world: &World<S, T>,
     mut stdin: &[u8],
@@ -58,8 +58,8 @@ pub(crate) fn status_of<S: Storage, T: Threads + AllocGlobal + Clock + Clone + D
     Ok(serve(world, &mut stdin, out, err, Ok(given)))
 }
 
-/// What stands around a command: standard input, how long files may be, what refuses standard output and standard
-/// error, and whether standard error is a terminal.
+/// The surroundings of a command: standard input, the maximum length of files, the errors of standard output and of
+/// standard error, and whether standard error is a terminal.
 #[derive(Clone, Copy)]
 pub(crate) struct Around<'a> {
     pub(crate) stdin: &'a [u8],
@@ -69,7 +69,7 @@ pub(crate) struct Around<'a> {
     pub(crate) terminal: bool,
 }
 
-/// Nothing is in the way.
+/// Surroundings in which nothing is refused.
 pub(crate) const OPEN: Around<'static> = Around {
     stdin: b"",
     most: MOST_BYTES,
@@ -78,7 +78,7 @@ pub(crate) const OPEN: Around<'static> = Around {
     terminal: false,
 };
 
-/// A text, or a sound of the tests by its samples.
+/// Returns a text, or the name of a sound of the tests by its samples.
 fn text_of(bytes: &[u8]) -> &str {
     if bytes == SOUND {
         return "<5 -5>";
@@ -144,7 +144,7 @@ pub(crate) fn serve_line<T: Threads + AllocGlobal + Clock + Clone + Drop + Sync>
     })
 }
 
-/// All of that as a text.
+/// Serves `line` in these surroundings, and returns the result as text.
 pub(crate) fn told_around<T: Threads + AllocGlobal + Clock + Clone + Drop + Sync>(
     rt: &T,
     around: &Around<'_>,
@@ -160,7 +160,7 @@ pub(crate) fn told_around<T: Threads + AllocGlobal + Clock + Clone + Drop + Sync
     Ok(format!(in rt.alloc(); "{status}\n{out}--\n{err}--\n{}", text_of(&file))?)
 }
 
-/// The same where nothing is in the way.
+/// Serves `line` in surroundings in which nothing is refused, and returns the result as text.
 pub(crate) fn told<T: Threads + AllocGlobal + Clock + Clone + Drop + Sync>(
     rt: &T,
     line: &str,
@@ -168,7 +168,7 @@ pub(crate) fn told<T: Threads + AllocGlobal + Clock + Clone + Drop + Sync>(
     told_around(rt, &OPEN, line)
 }
 
-/// Whether a text has all that is wanted, one behind the other.
+/// Checks whether `text` has the parts of `wanted`, which is split at each `…`, one after the other.
 fn has(text: &str, wanted: &str) -> bool {
     let mut parts = wanted.split("…");
     let Some(first) = parts.next() else {
@@ -186,7 +186,7 @@ fn has(text: &str, wanted: &str) -> bool {
     rest.is_empty() || wanted.ends_with("…")
 }
 
-/// Fails where a text is told for a row that has not what is wanted, or none.
+/// Fails if the text `told` is not as `wanted`, with `…` in place of any text, or if there is none.
 pub(crate) fn is_told(name: &str, told: Result<String, Fail>, wanted: &str) -> Result<(), Fail> {
     let text = told?;
     if has(&text, wanted) {
@@ -195,7 +195,7 @@ pub(crate) fn is_told(name: &str, told: Result<String, Fail>, wanted: &str) -> R
     Err(Fail::new(format_args!("{name}: {text:?} in place of {wanted:?}")))
 }
 
-/// Compares what each row prints with what it wants.
+/// Compares what the words of each row print with the wanted text.
 pub(crate) fn are_told<T: Threads + AllocGlobal + Clock + Clone + Drop + Sync>(
     rt: &T,
     rows: &[Row],

@@ -1,4 +1,4 @@
-//! Graph files with measured costs in them: each text, the refusals, and what the program writes where.
+//! Tests of graph files with measured costs: their texts, refusals, and what the program writes where.
 
 use crate::commands;
 use crate::commands::is_told;
@@ -8,7 +8,7 @@ use std::thread::Threads;
 use std::time::Clock;
 use test_texts::row_says;
 
-/// One actor has a cost, and there are comments.
+/// A graph file with comments, in which one actor has a cost.
 pub(crate) const COMMENTED: &str = r#"# half as loud
 format = 1
 
@@ -39,7 +39,7 @@ from = "half"
 to = "out"
 "#;
 
-/// The same with costs.
+/// `COMMENTED` with the costs 1, 20 and 1,000,000.
 pub(crate) const MEASURED: &str = r#"# half as loud
 format = 1
 
@@ -72,18 +72,18 @@ from = "half"
 to = "out"
 "#;
 
-/// Lines end with carriage returns too, but for the last one, which has no end; a list goes over lines.
+/// A graph file whose lines end with a carriage return and a line feed, except the last, which has no end.
 const RETURNS: &str =
     "format = 1\r\n[[link]]\r\nfrom = \"in\"\r\nto = \"out\"\r\n[[actor]]\r\nname = \"in\"\r\n\
     kind = \"input\"\r\nchannel = 0\r\n[[actor]]\r\nname = \"out\"\r\nkind = \"output\"\r\nchannel = 0";
 
-/// The same with costs.
+/// `RETURNS` with the costs 2 and 1.
 const RETURNED: &str =
     "format = 1\r\n[[link]]\r\nfrom = \"in\"\r\nto = \"out\"\r\n[[actor]]\r\nname = \"in\"\r\n\
     kind = \"input\"\r\nchannel = 0\r\ncost = 2\r\n[[actor]]\r\nname = \"out\"\r\nkind = \"output\"\r\n\
     channel = 0\r\ncost = 1";
 
-/// The text of a graph file with costs, or why there is none.
+/// Returns the text of `graph` with `costs`, or why there is none.
 fn told(rt: &(impl AllocGlobal), graph: &str, costs: &[u32]) -> Result<String, Fail> {
     let alloc = rt.alloc();
     match costed_text(alloc, graph.as_bytes(), &[], costs) {
@@ -92,7 +92,7 @@ fn told(rt: &(impl AllocGlobal), graph: &str, costs: &[u32]) -> Result<String, F
     }
 }
 
-/// A text, costs, and what the text is with them.
+/// A name, a graph file, costs, and its text with them.
 const TEXTS: &[(&str, &str, &[u32], &str)] = &[
     ("comments", COMMENTED, &[1, 20, 1_000_000], MEASURED),
     ("again", MEASURED, &[1, 20, 1_000_000], MEASURED),
@@ -102,7 +102,8 @@ const TEXTS: &[(&str, &str, &[u32], &str)] = &[
     ("no graph", "[[actor]]\n", &[1], "Reading"),
 ];
 
-/// Refuses a comment that is dropped, a cost of another actor, one that stands twice, and a line end of another kind.
+/// Tests texts with costs. Refuses a dropped comment, a cost of another actor, one that is there twice, and a line end
+/// of another kind.
 #[test]
 fn texts_with_costs(rt: HostRuntime) -> Result<(), Fail> {
     for (name, graph, costs, wanted) in TEXTS {
@@ -111,8 +112,8 @@ fn texts_with_costs(rt: HostRuntime) -> Result<(), Fail> {
     Ok(())
 }
 
-/// The same of two actors, the first one below this line and the second one with these lines, and a link below this
-/// one.
+/// Calls `told` on a graph of two actors and a link. `first` is the head of the first actor, `more` are lines of the
+/// second, and `link` is the head of the link.
 fn told_of(rt: &(impl AllocGlobal), first: &str, more: &str, link: &str) -> Result<String, Fail> {
     let head = "format = 1\n";
     let input = "\nname = \"in\"\nkind = \"input\"\nchannel = 0\n";
@@ -124,7 +125,7 @@ fn told_of(rt: &(impl AllocGlobal), first: &str, more: &str, link: &str) -> Resu
     told(rt, graph.as_str(), &[4, 5])
 }
 
-/// Forms in which a cost or a table may be written, and why no cost is written into them.
+/// Forms of a cost or a table into which no cost is written, and why.
 const FORMS: &[(&str, &str, &str, &str, &str)] = &[
     ("no blanks", "[[actor]]", "cost=3\n", "[[link]]", "Cost(1)"),
     (
@@ -161,7 +162,7 @@ const FORMS: &[(&str, &str, &str, &str, &str)] = &[
     ("indented link", "[[actor]]", "", "  [[link]]", "Reading"),
 ];
 
-/// Refuses a wrong text of a graph file that is written otherwise.
+/// Tests other forms of a graph file. Refuses a wrong text in place of a refusal.
 #[test]
 fn other_forms(rt: HostRuntime) -> Result<(), Fail> {
     for (name, first, more, link, wanted) in FORMS {
@@ -170,7 +171,7 @@ fn other_forms(rt: HostRuntime) -> Result<(), Fail> {
     Ok(())
 }
 
-/// A text with `N` in the place of each cost.
+/// Returns a text with `N` in place of each cost.
 fn masked(rt: &(impl AllocGlobal), text: &str) -> Result<String, Fail> {
     let mut masked = String::new(rt.alloc());
     for line in text.lines() {
@@ -185,7 +186,7 @@ fn masked(rt: &(impl AllocGlobal), text: &str) -> Result<String, Fail> {
     Ok(masked)
 }
 
-/// What is told of a profile that is written there.
+/// Runs a profile that writes `file`, and returns the report with `N` in place of each cost.
 fn profiled<T: Threads + AllocGlobal + Clock + Clone + Drop + Sync>(
     rt: &T,
     file: &str,
@@ -194,8 +195,8 @@ fn profiled<T: Threads + AllocGlobal + Clock + Clone + Drop + Sync>(
     masked(rt, commands::told(rt, &line)?.as_str())
 }
 
-/// Refuses a program that writes another text or prints none of the lines, and one that prints the lines beside the
-/// text or makes a file.
+/// Tests profiles that are written. To a file, refuses another text and lines that are not printed. To standard output,
+/// refuses lines beside the text, and a file that is made.
 #[test]
 fn profiles_are_written(rt: HostRuntime) -> Result<(), Fail> {
     let text = masked(&rt, MEASURED)?;

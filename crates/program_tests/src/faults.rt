@@ -1,11 +1,10 @@
-//! Faults, as they are told over files in memory: the first of two things that are amiss, and what more is told where
-//! that is asked for.
+//! Tests of faults over files in memory: how they are printed, which of two is the first, and what `--why` adds.
 
 use crate::commands::{Row, are_told};
 use std::test::Fail;
 
-/// Faults and mistakes. Refuses a program that checks without a plan, that tells a mistake as a fault, or whose status
-/// is always that of memory.
+/// Faults and mistakes. Refuses a program that checks without a plan, reports a mistake as a fault, or always ends with
+/// the status for memory.
 const FAULTS: &[Row] = &[
     (
         "a number that there is not",
@@ -55,8 +54,8 @@ const FAULTS: &[Row] = &[
     ),
 ];
 
-/// What is told where more is asked for: the lines of a deadlock stay as they are, and a cycle is told behind them;
-/// what the system or the reader of TOML said of a file, and what the header of a sound says.
+/// What `--why` adds. The lines of a deadlock stay as they are, and a cycle follows them. Other lines are what the
+/// system or the reader of TOML said of a file, and what the header of a sound says.
 const WHY: &[Row] = &[
     (
         "a deadlock",
@@ -129,9 +128,9 @@ const WHY: &[Row] = &[
     ),
 ];
 
-/// More than one thing is amiss. Refuses nothing more where more is asked for, the limits of other options, another
-/// fault first, coefficient files of which the first alone is kept or told of, a run in parallel that is told of once
-/// it has ended well, and a profile whose FILE is looked at before its IN is open.
+/// Lines with more than one fault. Refuses a program that adds nothing for `--why`, prints the limits of other options,
+/// or has another fault first. Refuses one that protects or names only the first coefficient file, or that reports on a
+/// parallel run only once it has ended well. Refuses also a profile that looks at FILE before IN is open.
 const BESIDE: &[Row] = &[
     (
         "a key, and what it wants",
@@ -203,8 +202,8 @@ const BESIDE: &[Row] = &[
     ),
 ];
 
-/// Files that a profile does not write. Refuses a file that is read and written, lines that are printed where the file
-/// is not written, and a sound that is looked at before the graph file is.
+/// Files that a profile does not write. Refuses a file that is read and written, and lines that are printed although
+/// the file is not written. Refuses also a sound that is looked at before the graph file.
 const UNWRITTEN: &[Row] = &[
     (
         "a FILE that is GRAPH",

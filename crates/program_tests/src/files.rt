@@ -15,20 +15,20 @@ use std::time::Clock;
 use std::{env, fs};
 use test_texts::{row_says, says};
 
-/// A gain, and then a filter whose one tap stands in a file of its folder.
+/// A gain, and then a filter whose one tap is in a file of its folder.
 pub(crate) const FILTERED: &str = r#"format = 1
 actor = [{ name = "in", kind = "input", channel = 0 }, { name = "half", kind = "gain", gain = 16384, shift = 15 },
     { name = "same", kind = "fir", shift = 0, file = "one.toml" }, { name = "out", kind = "output", channel = 0 }]
 link = [{ from = "in", to = "half" }, { from = "half", to = "same" }, { from = "same", to = "out" }]"#;
 
-/// What comes in goes out, and no other file is named.
+/// A design that copies its input and names no other file.
 pub(crate) const PLAIN: &str = r#"format = 1
 actor = [{ name = "in", kind = "input", channel = 0 }, { name = "out", kind = "output", channel = 0 }]
 link = [{ from = "in", to = "out" }]"#;
 
 pub(crate) const TAPS: &str = "format = 1\nvalues = [1]\n";
 
-/// A folder of its own.
+/// Makes a folder of its own for a test, if it is not there, and returns its path.
 pub(crate) fn folder(rt: &HostRuntime, name: &str) -> Result<String, Fail> {
     let above = env::temp_dir(rt)?;
     let above = above.as_str();
@@ -45,7 +45,7 @@ pub(crate) fn put(rt: &HostRuntime, folder: &str, name: &str, bytes: &[u8]) -> R
     Ok(fs::write(rt, path.as_str(), bytes)?)
 }
 
-/// A folder of this name with the files of a run.
+/// Makes a folder with the files of a run, and returns its path.
 pub(crate) fn with_files(rt: &HostRuntime, name: &str) -> Result<String, Fail> {
     let folder = folder(rt, name)?;
     put(rt, &folder, "graph.toml", FILTERED.as_bytes())?;
@@ -54,7 +54,7 @@ pub(crate) fn with_files(rt: &HostRuntime, name: &str) -> Result<String, Fail> {
     Ok(folder)
 }
 
-/// Whether a file of a folder has these bytes after a line of words.
+/// Checks that the file `name` of a folder has the bytes `wanted`, after a line of words.
 pub(crate) fn has_bytes(
     rt: &(impl Files + AllocGlobal),
     folder: &str,
@@ -71,7 +71,7 @@ pub(crate) fn has_bytes(
     Err(Fail::new(format_args!("{name} after {line}: {bytes:?}")))
 }
 
-/// Whether the files of a run are as they were put there.
+/// Checks that the files of a run are as they were put there.
 pub(crate) fn stand(rt: &(impl Files + AllocGlobal), folder: &str, line: &str) -> Result<(), Fail> {
     has_bytes(rt, folder, "graph.toml", FILTERED.as_bytes(), line)?;
     has_bytes(rt, folder, "one.toml", TAPS.as_bytes(), line)?;
@@ -129,10 +129,10 @@ pub(crate) fn told<S: Storage, T: Threads + AllocGlobal + Clock + Clone + Drop +
     Ok(format!(in threads.alloc(); "{status} {err}")?)
 }
 
-/// The name of a row, a line of words, and what is told of it.
+/// The name of a row, a line of words, and the report.
 pub(crate) type Row = (&'static str, &'static str, &'static str);
 
-/// Compares what each row prints in a folder with what it wants.
+/// Compares what the line of each row prints in a folder with the wanted text.
 pub(crate) fn are_told<S: Storage, T: Threads + AllocGlobal + Clock + Clone + Drop + Sync>(
     storage: &S,
     threads: &T,
@@ -145,11 +145,11 @@ pub(crate) fn are_told<S: Storage, T: Threads + AllocGlobal + Clock + Clone + Dr
     Ok(())
 }
 
-/// The samples 3 and -2, 44,100 a second.
+/// A sound of the samples 3 and -2 at 44,100 Hz.
 pub(crate) const HALVES: &[u8; 48] =
     b"RIFF\x28\0\0\0WAVEfmt \x10\0\0\0\x01\0\x01\0\x44\xAC\0\0\x88\x58\x01\0\x02\0\x10\0data\x04\0\0\0\x03\0\xFE\xFF";
 
-/// A program that looks for coefficient files where it runs, and not beside GRAPH, is refused here.
+/// Tests a run over real files. Refuses a program that looks for coefficient files where it runs, not beside GRAPH.
 #[test]
 fn makes_out_from_in(rt: HostRuntime) -> Result<(), Fail> {
     let folder = with_files(&rt, "runs")?;
@@ -196,13 +196,13 @@ fn files_that_are_not_there(rt: HostRuntime) -> Result<(), Fail> {
     has_bytes(&rt, &folder, "old.wav", b"old", "all")
 }
 
-/// A design in a folder that is not there, and in one that is.
+/// A converter that is written into a folder, whether it is there or not, and a check of its design.
 const MADE: &[Row] = &[
     ("a converter", "resample 8000 8000 @", "0 "),
     ("its design", "check @/graph.toml", "0 "),
 ];
 
-/// Refuses a folder that is not made, one that is made and has no design, and one that is there and is made again.
+/// Tests folders of designs. Refuses a folder that is not made or has no design, and one that is there and made again.
 #[test]
 fn folders_are_made(rt: HostRuntime) -> Result<(), Fail> {
     let above = folder(&rt, "making")?;
@@ -214,7 +214,7 @@ fn folders_are_made(rt: HostRuntime) -> Result<(), Fail> {
     are_told(&Disk { rt: &rt }, &rt, &path, MADE)
 }
 
-/// A file that gives so many bytes, and past them wants memory.
+/// A file that gives `left` bytes, and then is out of memory.
 #[derive(Clone, Copy)]
 struct Long {
     left: usize,
@@ -232,7 +232,7 @@ impl Read for Long {
     }
 }
 
-/// What comes of a file of which so many bytes may be read at most.
+/// Returns the text of a file of which at most `most` bytes may be read, or the fault.
 fn read_told<F: Read + Drop>(alloc: Global, file: F, most: u32) -> Result<String, Fail> {
     match read_all(alloc, file, most) {
         Ok(bytes) => Ok(String::from_utf8(bytes)?),
@@ -240,7 +240,7 @@ fn read_told<F: Read + Drop>(alloc: Global, file: F, most: u32) -> Result<String
     }
 }
 
-/// What comes of a file of a folder that is loaded.
+/// Loads a file that may have `most` bytes, and returns `loaded` or the fault.
 fn loaded(rt: &HostRuntime, path: &str, most: u32) -> Result<String, Fail> {
     match load(rt.alloc(), &Disk { rt }, path, most) {
         Ok(_) => Ok(String::from_str(rt.alloc(), "loaded")?),
@@ -248,14 +248,14 @@ fn loaded(rt: &HostRuntime, path: &str, most: u32) -> Result<String, Fail> {
     }
 }
 
-/// How much is read of a file of a million bytes.
+/// Returns how many bytes are read of a file of a million.
 fn long_told(alloc: Global) -> Result<String, Fail> {
     let file = vec![in alloc; b'x'; 1_000_000]?;
     let read = read_told(alloc, file.as_slice(), MOST_BYTES)?;
     Ok(format!(in alloc; "{}", read.len())?)
 }
 
-/// How many bytes may be read of `samples`, and what comes of that. Refuses a program that cuts a longer file.
+/// How many bytes of `samples` may be read, and the result. Refuses a program that cuts a longer file.
 const LIMITS: &[(u32, &str)] = &[
     (0, "sdfw: 47 Read\n"),
     (6, "sdfw: 47 Read\n"),
@@ -263,8 +263,8 @@ const LIMITS: &[(u32, &str)] = &[
     (8, "samples"),
 ];
 
-/// Refuses a file that is read past its limit before it is refused: it may have no end, and is asked for no more than a
-/// byte past the limit; and memory that is said to be refused for a long one.
+/// Tests the limit on a file. Refuses a file that is read past its limit before it is refused: it may have no end, and
+/// only one byte past the limit is asked for. Refuses also an out-of-memory fault for a long file.
 #[test]
 fn files_are_read_to_their_limit(rt: HostRuntime) -> Result<(), Fail> {
     let alloc = rt.alloc();

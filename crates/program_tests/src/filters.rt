@@ -1,9 +1,9 @@
-//! What words ask of filters and converters: each of them means what its name says, over files in memory.
+//! Tests of the words for filters and converters, over files in memory: each word means what its name says.
 
 use crate::commands::{Row, are_told};
 use std::test::Fail;
 
-/// Filters. Refuses a line of what taps do that stands on standard output, and a fault with another status.
+/// Filters. Refuses a line about the taps on standard output, and a fault with another status.
 const FILTERS: &[Row] = &[
     (
         "a high-pass",
@@ -42,10 +42,10 @@ const FILTERS: &[Row] = &[
     ),
 ];
 
-/// Converters. Refuses a graph file without its coefficient file, texts in one another's place, a conversion the other
-/// way, a folder that is looked at for a graph file alone or for the first coefficient file, one that may not be, one
-/// that is written over another, a design that is written before it is planned, and the usual attenuation in place of
-/// a greater one.
+/// Converters. Refuses a graph file without its coefficient file, swapped texts, and a conversion the other way.
+/// Refuses a program that looks in a folder for a graph file alone, or for the first coefficient file alone. Refuses a
+/// folder that can't be made, and a design that is written over another or before it is planned. Refuses also the usual
+/// attenuation in place of a greater one.
 const CONVERTERS: &[Row] = &[
     (
         "channels",

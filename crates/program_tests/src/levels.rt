@@ -1,4 +1,4 @@
-//! What is counted of a sound that is written, in pieces of different lengths.
+//! Tests of the levels of a sound that is written in pieces of different lengths.
 
 use sdf_files::output::{Output, Shown};
 use std::alloc::{AllocError, Global};
@@ -69,7 +69,7 @@ fn levels_of(rt: &HostRuntime, sound: &[u8], most: usize) -> Result<String, Fail
     }
 }
 
-/// Compares the levels of a sound that is written in pieces with those of the same sound, written byte by byte.
+/// Compares the levels of a sound that is written in pieces with its levels if it is written byte by byte.
 fn is_counted(rt: &HostRuntime, outputs: u8, samples: u32) -> Result<(), Fail> {
     let sound = sound_of(rt.alloc(), outputs, samples)?;
     let plain = levels_of(rt, &sound, 1)?;
@@ -97,8 +97,8 @@ const STEADY: &str = "output 0: 500 frames, peak -6.0 dB, 0 samples at full scal
 const FULL: &str = "output 0: 500 frames, peak 0.0 dB, 8 samples at full scale\n\
      output 1: 500 frames, peak 0.0 dB, 8 samples at full scale\n";
 
-/// Refuses a block whose samples are counted for another output, one that is left out or counted twice, and a piece
-/// that begins within a sample or a frame and is counted from its first byte; a peak of one sign alone.
+/// Tests levels. Refuses a block whose samples are counted for another output, left out or counted twice. Refuses also
+/// a piece that begins within a sample or a frame but is counted from its first byte, and a peak of one sign alone.
 #[test]
 fn levels_in_pieces(rt: HostRuntime) -> Result<(), Fail> {
     for outputs in 1..=8 {

@@ -1,10 +1,10 @@
-//! What no clause says of the program: commands over files in memory and over real ones, what each prints and on which
-//! stream, and devices that refuse.
+//! Tests of what no contract states about the program: commands over files in memory and over real ones, what each
+//! prints on which stream, and devices that refuse.
 //!
 //! It depends on `sdf_program` and `sdf_files`, on `sdf_words` for the words that are given, on `sdf_profile` for the
-//! text with costs, on `sdf_faults`, on `sdf_options` for why words are not read, and on `test_texts`. It has no
-//! functions: tests are in a crate of their own, since the functions of a crate are proved once more with its tests.
-//! Begin at `commands`, which has the call that most tests make, and `shelf`, the files in memory.
+//! text with costs, on `sdf_faults`, on `sdf_options` for faults of words, and on `test_texts`. It contains tests only:
+//! testing a crate proves its functions once more, so the tests have a crate of their own. Begin at `commands`, which
+//! has the call that most tests make, and `shelf`, the files in memory.
 #![tactic(auto)]
 
 #[cfg(test)]

@@ -1,4 +1,4 @@
-//! A run leaves the files that it reads as they are, by whatever path OUT leads to them.
+//! Tests that a run leaves the files that it reads as they are, by whatever path OUT leads to them.
 
 use crate::commands::is_told;
 use crate::files::{HALVES, has_bytes, put, stand, told, with_files};
@@ -8,7 +8,7 @@ use std::io::ErrorKind;
 use std::os::unix::fs::symlink;
 use std::test::Fail;
 
-/// Puts a symbolic link into a folder.
+/// Puts a symbolic link `link` to `file` into a folder.
 fn put_link(rt: &HostRuntime, folder: &str, file: &str, link: &str) -> Result<(), Fail> {
     let path = format!(in rt.alloc(); "{folder}/{link}")?;
     match fs::remove_file(rt, path.as_str()) {
@@ -18,8 +18,8 @@ fn put_link(rt: &HostRuntime, folder: &str, file: &str, link: &str) -> Result<()
     Ok(symlink(rt, file, path.as_str())?)
 }
 
-/// Runs that are told to write a file that they read. Refuses a program that makes OUT before it compares, or that
-/// keeps no coefficient file.
+/// Runs whose OUT is a file that they read, and the reports. Refuses a program that makes OUT before it compares, or
+/// that does not protect coefficient files.
 const READ: &[(&str, &str)] = &[
     (
         "run @/graph.toml @/in.wav @/in.wav",
@@ -81,8 +81,8 @@ fn what_is_read_is_not_written(rt: HostRuntime) -> Result<(), Fail> {
     Ok(())
 }
 
-/// Runs, and the files that they write: a link to another file is written through, and so is a file whose name alone is
-/// that of a file that is read.
+/// Runs, and the files that they write. A link to another file is written through. A file is written, too, if only its
+/// name is the name of a file that is read.
 const OTHERS: &[(&str, &str)] = &[
     ("run @/graph.toml @/in.wav @/old-link.wav", "old.wav"),
     ("run @/graph.toml @/in.wav @/inner/in.wav", "inner/in.wav"),

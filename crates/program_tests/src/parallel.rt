@@ -1,4 +1,4 @@
-//! Runs that are asked for in parallel, over files in memory.
+//! Tests of parallel runs, over files in memory.
 
 use crate::commands::{Row, are_told, told};
 use std::test::Fail;
@@ -6,9 +6,8 @@ use std::thread::{Threads, available_parallelism};
 use std::time::Clock;
 use test_texts::says;
 
-/// A parallel run writes what one thread writes. A worker runs one period of `stretched` at first, so sixteen periods
-/// keep five workers busy. The filter of `kept` keeps five inputs, and the loop of `lasting` keeps its samples for
-/// ever.
+/// Parallel runs write what one thread writes. A worker runs one period of `stretched` at first, so sixteen periods
+/// keep five workers busy. The filter of `kept` keeps five inputs, and the loop of `lasting` its samples for ever.
 const PARALLEL: &[Row] = &[
     (
         "heavy parallel 2",
@@ -76,7 +75,7 @@ const PARALLEL: &[Row] = &[
     ),
 ];
 
-/// Options that can't stand beside it, with words that they have, and numbers of workers that there can't be.
+/// Options that can't be given with `--parallel`, each with a value that it takes, and numbers of workers out of range.
 const REFUSED: &[Row] = &[
     (
         "runner beside it",
@@ -130,7 +129,7 @@ const REFUSED: &[Row] = &[
     ),
 ];
 
-/// How a run ends that is asked for by as many workers as there are processors, by their number.
+/// Serves a parallel run with the number of processors as the number of workers, and returns the report.
 fn by_number<T: Threads + AllocGlobal + Clock + Clone + Drop + Sync>(
     rt: &T,
 ) -> Result<String, Fail> {
@@ -144,7 +143,7 @@ fn by_number<T: Threads + AllocGlobal + Clock + Clone + Drop + Sync>(
     told(rt, &line)
 }
 
-/// Refuses another number of workers where none is given.
+/// Tests parallel runs. If no number of workers is given, refuses one that is not the number of processors.
 #[test]
 fn runs_in_parallel(rt: HostRuntime) -> Result<(), Fail> {
     are_told(&rt, PARALLEL)?;

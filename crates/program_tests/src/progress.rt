@@ -1,4 +1,4 @@
-//! How far a run has come, at a terminal, by a clock of the tests.
+//! Tests of how far a run has come, at a terminal, by a clock of their own.
 
 use crate::commands::{Around, OPEN, is_told, told_around};
 use std::alloc::Global;
@@ -8,7 +8,7 @@ use std::test::Fail;
 use std::thread::Threads;
 use std::time::{Clock, Duration};
 
-/// Six samples, 2 a second.
+/// A sound of six samples at 2 Hz.
 const SLOW: &[u8] =
     b"RIFF\x30\0\0\0WAVEfmt \x10\0\0\0\x01\0\x01\0\x02\0\0\0\x04\0\0\0\x02\0\x10\0data\x0C\0\0\0\x01\0\x02\0\x03\0\x04\0\x05\0\x06\0";
 
@@ -19,7 +19,7 @@ const TERMINAL: Around<'static> = Around {
     ..OPEN
 };
 
-/// It is a pipe.
+/// Standard error is a pipe.
 const PIPED: Around<'static> = Around {
     terminal: false,
     ..TERMINAL
@@ -54,7 +54,7 @@ impl<R> Clock for Paced<'_, R> {
     }
 }
 
-/// Returns what a run prints if its clock goes on at this pace.
+/// Returns what a run prints if its clock goes on by `step` milliseconds before each reading.
 fn told_at<R: Threads + AllocGlobal + Sync>(
     rt: &R,
     step: u64,
@@ -73,8 +73,7 @@ fn told_at<R: Threads + AllocGlobal + Sync>(
 /// A row: its name, the milliseconds between readings, the words, and the printed text. `…` stands for any text.
 type Row = (&'static str, u64, &'static str, &'static str);
 
-/// Runs at a terminal. Refuses a program that shows a short run, one that leaves the line there, and one that shows a
-/// run where no more is said.
+/// Runs at a terminal. Refuses a program that shows a short run, or one with `--no-why`, or leaves the line there.
 const SHOWN: &[Row] = &[
     (
         "a run of less than two seconds",

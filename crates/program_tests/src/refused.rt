@@ -1,4 +1,4 @@
-//! Opens that are refused, for want of memory or for another cause.
+//! Tests of opens that are refused, for lack of memory or for another cause.
 
 use crate::files::{told, with_files};
 use sdf_files::storage::Disk;
@@ -9,7 +9,7 @@ use std::rt::Files;
 use std::test::Fail;
 use test_texts::row_says;
 
-/// A file system that refuses to open the files whose paths end so.
+/// A file system that refuses to open files whose paths end with `ending`.
 #[derive(Clone, Copy)]
 struct Refusing<'a> {
     host: &'a HostRuntime,
@@ -72,7 +72,7 @@ impl Files for Refusing<'_> {
     }
 }
 
-/// The ending of a file, why it is refused, and how a run ends then.
+/// The ending of a path, why the file is refused, and how a run ends then.
 const ROWS: &[(&str, ErrorKind, &str)] = &[
     (
         "graph.toml",

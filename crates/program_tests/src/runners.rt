@@ -1,7 +1,7 @@
-//! Which runner a command uses, seen in what is written of a sound that ends too soon: one thread has written the
-//! header alone when it finds that out, rows and rings all whole pieces of 4,096 frames. A parallel run has written all
-//! but the last of its whole pieces, since it runs that one while it reads on: the first piece has 65,536 frames for
-//! each worker, and each other one 131,072.
+//! Tests of the runner that a command uses, seen in what is written of a sound that ends too soon. One thread has
+//! written the header alone when it finds this out, and rows and rings all whole pieces of 4,096 frames. A parallel run
+//! has written all its whole pieces except the last, which it runs while it reads on. For each worker, the first piece
+//! has 65,536 frames, and each other one 131,072.
 
 use crate::commands::{Around, OPEN, serve_line};
 use std::alloc::{AllocError, Global};
@@ -10,11 +10,11 @@ use std::thread::Threads;
 use std::time::Clock;
 use test_texts::row_says;
 
-/// The header of 600,000 frames, 44,100 a second.
+/// The header of 600,000 frames at 44,100 Hz.
 const ANNOUNCED: &[u8] =
     b"RIFF\xA4\x4F\x12\0WAVEfmt \x10\0\0\0\x01\0\x01\0\x44\xAC\0\0\x88\x58\x01\0\x02\0\x10\0data\x80\x4F\x12\0";
 
-/// So many of the frames that it announces, which are 0, 1, 2 and so on, up to 4,999 and then anew.
+/// Returns the header and `frames` of its frames: 0, 1, 2 and so on up to 4,999, then from 0 again.
 fn cut(alloc: Global, frames: u32) -> Result<Vec<u8>, AllocError> {
     let mut bytes = Vec::from_slice(alloc, ANNOUNCED)?;
     for frame in 0..frames {
@@ -24,7 +24,7 @@ fn cut(alloc: Global, frames: u32) -> Result<Vec<u8>, AllocError> {
     Ok(bytes)
 }
 
-/// Whether the samples behind one header are the first ones behind another.
+/// Checks whether the samples of `made` are the first samples of `read`. Both have a header.
 fn is_front(made: &[u8], read: &[u8]) -> bool {
     match (made.get(44..), read.get(44..)) {
         (Some(made), Some(read)) => read.starts_with(made),
@@ -32,8 +32,8 @@ fn is_front(made: &[u8], read: &[u8]) -> bool {
     }
 }
 
-/// The exit status of a line of words on so many frames, how many bytes are written, whether the samples are the first
-/// of those that are read, which each design of the rows hands on, and what stands on standard error.
+/// Serves `line` on `frames` frames. Reports the exit status, how many bytes are written, whether the samples are the
+/// first ones of the input, and standard error. Each design of the rows copies its input.
 fn told<T: Threads + AllocGlobal + Clock + Clone + Drop + Sync>(
     rt: &T,
     frames: u32,
@@ -52,7 +52,7 @@ fn told<T: Threads + AllocGlobal + Clock + Clone + Drop + Sync>(
     Ok(format!(in alloc; "{status} {} {front} {err}", made.len())?)
 }
 
-/// The name of a row, how many of 600,000 frames are there, the words behind the program's name, and the answer.
+/// The name of a row, how many of 600,000 frames are there, the words after the program's name, and the report.
 type Row = (&'static str, u32, &'static str, &'static str);
 
 const ROWS: &[Row] = &[
@@ -130,8 +130,8 @@ const ROWS: &[Row] = &[
     ),
 ];
 
-/// Refuses a program that ignores `--runner`, one that goes by rows where rings are asked for, and a parallel run that
-/// reads the sound whole, or less than a piece.
+/// Tests the runner of each command. Refuses a program that ignores `--runner`, or uses rows in place of rings. Refuses
+/// also a parallel run that reads the sound whole, or less than a piece.
 #[test]
 fn the_runner_is_the_one_asked_for(rt: HostRuntime) -> Result<(), Fail> {
     for (name, frames, line, wanted) in ROWS {

@@ -8,30 +8,30 @@ use std::io::{self, Error, ErrorKind, Write};
 use std::path::{Path, PathBuf};
 use std::sync::Mutex;
 
-/// The samples 5 and -5, 44,100 a second.
+/// A sound of the samples 5 and -5 at 44,100 Hz.
 pub(crate) const SOUND: &[u8] =
     b"RIFF\x28\0\0\0WAVEfmt \x10\0\0\0\x01\0\x01\0\x44\xAC\0\0\x88\x58\x01\0\x02\0\x10\0data\x04\0\0\0\x05\0\xFB\xFF";
 
-/// Its header.
+/// The header of `SOUND`.
 pub(crate) const HEADER: &[u8] =
     b"RIFF\x28\0\0\0WAVEfmt \x10\0\0\0\x01\0\x01\0\x44\xAC\0\0\x88\x58\x01\0\x02\0\x10\0data\x04\0\0\0";
 
-/// Sixteen samples that are 0.
+/// A sound of sixteen samples that are 0.
 const SILENCE: &[u8] =
     b"RIFF\x44\0\0\0WAVEfmt \x10\0\0\0\x01\0\x01\0\x44\xAC\0\0\x88\x58\x01\0\x02\0\x10\0data\x20\0\0\0\0\0\0\0\0\0\
     \0\0\0\0\0\0\0\0\0\0\0\0\0\0\0\0\0\0\0\0\0\0\0\0\0\0";
 
-/// The samples 7 and 8, 44,100 a second.
+/// A sound of the samples 7 and 8 at 44,100 Hz.
 pub(crate) const NEW_SOUND: &[u8] =
     b"RIFF\x28\0\0\0WAVEfmt \x10\0\0\0\x01\0\x01\0\x44\xAC\0\0\x88\x58\x01\0\x02\0\x10\0data\x04\0\0\0\x07\0\x08\0";
 
-/// Two samples stand on the link, and each actor has a processor of its own.
+/// A link that begins with two samples, between actors with a processor of their own.
 const BEGUN: &str = r#"format = 1
 actor = [{ name = "in", kind = "input", channel = 0, processor = 1 },
     { name = "out", kind = "output", channel = 0, processor = 0 }]
 link = [{ from = "in", to = "out", initial = [7, 8] }]"#;
 
-/// Of two branches one hands on what comes in, and the other adds nothing.
+/// Two branches: one passes its input on, and the other adds nothing.
 const BRANCHES: &str = r#"format = 1
 actor = [{ name = "in", kind = "input", channel = 0 }, { name = "fork", kind = "fork", ways = 2 },
     { name = "same", kind = "fir", shift = 0, taps = [1] }, { name = "none", kind = "fir", shift = 0, taps = [0] },
@@ -39,7 +39,7 @@ actor = [{ name = "in", kind = "input", channel = 0 }, { name = "fork", kind = "
 link = [{ from = "in", to = "fork" }, { from = "fork:0", to = "same" }, { from = "fork:1", to = "none" },
     { from = "same", to = "add:0" }, { from = "none", to = "add:1" }, { from = "add", to = "out" }]"#;
 
-/// Two channels as they are, gathered in one between.
+/// A design that copies two channels, which are gathered into one in between.
 const BOTH: &str = r#"format = 2
 actor = [{ name = "left", kind = "input", channel = 0 }, { name = "right", kind = "input", channel = 1 },
     { name = "one", kind = "gather", ways = 2 }, { name = "two", kind = "deal", ways = 2 },
@@ -47,7 +47,7 @@ actor = [{ name = "left", kind = "input", channel = 0 }, { name = "right", kind 
 link = [{ from = "left", to = "one:0" }, { from = "right", to = "one:1" }, { from = "one", to = "two" },
     { from = "two:0", to = "low" }, { from = "two:1", to = "high" }]"#;
 
-/// The same branches, each of 64 samples a frame and back.
+/// Two branches that make 64 samples of a frame and one again: one passes its input on, and the other adds nothing.
 const HEAVY: &str = r#"format = 1
 actor = [{ name = "in", kind = "input", channel = 0 }, { name = "fork", kind = "fork", ways = 2 },
     { name = "up", kind = "interpolate", factor = 64 }, { name = "same", kind = "decimate", factor = 64 },
@@ -58,7 +58,7 @@ link = [{ from = "in", to = "fork" }, { from = "fork:0", to = "up" }, { from = "
     { from = "fork:1", to = "high" }, { from = "high", to = "low" }, { from = "low", to = "none" },
     { from = "same", to = "add:0" }, { from = "none", to = "add:1" }, { from = "add", to = "out" }]"#;
 
-/// A third such branch.
+/// `HEAVY` with a third branch, which adds nothing.
 const WIDER: &str = r#"format = 1
 actor = [{ name = "in", kind = "input", channel = 0 }, { name = "fork", kind = "fork", ways = 3 },
     { name = "up", kind = "interpolate", factor = 64 }, { name = "same", kind = "decimate", factor = 64 },
@@ -73,7 +73,7 @@ link = [{ from = "in", to = "fork" }, { from = "fork:0", to = "up" }, { from = "
     { from = "same", to = "add:0" }, { from = "none", to = "add:1" }, { from = "nothing", to = "add:2" },
     { from = "add", to = "out" }]"#;
 
-/// Makes 48,000 samples of each one.
+/// A design that makes 48,000 samples of each one.
 const STRETCHED: &str = r#"format = 1
 actor = [{ name = "in", kind = "input", channel = 0 }, { name = "first", kind = "interpolate", factor = 60 },
     { name = "second", kind = "interpolate", factor = 50 }, { name = "third", kind = "interpolate", factor = 16 },
@@ -81,13 +81,13 @@ actor = [{ name = "in", kind = "input", channel = 0 }, { name = "first", kind = 
 link = [{ from = "in", to = "first" }, { from = "first", to = "second" }, { from = "second", to = "third" },
     { from = "third", to = "out" }]"#;
 
-/// A filter that keeps five inputs and hands on the newest.
+/// A filter that keeps five inputs and passes the newest on.
 const KEPT: &str = r#"format = 1
 actor = [{ name = "in", kind = "input", channel = 0 },
     { name = "same", kind = "fir", shift = 0, taps = [1, 0, 0, 0, 0, 0] }, { name = "out", kind = "output", channel = 0 }]
 link = [{ from = "in", to = "same" }, { from = "same", to = "out" }]"#;
 
-/// A loop on which one sample stands adds nothing to what comes in.
+/// A loop that begins with one sample and adds nothing to the input.
 const LASTING: &str = r#"format = 1
 actor = [{ name = "in", kind = "input", channel = 0 }, { name = "add", kind = "add", ways = 2 },
     { name = "fork", kind = "fork", ways = 2 }, { name = "none", kind = "gain", gain = 0, shift = 0 },
@@ -95,7 +95,7 @@ actor = [{ name = "in", kind = "input", channel = 0 }, { name = "add", kind = "a
 link = [{ from = "in", to = "add:0" }, { from = "add", to = "fork" }, { from = "fork:0", to = "out" },
     { from = "fork:1", to = "none" }, { from = "none", to = "add:1", initial = [0] }]"#;
 
-/// As much work in one line, in which each actor alone feeds the next.
+/// The stages of `HEAVY` in one line, in which each actor feeds only the next.
 const LINE: &str = r#"format = 1
 actor = [{ name = "in", kind = "input", channel = 0 },
     { name = "up", kind = "interpolate", factor = 64 }, { name = "same", kind = "decimate", factor = 64 },
@@ -104,19 +104,19 @@ actor = [{ name = "in", kind = "input", channel = 0 },
 link = [{ from = "in", to = "up" }, { from = "up", to = "same" }, { from = "same", to = "high" },
     { from = "high", to = "low" }, { from = "low", to = "out" }]"#;
 
-/// Each end of the one link moves other numbers of samples.
+/// A link whose ends move different numbers of samples.
 const BLOCKS: &str = r#"format = 1
 actor = [{ name = "in", kind = "input", channel = 0, block = 2 },
     { name = "out", kind = "output", channel = 0, block = 3 }]
 link = [{ from = "in", to = "out" }]"#;
 
-/// A period of 2,047 firings.
+/// A design whose period has 2,047 firings.
 const LONG: &str = r#"format = 1
 actor = [{ name = "in", kind = "input", channel = 0, block = 1023 },
     { name = "out", kind = "output", channel = 0, block = 1024 }]
 link = [{ from = "in", to = "out" }]"#;
 
-/// A loop on which no sample stands.
+/// A loop that begins without a sample.
 const STUCK: &str = r#"format = 1
 actor = [{ name = "in", kind = "input", channel = 0 }, { name = "add", kind = "add", ways = 2 },
     { name = "fork", kind = "fork", ways = 2 },
@@ -124,28 +124,28 @@ actor = [{ name = "in", kind = "input", channel = 0 }, { name = "add", kind = "a
 link = [{ from = "in", to = "add:0" }, { from = "add", to = "fork" },
     { from = "fork:0", to = "out" }, { from = "fork:1", to = "add:1" }]"#;
 
-/// A third actor that stands nowhere ends in the middle of a string.
+/// A text that ends in the middle of a string.
 const BROKEN: &str = "format = 1\nactor = [{ name = \"in";
 
-/// Its one tap stands in a file that is not there.
+/// A filter whose one tap is in a file that is not there.
 const LACKING: &str = r#"format = 1
 actor = [{ name = "in", kind = "input", channel = 0 }, { name = "same", kind = "fir", shift = 0, file = "two.toml" },
     { name = "out", kind = "output", channel = 0 }]
 link = [{ from = "in", to = "same" }, { from = "same", to = "out" }]"#;
 
-/// It reads a channel that no sound of the tests has.
+/// A design that reads a channel that no sound on the shelf has.
 const RIGHT: &str = r#"format = 1
 actor = [{ name = "left", kind = "input", channel = 0 }, { name = "right", kind = "input", channel = 1 },
     { name = "sum", kind = "add", ways = 2 }, { name = "out", kind = "output", channel = 0 }]
 link = [{ from = "left", to = "sum:0" }, { from = "right", to = "sum:1" }, { from = "sum", to = "out" }]"#;
 
-/// It keeps one sample of eight.
+/// A design that keeps one sample of eight.
 const EIGHTH: &str = r#"format = 1
 actor = [{ name = "in", kind = "input", channel = 0 }, { name = "less", kind = "decimate", factor = 8 },
     { name = "out", kind = "output", channel = 0 }]
 link = [{ from = "in", to = "less" }, { from = "less", to = "out" }]"#;
 
-/// A factor that is too great.
+/// A filter whose factor is too great.
 const WIDE: &str =
     "format = 1\nlink = []\n[[actor]]\nname = \"half\"\nkind = \"fir\"\nup = 147\nshift = 0\ntaps = [1]\n";
 
@@ -155,13 +155,13 @@ actor = [{ name = "in", kind = "input", channel = 0, processor = 3 },
     { name = "out", kind = "output", channel = 0, processor = 0 }]
 link = [{ from = "in", to = "out" }]"#;
 
-/// Two filters, each of which has its tap in a file of its own.
+/// Two filters, each with its tap in a file of its own.
 const TWICE: &str = r#"format = 1
 actor = [{ name = "in", kind = "input", channel = 0 }, { name = "same", kind = "fir", shift = 0, file = "one.toml" },
     { name = "again", kind = "fir", shift = 0, file = "three.toml" }, { name = "out", kind = "output", channel = 0 }]
 link = [{ from = "in", to = "same" }, { from = "same", to = "again" }, { from = "again", to = "out" }]"#;
 
-/// Eight filters, each of which has its tap in a file of its own.
+/// Eight filters, each with its tap in a file of its own.
 const EIGHT: &str = r#"format = 1
 actor = [{ name = "in", kind = "input", channel = 0 },
     { name = "a", kind = "fir", shift = 0, file = "one.toml" },
@@ -177,7 +177,7 @@ link = [{ from = "in", to = "a" }, { from = "a", to = "b" }, { from = "b", to = 
     { from = "d", to = "e" }, { from = "e", to = "f" }, { from = "f", to = "g" }, { from = "g", to = "h" },
     { from = "h", to = "out" }]"#;
 
-/// A sample becomes 4,096 and one again: a frame is work enough for sixteen workers.
+/// A design in which a sample becomes 4,096 and one again: a frame is work enough for sixteen workers.
 const STEEP: &str = r#"format = 1
 actor = [{ name = "in", kind = "input", channel = 0 }, { name = "up", kind = "interpolate", factor = 64 },
     { name = "top", kind = "interpolate", factor = 64 }, { name = "same", kind = "decimate", factor = 64 },
@@ -185,7 +185,7 @@ actor = [{ name = "in", kind = "input", channel = 0 }, { name = "up", kind = "in
 link = [{ from = "in", to = "up" }, { from = "up", to = "top" }, { from = "top", to = "same" },
     { from = "same", to = "down" }, { from = "down", to = "out" }]"#;
 
-/// A cost that is written in another form than `cost = 12`.
+/// A graph file with a cost in a form other than `cost = 12`.
 const UNDERSCORED: &str = "format = 1
 [[actor]]
 name = \"in\"
@@ -201,10 +201,10 @@ from = \"in\"
 to = \"out\"
 ";
 
-/// Taps, and a key that none has.
+/// A coefficient file with a key that no coefficient file has.
 const ODD: &str = "format = 1\nvalues = [1]\ntap = 1\n";
 
-/// The same taps in a file that is longer than the graph file.
+/// A coefficient file with the values of `TAPS` that is longer than the graph file.
 pub(crate) const PADDED: &str = "format = 1
 # The taps of a filter that hands on what it takes: it has one tap, which is 1, and divides by nothing. What is said
 # here makes the file longer than the graph file that names it, so that a limit can stand between the two: no graph file
@@ -261,7 +261,7 @@ const TEXTS: [(&str, &str); 44] = [
     ("padded/one.toml", PADDED),
 ];
 
-/// The bytes of a file of the tests.
+/// Returns the bytes of a file of the tests.
 fn bytes_of(path: &str) -> Option<&'static [u8]> {
     if path == "in.wav" || path == "./-" {
         return Some(SOUND);
@@ -280,14 +280,14 @@ fn bytes_of(path: &str) -> Option<&'static [u8]> {
     None
 }
 
-/// Files that have a place of their own, since they are written at once.
+/// Files with a place of their own, since they are written at the same time.
 const PARTS: [&str; 3] = [
     "made/in.wav.part",
     "made/cut.wav.part",
     "made/one.toml.part",
 ];
 
-/// The place of a file that can be made.
+/// Returns the index of the place of a file that can be made.
 fn place_of(path: &str) -> Option<usize> {
     for (place, part) in PARTS.iter().enumerate() {
         if path == *part {
@@ -301,7 +301,7 @@ fn place_of(path: &str) -> Option<usize> {
     }
 }
 
-/// The contents of places in which nothing is written.
+/// Returns places in which nothing is written.
 pub(crate) fn places(alloc: Global) -> Result<Vec<Mutex<Vec<u8>>>, AllocError> {
     let mut places = Vec::new(alloc);
     for _ in 0..=PARTS.len() {
@@ -319,13 +319,13 @@ pub(crate) struct Shelf<'a> {
 }
 
 impl<'a> Shelf<'a> {
-    /// The content of a file that can be made.
+    /// Returns the place of a file that can be made.
     fn place(&self, path: &str) -> Option<&'a Mutex<Vec<u8>>> {
         self.places.get(place_of(path)?)
     }
 }
 
-/// The file that is written.
+/// A file that is open for writing.
 #[derive(Clone, Copy)]
 pub(crate) struct Slot<'a> {
     written: &'a Mutex<Vec<u8>>,

@@ -1,4 +1,4 @@
-//! Standard input and output, streams that are closed, and files of any length, over files in memory.
+//! Tests of standard input and output, of closed streams, and of the length limit of files, over files in memory.
 
 use crate::commands::{Around, OPEN, is_told, told_around};
 use crate::files::{FILTERED, TAPS};
@@ -13,7 +13,7 @@ use std::test::Fail;
 use std::thread::Threads;
 use std::time::Clock;
 
-/// The name of a row, what stands around a command, the words behind the program's name, and what is told.
+/// The name of a row, the surroundings of a command, the words after the program's name, and the report.
 type Row = (&'static str, Around<'static>, &'static str, &'static str);
 
 /// A sound on standard input.
@@ -22,7 +22,7 @@ const HEARD: Around<'static> = Around {
     ..OPEN
 };
 
-/// The same with its last byte missing.
+/// A sound on standard input, with its last byte missing.
 const CUT: Around<'static> = Around {
     stdin: b"RIFF\x28\0\0\0WAVEfmt \x10\0\0\0\x01\0\x01\0\x44\xAC\0\0\x88\x58\x01\0\x02\0\x10\0data\x04\0\0\0\x05\0\xFB",
     ..OPEN
@@ -34,7 +34,7 @@ const MUTE: Around<'static> = Around {
     ..OPEN
 };
 
-/// Standard output wants memory.
+/// Standard output is out of memory.
 const POOR: Around<'static> = Around {
     output: Some(ErrorKind::OutOfMemory),
     ..OPEN
@@ -50,9 +50,9 @@ const UNWRITTEN: &str = "5\n--\nsdfw: 48 Write\n--\n";
 
 const NO_MEMORY: &str = "6\n--\nsdfw: 1 OutOfMemory\n--\n";
 
-/// The bytes of a sound are on standard output and nowhere else, and those of a file in the file alone. The file `-` is
-/// not looked at, and `./-` is one. What a fault left stands on standard output, and its line does not. An answer that
-/// is refused is a fault, and a fault that can't be told has its status none the less.
+/// Commands with streams. A sound for standard output is written there and nowhere else, and a sound for a file in the
+/// file alone. The file `-` is not looked at, but `./-` is. After a fault, standard output has what was written before,
+/// and not the fault's line. Output that is refused is a fault, and a fault that can't be printed keeps its status.
 const ROWS: &[Row] = &[
     (
         "from stream to stream",
@@ -220,13 +220,13 @@ fn what_stands_on_which_stream(rt: HostRuntime) -> Result<(), Fail> {
     Ok(())
 }
 
-/// What a check tells of a design with its coefficient file.
+/// The report on a check of a design with its coefficient file.
 const CHECKED: &str =
     "0\nactors 4\nlinks 3\nperiod 4\nq in 1\nq half 1\nq same 1\nq out 1\ninput 1 output 1\n--\n--\n";
 
-/// The longest file that a line of words reads, and what is told where that is as long as the limit. Refuses a program
-/// that cuts longer ones or looks for coefficient files where it runs, and a profile that reads a sound whole whatever
-/// its length is.
+/// The longest file that a line reads, the line, and the report if this file is as long as the limit. Refuses a program
+/// that cuts longer files, or looks for coefficient files in the current folder. Refuses also a profile that reads a
+/// sound whole, whatever its length is.
 const LIMITS: &[(&str, &str, &str)] = &[
     (FILTERED, "check filtered.toml", CHECKED),
     (PADDED, "check padded/filtered.toml", CHECKED),
@@ -237,7 +237,7 @@ const LIMITS: &[(&str, &str, &str)] = &[
     ),
 ];
 
-/// Whether that is told, and where the limit is a byte less the file is not read.
+/// Checks that `line` reports `wanted` if `longest` is as long as the limit, and `47 Read` if the limit is a byte less.
 fn fits<T: Threads + AllocGlobal + Clock + Clone + Drop + Sync>(
     rt: &T,
     longest: &str,
@@ -258,7 +258,7 @@ fn fits<T: Threads + AllocGlobal + Clock + Clone + Drop + Sync>(
     )
 }
 
-/// How the program ends that was given these words.
+/// Serves the words `given`. Reports the exit status, how many bytes are on standard output, and standard error.
 fn unread_given<T: Threads + AllocGlobal + Clock + Clone + Drop + Sync>(
     rt: &T,
     given: Result<Given, WordFault>,
@@ -279,7 +279,7 @@ fn unread_given<T: Threads + AllocGlobal + Clock + Clone + Drop + Sync>(
     Ok(format!(in alloc; "{status} {} {err}", out.len())?)
 }
 
-/// How the program ends whose last word is not UTF-8.
+/// Serves the words of `line` and a last one that is not UTF-8, and returns the report.
 fn without_last<T: Threads + AllocGlobal + Clock + Clone + Drop + Sync>(
     rt: &T,
     line: &[&str],
@@ -292,8 +292,8 @@ fn without_last<T: Threads + AllocGlobal + Clock + Clone + Drop + Sync>(
     unread_given(rt, Ok(Given { words, unread }))
 }
 
-/// Refuses another limit than `docs/FORMATS.md` has, a program that does nothing where its words could not be read, and
-/// a mistake that is not in JSON though another word asks for that.
+/// Tests files and words that are not read. Refuses a limit other than in `docs/FORMATS.md`, and a program that does
+/// nothing if its words can't be read. Refuses also a mistake that is not in JSON although another word asks for that.
 #[test]
 fn files_and_words_that_are_not_read(rt: HostRuntime) -> Result<(), Fail> {
     assert_eq!(rt; MOST_BYTES, 1_073_741_824);

@@ -1,4 +1,4 @@
-//! Diagnostics at a terminal and by `--why`, over files in memory.
+//! Tests of diagnostics at a terminal and by `--why`, over files in memory.
 
 use crate::commands::{Around, OPEN, Row, is_told, told_around};
 use crate::shelf::SOUND;
@@ -13,14 +13,14 @@ const TERMINAL: Around<'static> = Around {
     ..OPEN
 };
 
-/// The same, with a sound on standard input.
+/// Standard error is a terminal, and a sound is on standard input.
 const HEARD: Around<'static> = Around {
     stdin: SOUND,
     ..TERMINAL
 };
 
-/// Diagnostics at a terminal. Refuses a program that prints no more there, one that ignores `--no-why`, one that prints
-/// more beside JSON, and one that names a fault for each schedule.
+/// Diagnostics at a terminal. Refuses a program that prints no more there, ignores `--no-why`, prints more beside JSON,
+/// or names a fault for each schedule.
 const AT_TERMINAL: &[Row] = &[
     (
         "a design that is not there",
@@ -161,8 +161,8 @@ fn what_is_told_at_a_terminal(rt: HostRuntime) -> Result<(), Fail> {
     )
 }
 
-/// Faults of a sound on standard input: its bytes, and the lines on standard error. Refuses a program that says of a
-/// sound what stands at another place, or that reads a size as the number behind it.
+/// Faults of a sound on standard input: its bytes, and the report. Refuses a program that prints what is at another
+/// place of the sound, or that takes the number after a size for the size.
 const SOUNDS: &[(&[u8], &str)] = &[
     (
         b"fLaC\0\0\0\x22",
@@ -261,8 +261,8 @@ fn what_is_told_of_sounds(rt: HostRuntime) -> Result<(), Fail> {
     )
 }
 
-/// Sounds whose size is not true, and what a run makes of them. Refuses a program that believes the size, that looks
-/// for it at one place, or that believes none where it is not told to.
+/// Sounds whose size is not true, a line, and the report. Refuses a program that believes the size despite
+/// `--open-ended`, looks for it at one place, or does not believe it without that option.
 const OPEN_ENDED: &[(&[u8], &str, &str)] = &[
     (
         b"RIFF\x28\0\0\0WAVEfmt \x10\0\0\0\x01\0\x01\0\x44\xAC\0\0\x88\x58\x01\0\x02\0\x10\0data\0\0\0\0\x05\0\xFB\xFF",
@@ -300,7 +300,7 @@ fn sounds_to_the_end(rt: HostRuntime) -> Result<(), Fail> {
 const LOUD: &[u8] =
     b"RIFF\x2C\0\0\0WAVEfmt \x10\0\0\0\x01\0\x02\0\x44\xAC\0\0\x10\xB1\x02\0\x04\0\x10\0data\x08\0\0\0\xFF\x7F\0\x80\x05\0\xFF\x7F";
 
-/// Refuses a program that counts no sample at full scale, those of all outputs together, or of one sign alone.
+/// Tests counts of samples at full scale. Refuses a program that counts none, all outputs together, or one sign alone.
 #[test]
 fn samples_at_full_scale(rt: HostRuntime) -> Result<(), Fail> {
     let around = Around {

@@ -1,4 +1,4 @@
-//! A profile by a clock of the tests: which actor's firings the time is told of, and in what figures.
+//! Tests of a profile by a clock of their own: which actor's firings the time is counted for, and in what figures.
 
 use crate::commands::{is_told, told};
 use crate::costs::MEASURED;
@@ -10,10 +10,10 @@ use std::time::{Clock, Duration};
 use std::{io, thread};
 use test_texts::says;
 
-/// How often the clock is read: before each of the 64 firings of two actors in a block, and at the end.
+/// The number of clock readings: before each of the 64 firings of two actors in a block, and at the end.
 const READINGS: u64 = 129;
 
-/// A reading lasts so many turns, in which another thread may begin one.
+/// The turns that a reading lasts, in which another thread may begin one.
 const TURNS: u32 = 200;
 
 /// Threads with a clock by which a microsecond passes before each reading, and 373 before the last.
@@ -22,7 +22,7 @@ struct Timed<'a, R> {
     rt: &'a R,
     read: &'a AtomicU64,
     reading: &'a AtomicBool,
-    /// Whether two threads have read it at the same time.
+    /// Whether two threads have read the clock at the same time.
     met: &'a AtomicBool,
 }
 
@@ -55,7 +55,7 @@ impl<R> Clock for Timed<'_, R> {
     }
 }
 
-/// What is told of a line by this clock, and whether two threads met.
+/// Serves `line` by this clock. Returns the report, and whether two threads have read the clock at the same time.
 fn told_by_clock<R: Threads + AllocGlobal + Sync>(rt: &R, line: &str) -> Result<String, Fail> {
     let (read, reading) = (AtomicU64::new(0), AtomicBool::new(false));
     let met = AtomicBool::new(false);
@@ -70,10 +70,10 @@ fn told_by_clock<R: Threads + AllocGlobal + Sync>(rt: &R, line: &str) -> Result<
     Ok(format!(in rt.alloc(); "{told}{met}")?)
 }
 
-/// Refuses time that goes to the actor that begins, a last firing that takes none, figures in another order, and two
-/// workers, whose firings can't be timed so; costs of all firings of an actor in place of one; and costs that stand in
-/// the graph file already, 1, 3 and 1, in place of those that are measured: the last firing of the second actor is the
-/// long one.
+/// Tests profiles by a clock. Refuses time that is counted for the actor that begins, a last firing that takes none,
+/// and figures in another order. Refuses two workers, whose firings can't be timed like this, and costs of all firings
+/// of an actor in place of one. Refuses also the costs 1, 3 and 1, which the graph file has already, in place of
+/// measured ones: the last firing of the second actor is the long one.
 #[test]
 fn profiles_by_a_clock(rt: HostRuntime) -> Result<(), Fail> {
     says(

@@ -1,4 +1,4 @@
-//! Runs by workers that are held up: the outputs are those of one thread, and the rounds are within their bounds.
+//! Tests of runs in which workers are held up: outputs equal one thread's, and rounds are within their bounds.
 
 ghost use Rattle.sdf_graph.specs.Rates.{rates};
 ghost use Rattle.sdf_actor.specs.Graphs.{graph_of};
@@ -15,9 +15,9 @@ use std::test::Fail;
 use std::thread::Threads;
 use test_actors::gates::Delay;
 
-/// A net, how many periods its blocks have and how many blocks are run, on the samples from one number to another and
-/// then zeros, by how many workers and in which modes, which firings of an actor are held up (each `every`-th), and for
-/// how many turns: a firing takes fewer.
+/// A net and its runs: `blocks` blocks of `factor` periods, with each of `workers` and of `modes`. The input is the
+/// numbers of `samples.0..samples.1`, then zeros. Firings whose number is a multiple of `every` are held up for at most
+/// `turns` turns. This is longer than a firing takes.
 #[derive(Clone, Copy)]
 struct Row {
     net: Worked,
@@ -38,10 +38,10 @@ const PATIENT: Mode = Mode::Rings {
 
 const SOON_PATIENT: Mode = Mode::Rings { patience: 1 };
 
-/// One worker, two, three, and more than there are actors.
+/// Numbers of workers: one, two, three, and more than a small net has actors.
 const CREWS: &[usize] = &[1, 2, 3, 16];
 
-/// Two periods of a small net, which is held up a little.
+/// Two periods of a small net, with short holds.
 const SMALL: Row = Row {
     net: BLOCKS,
     factor: 1,
@@ -76,7 +76,7 @@ const NETS: &[Row] = &[
         turns: 1000,
         ..SMALL
     },
-    // As many actors, links and workers as there may be: a sample for each of two blocks.
+    // The maximum number of actors, links and workers, with an input sample for each of two blocks.
     Row {
         net: Worked::Large,
         samples: (-1, 1),
@@ -86,7 +86,7 @@ const NETS: &[Row] = &[
     },
 ];
 
-/// One period of a small net, each of whose firings is held up for long.
+/// One period of a small net, with long holds of all firings.
 const HELD_BLOCKS: Row = Row {
     blocks: 1,
     turns: 1_000_000,
@@ -103,7 +103,7 @@ const HELD_FORK: Row = Row {
     ..HELD_BLOCKS
 };
 
-/// Two periods of the converter, which is not held up.
+/// Two periods of the converter, without holds.
 const CONVERTER: Row = Row {
     net: Worked::Converter,
     samples: (0, 294),
@@ -113,7 +113,7 @@ const CONVERTER: Row = Row {
     ..SMALL
 };
 
-/// One period of the converter, of whose 612 firings 9 are held up for long, and longer runs, in which none is.
+/// One period of the converter, with long holds of 9 of its 612 firings, and longer runs without holds.
 const CONVERTERS: &[Row] = &[
     Row {
         net: Worked::Converter,
@@ -131,12 +131,12 @@ const CONVERTERS: &[Row] = &[
     },
 ];
 
-/// Holds each `every`-th firing of an actor until the next one comes, whatever worker's it is, or for `turns` turns.
+/// A gate that holds each `every`-th firing of an actor until a firing of any worker comes, or for `turns` turns.
 #[derive(Drop)]
 struct UntilAnother {
     every: u64,
     turns: u32,
-    /// The firings that have come.
+    /// The number of firings that have come.
     come: AtomicU64,
 }
 
@@ -154,8 +154,8 @@ impl Gate for UntilAnother {
     }
 }
 
-/// Whether workers make in a mode what one thread makes, where a processor is held up before each of its firings, or,
-/// for none, all are until another one goes on.
+/// Checks that a run in `mode` makes what one thread makes. Processor `held` is held up before its firings; if it is
+/// `None`, each processor is held until another firing comes.
 fn makes<R: Threads + AllocGlobal + Sync, A: Actor<Token = i32>>(
     rt: &R,
     net: &Net<A>,
@@ -182,7 +182,7 @@ fn makes<R: Threads + AllocGlobal + Sync, A: Actor<Token = i32>>(
     }
 }
 
-/// The same in each mode.
+/// Calls `makes` for each mode of `row`.
 fn in_each_mode<R: Threads + AllocGlobal + Sync, A: Actor<Token = i32>>(
     rt: &R,
     net: &Net<A>,
@@ -198,7 +198,8 @@ fn in_each_mode<R: Threads + AllocGlobal + Sync, A: Actor<Token = i32>>(
     Ok(())
 }
 
-/// The same by each number of workers, of which no more than there are actors have firings to be held up before.
+/// Checks runs with each number of workers of `row`: each processor is held up in turn, and then all are. Processors
+/// beyond the number of actors have no firings.
 fn by_each_crew<R: Threads + AllocGlobal + Sync, A: Actor<Token = i32>>(
     rt: &R,
     net: &Net<A>,
@@ -234,8 +235,8 @@ fn a_fork(rt: HostRuntime) -> Result<(), Fail> {
     are_as_one(&rt, &HELD_FORK)
 }
 
-/// Refuses also runs that are said to want memory where there is plenty, as by `Sizes::new`, `places`, `seats`,
-/// `make_jobs` and `make_works` for over 60 actors or for 16 workers.
+/// Tests small nets and the largest one. Refuses also out-of-memory faults when there is plenty, for over 60 actors or
+/// for 16 workers: from `Sizes::new`, `places`, `seats`, `make_jobs` or `make_works`.
 #[test]
 fn nets(rt: HostRuntime) -> Result<(), Fail> {
     for row in NETS {

@@ -1,4 +1,4 @@
-//! Rounds by hand over rings, mostly on a source of two samples and a sink of three.
+//! Rounds by hand over rings, mostly with a source that puts two samples and a sink that takes three.
 
 ghost use Rattle.sdf_rings.specs.Rests.{HaveMet};
 
@@ -18,28 +18,28 @@ use test_actors::gates;
 use test_actors::gates::Watch;
 use test_texts::row_says;
 
-/// What is done by hand.
+/// The work that a row does by hand.
 #[derive(Clone, Copy)]
 enum ByHand {
-    /// A first round of the seats of one period, and a second.
+    /// Two rounds of the two seats, for one period.
     Seats,
-    /// Rounds, so many of so many blocks, in which the seats are worked in turn, by a table whose actors have homes or
-    /// not.
+    /// `rounds` rounds for `blocks` blocks, with the seats worked in the order `turn`. `homed` says whether the table's
+    /// actors have homes.
     Rounds {
         homed: bool,
         blocks: u32,
         rounds: u32,
         turn: [usize; 2],
     },
-    /// Rounds of one seat, with a gate.
+    /// Rounds of one seat each, with a gate.
     Gate,
-    /// A round of both seats at once with this patience, where the source's second sample comes so many turns late.
+    /// A round of both seats at once: its spin limit, and the turns by which the source's first firing is late.
     AtOnce(u32, u32),
-    /// So many blocks of 4,228 firings that read one sample each: more firings than 32 bits count.
+    /// The number of blocks, each of 4,228 firings and one input sample: in all more firings than 32 bits count.
     Many(u32),
 }
 
-/// A round of both seats in this order, without patience, and its end.
+/// Works both seats in the order `turn` with a spin limit of 0, and ends the round.
 fn both_and_meet<A: Actor>(rt: &impl Abort, rings: &mut Rings<A>, turn: [usize; 2])
     ensures met { HaveMet rings.new.net rings.new.seats rings.new.places }
 {
@@ -50,8 +50,8 @@ fn both_and_meet<A: Actor>(rt: &impl Abort, rings: &mut Rings<A>, turn: [usize; 
     rings.meet();
 }
 
-/// What is left before the first round, what each seat does in it, the sink's first, what the channel holds then, and
-/// what is left after a second round.
+/// Works the sink's seat, then the source's, and a second round. Reports the firings left before, each seat's firings,
+/// the channel's samples after the first round, and the firings left at the end.
 fn seats<A: Actor<Token = i32>>(
     rt: &(impl Abort + AllocGlobal),
     net: &Net<A>,
@@ -69,7 +69,7 @@ fn seats<A: Actor<Token = i32>>(
     Ok(format!(in rt.alloc(); "{left} {sunk} {put} {held} {}", rings.left())?)
 }
 
-/// How many firings are left after each of some rounds, and what they make; or what rings are refused with.
+/// Returns the firings left after each of `rounds` rounds, and the output lists; or the fault if `prepare` refuses.
 fn rounds<A: Actor<Token = i32>>(
     rt: &(impl Abort + AllocGlobal),
     net: &Net<A>,
@@ -92,13 +92,13 @@ fn rounds<A: Actor<Token = i32>>(
     Ok(format!(in rt.alloc(); "{left:?} {:?}", rings.finish())?)
 }
 
-/// How many firings of the source and of the sink have passed on their processors, and how many out of turn.
+/// Returns how many firings passed of the source on processor 0, of the sink on processor 1, and out of turn.
 fn counts(watch: &Watch) -> (u64, u64, u64) {
     (watch.passed(0, 0), watch.passed(1, 1), watch.odd())
 }
 
-/// The same after a round of the sink's seat, which finds nothing; of the source's, until the ring is full; and of the
-/// sink's again.
+/// Reports `counts` after the sink's seat, which finds nothing, after the source's seat, which fills the ring, and
+/// after the sink's seat again.
 fn passed<A: Actor<Token = i32>>(
     rt: &(impl Abort + AllocGlobal),
     net: &Net<A>,
@@ -116,7 +116,8 @@ fn passed<A: Actor<Token = i32>>(
     Ok(format!(in rt.alloc(); "{first:?} {second:?} {:?}", counts(&watch))?)
 }
 
-/// How many of four firings are left after one round of both seats at once, and whether the sink's have passed.
+/// Reports how many of four firings are left after one round of both seats at once. Then it reports whether the sink
+/// began, and whether the source waited for that in vain.
 fn at_once<R: Abort + Threads + AllocGlobal + Sync, A: Actor<Token = i32>>(
     rt: &R,
     net: &Net<A>,
@@ -137,7 +138,7 @@ fn at_once<R: Abort + Threads + AllocGlobal + Sync, A: Actor<Token = i32>>(
     Ok(format!(in rt.alloc(); "{} left, {begun}, {missed}", rings.left())?)
 }
 
-/// How many firings the seat of one worker has for so many blocks.
+/// Returns the number of firings that the seat of one worker has for `blocks` blocks.
 fn many<A: Actor<Token = i32>>(alloc: Global, net: &Net<A>, blocks: u32) -> Result<String, Fail> {
     let table = planned(alloc, net, 1, 1, true)?;
     let inputs = ramp(alloc, 0, 0, blocks as usize)?;
@@ -163,8 +164,9 @@ fn told<R: Abort + Threads + AllocGlobal + Sync>(rt: &R, by_hand: ByHand) -> Res
     }
 }
 
-/// The ring of two blocks has room for a block's three firings of the source. The sink first: nothing; then its two,
-/// whose room the source sees and fires three more; then its last two. The source first: three and two, twice.
+/// Names, work and wanted reports. For two blocks, too, the ring has room for one block: three firings of the source.
+/// Sink first: the sink does nothing and the source fires three times; then the sink fires twice and the source three
+/// times; then the sink twice. Source first: three firings and two, twice.
 const ROWS: &[(&str, ByHand, &str)] = &[
     ("seats", ByHand::Seats, "5 0 3 6 0"),
     (
@@ -239,8 +241,8 @@ const ROWS: &[(&str, ByHand, &str)] = &[
     ),
 ];
 
-/// Refuses seats that are worked in turn, or without patience, where all are worked at once, and a gate that is left
-/// out.
+/// Tests rounds by hand. Refuses a `work_all` that works the seats in turn or ignores the spin limit, and a gate that
+/// is left out.
 #[test]
 fn rounds_by_hand(rt: HostRuntime) -> Result<(), Fail> {
     for (name, by_hand, wanted) in ROWS {

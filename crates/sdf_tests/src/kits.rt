@@ -1,4 +1,4 @@
-//! Nets of kits, for workers: the rate converter, and those that the gates of the tests hold up.
+//! Nets of kit actors, for workers: the rate converter, and nets whose firings are held up by gates of the tests.
 
 use sdf_actor::{Net, Node};
 use sdf_kit::Kit;
@@ -6,7 +6,8 @@ use std::alloc::Global;
 use std::test::Fail;
 use test_actors::nets::{links, sink, source};
 
-/// A node: a source of a block, a sink of a list and its block, or a kit of these values.
+/// A node: a source and its block, a sink with its output list and block, or a kit actor with its parameters. A block
+/// is the samples of a firing.
 #[derive(Clone, Copy)]
 enum Part {
     In(u32),
@@ -16,7 +17,7 @@ enum Part {
     Fork(usize),
     Gain(i32, u32),
     Gather(usize, u32),
-    /// A filter with as many taps of 1 as its first rate.
+    /// An FIR filter with these rates up and down. Its taps are ones; their number is the rate up.
     Ones(u32, u32),
 }
 
@@ -45,7 +46,7 @@ fn nodes(alloc: Global, parts: &[Part]) -> Result<Vec<Node<Kit>>, Fail> {
     Ok(nodes)
 }
 
-/// A net of parts and of links by their ends, of which some begin with samples.
+/// Builds a net of `parts` with links between `ends`. `begun` gives initial samples by the number of their link.
 fn joined(
     alloc: Global,
     parts: &[Part],
@@ -62,35 +63,36 @@ fn joined(
     Ok(Net::new(alloc, nodes, links)?)
 }
 
-/// Blocks of two samples to blocks of three.
+/// A source that puts two samples a firing, and a sink that takes three.
 pub(crate) const BLOCKS: Worked = Worked::Pair(2, 3, &[]);
 
-/// One sample to one.
+/// A source that puts one sample a firing, and a sink that takes one.
 pub(crate) const PLAIN: Worked = Worked::Pair(1, 1, &[]);
 
-/// The nets of kits.
+/// The nets of kit actors.
 #[derive(Clone, Copy)]
 pub(crate) enum Worked {
-    /// A source of a block and a sink of a block, with samples that stand between them.
+    /// A source and a sink: the samples of their firings, and the initial samples of the link between them.
     Pair(u32, u32, &'static [i32]),
-    /// A loop: what comes out is fed back, turned round.
+    /// A feedback loop: each output, negated, is added to the next input.
     Looped,
-    /// Blocks of two samples, dealt by threes to two sinks. The actor that deals has two phases, so over rings it fires
-    /// one by one.
+    /// Two samples a firing of the source, dealt in threes to two sinks. The dealing actor has two phases, so over
+    /// rings its firings are not batched.
     Dealt,
-    /// What is dealt by twos to a sink and to two loops is gathered with the input. The loops begin with two cycles and
-    /// a sample more, so both actors go by cycles and then stand between two phases.
+    /// Samples are dealt in twos to a sink and to two loops, and the loops are gathered with the input. The loops begin
+    /// with samples for two cycles, and one of them with a sample more. So both actors fire by cycles, and then stop
+    /// between two phases.
     Turned,
-    /// A fork and an adder, and between them so many branches, each a gain that may fire from the start: actors 2 and
-    /// on.
+    /// A fork and an adder, and the number of branches between them: gains that can fire from the start, actors 2 and
+    /// up.
     Branches(usize),
-    /// Two branches, whose links begin with nothing.
+    /// A fork and an adder with two branches between them, whose links begin empty.
     Forked,
-    /// 147 samples to 160, in four stages.
+    /// The rate converter from 147 samples to 160, in four stages.
     Converter,
-    /// Each sample becomes 4,096, which are handed on one by one, and these one again.
+    /// Each sample becomes 4,096 samples; these pass a gain one by one and become one again.
     Wide,
-    /// As many actors and links as there may be: 64 and 256.
+    /// The maximum numbers of actors and links: 64 and 256.
     Large,
 }
 
@@ -186,11 +188,11 @@ const WIDE_ENDS: &[[usize; 4]] = &[
     [5, 0, 6, 0],
 ];
 
-/// What stands on a link at first.
+/// The initial samples of a link that begins with one zero.
 const ZERO: &[i32] = &[0];
 
-/// Two links for each branch, into it and out of it, and then that from the source and that to the sink. The links into
-/// the branches begin with a zero.
+/// Builds a fork and an adder with `ways` branches between them. Each branch has a link in, which begins with a zero,
+/// and a link out. The links from the source and to the sink are the last.
 fn branches(alloc: Global, ways: usize) -> Result<Net<Kit>, Fail> {
     let mut parts = Vec::from_slice(alloc, &[In(1), Fork(ways)])?;
     let mut ends = Vec::new(alloc);
@@ -207,8 +209,8 @@ fn branches(alloc: Global, ways: usize) -> Result<Net<Kit>, Fail> {
     joined(alloc, &parts, &ends, &begun)
 }
 
-/// Thirteen forks and adders in a line, with as many links between the two as they may have ports, or two fewer between
-/// the first two; and 36 gains.
+/// Builds thirteen pairs of a fork and an adder in a line, then 36 gains. A pair is joined by 16 links, the maximum
+/// number of ports, and the first pair by 14.
 fn large(alloc: Global) -> Result<Net<Kit>, Fail> {
     let mut parts = Vec::from_slice(alloc, &[In(1)])?;
     let mut ends = Vec::new(alloc);

@@ -1,8 +1,8 @@
-//! What no clause says of runs of nets: worked nets, run by each runner, by hand and in pieces.
+//! Tests of what no contract states about runs of nets: worked nets, run by each runner, by hand and in pieces.
 //!
-//! It depends on the libraries below `sdf_process`, on `test_actors` and on `test_texts`, and has no functions: tests
-//! are in a crate of their own, since the functions of a crate are proved once more with its tests. Begin at `nets` and
-//! `kits`, the nets of the tests, their tables and their runs.
+//! It depends on the libraries below `sdf_process`, on `test_actors` and on `test_texts`. It contains tests only:
+//! testing a crate proves its functions once more, so the tests have a crate of their own. Begin at `nets` and `kits`,
+//! which have the nets of the tests, their tables and their runs.
 #![tactic(auto)]
 
 #[cfg(test)]

@@ -1,4 +1,4 @@
-//! Runs of more firings than 16 bits count: each passes the gate by its number, and memory is there for them.
+//! Tests of runs with more firings than 16 bits count: each passes the gate with its number, and memory suffices.
 
 use crate::kits::{PLAIN, Worked};
 use crate::nets::{planned, ramp};
@@ -12,8 +12,9 @@ use test_texts::row_says;
 
 const RINGS: Mode = Mode::Rings { patience: 0 };
 
-/// A net that reads 70,000 samples, how it is run by one worker, and how many samples are made, firings of the source
-/// and of the sink pass, and do not pass in turn; or how many samples one thread makes.
+/// A name, a net that reads 70,000 samples, a mode for one worker, and the wanted text. The text gives the samples
+/// made, the firings of the source and of the sink, and the firings out of turn. With no mode one thread runs the net,
+/// and the text gives the samples only.
 type Row = (&'static str, Worked, Option<Mode>, &'static str);
 
 const ONE_BY_ONE: &[Row] = &[
@@ -47,7 +48,7 @@ const OTHERS: &[Row] = &[
     ("on one thread", PLAIN, None, "70000"),
 ];
 
-/// How many samples stand in the first of some lists, which has no room for twice as many.
+/// Returns the length of the first list, or 0 if there is none or its capacity is at least twice its length.
 fn first_len(lists: &[Vec<i32>]) -> usize {
     match lists.first() {
         Some(list) if list.capacity() / 2 < list.len() => list.len(),
@@ -55,7 +56,7 @@ fn first_len(lists: &[Vec<i32>]) -> usize {
     }
 }
 
-/// What is told of a feed of all blocks.
+/// Feeds all blocks at once to a session of one worker, and reports as a row says.
 fn fed<R: Threads + AllocGlobal + Sync, A: Actor<Token = i32>>(
     rt: &R,
     net: &Net<A>,
@@ -70,7 +71,7 @@ fn fed<R: Threads + AllocGlobal + Sync, A: Actor<Token = i32>>(
     Ok(format!(in rt.alloc(); "{made} {source} {sink} {}", watch.odd())?)
 }
 
-/// How many samples one thread makes of all periods, where a run of none goes on.
+/// Resumes a run of no periods on one thread, for all periods, and returns the number of samples made.
 fn resumed<A: Actor<Token = i32>>(alloc: Global, net: &Net<A>) -> Result<String, Fail> {
     let table = planned(alloc, net, 1, 1, true)?;
     let inputs = ramp(alloc, 0, 70_000, 0)?;

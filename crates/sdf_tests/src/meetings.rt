@@ -1,5 +1,5 @@
-//! Workers that meet: a gate holds a firing until others have begun. So far a worker runs ahead of its neighbour, and
-//! no further.
+//! Tests of firings that overlap: a gate holds a firing until others have begun. They show how far a worker runs ahead
+//! of its neighbour, and that it runs no further.
 
 use crate::kits::{PLAIN, Worked};
 use crate::nets::{Times, feed_twice, make_as_one, planned, ramp};
@@ -12,16 +12,16 @@ use std::thread::Threads;
 use test_actors::gates::{Hold, MANY_TURNS, Watch};
 use test_texts::row_says;
 
-/// Tests again so often that a worker goes on once its neighbour has moved.
+/// A spin limit that is high enough for a worker to go on once its neighbour has moved.
 const PATIENT: Mode = Mode::Rings {
     patience: 1_000_000,
 };
 
 const IMPATIENT: Mode = Mode::Rings { patience: 0 };
 
-/// Holds the second firing of the actor that deals until the source has begun its fourth, which stands in the next
-/// block: it wants the room that the first of those made, and the sample that the first of those put for a sink of the
-/// source's worker.
+/// A hold of the dealing actor's second firing until the source has begun its fourth, which is in the next block. For
+/// that, the source's worker needs what the dealer's first firing left: room on the source's channel, and samples for
+/// the sink that this worker also runs.
 const ACROSS: Hold<'static> = Hold {
     held: &[1],
     first: 1,
@@ -31,14 +31,15 @@ const ACROSS: Hold<'static> = Hold {
     turns: MANY_TURNS,
 };
 
-/// Holds the sink's first firing, before it takes a sample, until the source has begun its first, or a later one.
+/// A hold of the sink's first firing, before it takes a sample, until the source has begun its first. With a larger
+/// `ahead` it awaits a later firing of the source.
 const THE_SINK: Hold<'static> = Hold {
     first: 0,
     ahead: 0,
     ..ACROSS
 };
 
-/// The first firings of three branches, and the second and the third, wait for each other.
+/// A hold of the first three firings of three branches: firings of the same number wait for each other.
 const THREE: Hold<'static> = Hold {
     held: &[2, 3, 4],
     first: 0,
@@ -48,7 +49,7 @@ const THREE: Hold<'static> = Hold {
     turns: MANY_TURNS,
 };
 
-/// The first firings of two branches wait for each other.
+/// A hold of the first firings of two branches, until both have begun.
 const TWO: Hold<'static> = Hold {
     held: &[2, 3],
     many: 1,
@@ -62,7 +63,7 @@ const FOUR: Hold<'static> = Hold {
     ..THREE
 };
 
-/// The branches of a net of sixteen.
+/// The branches of a net with sixteen.
 const ALL: &[ActorId] = &[2, 3, 4, 5, 6, 7, 8, 9, 10, 11, 12, 13, 14, 15, 16, 17];
 
 const SIXTEEN: Hold<'static> = Hold {
@@ -72,7 +73,7 @@ const SIXTEEN: Hold<'static> = Hold {
     ..THREE
 };
 
-/// The second firing of each of two branches waits for the other.
+/// A hold of the second firings of two branches, until both have begun.
 const SECOND: Hold<'static> = Hold {
     held: &[2, 3],
     first: 1,
@@ -81,8 +82,8 @@ const SECOND: Hold<'static> = Hold {
     ..THREE
 };
 
-/// Holds the source's second firing until the sink has begun its second, of the two for which the source's first puts
-/// samples.
+/// A hold of the source's second firing until the sink has begun its second. The source's first firing puts samples for
+/// two firings of the sink.
 const IN_A_ROW: Hold<'static> = Hold {
     held: &[0],
     first: 1,
@@ -91,9 +92,9 @@ const IN_A_ROW: Hold<'static> = Hold {
     ..THREE
 };
 
-/// A net, how many periods its blocks have, its workers and how these go on, how many blocks are run on the samples
-/// from one number to another, or none where a session is fed the samples twice, what is held and whether that is in
-/// vain, for how many turns the first firing of actor 1 is held, too, and how many firings are held in vain.
+/// A net and its run: `blocks` blocks of `factor` periods, on the numbers of `samples.0..samples.1`. If `blocks` is
+/// `None`, a session is fed these samples twice. `in_vain` says whether `hold` is given up, and `pause` for how many
+/// turns the first firing of actor 1 is held, too. `told` gives the firings held in vain, and those out of turn.
 #[derive(Clone, Copy)]
 struct Row {
     name: &'static str,
@@ -109,7 +110,7 @@ struct Row {
     told: &'static str,
 }
 
-/// Two blocks.
+/// A run of two blocks.
 const TWO_BLOCKS: Row = Row {
     name: "",
     net: Worked::Dealt,
@@ -124,13 +125,13 @@ const TWO_BLOCKS: Row = Row {
     told: "0 in vain, 0 odd",
 };
 
-/// Two blocks that are fed, twice.
+/// A session that is fed two blocks, twice.
 const FED: Row = Row {
     blocks: None,
     ..TWO_BLOCKS
 };
 
-/// Firings of branches that are at work at once.
+/// Branches whose firings are at work at once.
 const BRANCHES: Row = Row {
     net: Worked::Branches(3),
     workers: 3,
@@ -140,7 +141,7 @@ const BRANCHES: Row = Row {
     ..TWO_BLOCKS
 };
 
-/// As many workers as there can be.
+/// The maximum number of workers.
 const CROWD: Row = Row {
     net: Worked::Branches(16),
     workers: 16,
@@ -150,7 +151,7 @@ const CROWD: Row = Row {
     ..TWO_BLOCKS
 };
 
-/// Eight blocks, of one firing of the source and the sink, whose rings have room for a sample.
+/// Eight blocks, each of one firing of the source and one of the sink. The ring has room for one sample.
 const ONE_BY_ONE: Row = Row {
     net: PLAIN,
     mode: IMPATIENT,
@@ -160,7 +161,7 @@ const ONE_BY_ONE: Row = Row {
     ..TWO_BLOCKS
 };
 
-/// The same of a session, which is fed twice.
+/// A session that is fed eight blocks, twice.
 const FED_ONE_BY_ONE: Row = Row {
     blocks: None,
     ..ONE_BY_ONE
@@ -287,7 +288,7 @@ const ROWS: &[Row] = &[
     },
 ];
 
-/// A gate that holds the first firing of actor 1 for so many turns, too.
+/// A `Watch` that also holds the first firing of actor 1 for `pause` turns.
 #[derive(Drop)]
 struct Slow<'a> {
     watch: Watch<'a>,
@@ -305,8 +306,8 @@ impl<'a> Gate for Slow<'a> {
     }
 }
 
-/// How many firings were held in vain, and how many did not pass in turn, in a run that makes what one thread makes, or
-/// in two feeds.
+/// Runs `row` and compares the output with one thread's, or feeds it twice. Reports how many firings were held in vain,
+/// and how many were out of turn.
 fn told<R: Threads + AllocGlobal + Sync, A: Actor<Token = i32>>(
     rt: &R,
     net: &Net<A>,
@@ -336,8 +337,9 @@ fn told_of<R: Threads + AllocGlobal + Sync>(rt: &R, row: &Row) -> Result<String,
     told(rt, &row.net.net(rt.alloc())?, row)
 }
 
-/// Refuses fewer threads than seats or firings of a row, a round that ends with its block, a worker that never looks at
-/// its neighbour within one, rows in the place of rings, and rings of another size.
+/// Tests which firings overlap. Refuses fewer threads than seats or than a row has firings, and a round that ends with
+/// its block. Refuses also a worker that never looks at its neighbour within a round, rows in place of rings, and rings
+/// of another size.
 #[test]
 fn who_meets_whom(rt: HostRuntime) -> Result<(), Fail> {
     for row in ROWS {

@@ -1,4 +1,4 @@
-//! Small nets, lists of samples, tables, and runs whose makings are compared as texts.
+//! Small nets, lists of samples, tables, and runs whose outputs are compared as texts.
 
 ghost use Rattle.std.specs.Prelude.{◌≡◌, ◌*◌, ◌<◌, IfOk};
 ghost use Rattle.sdf_graph.specs.Rates.{rates};
@@ -22,14 +22,14 @@ use test_actors::gates::Watch;
 use test_actors::nets::{links, sink, source};
 use test_texts::says;
 
-/// One list of samples.
+/// Returns one list, with a copy of `samples`.
 pub(crate) fn list<T: Copy>(alloc: Global, samples: &[T]) -> Result<Vec<Vec<T>>, AllocError> {
     let mut lists = Vec::new(alloc);
     lists.push(Vec::from_slice(alloc, samples)?)?;
     Ok(lists)
 }
 
-/// One list of the samples from one number to another, and then of so many zeros.
+/// Returns one list: the numbers of `from..to`, then `zeros` zeros.
 pub(crate) fn ramp(
     alloc: Global,
     from: i32,
@@ -48,7 +48,7 @@ pub(crate) fn ramp(
     Ok(lists)
 }
 
-/// Links by their ends, of which one begins with samples.
+/// Returns links between `ends`, of which link `number` begins with the samples `initial`.
 pub(crate) fn begun<T: Copy>(
     alloc: Global,
     ends: &[[usize; 4]],
@@ -62,7 +62,7 @@ pub(crate) fn begun<T: Copy>(
     Ok(links)
 }
 
-/// A source and a sink with one channel between them.
+/// Returns a source of `block` samples and a sink of `taken`, with a channel between them that begins with `initial`.
 pub(crate) fn pair(
     alloc: Global,
     block: u32,
@@ -73,7 +73,7 @@ pub(crate) fn pair(
     Ok(Net::new(alloc, nodes, begun(alloc, &[[0, 0, 1, 0]], 0, initial)?)?)
 }
 
-/// A source, an actor and a sink, in a chain.
+/// Returns a chain of a source, `actor` and a sink.
 pub(crate) fn chain<A: Actor>(alloc: Global, actor: A) -> Result<Net<A>, Fail> {
     let mut nodes = Vec::new(alloc);
     nodes.push(source(0, 1))?;
@@ -82,7 +82,7 @@ pub(crate) fn chain<A: Actor>(alloc: Global, actor: A) -> Result<Net<A>, Fail> {
     Ok(Net::new(alloc, nodes, links(alloc, &[[0, 0, 1, 0], [1, 0, 2, 0]])?)?)
 }
 
-/// A source, two sums with five samples between them that are there at first, and a sink.
+/// Returns a chain of a source, two sums and a sink. The channel between the sums begins with five zeros.
 pub(crate) fn two_sums(alloc: Global) -> Result<Net<Sum>, Fail> {
     let sums = [source(0, 3), Node::Inner(Sum), Node::Inner(Sum), sink(0, 2)];
     let nodes = Vec::from_array(alloc, sums)?;
@@ -90,7 +90,8 @@ pub(crate) fn two_sums(alloc: Global) -> Result<Net<Sum>, Fail> {
     Ok(Net::new(alloc, nodes, begun(alloc, &ends, 1, &[0; 5])?)?)
 }
 
-/// A period of a net and a table of Hu's rule for `j` of them on `m` workers, free or with a home for each node.
+/// Returns a schedule of `net`, and a table by Hu's rule for `j` periods on `m` workers, free or with a home for each
+/// node.
 pub(crate) fn planned<A: Actor>(
     alloc: Global,
     net: &Net<A>,
@@ -112,8 +113,8 @@ pub(crate) fn planned<A: Actor>(
     })
 }
 
-/// A period of a net and a table for two of them on three workers, in which the firings of a node stand in runs, all of
-/// them in the column `home`.
+/// Returns a schedule of `net`, and a table for two periods on three workers. All firings are on processor `home`,
+/// grouped in runs of a node's firings.
 pub(crate) fn in_runs<A: Actor>(
     alloc: Global,
     net: &Net<A>,
@@ -132,14 +133,14 @@ pub(crate) fn in_runs<A: Actor>(
     })
 }
 
-/// How often a table is run, so many blocks, and how.
+/// The number of blocks for which a table is run, and how.
 #[derive(Clone, Copy)]
 pub(crate) struct Times {
     pub(crate) blocks: u32,
     pub(crate) mode: Mode,
 }
 
-/// A run by rows or over rings, with this gate.
+/// Runs `table` by rows or over rings, as `times` says, with `gate`.
 pub(crate) fn run_by<R: Threads + AllocGlobal + Sync, A: Actor, G: Gate>(
     rt: &R,
     net: &Net<A>,
@@ -160,7 +161,7 @@ pub(crate) fn run_by<R: Threads + AllocGlobal + Sync, A: Actor, G: Gate>(
     }
 }
 
-/// Feeds a session blocks of a table, twice, with this gate: each feed numbers its firings anew.
+/// Feeds `inputs` to a session twice, with the gate `watch`. Each feed numbers its firings from 0.
 pub(crate) fn feed_twice<R: Threads + AllocGlobal + Sync, A: Actor>(
     rt: &R,
     net: &Net<A>,
@@ -178,7 +179,7 @@ pub(crate) fn feed_twice<R: Threads + AllocGlobal + Sync, A: Actor>(
     Ok(())
 }
 
-/// What one thread makes of some periods.
+/// Returns the outputs of `periods` periods on one thread, as text.
 pub(crate) fn by_one<A: Actor<Token = i32>>(
     alloc: Global,
     net: &Net<A>,
@@ -192,8 +193,8 @@ pub(crate) fn by_one<A: Actor<Token = i32>>(
     Ok(format!(in alloc; "{:?}", ran.outputs)?)
 }
 
-/// What workers make, or in how many rounds where these are none, or more than firings. By rows the table says how many
-/// there are.
+/// Returns the outputs of a run by workers, as text. Over rings it returns the number of rounds instead, if it is 0 or
+/// more than the firings. By rows the table fixes that number.
 fn by_workers<R: Threads + AllocGlobal + Sync, A: Actor<Token = i32>, G: Gate>(
     rt: &R,
     net: &Net<A>,
@@ -214,7 +215,7 @@ fn by_workers<R: Threads + AllocGlobal + Sync, A: Actor<Token = i32>, G: Gate>(
     Ok(format!(in rt.alloc(); "{} rounds", ran.rounds)?)
 }
 
-/// Whether workers make what one thread makes.
+/// Checks that workers make what one thread makes.
 pub(crate) fn make_as_one<R: Threads + AllocGlobal + Sync, A: Actor<Token = i32>, G: Gate>(
     rt: &R,
     net: &Net<A>,

@@ -1,5 +1,5 @@
-//! The gate: each firing passes it once, on its processor, in its turn, and then fires. A seat that alone has firings
-//! is worked in the thread of the caller.
+//! Tests of the gate: each firing passes it once, on its processor, in its turn, and then fires. If one seat alone has
+//! firings, it is worked in the caller's thread.
 
 ghost use Rattle.std.specs.Prelude.{◌≡◌, IfOk};
 ghost use Rattle.sdf_graph.specs.Rates.{rates};
@@ -24,10 +24,10 @@ use test_actors::gates::{Hold, Watch};
 use test_actors::nets::{sink, source};
 use test_texts::row_says;
 
-/// The source, an actor that goes in runs, one of two phases, one with a channel to itself, and the sink.
+/// The number of actors: the source, one fired in batches, one of two phases, one with a channel to itself, the sink.
 const ACTORS: usize = 5;
 
-/// An actor that tells of its firings.
+/// Returns an actor that reports its firings to `watch`.
 fn actor<'a>(watch: &'a Watch<'a>, number: usize, cycle: u32, two: bool) -> Node<Watched<'a>> {
     Node::Inner(Watched {
         cycle,
@@ -37,8 +37,8 @@ fn actor<'a>(watch: &'a Watch<'a>, number: usize, cycle: u32, two: bool) -> Node
     })
 }
 
-/// The net whose firings are watched: in a period the source fires twice, the sink once, and the actors between four
-/// times each.
+/// Returns the net whose firings are watched. In a period the source fires twice, the sink once, and the actors between
+/// four times each.
 fn watched<'a>(alloc: Global, watch: &'a Watch<'a>) -> Result<Net<Watched<'a>>, Fail> {
     let nodes = [
         source(0, 2),
@@ -58,7 +58,7 @@ fn watched<'a>(alloc: Global, watch: &'a Watch<'a>) -> Result<Net<Watched<'a>>, 
     Ok(Net::new(alloc, nodes, begun(alloc, &ends, 4, &[9])?)?)
 }
 
-/// How many firings of an actor stand in a column of a table.
+/// Returns how many firings of `actor` are in a column of `table`.
 fn standing(table: &Table, column: usize, actor: usize) -> u64 {
     let mut many: u64 = 0;
     for i in 0..table.rows() {
@@ -69,7 +69,7 @@ fn standing(table: &Table, column: usize, actor: usize) -> u64 {
     many
 }
 
-/// Whether each firing of so many blocks of a table passed once, in its turn and in its column.
+/// Checks that each firing of `blocks` blocks passed once, in its turn and in its column.
 fn all_passed(rt: &impl Abort, name: &str, watch: &Watch, table: &Table, blocks: u64) {
     assert_eq!(rt; watch.odd(), 0, "{name}");
     for place in 0..3 * ACTORS {
@@ -82,7 +82,7 @@ fn all_passed(rt: &impl Abort, name: &str, watch: &Watch, table: &Table, blocks:
     }
 }
 
-/// A table for a number of workers, free or homed, or for three, of which this one has all firings, in runs.
+/// A table for a number of workers, free or homed; or one for three workers, with all firings, in runs, on this one.
 #[derive(Clone, Copy)]
 enum Kind {
     Free(usize),
@@ -104,7 +104,7 @@ fn table<A: Actor>(alloc: Global, net: &Net<A>, kind: Kind) -> Result<BlockTable
     }
 }
 
-/// Whether each firing passes once, in a run and in feeds of two blocks of two periods.
+/// Checks that each firing passes once: in a run of two blocks, and then in two feeds of two. A block is two periods.
 fn all_pass<R: Abort + Threads + AllocGlobal + Sync, A: Actor<Token = i64>>(
     rt: &R,
     net: &Net<A>,
@@ -159,7 +159,8 @@ const ROWS: &[Row] = &[
     ("three patient workers over rings", Kind::Homed(3), PATIENT),
 ];
 
-/// Refuses a gate that is left out, called twice or behind its firing, or told of another processor, actor or number.
+/// Tests that each firing passes the gate once. Refuses a gate that is left out, called twice or after its firing, or
+/// given another processor, actor or number.
 #[test]
 fn by_rows_and_over_rings(rt: HostRuntime) -> Result<(), Fail> {
     for row in ROWS {
@@ -168,7 +169,7 @@ fn by_rows_and_over_rings(rt: HostRuntime) -> Result<(), Fail> {
     Ok(())
 }
 
-/// Counts the firings that pass in another thread than the one that it was made in.
+/// A gate that counts the firings that pass in a thread other than `caller`.
 #[derive(Drop)]
 struct Elsewhere {
     host: HostRuntime,
@@ -176,7 +177,7 @@ struct Elsewhere {
     elsewhere: AtomicU64,
 }
 
-/// Returns the name by which the system knows the thread that calls.
+/// Returns the system's name of the calling thread.
 fn own_thread(host: HostRuntime) -> io::Result<PathBuf> {
     fs::read_link(&host, "/proc/thread-self")
 }
@@ -192,7 +193,7 @@ impl Gate for Elsewhere {
     }
 }
 
-/// Whether all firings of two blocks of a net pass in the thread of the caller, over rings by a table of this kind.
+/// Returns whether all firings of two blocks pass in the caller's thread, over rings with a table of this `kind`.
 fn stays<R: Threads + AllocGlobal + Sync, A: Actor<Token = i64>>(
     rt: &R,
     host: HostRuntime,
@@ -227,7 +228,7 @@ const SEATS: &[(&str, Kind, &str)] = &[
     ("two seats have some", Kind::Homed(2), "false"),
 ];
 
-/// Refuses a round that starts a thread for a seat without firings.
+/// Tests which thread works a seat. Refuses a round that starts a thread for a seat without firings.
 #[test]
 fn seats_without_firings(rt: HostRuntime) -> Result<(), Fail> {
     for (name, kind, wanted) in SEATS {

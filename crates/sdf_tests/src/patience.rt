@@ -1,4 +1,4 @@
-//! What runs make, and in how many rounds: how often a worker tests again, the tries of a round, and what is refused.
+//! Tests of what runs make and in how many rounds: how often a worker tests again, the tries of a round, and refusals.
 
 use crate::kits::{BLOCKS, PLAIN, Worked};
 use crate::nets::{Times, planned, ramp, run_by};
@@ -12,17 +12,17 @@ use std::thread;
 use std::thread::Threads;
 use test_texts::row_says;
 
-/// A firing waits for so many turns at most, and then goes on.
+/// The turns after which a firing that waits for another goes on.
 const TURNS: u32 = 2_000_000;
 
-/// A worker whose firing has begun does that firing and tests for the next one within so many turns of another.
+/// The turns of one worker in which another one completes a firing that has begun, and tests for the next.
 pub(crate) const PAUSE: u32 = 50_000;
 
-/// As long a pause as it tests once in, and far fewer times than a patient one may.
+/// A pause in which a worker tests at least once, but far fewer times than a patient one may.
 pub(crate) const SHORT: u32 = 5_000;
 
-/// Holds the first firings of an actor, so many, each for so many turns; where there is one that is awaited, each until
-/// its first has begun, too.
+/// A hold of the first `firings` firings of `actor`, each for `turns` turns. If an actor is `awaited`, each is first
+/// held until that actor has begun its first firing.
 #[derive(Clone, Copy)]
 pub(crate) struct Hold {
     pub(crate) actor: ActorId,
@@ -31,8 +31,8 @@ pub(crate) struct Hold {
     pub(crate) turns: u32,
 }
 
-/// Holds the source's first firings until the sink's first has begun, and then for a while: so long there is nothing
-/// more for the sink.
+/// A hold of the source's first firing until the sink's first has begun, and then for a while. Meanwhile there is
+/// nothing more for the sink.
 pub(crate) const LATE: Hold = Hold {
     actor: 0,
     firings: 1,
@@ -90,9 +90,9 @@ impl Gate for Held {
     }
 }
 
-/// A net, how many periods its blocks have, its workers, whether each actor has one alone, how it is run and how many
-/// blocks, on the samples from one number to another and so many zeros, and what is held. It is told how long each
-/// output list is, with what the first begins, and the rounds where these are fewer or more; or a refusal.
+/// A net and its run: `blocks` blocks of `factor` periods, on the numbers of `samples.0..samples.1` and `zeros` zeros.
+/// If `homed`, one worker has all firings of an actor. The report gives the length of each output list and the start of
+/// the first, or the fault. If the rounds are outside `rounds`, both ends included, it gives them, too.
 #[derive(Clone, Copy)]
 struct Row {
     name: &'static str,
@@ -119,12 +119,12 @@ const LITTLE_PATIENT: Mode = Mode::Rings { patience: 10_000 };
 
 const MORE_PATIENT: Mode = Mode::Rings { patience: 20_000 };
 
-/// More than a worker may be.
+/// A spin limit above the maximum.
 const TOO_PATIENT: Mode = Mode::Rings {
     patience: 1_000_001,
 };
 
-/// A sample for the sink's first firing is there, and those for its second and so on come after it has tested for them.
+/// The sample of the sink's first firing is there at the start. The later ones come after it has tested for them.
 const TWO_SAMPLES: Row = Row {
     name: "",
     net: Worked::Pair(1, 1, &[7]),
@@ -140,7 +140,7 @@ const TWO_SAMPLES: Row = Row {
     told: "[2] [7, 1]",
 };
 
-/// So many samples are handed on one by one.
+/// A run in which 400 samples are handed on one by one.
 const ONE_BY_ONE: Row = Row {
     net: PLAIN,
     blocks: 400,
@@ -149,7 +149,7 @@ const ONE_BY_ONE: Row = Row {
     ..TWO_SAMPLES
 };
 
-/// By rows, whose firings any worker does: twelve samples.
+/// A run of twelve samples by rows, in which any worker does a firing.
 const BY_ROWS: Row = Row {
     net: BLOCKS,
     homed: false,
@@ -161,7 +161,7 @@ const BY_ROWS: Row = Row {
     ..TWO_SAMPLES
 };
 
-/// One worker wants one round: in the table's order each firing finds its samples and its room.
+/// A run by one worker, which needs one round: in the table's order each firing finds its samples and its room.
 const ALONE: Row = Row {
     net: BLOCKS,
     workers: 1,
@@ -173,7 +173,7 @@ const ALONE: Row = Row {
     ..TWO_SAMPLES
 };
 
-/// One worker wants no round for no block.
+/// A run of no block by one worker, which needs no round.
 const IDLE: Row = Row {
     blocks: 0,
     zeros: 0,
@@ -182,7 +182,7 @@ const IDLE: Row = Row {
     ..ALONE
 };
 
-/// Two periods of six samples, of which there are six.
+/// A run of two periods of six samples each, with six samples in all.
 const SHORT_INPUT: Row = Row {
     net: BLOCKS,
     samples: (1, 7),
@@ -334,7 +334,8 @@ const ROWS: &[Row] = &[
     },
 ];
 
-/// What is told of what a run made.
+/// Returns the report on a run: the lengths of its output lists and the start of the first. Adds the rounds if they are
+/// outside `row.rounds` or a hold was in vain.
 fn made(alloc: Global, row: &Row, ran: &Ran<i32>, held: &Held) -> Result<String, Fail> {
     let mut lengths = Vec::new(alloc);
     for made in &ran.outputs {
@@ -351,7 +352,7 @@ fn made(alloc: Global, row: &Row, ran: &Ran<i32>, held: &Held) -> Result<String,
     Ok(format!(in alloc; "{lengths:?} {begins:?}")?)
 }
 
-/// What is told of a row's run.
+/// Runs `row` on `net`, and returns the report or the fault.
 fn told<R: Threads + AllocGlobal + Sync, A: Actor<Token = i32>>(
     rt: &R,
     net: &Net<A>,
@@ -374,8 +375,9 @@ fn told_of<R: Threads + AllocGlobal + Sync>(rt: &R, row: &Row) -> Result<String,
     told(rt, &row.net.net(rt.alloc())?, row)
 }
 
-/// Refuses a worker that tests once or at most 10,000 times whatever its patience, patience in the first round alone,
-/// a worker that never looks at its neighbour, and a round too few that is told of.
+/// Tests outputs, rounds and refusals. Refuses a worker that tests once or at most 10,000 times whatever its spin
+/// limit, and one that never looks at its neighbour. Refuses also patience in the first round alone, and a reported
+/// number of rounds that is one too low.
 #[test]
 fn what_runs_make_and_in_how_many_rounds(rt: HostRuntime) -> Result<(), Fail> {
     for row in ROWS {

@@ -1,4 +1,4 @@
-//! Sessions that are fed in pieces.
+//! Tests of sessions that are fed in pieces.
 
 use crate::kits::Worked;
 use crate::nets::{by_one, chain, pair, planned, ramp};
@@ -12,8 +12,7 @@ use test_actors::Watched;
 use test_actors::gates::{Hold, Watch};
 use test_texts::row_says;
 
-/// Feeds the samples from one number to another, appends what is made of them, and tells how much there is then, or why
-/// nothing was made.
+/// Feeds the numbers of `from..to`. Appends the output to `joined`, and its new length, or the fault, to `told`.
 fn feed<R: Threads + AllocGlobal + Sync, A: Actor<Token = i32>>(
     rt: &R,
     session: &mut Session<A>,
@@ -33,11 +32,11 @@ fn feed<R: Threads + AllocGlobal + Sync, A: Actor<Token = i32>>(
     }
 }
 
-/// Pieces of two blocks of the converter, with nothing and too little between them: a feed that is no block leaves a
-/// session as it was.
+/// Pieces of two blocks of the converter, with an empty piece and a short one between them. A feed that is not a block
+/// leaves a session as it was.
 const PIECES: &[(i32, i32)] = &[(0, 147), (147, 147), (147, 293), (147, 294)];
 
-/// How much there is after each piece, how many blocks were run, and what is made.
+/// Feeds `PIECES`, and reports the length of the output after each, the number of blocks run, and the output.
 fn fed<R: Threads + AllocGlobal + Sync, A: Actor<Token = i32>>(
     rt: &R,
     net: &Net<A>,
@@ -54,7 +53,7 @@ fn fed<R: Threads + AllocGlobal + Sync, A: Actor<Token = i32>>(
     Ok(format!(in rt.alloc(); "{told}{blocks} [{joined:?}]")?)
 }
 
-/// What it has to be: what one run makes of both.
+/// Returns the text that `fed` must return, with the output of one run of both blocks.
 fn wanted<A: Actor<Token = i32>>(alloc: Global, net: &Net<A>) -> Result<String, Fail> {
     let table = planned(alloc, net, 1, 2, true)?;
     let inputs = ramp(alloc, 0, 294, 0)?;
@@ -66,7 +65,7 @@ const RINGS: Mode = Mode::Rings { patience: 0 };
 
 const MODES: &[(&str, Mode)] = &[("by rows", Mode::Rows), ("over rings", RINGS)];
 
-/// Whether it is so in each mode.
+/// Checks that feeds in pieces make what one run makes, in each mode.
 fn pieces_are_one<R: Threads + AllocGlobal + Sync, A: Actor<Token = i32>>(
     rt: &R,
     net: &Net<A>,
@@ -78,8 +77,8 @@ fn pieces_are_one<R: Threads + AllocGlobal + Sync, A: Actor<Token = i32>>(
     Ok(())
 }
 
-/// Tells the rounds of a feed of two blocks and those that its session sums, for a source whose second sample comes
-/// late.
+/// Feeds two blocks while the source's first firing is held up. Reports the rounds of the feed, and the sum of its
+/// session.
 fn rounds_of_a_feed<R: Threads + AllocGlobal + Sync, A: Actor<Token = i32>>(
     rt: &R,
     net: &Net<A>,
@@ -92,7 +91,7 @@ fn rounds_of_a_feed<R: Threads + AllocGlobal + Sync, A: Actor<Token = i32>>(
     Ok(format!(in rt.alloc(); "{} {}", ran.rounds, closed.rounds)?)
 }
 
-/// Refuses a feed over rings that tells of one round whatever it did, which no clause can.
+/// Tests feeds in pieces. Refuses a feed over rings that reports one round whatever it did, which no contract can.
 #[test]
 fn fed_in_pieces(rt: HostRuntime) -> Result<(), Fail> {
     pieces_are_one(&rt, &Worked::Converter.net(rt.alloc())?)?;
@@ -103,8 +102,8 @@ fn fed_in_pieces(rt: HostRuntime) -> Result<(), Fail> {
     )
 }
 
-/// What a session by so many workers makes of a block of samples of 1, where there are so many periods in a block: how
-/// many samples, the first one, and in how many rounds.
+/// Feeds a block of `factor` periods, all ones, to a session of `workers` workers. Reports the number of samples made,
+/// the first of them, and the rounds.
 fn made_of_a_block<R: Threads + AllocGlobal + Sync, A: Actor<Token = i64>>(
     rt: &R,
     net: &Net<A>,
@@ -126,7 +125,7 @@ fn made_of_a_block<R: Threads + AllocGlobal + Sync, A: Actor<Token = i64>>(
     }
 }
 
-/// How many samples the source and the sink move, how many periods a block has, and the mode.
+/// A name, the samples that source and sink move a firing, the periods of a block, the mode, and the wanted report.
 const BEGUN: &[(&str, u32, u32, Mode, &str)] = &[
     ("over rings", 1, 1, RINGS, "1 Some(7) 1"),
     (
@@ -146,7 +145,8 @@ const BEGUN: &[(&str, u32, u32, Mode, &str)] = &[
     ),
 ];
 
-/// The same of a source and a sink that move so many samples, between which as many stand as may be, by one worker.
+/// Calls `made_of_a_block` with one worker, for a source and a sink that move `block` samples a firing. Their channel
+/// begins with 65,536 samples, the maximum.
 fn made_of_begun<R: Threads + AllocGlobal + Sync>(
     rt: &R,
     block: u32,
@@ -157,8 +157,8 @@ fn made_of_begun<R: Threads + AllocGlobal + Sync>(
     made_of_a_block(rt, &pair(rt.alloc(), block, block, &many)?, factor, 1, mode)
 }
 
-/// Refuses memory that is not asked for if a channel begins with as many samples as it may, as by `room_of` that
-/// answers no more than 66,000 or `make_queues` for over 66,000, and a round too many that is told of.
+/// Tests channels that begin with the maximum number of samples. Refuses an out-of-memory fault without an allocation,
+/// as from a `room_of` or a `make_queues` that errs above 66,000. Refuses also a number of rounds that is one too high.
 #[test]
 fn channels_of_many_samples(rt: HostRuntime) -> Result<(), Fail> {
     for (name, block, factor, mode, wanted) in BEGUN {
@@ -167,7 +167,7 @@ fn channels_of_many_samples(rt: HostRuntime) -> Result<(), Fail> {
     Ok(())
 }
 
-/// The same of a source, an actor with a cycle of 64 firings and a sink, by one worker.
+/// Calls `made_of_a_block` with one worker, for a chain whose inner actor has a cycle of 64 firings.
 fn made_of_a_cycle<R: Threads + AllocGlobal + Sync>(rt: &R, mode: Mode) -> Result<String, Fail> {
     let watch = Watch::new(rt.alloc(), 1, 3, Hold::NONE)?;
     let actor = Watched {
@@ -179,8 +179,8 @@ fn made_of_a_cycle<R: Threads + AllocGlobal + Sync>(rt: &R, mode: Mode) -> Resul
     made_of_a_block(rt, &chain(rt.alloc(), actor)?, 1, 1, mode)
 }
 
-/// By rows the firings are done one by one, and over rings in one round. Refuses memory that is not asked for where an
-/// actor has as long a cycle as it may, as by `Sizes::new` for one of over 32 firings.
+/// Tests an actor with the longest cycle: by rows its firings are done one by one, and over rings in one round. Refuses
+/// an out-of-memory fault without an allocation, as from a `Sizes::new` that errs for over 32 firings.
 #[test]
 fn a_long_cycle(rt: HostRuntime) -> Result<(), Fail> {
     row_says(

@@ -1,4 +1,4 @@
-//! Small nets on one thread, which are run at once or fed in two pieces.
+//! Tests of small nets on one thread, run at once or fed in two pieces.
 
 ghost use Rattle.std.specs.Prelude.{IfOk};
 ghost use Rattle.sdf_graph.specs.Rates.{rates};
@@ -17,18 +17,18 @@ use test_texts::row_says;
 
 #[derive(Clone, Copy)]
 enum Small {
-    /// A source of a block and a sink of a block, with samples between them.
+    /// A source and a sink: the samples of their firings, and the initial samples of the channel between them.
     Linked(u32, u32, &'static [i64]),
-    /// A state that lasts.
+    /// A chain through `Sum`, whose state lasts.
     Summed,
-    /// Two phases.
+    /// A chain through `Twice`, which has two phases.
     Doubled,
 }
 
 use Small::{Doubled, Linked, Summed};
 
-/// A net, whether it is scheduled by the lean policy, how many periods it is run, on which samples if there is a list
-/// of them, how many it is fed then and with which, and what comes of it.
+/// A net and its run of `periods` periods, on the list `samples` if there is one. `lean` chooses the lean policy. If
+/// `later` is given, the run is resumed for its number of periods, on its samples. `told` is the wanted report.
 #[derive(Clone, Copy)]
 struct Row {
     name: &'static str,
@@ -50,7 +50,7 @@ const ONE_TWO_THREE: Row = Row {
     told: "",
 };
 
-/// Eleven samples for blocks of two and of three.
+/// Eleven samples for a source of two and a sink of three.
 const ELEVEN: Row = Row {
     net: Linked(2, 3, &[]),
     samples: Some(&[1, 2, 3, 4, 5, 6, 7, 8, 9, 10, 11]),
@@ -151,7 +151,7 @@ const ROWS: &[Row] = &[
     },
 ];
 
-/// A period of a net, by the lean policy or in rounds.
+/// Returns a schedule of `net`, by the lean policy or in rounds.
 fn period_of<A: Actor>(alloc: Global, net: &Net<A>, lean: bool) -> Result<Period, Fail>
     ensures { IfOk result (IsPeriodOf (rates (graph_of A.steps net.now))) }
 {
@@ -162,7 +162,7 @@ fn period_of<A: Actor>(alloc: Global, net: &Net<A>, lean: bool) -> Result<Period
     }
 }
 
-/// The output lists of a run, and in how many rounds it is done; or the text of what it is refused with.
+/// Returns the output lists of a run and its number of rounds, or the fault, as text.
 fn run_told<A: Actor<Token = i64>>(
     alloc: Global,
     net: &Net<A>,
@@ -176,7 +176,7 @@ fn run_told<A: Actor<Token = i64>>(
     }
 }
 
-/// What a run of some periods makes, and then what a further one makes.
+/// Runs `periods.0` periods on `first`, resumes for `periods.1` on `later`, and returns the outputs of both.
 fn in_pieces<A: Actor>(
     alloc: Global,
     net: &Net<A>,
@@ -193,7 +193,7 @@ fn in_pieces<A: Actor>(
     Ok(made)
 }
 
-/// What comes of a row's net.
+/// Runs a row's net and returns the report.
 fn told<A: Actor<Token = i64>>(alloc: Global, net: &Net<A>, row: &Row) -> Result<String, Fail> {
     let inputs = match row.samples {
         Some(samples) => list(alloc, samples)?,
@@ -225,7 +225,7 @@ fn what_small_nets_make(rt: HostRuntime) -> Result<(), Fail> {
     Ok(())
 }
 
-/// The output lists of a net.
+/// Returns the output lists of `periods` periods of a net, on one thread.
 fn outputs_of<A: Actor>(
     alloc: Global,
     net: &Net<A>,
@@ -237,7 +237,7 @@ fn outputs_of<A: Actor>(
     Ok(ran.outputs)
 }
 
-/// How long each output list is of a run of some periods, of a net of cyclic rates. 4,096 periods are one block.
+/// Returns the length of each output list of `periods` periods of a net with cyclic rates. 4,096 periods are one block.
 fn lengths(alloc: Global, periods: u32) -> Result<String, Fail> {
     let net = chain(alloc, Twice)?;
     let inputs = list(alloc, &[7; 10_000])?;
@@ -248,7 +248,7 @@ fn lengths(alloc: Global, periods: u32) -> Result<String, Fail> {
     Ok(format!(in alloc; "{lengths:?}")?)
 }
 
-/// What a run makes of a pair, which it turns.
+/// Returns what a run makes of a pair: `Swap` exchanges its two values.
 fn turned(alloc: Global) -> Result<String, Fail> {
     let net = chain(alloc, Swap)?;
     let inputs = list(alloc, &[[1, 2]])?;
@@ -256,13 +256,13 @@ fn turned(alloc: Global) -> Result<String, Fail> {
     Ok(format!(in alloc; "{outputs:?}")?)
 }
 
-/// How many balls make a pyramid of so many triangles of them.
+/// Returns the number of balls in a triangular pyramid of `layers` layers.
 fn pyramid(layers: i64) -> i64 {
     let twice = layers.wrapping_mul(layers.wrapping_add(1));
     twice.wrapping_mul(layers.wrapping_add(2)) / 6
 }
 
-/// How many samples a list has that are five zeros, and then pyramids.
+/// Checks that a list is five zeros and then pyramids, and returns its length.
 fn pyramids(samples: &[i64]) -> Result<usize, Fail> {
     let mut layers: i64 = -5;
     for sample in samples {
@@ -275,7 +275,7 @@ fn pyramids(samples: &[i64]) -> Result<usize, Fail> {
     Ok(samples.len())
 }
 
-/// How many pyramids two sums make of the numbers from 1 on over many blocks.
+/// Runs two sums on 1, 2, 3 .. over many blocks, and counts the output lists and the samples, which must be pyramids.
 fn sums_of_sums(alloc: Global) -> Result<String, Fail> {
     let net = two_sums(alloc)?;
     let mut samples = Vec::new(alloc);

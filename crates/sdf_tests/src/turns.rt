@@ -1,4 +1,4 @@
-//! Rounds by hand, whose seats are worked in any order: what channels hold after each, and that none is in vain.
+//! Tests of rounds by hand, with seats worked in any order: what channels hold after each, and that none is in vain.
 
 ghost use Rattle.std.specs.Prelude.{◌≡◌, length};
 ghost use Rattle.sdf_graph.specs.Rates.{rates};
@@ -18,13 +18,13 @@ use std::process::Abort;
 use std::test::Fail;
 use test_texts::row_says;
 
-/// In which order the seats are worked in a round, from the first one or from the last.
+/// The order in which the seats are worked in a round, from the first or from the last.
 #[derive(Clone, Copy)]
 enum Turns {
     Rising,
     Falling,
     Alternating,
-    /// Rising, and the seat is worked in each third round alone.
+    /// Rising, but this seat is worked in every third round alone.
     Without(usize),
 }
 
@@ -45,7 +45,7 @@ impl Turns {
     }
 }
 
-/// A round without patience, and its end. The answer is whether each seat was worked.
+/// Works a round with a spin limit of 0, and ends it. Returns whether each seat was worked.
 fn round<A: Actor>(
     rt: &impl Abort,
     rings: &mut Rings<A>,
@@ -72,7 +72,7 @@ fn round<A: Actor>(
     all
 }
 
-/// The rate of a channel at one of its ends, which has one phase.
+/// Returns the rate of a channel at one of its ends, which has one phase.
 fn rate(rates: &[u32]) -> u64 {
     match rates.first() {
         Some(rate) => u64::from(*rate),
@@ -80,7 +80,7 @@ fn rate(rates: &[u32]) -> u64 {
     }
 }
 
-/// Whether each channel holds what the firings at its ends leave there, and no more than its capacity.
+/// Checks that each channel holds what the firings at its ends leave there, and no more than its capacity.
 fn held_by_count<A: Actor>(rt: &impl Abort, rings: &Rings<A>, net: &Net<A>, table: &Table)
     requires same { rings.now.net ≡ net.now }
     requires met { HaveMet rings.now.net rings.now.seats rings.now.places }
@@ -101,7 +101,8 @@ fn held_by_count<A: Actor>(rt: &impl Abort, rings: &Rings<A>, net: &Net<A>, tabl
     }
 }
 
-/// Rounds until nothing is left, each of which does some firing where all seats are worked.
+/// Works rounds until nothing is left, and checks the channels after each. A round in which all seats are worked must
+/// do some firing.
 fn rounds<A: Actor>(
     rt: &impl Abort,
     rings: &mut Rings<A>,
@@ -124,7 +125,7 @@ fn rounds<A: Actor>(
     }
 }
 
-/// What some periods make that are done by rounds in an order of the seats.
+/// Runs `periods` periods by rounds in the order `turns`, and returns the outputs as text.
 fn done_by<A: Actor<Token = i32>>(
     rt: &(impl Abort + AllocGlobal),
     net: &Net<A>,
@@ -141,7 +142,7 @@ fn done_by<A: Actor<Token = i32>>(
     Ok(format!(in rt.alloc(); "{:?}", rings.finish())?)
 }
 
-/// The orders, by their names.
+/// The orders and their names.
 const TURNS: &[(&str, Turns)] = &[
     ("rising", Turns::Rising),
     ("falling", Turns::Falling),
@@ -150,7 +151,7 @@ const TURNS: &[(&str, Turns)] = &[
     ("without the second", Turns::Without(1)),
 ];
 
-/// Whether in each order they make what one thread makes.
+/// Checks that each order makes what one thread makes.
 fn done_by_each<A: Actor<Token = i32>>(
     rt: &(impl Abort + AllocGlobal),
     net: &Net<A>,
@@ -171,7 +172,7 @@ fn done_by_each<A: Actor<Token = i32>>(
     Ok(())
 }
 
-/// The same on so many workers.
+/// Checks each order with one, two, three and 16 workers.
 fn done_by_workers<A: Actor<Token = i32>>(
     rt: &(impl Abort + AllocGlobal),
     net: &Net<A>,
@@ -188,7 +189,7 @@ fn done_by_workers<A: Actor<Token = i32>>(
     Ok(())
 }
 
-/// Refuses rings that hold more than their table says: a sample more, or twice as many.
+/// Tests seats worked in any order. Refuses rings that hold more than their table says: one sample more, or double.
 #[test]
 fn in_any_order(rt: HostRuntime) -> Result<(), Fail> {
     done_by_workers(&rt, &BLOCKS.net(rt.alloc())?, 2)?;

@@ -1,4 +1,4 @@
-//! The words that a program is started with.
+//! Tests of the words that a program is started with.
 
 use sdf_faults::{Fault, status};
 use sdf_words::arguments::arguments;
@@ -7,7 +7,7 @@ use std::env::{Env, FillError};
 use std::test::Fail;
 use test_texts::row_says;
 
-/// The words of a program, of which the first is its name.
+/// The words of a program. The first is its name.
 #[derive(Clone, Copy)]
 struct Environment<'a> {
     words: &'a [&'a [u8]],
@@ -36,7 +36,7 @@ impl Env for Environment<'_> {
     }
 }
 
-/// How many words are read, the first, whether all are as they were given, and which was the first that is not UTF-8.
+/// Reports how many words are read, the first, whether all are as they were given, and the first that is not UTF-8.
 fn told<'a>(alloc: Global, words: &'a [&'a [u8]]) -> Result<String, Fail> {
     match arguments(&Environment { words }, alloc) {
         Ok(read) => {
@@ -49,7 +49,7 @@ fn told<'a>(alloc: Global, words: &'a [&'a [u8]]) -> Result<String, Fail> {
     }
 }
 
-/// Whether each word is read as it stands.
+/// Checks whether each word is read as it was given.
 fn are_read(read: &[String], words: &[&[u8]]) -> bool {
     for (word, wanted) in read.iter().zip(words) {
         if word.as_bytes() != *wanted {
@@ -59,7 +59,7 @@ fn are_read(read: &[String], words: &[&[u8]]) -> bool {
     read.len() == words.len()
 }
 
-/// Many words, an empty one and one of 5,000 letters among them.
+/// Reports on many words, among them an empty one and one of 5,000 letters.
 fn many_told(alloc: Global) -> Result<String, Fail> {
     let long = vec![in alloc; b'x'; 5000]?;
     let mut words = [b"word".as_slice(); 23];
@@ -69,8 +69,9 @@ fn many_told(alloc: Global) -> Result<String, Fail> {
     told(alloc, &words)
 }
 
-/// Refuses words behind an empty one that are not read, a long one for which no memory is asked, and words behind one
-/// that is not UTF-8 that are not read, or of which the last is named.
+/// Tests that all words are read. Refuses a reader that drops the words after an empty one, or after one that is not
+/// UTF-8. Refuses also one that asks for no memory for a long word, or names the last word that is not UTF-8 in place
+/// of the first.
 #[test]
 fn arguments_are_text(rt: HostRuntime) -> Result<(), Fail> {
     let alloc = rt.alloc();

@@ -1,4 +1,4 @@
-//! Designs run by workers, in blocks or by another policy: what is written is what one thread writes.
+//! Tests of designs run by workers, in blocks or by another policy: the output equals one thread's.
 
 use crate::designs::{BLOCKS, CHAIN, INITIAL, LOOP, SECOND_DOUBLED, SWAP};
 use crate::running::Samples::{Counted, These};
@@ -8,11 +8,10 @@ use sdf_options::{Options, Placement, Policy, Runner};
 use std::test::Fail;
 use std::thread::Threads;
 
-/// A runner, its workers, the periods in a block, and patience.
+/// A runner, its workers, the periods in a block, and the spin limit.
 type By = (Runner, usize, u32, u32);
 
-/// A design, the channels and samples that it reads, how many bytes one thread writes, the other options, and what runs
-/// it by these.
+/// A design, the channels and samples that it reads, how many bytes one thread writes, the other options, and its runs.
 struct Row {
     name: &'static str,
     graph: &'static str,
@@ -23,7 +22,7 @@ struct Row {
     by: &'static [By],
 }
 
-/// Homes that are worked out from weights, in long blocks.
+/// Homes that are computed from the actors' loads, in long blocks.
 const SPREAD: Options = Options {
     policy: Policy::Runs,
     placement: Placement::Spread,
@@ -48,7 +47,7 @@ const HU: Options = Options {
 /// One thread.
 const ONE: &[By] = &[(Runner::One, 1, 1, 1000)];
 
-/// Workers that are patient.
+/// Runs over rings by several numbers of workers, with a high spin limit.
 const CREWS: &[By] = &[
     (Rings, 1, 1, 100_000),
     (Rings, 2, 1, 100_000),
@@ -59,7 +58,7 @@ const CREWS: &[By] = &[
 
 const TO_NINE: Samples = These(&[1, 2, 3, 4, 5, 6, 7, 8, 9]);
 
-/// By rows and over rings.
+/// Designs that are run by rows and over rings.
 const CREWED: &[Row] = &[
     Row {
         name: "as many workers and periods in a block as make no difference, and any patience",
@@ -139,7 +138,7 @@ const CREWED: &[Row] = &[
     },
 ];
 
-/// By homes that are worked out.
+/// Designs that are run by homes computed from loads.
 const SPREAD_OUT: &[Row] = &[
     Row {
         name: "a last block of 6 periods that is cut, behind a whole one: 1,024 samples are moved by three of them",
@@ -170,7 +169,7 @@ const SPREAD_OUT: &[Row] = &[
     },
 ];
 
-/// In pieces, and by the policies.
+/// Designs that are run in pieces, and by other policies.
 const OTHERS: &[Row] = &[
     Row {
         name: "4,096 frames and then 904: whole blocks of each, and a last one",
@@ -251,7 +250,7 @@ const OTHERS: &[Row] = &[
     },
 ];
 
-/// Whether a row's runs each make of this file what one thread makes of it.
+/// Checks that each run of `row` makes of `input` what one thread makes of it.
 fn make_as_one<T: Threads + AllocGlobal + Sync>(
     rt: &T,
     row: &Row,

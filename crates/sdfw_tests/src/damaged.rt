@@ -1,4 +1,4 @@
-//! WAV files of which a front is kept, and sizes that lie, run by each runner.
+//! Tests of WAV files that are cut, and of sizes that lie, with each runner.
 
 use crate::designs::HALF;
 use crate::devices::seen;
@@ -11,16 +11,16 @@ use test_devices::Faulty;
 use test_devices::files::{Answer, FILES, LIES, Whole};
 use test_texts::row_says;
 
-/// Every second sample: the output of the longest file fits into one.
+/// A design that keeps every second sample: the output for the longest file fits into a file.
 const SECONDS: &str = r#"format = 1
 actor = [{ name = "in", kind = "input", channel = 0 }, { name = "dec", kind = "decimate", factor = 2 },
     { name = "out", kind = "output", channel = 0 }]
 link = [{ from = "in", to = "dec" }, { from = "dec", to = "out" }]"#;
 
-/// What runs a design, and how many bytes a call of a device moves at most.
+/// The runner of a design, and how many bytes a call of a device moves at most.
 type By = (Runner, usize);
 
-/// What a design makes of a file, or the fault.
+/// Returns the file that a design makes of `bytes`, or the fault, as text.
 fn told<T: Threads + AllocGlobal + Sync>(
     rt: &T,
     graph: &str,
@@ -37,7 +37,7 @@ fn told<T: Threads + AllocGlobal + Sync>(
     Ok(seen.end)
 }
 
-/// What it has to be: the halves of the samples, or the fault.
+/// Returns the wanted text: the file of the halves of the samples, or the fault.
 fn wanted(alloc: Global, answer: Answer) -> Result<String, Fail> {
     match answer {
         Ok(samples) => Ok(format!(in alloc; "{:?}", half_of(alloc, samples)?.as_slice())?),
@@ -45,7 +45,7 @@ fn wanted(alloc: Global, answer: Answer) -> Result<String, Fail> {
     }
 }
 
-/// Whether a design answers a file so.
+/// Checks that a design makes of `bytes` what `answer` says.
 fn is_answered<T: Threads + AllocGlobal + Sync>(
     rt: &T,
     graph: &str,
@@ -58,7 +58,7 @@ fn is_answered<T: Threads + AllocGlobal + Sync>(
     row_says(&name, told(rt, graph, by, bytes), &wanted)
 }
 
-/// Whether each front of a file has its answer.
+/// Checks that each prefix of a file has its answer.
 fn fronts_are_answered<T: Threads + AllocGlobal + Sync>(
     rt: &T,
     by: By,
@@ -73,7 +73,7 @@ fn fronts_are_answered<T: Threads + AllocGlobal + Sync>(
     Ok(())
 }
 
-/// Whether each size that lies has its answer.
+/// Checks that each size that lies has its answer.
 fn lies_are_answered<T: Threads + AllocGlobal + Sync>(rt: &T, by: By) -> Result<(), Fail> {
     for lie in &LIES {
         is_answered(rt, SECONDS, by, lie.bytes, Err(lie.fault))?;
@@ -81,7 +81,7 @@ fn lies_are_answered<T: Threads + AllocGlobal + Sync>(rt: &T, by: By) -> Result<
     Ok(())
 }
 
-/// Whether it is so of the fronts of the three files and of the sizes.
+/// Checks the prefixes of the three files, and the sizes that lie.
 fn damage_is_answered<T: Threads + AllocGlobal + Sync>(rt: &T, by: By) -> Result<(), Fail> {
     for file in &FILES {
         fronts_are_answered(rt, by, file)?;

@@ -1,4 +1,4 @@
-//! Designs run over devices that fail at one call.
+//! Tests of designs run over devices that fail at one call.
 
 use crate::designs::HALF;
 use crate::running::{end_of, run_file, run_with};
@@ -11,7 +11,7 @@ use test_devices::files::{CANONICAL, OPEN, Whole};
 use test_devices::{Faulty, Slip};
 use test_texts::row_says;
 
-/// What is seen of a run over devices: how many bytes each call of the reader asked for, and of the writer, what is
+/// A run over devices, as it is seen: how many bytes each call of the reader and of the writer asked for, what is
 /// written, and how the run ends.
 #[derive(Drop)]
 pub(crate) struct Trace {
@@ -21,7 +21,7 @@ pub(crate) struct Trace {
     pub(crate) end: String,
 }
 
-/// What is seen of a run of a design by a runner.
+/// Runs a design by `runner` over `input` and `output`, and returns the trace.
 pub(crate) fn seen<T: Threads + AllocGlobal + Sync>(
     rt: &T,
     graph: &str,
@@ -46,8 +46,8 @@ pub(crate) fn seen<T: Threads + AllocGlobal + Sync>(
     })
 }
 
-/// A file, how many bytes a call moves at most, and how many calls come: of the reader before the output is begun and
-/// in all, and of the writer.
+/// A file, how many bytes a call moves at most, and the numbers of calls: of the reader before the output is begun, of
+/// the reader in all, and of the writer.
 #[derive(Clone, Copy)]
 struct Trip {
     name: &'static str,
@@ -101,7 +101,7 @@ enum Side {
 
 use Side::{Reader, Writer};
 
-/// Which device slips, and how.
+/// The device that slips, and how.
 const SLIPS: &[(Side, Slip)] = &[
     (Reader, Slip::Fails),
     (Reader, Slip::IsInterrupted),
@@ -110,8 +110,8 @@ const SLIPS: &[(Side, Slip)] = &[
     (Writer, Slip::MovesNothing),
 ];
 
-/// How often a device is asked that slips at this call, whether a front of the whole output is written, how long it is,
-/// and the end of the run.
+/// Runs a trip whose device slips at call `at`. Reports how often that device is called, whether a prefix of `whole` is
+/// written, its length, and the end of the run.
 fn told<T: Threads + AllocGlobal + Sync>(
     rt: &T,
     runner: Runner,
@@ -137,9 +137,9 @@ fn told<T: Threads + AllocGlobal + Sync>(
     Ok(format!(in alloc; "{side:?} {slip:?} at {at}: {calls} {front} {len} {end}")?)
 }
 
-/// What it has to be: a device that slips is blamed, and asked no more. The header is written where the content was
-/// begun and its size is filled in. The header and the samples are written by one call each, where a call takes them.
-/// Past the last call all is written.
+/// Returns the wanted report. A device that slips is blamed, and not called again. The header is written if the content
+/// was begun and the size is filled in. The header and the samples are written by one call each, if a call takes them.
+/// If the slip is past the last call, all is written.
 fn wanted(
     alloc: Global,
     trip: &Trip,
@@ -163,7 +163,7 @@ fn wanted(
     Ok(format!(in alloc; "{side:?} {slip:?} at {at}: {calls} true {len} {end}")?)
 }
 
-/// Whether each call of a device that slips is seen, and past the last none.
+/// Checks a slip at each call of a device, and at two calls past the last.
 fn calls_are_seen<T: Threads + AllocGlobal + Sync>(
     rt: &T,
     runner: Runner,
@@ -182,7 +182,7 @@ fn calls_are_seen<T: Threads + AllocGlobal + Sync>(
     Ok(())
 }
 
-/// Whether each slip is seen.
+/// Checks each slip of a trip.
 fn slips_are_seen<T: Threads + AllocGlobal + Sync>(
     rt: &T,
     runner: Runner,
@@ -195,7 +195,7 @@ fn slips_are_seen<T: Threads + AllocGlobal + Sync>(
     Ok(())
 }
 
-/// The same of each trip.
+/// Checks each slip of each trip.
 fn trips_are_seen<T: Threads + AllocGlobal + Sync>(rt: &T, runner: Runner) -> Result<(), Fail> {
     for trip in TRIPS {
         slips_are_seen(rt, runner, trip)?;

@@ -1,4 +1,4 @@
-//! The faults that a run can end by, each with its exit status and its text.
+//! The faults that a run can end with, each with its exit status and its text.
 
 use sdf_actor::{NetFault, Side};
 use sdf_graph::{GraphFault, Meeting};
@@ -6,7 +6,7 @@ use sdf_prec::{Firing, PrecFault};
 use sdf_run::RunFault;
 use sdf_wav::{FormatFault, WavFault};
 
-/// Where a fault of a document is.
+/// The place of a fault in a document.
 #[derive(Clone, Copy)]
 pub(crate) enum At {
     Top,
@@ -16,7 +16,7 @@ pub(crate) enum At {
     File,
 }
 
-/// What is wrong in a document: at a place, in an actor or a link of this number, or with what the key names.
+/// A fault in a document: at a place, in the actor or link of this number, or in what the key names.
 #[derive(Clone, Copy)]
 pub(crate) enum Wrong {
     ActorCount,
@@ -34,7 +34,7 @@ pub(crate) enum Wrong {
     NoFile,
 }
 
-/// A fault, of which some are made when they are told.
+/// A fault. Some are built from these values when they are reported.
 #[derive(Clone, Copy)]
 pub(crate) enum Given {
     Net(NetFault),
@@ -44,7 +44,7 @@ pub(crate) enum Given {
     Device(WavFault),
     /// With its key.
     Document(Wrong, &'static str),
-    /// Of actors of two firings a period, by name: how many each did, and what it was short of.
+    /// Actors with two firings a period: the name, how many it did, and the link that it was short of.
     Deadlock(&'static [(&'static str, u32, Option<usize>)]),
     /// The program's own.
     Memory,
@@ -65,7 +65,7 @@ const FIRING: Firing = Firing {
     number: 2,
 };
 
-/// Graphs and nets.
+/// Faults of graphs and nets.
 const NETS: &[Row] = &[
     (
         Net(NetFault::Graph(GraphFault::ActorCount)),
@@ -167,7 +167,7 @@ const NETS: &[Row] = &[
     ),
 ];
 
-/// Tables.
+/// Faults of tables.
 const TABLES: &[Row] = &[
     (Table(PrecFault::BlockingFactor), 3, "11 BlockingFactor"),
     (Table(PrecFault::WorkerCount), 3, "12 WorkerCount"),
@@ -215,7 +215,7 @@ const TABLES: &[Row] = &[
     ),
 ];
 
-/// WAV files.
+/// Faults of WAV files.
 const SOUNDS: &[Row] = &[
     (Sound(FormatFault::NotRiff), 4, "34 NotRiff"),
     (Sound(FormatFault::NotWave), 4, "35 NotWave"),
@@ -232,7 +232,7 @@ const SOUNDS: &[Row] = &[
     (Sound(FormatFault::RateTooLarge), 4, "46 RateTooLarge"),
 ];
 
-/// Runs.
+/// Faults of runs.
 const RUNS: &[Row] = &[
     (Run(RunFault::OutOfMemory), 6, "1 OutOfMemory"),
     (Run(RunFault::InputLength), 3, "29 InputLength"),
@@ -242,7 +242,7 @@ const RUNS: &[Row] = &[
     (Run(RunFault::SessionFailed), 6, "33 SessionFailed"),
 ];
 
-/// Documents.
+/// Faults of documents.
 const DOCUMENTS: &[Row] = &[
     (
         Document(Wrong::KitValue(At::Top), "format"),
@@ -366,7 +366,7 @@ const DOCUMENTS: &[Row] = &[
     ),
 ];
 
-/// The program's own faults, those of devices, and deadlocks, with no actors and with two.
+/// The program's own faults, faults of devices, and deadlocks with no actors and with two.
 const OWN: &[Row] = &[
     (Given::Memory, 6, "1 OutOfMemory"),
     (Given::Words, 6, "1 OutOfMemory"),
@@ -385,5 +385,5 @@ const OWN: &[Row] = &[
     ),
 ];
 
-/// All of them.
+/// The rows of all faults.
 pub(crate) const ALL: &[&[Row]] = &[NETS, TABLES, SOUNDS, RUNS, DOCUMENTS, OWN];

@@ -1,4 +1,4 @@
-//! How runs end by the bytes of a sound, the options and the length of a design.
+//! Tests of how runs end, by the bytes of a sound, the options and the length of a design.
 
 use crate::designs::HALF;
 use crate::running::{end_of, file_of, run_file, run_with};
@@ -9,8 +9,8 @@ use std::test::Fail;
 use std::thread::Threads;
 use test_texts::{row_says, says};
 
-/// A file of these samples whose bytes from `place` on are these, and that ends after so many; and what is told of a
-/// run of a design on it with these options: how much is written, and how it ends.
+/// A run of `graph` with `options` on a file of `samples`. From `place` on, `bytes` replace the file's, and the file is
+/// cut after `kept` bytes. `told` gives how many bytes are written, and how the run ends.
 #[derive(Clone, Copy)]
 struct Row {
     name: &'static str,
@@ -42,7 +42,7 @@ const THREE: Row = Row {
     ..ONE
 };
 
-/// No sound.
+/// An empty file.
 const EMPTY: Row = Row { kept: 0, ..ONE };
 
 const ROWS: &[Row] = &[
@@ -214,7 +214,7 @@ fn told<T: Threads + AllocGlobal + Sync>(rt: &T, row: &Row) -> Result<String, Fa
     Ok(format!(in alloc; "{} {end}", writer.into_inner().len())?)
 }
 
-/// Refuses a fault by which more is written than the header, or less.
+/// Tests what is written before a fault: the header or nothing. Refuses a run that writes more, or less.
 #[test]
 fn faults_leave_the_header_or_nothing(rt: HostRuntime) -> Result<(), Fail> {
     for row in ROWS {
@@ -223,7 +223,7 @@ fn faults_leave_the_header_or_nothing(rt: HostRuntime) -> Result<(), Fail> {
     Ok(())
 }
 
-/// A design of so many empty links.
+/// Returns a design of `links` empty links.
 fn linked(alloc: Global, links: usize) -> Result<String, Fail> {
     let mut text = String::from_str(alloc, "format = 1\nactor = [{}]\nlink = [")?;
     for _ in 0..links {

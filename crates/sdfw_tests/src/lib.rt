@@ -1,9 +1,8 @@
-//! What no clause says: worked designs from bytes to bytes, schedules and faults as they are printed, and the words of
-//! the command line.
+//! Tests of what no contract states: worked designs from bytes to bytes, schedules and faults as they are printed, and
+//! the words of the command line.
 //!
-//! It depends on the libraries below the program, and has no functions: tests are in a crate of their own, since the
-//! functions of a crate are proved once more with its tests. Begin at `running`, which runs a design over memory, and
-//! `designs`.
+//! It depends on the libraries below the program. It contains tests only: testing a crate proves its functions once
+//! more, so the tests have a crate of their own. Begin at `running`, which runs a design over memory, and `designs`.
 #![tactic(auto)]
 
 #[cfg(test)]

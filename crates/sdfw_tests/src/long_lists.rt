@@ -1,4 +1,4 @@
-//! Lists as long as they may be, in a graph file or in a coefficient file, and longer by one value.
+//! Tests of lists of the maximum length, in a graph file or in a coefficient file, and of lists with one value more.
 
 use crate::running::{fault_told, file_of};
 use sdf_faults::Fault;
@@ -12,8 +12,8 @@ use std::test::Fail;
 use std::thread::Threads;
 use test_texts::row_says;
 
-/// A filter, a table and a link that begin with the values in the place of `LIST`; each of the first two may have them
-/// in a file.
+/// A filter with values in place of `LIST`. The designs that follow have the values in a coefficient file, a table, or
+/// a link.
 const FILTER: &str = r#"format = 1
 actor = [{ name = "in", kind = "input", channel = 0 }, { name = "sum", kind = "fir", shift = 0, taps = [LIST] },
     { name = "out", kind = "output", channel = 0 }]
@@ -39,7 +39,7 @@ const BEGUN: &str = r#"format = 1
 actor = [{ name = "in", kind = "input", channel = 0 }, { name = "out", kind = "output", channel = 0 }]
 link = [{ from = "in", to = "out", initial = [LIST] }]"#;
 
-/// A text with so many values in the place of `LIST`: 1, 2, 3 and so on, up to 9 and then anew.
+/// Returns `text` with `many` values in place of `LIST`: 1, 2, 3 and so on up to 9, then from 1 again.
 fn with_list(alloc: Global, text: &str, many: usize) -> Result<String, AllocError> {
     let mut list = String::new(alloc);
     for number in 0..many {
@@ -49,8 +49,8 @@ fn with_list(alloc: Global, text: &str, many: usize) -> Result<String, AllocErro
     text.replace(alloc, "LIST", list.as_str())
 }
 
-/// A design in whose list stand so many values, and the sound that it is run on: its first sample, which zeros follow,
-/// and how many there are. It is told how many are made, and the last one, which the last value makes.
+/// A design with `values` values in its list, run on `frames` samples: `first`, and then zeros. `told` gives how many
+/// samples are made, and the last one, which the last value makes.
 #[derive(Clone, Copy)]
 struct Row {
     name: &'static str,
@@ -61,7 +61,7 @@ struct Row {
     told: &'static str,
 }
 
-/// A sample that goes through all taps.
+/// A sample that passes all taps.
 const TAPS: Row = Row {
     name: "",
     graph: FILTER,
@@ -71,7 +71,7 @@ const TAPS: Row = Row {
     told: "1024 Some(7)",
 };
 
-/// A sample that stands for the last value.
+/// A sample that looks up the last value.
 const VALUES: Row = Row {
     graph: TABLE,
     values: 65_536,
@@ -81,7 +81,7 @@ const VALUES: Row = Row {
     ..TAPS
 };
 
-/// As many frames as samples stand on the link.
+/// A frame for each sample on the link.
 const SAMPLES: Row = Row {
     graph: BEGUN,
     values: 65_536,
@@ -148,7 +148,7 @@ const ROWS: &[Row] = &[
     },
 ];
 
-/// What a row's design makes.
+/// Returns what a row's design makes.
 fn run_long<T: Threads + AllocGlobal + Sync>(rt: &T, row: &Row) -> Result<Wav, Fault> {
     let alloc = rt.alloc();
     let graph = with_list(alloc, row.graph, row.values)?;
@@ -184,7 +184,8 @@ fn told<T: Threads + AllocGlobal + Sync>(rt: &T, row: &Row) -> Result<String, Fa
     }
 }
 
-/// Refuses a list that is said to want memory where there is plenty, one that is cut, and a longer one that is taken.
+/// Tests lists of the maximum length. Refuses an out-of-memory fault when there is plenty, a list that is cut, and a
+/// longer one that is taken.
 #[test]
 fn as_long_as_they_may_be(rt: HostRuntime) -> Result<(), Fail> {
     for row in ROWS {

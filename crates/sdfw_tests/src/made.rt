@@ -1,4 +1,4 @@
-//! What designs make of sounds, and the faults that they have.
+//! Tests of what designs make of sounds, and of their faults.
 
 use crate::designs::{
     BLOCKS, CHAIN, DELAYED, EARLY, HALF, INITIAL, LATER, LOOP, PAIR, PAIRS, SECOND, SECOND_DOUBLED,
@@ -12,10 +12,10 @@ use std::test::Fail;
 use std::thread::Threads;
 use test_texts::{row_says, says};
 
-/// What comes of a run.
+/// The wanted result of a run.
 #[derive(Clone, Copy)]
 enum Wanted {
-    /// A file of this rate, of so many channels and of these samples.
+    /// A file: its rate, its number of channels and its samples.
     Sound(u32, u16, &'static [i16]),
     /// A file of these bytes.
     Bytes(&'static [u8]),
@@ -25,7 +25,7 @@ enum Wanted {
 
 use Wanted::{Bytes, Ends, Sound};
 
-/// A design, its options, the sound that it reads, and what comes of it.
+/// A design, its options, the sound that it reads, and the wanted result.
 #[derive(Clone, Copy)]
 struct Row {
     name: &'static str,
@@ -37,7 +37,7 @@ struct Row {
     wanted: Wanted,
 }
 
-/// One sample, 8,000 a second, on one thread.
+/// One sample at 8,000 Hz, on one thread.
 const ONE: Row = Row {
     name: "",
     graph: "",
@@ -48,15 +48,15 @@ const ONE: Row = Row {
     wanted: Bytes(&[]),
 };
 
-/// The samples 3 and -2, 44,100 a second.
+/// A file of the samples 3 and -2 at 44,100 Hz.
 const HALVES: &[u8; 48] =
     b"RIFF\x28\0\0\0WAVEfmt \x10\0\0\0\x01\0\x01\0\x44\xAC\0\0\x88\x58\x01\0\x02\0\x10\0data\x04\0\0\0\x03\0\xFE\xFF";
 
-/// No samples.
+/// A file without samples.
 const NOTHING: &[u8; 44] =
     b"RIFF\x24\0\0\0WAVEfmt \x10\0\0\0\x01\0\x01\0\x44\xAC\0\0\x88\x58\x01\0\x02\0\x10\0data\0\0\0\0";
 
-/// Sounds.
+/// Designs that make a sound.
 const SOUNDS: &[Row] = &[
     Row {
         name: "halves",
@@ -169,7 +169,7 @@ const SOUNDS: &[Row] = &[
     },
 ];
 
-/// Faults.
+/// Designs and sounds that end with a fault.
 const FAULTS: &[Row] = &[
     Row {
         name: "a rate that is not whole",
@@ -251,7 +251,7 @@ const FAULTS: &[Row] = &[
     },
 ];
 
-/// Keys, which can hold what begins a line or reaches the terminal, and forge no lines.
+/// Keys with a line's end or control characters, which must not forge lines or reach the terminal.
 const KEYS: &[Row] = &[
     Row {
         name: "a key with a line's end",
@@ -279,7 +279,7 @@ const KEYS: &[Row] = &[
     },
 ];
 
-/// Whether what is wanted comes of each row.
+/// Checks that each row has its wanted result.
 fn are_made<T: Threads + AllocGlobal + Sync>(rt: &T, rows: &[Row]) -> Result<(), Fail> {
     for row in rows {
         is_made(rt, row)?;
@@ -308,14 +308,15 @@ fn what_designs_make(rt: HostRuntime) -> Result<(), Fail> {
     are_made(&rt, KEYS)
 }
 
-/// What the chain makes of the first so many samples.
+/// Returns what `CHAIN` makes of the first `many` samples.
 fn converted<T: Threads + AllocGlobal + Sync>(rt: &T, many: usize) -> Result<Wav, Fault> {
     let input = sound(rt.alloc(), 1, Samples::Counted(many))?;
     let output = run_file(rt, CHAIN, &Options::DEFAULT, &input)?;
     Ok(read_wav(rt.alloc(), &mut FromRead::new(output.as_slice()))?)
 }
 
-/// Whether 320 samples are half of these, what is left of a sound that ended there, and zeros.
+/// Checks whether `part` has the first 160 samples of `whole`, what is left of a sound that ended there, and zeros.
+/// Both must have 320 samples.
 fn is_filled_up(part: &[i16], whole: &[i16]) -> bool {
     for (i, (cut, kept)) in part.iter().zip(whole).enumerate() {
         let expected = match i {
@@ -330,8 +331,8 @@ fn is_filled_up(part: &[i16], whole: &[i16]) -> bool {
     part.len() == 320 && whole.len() == 320
 }
 
-/// The rate of what the chain makes of 294 samples, how many there are, some of them, and whether what it makes of half
-/// of them is filled up.
+/// Runs `CHAIN` on 294 samples and on half of them. Reports the rate, the number and some samples of the first output,
+/// and whether the second is filled up.
 fn converted_told<T: Threads + AllocGlobal + Sync>(rt: &T) -> Result<String, Fail> {
     let whole = converted(rt, 294)?;
     let part = converted(rt, 148)?;

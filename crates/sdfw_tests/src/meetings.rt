@@ -1,5 +1,5 @@
-//! What workers do between a file and a file, seen by gates: the runner is the one that was asked for, and each worker
-//! runs as far ahead of the others as its plan says.
+//! Tests of workers between an input and an output file, seen by gates. They are run as the options say, and a worker
+//! runs ahead of the others as far as its plan allows, and no further.
 
 use crate::designs::{DEALT, LONG, PAIR, PLAIN, SUM};
 use crate::running::Samples::{Counted, These};
@@ -11,7 +11,7 @@ use std::thread::Threads;
 use test_actors::gates::{Hold, MANY_TURNS, Watch};
 use test_texts::row_says;
 
-/// Holds nothing.
+/// A hold of no firing.
 const NOTHING: Hold<'static> = Hold {
     held: &[],
     first: 0,
@@ -21,7 +21,7 @@ const NOTHING: Hold<'static> = Hold {
     turns: MANY_TURNS,
 };
 
-/// Two workers without patience.
+/// Two workers with a spin limit of 0.
 const TWO_WORKERS: Options = Options {
     workers: 2,
     patience: 0,
@@ -50,7 +50,7 @@ const BLOCKS_OF_FOUR: Options = Options {
     ..Options::DEFAULT
 };
 
-/// Workers whose actors are spread.
+/// Two workers over rings, whose actors are spread.
 const SPREAD_OUT: Options = Options {
     workers: 2,
     policy: Policy::Runs,
@@ -59,7 +59,7 @@ const SPREAD_OUT: Options = Options {
     ..Options::DEFAULT
 };
 
-/// One worker, by the file.
+/// One worker by rows, with homes by the file and the policy `runs`.
 const BY_ROWS_IN_RUNS: Options = Options {
     policy: Policy::Runs,
     placement: Placement::File,
@@ -67,16 +67,17 @@ const BY_ROWS_IN_RUNS: Options = Options {
     ..Options::DEFAULT
 };
 
-/// Holds the first firing of the sum, before it takes a sample, until the source has begun its first, or a later one.
+/// A hold of the sum's first firing, before it takes a sample, until the source has begun its first. With a larger
+/// `ahead` it awaits a later firing of the source.
 const THE_SUM: Hold<'static> = Hold {
     held: &[2],
     awaited: &[0],
     ..NOTHING
 };
 
-/// A design of so many actors, how it is run on a sound, what a gate holds there and whether that is in vain, and what
-/// is told: how many firings were held in vain, how many did not pass in turn, and of each actor how many passed on the
-/// first worker and on the second.
+/// A design of `actors` actors, how it is run on a sound, what a gate holds, and whether the hold is given up. `told`
+/// gives how many firings were held in vain, and how many were out of turn. Then it gives how many firings of each
+/// actor passed on the first worker and on the second.
 #[derive(Clone, Copy)]
 struct Row {
     name: &'static str,
@@ -85,14 +86,14 @@ struct Row {
     options: Options,
     channels: u16,
     samples: Samples,
-    /// Of each run, whether the size of the data is filled in.
+    /// For each run, whether the size of the data is filled in.
     filled: &'static [bool],
     hold: Hold<'static>,
     in_vain: bool,
     told: &'static str,
 }
 
-/// The first firings of two gains wait for each other, in three runs.
+/// Three runs in which the first firings of two gains wait for each other.
 const TWO_GAINS: Row = Row {
     name: "",
     graph: PAIR,
@@ -110,8 +111,8 @@ const TWO_GAINS: Row = Row {
     told: "",
 };
 
-/// Two blocks. The second firing of `deal` is held until `in` has begun its fourth, which stands in the next block and
-/// wants what the first of `deal` did.
+/// Two blocks. The second firing of `deal` is held until `in` has begun its fourth. This is in the next block, and
+/// needs the first firing of `deal`.
 const TWO_BLOCKS: Row = Row {
     graph: DEALT,
     actors: 4,
@@ -141,7 +142,7 @@ const A_LAST_BLOCK: Row = Row {
     ..TWO_BLOCKS
 };
 
-/// One sample, in blocks of four, of a sound whose size was never filled in.
+/// One sample of a sound whose size was never filled in, in blocks of four periods.
 const ONE_SAMPLE: Row = Row {
     graph: PLAIN,
     actors: 2,
@@ -152,8 +153,8 @@ const ONE_SAMPLE: Row = Row {
     ..TWO_GAINS
 };
 
-/// A sum that is spread. Its first firing is held, before it takes a sample, until the source has begun the last firing
-/// for which there is room: a block has 1,024 periods, and the ring takes one block.
+/// A sum whose actors are spread. Its first firing is held, before it takes a sample, until the source has begun the
+/// last firing for which there is room. A block has 1,024 periods, and the ring has room for one block.
 const SPREAD: Row = Row {
     graph: SUM,
     actors: 4,
@@ -168,7 +169,7 @@ const SPREAD: Row = Row {
     ..TWO_GAINS
 };
 
-/// The same by the file, in blocks of 64 periods.
+/// A sum with homes by the file, in blocks of 64 periods. The source's last firing with room is its 64th.
 const BY_THE_FILE: Row = Row {
     options: Options {
         blocking: 64,
@@ -182,7 +183,7 @@ const BY_THE_FILE: Row = Row {
     ..SPREAD
 };
 
-/// Over 1,000,000 frames, which are one block and stand on one link.
+/// Over 1,000,000 frames, which are one block and are all on one link.
 const LONG_BLOCK: Row = Row {
     name: "over 1,000,000 samples by rows, for memory that is said to be wanted",
     graph: LONG,
@@ -361,7 +362,7 @@ const ROWS: &[Row] = &[
     },
 ];
 
-/// Whether a row's run makes of a file what one thread makes, on which no firing passes.
+/// Checks that a row's run makes of a file what one thread makes. On one thread no firing passes the gate.
 fn makes_as_one<T: Threads + AllocGlobal + Sync>(
     rt: &T,
     row: &Row,
@@ -382,7 +383,7 @@ fn told(alloc: Global, row: &Row, watch: &Watch) -> Result<String, Fail> {
     Ok(format!(in alloc; "{missed} in vain, {odd} odd, {passed:?}")?)
 }
 
-/// What is told of a row's run.
+/// Runs a row on its sound, with the size filled in or not, and returns the report.
 fn told_of<T: Threads + AllocGlobal + Sync>(
     rt: &T,
     row: &Row,
@@ -409,9 +410,9 @@ fn is_told<T: Threads + AllocGlobal + Sync>(rt: &T, row: &Row) -> Result<(), Fai
     Ok(())
 }
 
-/// Refuses one thread where workers were asked for, also where one was, a block too many, and rings that take more than
-/// a block; and memory that is refused where there is plenty, as for over 1,000,000 frames on one thread or by workers,
-/// or for a channel with room for as many.
+/// Tests what gates see of runs. Refuses one thread in place of workers or of one worker, a block too many, and rings
+/// that take more than a block. Refuses an out-of-memory fault when there is plenty: for over 1,000,000 frames on one
+/// thread or by workers, or for a channel with room for them.
 #[test]
 fn what_gates_see(rt: HostRuntime) -> Result<(), Fail> {
     for row in ROWS {

@@ -1,5 +1,5 @@
-//! Sounds that are read, run and written piece by piece: what the calls of the devices ask for, how many blocks are fed
-//! at a time, and what is written of a sound that is cut off.
+//! Tests of sounds that are read, run and written piece by piece: what device calls ask for, how many blocks are fed at
+//! a time, and what is written of a sound that is cut off.
 
 use crate::designs::{CHAIN, HALF, SUM};
 use crate::devices::seen;
@@ -14,8 +14,8 @@ use std::thread::Threads;
 use test_devices::Faulty;
 use test_texts::row_says;
 
-/// What runs `HALF`, how many samples it reads, more than 16 bits count among them, and what the calls of the reader
-/// and of the writer ask for.
+/// The name of a row, the runner of `HALF`, the samples that it reads, and the bytes that the calls of the reader and
+/// of the writer ask for. Some rows have more samples than 16 bits count.
 const ASKED: &[(&str, Runner, usize, &str)] = &[
     (
         "one thread reads the content whole",
@@ -60,7 +60,7 @@ const ASKED: &[(&str, Runner, usize, &str)] = &[
     ),
 ];
 
-/// What they ask for, and whether the samples are halved.
+/// Reports how many bytes the calls ask for, and whether the samples are halved.
 fn asked_told<T: Threads + AllocGlobal + Sync>(
     rt: &T,
     runner: Runner,
@@ -77,8 +77,8 @@ fn asked_told<T: Threads + AllocGlobal + Sync>(
     Ok(format!(in alloc; "{read:?} {written:?} {same}")?)
 }
 
-/// What is written at a time is 4,096 frames. Refuses workers that read all frames at a time, or twice as many, and one
-/// thread in their place.
+/// Tests what device calls ask for: workers write 4,096 frames at a time. Refuses workers that read all frames at a
+/// time, or twice 4,096, and one thread in their place.
 #[test]
 fn what_calls_ask_for(rt: HostRuntime) -> Result<(), Fail> {
     for (name, runner, many, wanted) in ASKED {
@@ -87,10 +87,10 @@ fn what_calls_ask_for(rt: HostRuntime) -> Result<(), Fail> {
     Ok(())
 }
 
-/// Firings of the source of `CHAIN`, which fires 147 times in a block: the first of a block in each row.
+/// Firings of the source of `CHAIN`, which fires 147 times in a block. Each is the first of a block.
 const NUMBERS: &[u64] = &[0, 147, 882, 1029, 3822, 3969];
 
-/// Counts how often the source begins each of `NUMBERS`. Each feed numbers its firings anew.
+/// A gate that counts how often the source begins each of `NUMBERS`. Each feed numbers its firings from 0.
 #[derive(Drop)]
 struct Starts {
     begun: Vec<AtomicU64>,
@@ -108,7 +108,7 @@ impl Gate for Starts {
     }
 }
 
-/// Returns how often each of them is begun while 5,000 frames are run.
+/// Returns how often each of `NUMBERS` is begun while 5,000 frames are run.
 fn begun_told<T: Threads + AllocGlobal + Sync>(rt: &T, runner: Runner) -> Result<String, Fail> {
     let alloc = rt.alloc();
     let mut begun = Vec::new(alloc);
@@ -128,7 +128,8 @@ fn begun_told<T: Threads + AllocGlobal + Sync>(rt: &T, runner: Runner) -> Result
     Ok(format!(in alloc; "{told:?}")?)
 }
 
-/// 4,096 frames hold 27 blocks, the 127 that are left and 904 more hold 7, and the last 2 are filled up to one.
+/// Tests how many blocks are fed: 4,096 frames hold 27 blocks. The 127 frames left and 904 more hold 7, and the last 2
+/// are filled up to one.
 #[test]
 fn how_many_blocks_are_fed(rt: HostRuntime) -> Result<(), Fail> {
     for (name, runner) in [("rows", Runner::Rows), ("rings", Runner::Rings)] {
@@ -137,8 +138,8 @@ fn how_many_blocks_are_fed(rt: HostRuntime) -> Result<(), Fail> {
     Ok(())
 }
 
-/// A design, how it is run on a sound of which so many bytes are there, and what is told: how many bytes are written,
-/// whether they are a front of what one thread writes of the whole sound, and how the run ends.
+/// A design, and how it is run on a sound that is cut after `kept` bytes. `told` gives how many bytes are written,
+/// whether they are a prefix of one thread's output for the whole sound, and how the run ends.
 #[derive(Clone, Copy)]
 struct Cut {
     name: &'static str,
@@ -150,8 +151,8 @@ struct Cut {
     told: &'static str,
 }
 
-/// 4,500 frames of 5,000. The whole blocks of the 4,096 frames that were read before the fault are written: 27 of one
-/// period, or 13 of two.
+/// A sound of 5,000 frames, cut after 4,500. The whole blocks of the 4,096 frames that were read before the fault are
+/// written: 27 of one period, or 13 of two.
 const CHAINED: Cut = Cut {
     name: "",
     graph: CHAIN,
@@ -171,7 +172,7 @@ const SPREAD_OUT: Options = Options {
     ..Options::DEFAULT
 };
 
-/// A sound of 5,000 frames, for a plan whose actors are spread: 4,096 of them are read at a time, four long blocks.
+/// A sound of 5,000 frames, for a plan whose actors are spread. It reads 4,096 frames at a time, four long blocks.
 const SPREAD: Cut = Cut {
     graph: SUM,
     options: SPREAD_OUT,
@@ -180,7 +181,7 @@ const SPREAD: Cut = Cut {
     ..CHAINED
 };
 
-/// The same by Hu's rule, in blocks of 64 periods.
+/// A sound of 5,000 frames, for a plan by Hu's rule, in blocks of 64 periods.
 const BY_HU: Cut = Cut {
     options: Options {
         placement: Placement::Hu,
@@ -274,8 +275,8 @@ fn cut_told<T: Threads + AllocGlobal + Sync>(
     Ok(format!(in alloc; "{} {front} {end}", output.len())?)
 }
 
-/// What is read at a time is run and written before more is read. Refuses `FRAMES` of another number, and one thread
-/// where workers were asked for.
+/// Tests that each piece is run and written before more is read. Refuses another value of `FRAMES`, and one thread in
+/// place of workers.
 #[test]
 fn what_was_read_is_written(rt: HostRuntime) -> Result<(), Fail> {
     for row in CUTS {

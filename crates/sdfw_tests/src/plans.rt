@@ -1,4 +1,4 @@
-//! Plans: what runs a design in parallel, and what a run of a plan wants.
+//! Tests of plans: what runs a design in parallel, and what input a run of a plan needs.
 
 ghost use Rattle.sdf_plan.specs.Plans.{Suits};
 
@@ -30,7 +30,7 @@ actor = [{ name = "in", kind = "input", channel = 0 }, { name = "add", kind = "a
 link = [{ from = "in", to = "add:0" }, { from = "add", to = "fork" }, { from = "fork:0", to = "out" },
     { from = "fork:1", to = "add:1", initial = [0] }]"#;
 
-/// What runs a design in parallel, in how many parts at once, and why.
+/// Reports what runs a design in parallel, in how many parts at once, and why.
 fn parts_told(alloc: Global, text: &str) -> Result<String, Fail> {
     let design = read_design(alloc, text.as_bytes(), &[])?;
     let Paced { plan, pace } = parallel_plan(alloc, &design, 3)?;
@@ -41,7 +41,7 @@ fn parts_told(alloc: Global, text: &str) -> Result<String, Fail> {
     })
 }
 
-/// The fault of a run of two periods of the chain on one sample less.
+/// Returns the fault of a run of two periods of `CHAIN` whose input is one sample short.
 fn short_told(alloc: Global, design: &Design, plan: &Plan) -> Result<String, Fail>
     requires { Suits design.now.net plan.now }
 {
@@ -58,8 +58,9 @@ fn short_chain(alloc: Global) -> Result<String, Fail> {
     short_told(alloc, &design, &plan)
 }
 
-/// Refuses another warm-up than the least. Seven samples of the sum come from before, and the first four firings of the
-/// filter take these. Two firings later it has forgotten them, after six periods. Refuses a loop that is cut, too.
+/// Tests plans. Refuses a warm-up other than the least: seven samples of the sum come from before, and the first four
+/// firings of the filter take these. Two firings later, after six periods, the filter has forgotten them. Refuses also
+/// a loop that is cut.
 #[test]
 fn plans_and_what_they_want(rt: HostRuntime) -> Result<(), Fail> {
     row_says(

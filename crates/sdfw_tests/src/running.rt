@@ -1,4 +1,4 @@
-//! Designs run over memory, from bytes to bytes, and what is told of it.
+//! Runs of designs over memory, from bytes to bytes, and reports on them.
 
 use sdf_faults::{Fault, fault_text, status};
 use sdf_file::read_design;
@@ -11,7 +11,7 @@ use std::alloc::Global;
 use std::test::Fail;
 use std::thread::Threads;
 
-/// The file of a sound.
+/// Returns the WAV file of a sound.
 pub(crate) fn file_of(
     alloc: Global,
     rate: u32,
@@ -28,7 +28,7 @@ pub(crate) fn file_of(
 #[derive(Clone, Copy)]
 pub(crate) enum Samples {
     These(&'static [i16]),
-    /// So many of 0, 1, 2 and so on, up to 4,999 and then anew.
+    /// This number of samples: 0, 1, 2 and so on up to 4,999, then from 0 again.
     Counted(usize),
 }
 
@@ -45,12 +45,12 @@ pub(crate) fn samples_of(alloc: Global, samples: Samples) -> Result<Vec<i16>, Fa
     }
 }
 
-/// The file of samples of so many channels, 44,100 frames a second.
+/// Returns the WAV file of samples in `channels` channels, at 44,100 frames a second.
 pub(crate) fn sound(alloc: Global, channels: u16, samples: Samples) -> Result<Vec<u8>, Fault> {
     file_of(alloc, 44_100, channels, &samples_of(alloc, samples)?)
 }
 
-/// The file of the halves of these samples, each rounded up.
+/// Returns the WAV file of the halves of `samples`, each rounded up.
 pub(crate) fn half_of(alloc: Global, samples: &[i16]) -> Result<Vec<u8>, Fault> {
     let mut halves = Vec::new(alloc);
     for sample in samples {
@@ -59,7 +59,7 @@ pub(crate) fn half_of(alloc: Global, samples: &[i16]) -> Result<Vec<u8>, Fault> 
     file_of(alloc, 44_100, 1, &halves)
 }
 
-/// Runs a design with these options.
+/// Runs the design `graph` with `options`, from `reader` to `writer`.
 pub(crate) fn run_with<T: Threads + AllocGlobal + Sync, R: Reader, W: Writer>(
     rt: &T,
     graph: &str,
@@ -72,7 +72,7 @@ pub(crate) fn run_with<T: Threads + AllocGlobal + Sync, R: Reader, W: Writer>(
     process_with(rt, reader, writer, &design, &plan, &NoGate)
 }
 
-/// What a design makes of a file.
+/// Returns the file that the design `graph` makes of `input`.
 pub(crate) fn run_file<T: Threads + AllocGlobal + Sync>(
     rt: &T,
     graph: &str,
@@ -84,7 +84,7 @@ pub(crate) fn run_file<T: Threads + AllocGlobal + Sync>(
     Ok(writer.into_inner())
 }
 
-/// The same with this gate.
+/// Returns the file that the design `graph` makes of `input`, with the gate `gate`.
 pub(crate) fn run_gated<T: Threads + AllocGlobal + Sync, G: Gate>(
     rt: &T,
     graph: &str,
@@ -100,13 +100,13 @@ pub(crate) fn run_gated<T: Threads + AllocGlobal + Sync, G: Gate>(
     Ok(writer.into_inner())
 }
 
-/// The exit status of a fault, and its line.
+/// Returns the exit status of a fault and its line, as text.
 pub(crate) fn fault_told(alloc: Global, fault: &Fault) -> Result<String, Fail> {
     let text = fault_text(alloc, fault)?;
     Ok(format!(in alloc; "{} {text}", status(fault))?)
 }
 
-/// The same of the fault that a run ends by, or `no fault`.
+/// Returns the exit status and the line of the fault that a run ends with, or `no fault`.
 pub(crate) fn end_of<T: Drop>(alloc: Global, run: Result<T, Fault>) -> Result<String, Fail> {
     match run {
         Ok(_) => Ok(String::from_str(alloc, "no fault")?),
@@ -114,7 +114,7 @@ pub(crate) fn end_of<T: Drop>(alloc: Global, run: Result<T, Fault>) -> Result<St
     }
 }
 
-/// Fails where the run of a row with these options makes another file than the one wanted, or none.
+/// Fails if `run` did not make the file `wanted`. The message has the row's name and options.
 pub(crate) fn row_makes(
     name: &str,
     options: &Options,

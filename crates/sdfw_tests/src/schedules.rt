@@ -1,4 +1,4 @@
-//! What `schedule` and `check` print of worked designs, whole.
+//! Tests of what `schedule` and `check` print for worked designs, in full.
 
 use crate::designs::{BLOCKS, CHAIN, INITIAL, PAIR, SECOND_DOUBLED};
 use crate::running::fault_told;
@@ -9,7 +9,7 @@ use std::alloc::Global;
 use std::test::Fail;
 use test_texts::{row_says, says};
 
-/// Two gains side by side, one of them behind another, and what they cost.
+/// Two branches: a gain, and two gains one after the other. `FORK` and `LONG` stand for costs.
 const SIDES: &str = r#"format = 1
 actor = [{ name = "in", kind = "input", channel = 0 }, { name = "fork", kind = "fork", ways = 2, cost = FORK },
     { name = "x", kind = "gain", gain = 1, shift = 0, cost = LONG }, { name = "y", kind = "gain", gain = 1, shift = 0 },
@@ -19,7 +19,7 @@ link = [{ from = "in", to = "fork" }, { from = "fork:0", to = "x" }, { from = "f
     { from = "y", to = "z" },
     { from = "x", to = "add:0" }, { from = "z", to = "add:1" }, { from = "add", to = "out" }]"#;
 
-/// A design, texts that stand in the place of others in it, options, and what is printed.
+/// A design, texts in it with their replacements, options, and what is printed.
 #[derive(Clone, Copy)]
 struct Row {
     name: &'static str,
@@ -39,7 +39,7 @@ const BY_THE_FILE: Options = Options {
     ..Options::DEFAULT
 };
 
-/// Blocks for two workers.
+/// `BLOCKS` for two workers.
 const TWO: Row = Row {
     name: "",
     graph: BLOCKS,
@@ -48,7 +48,7 @@ const TWO: Row = Row {
     printed: "",
 };
 
-/// Both ends are at home with the first worker.
+/// `BLOCKS` by the file, with the first worker as the home of both ends.
 const FILED: Row = Row {
     changes: &[("channel = 0", "channel = 0, processor = 0")],
     options: BY_THE_FILE,
@@ -211,7 +211,7 @@ const ROWS: &[Row] = &[
     },
 ];
 
-/// What is printed of a row's design, or the exit status and the line of the fault.
+/// Returns what `schedule` prints for a row's design, or the exit status and the line of the fault.
 fn printed(alloc: Global, row: &Row) -> Result<String, Fail> {
     let mut graph = String::from_str(alloc, row.graph)?;
     for (old, new) in row.changes {
@@ -224,7 +224,7 @@ fn printed(alloc: Global, row: &Row) -> Result<String, Fail> {
     }
 }
 
-/// What `check` prints of a design.
+/// Returns what `check` prints for a design.
 fn checked(alloc: Global, graph: &str) -> Result<String, Fail> {
     let design = read_design(alloc, graph.as_bytes(), &[])?;
     Ok(check_text(alloc, &design)?)

@@ -1,5 +1,5 @@
-//! Runs over rings with little patience and with much, seen by gates: with any a worker is in the next block while
-//! another is in this one, and with much a worker waits for its neighbour.
+//! Tests of runs over rings with low and high spin limits, seen by gates. With any limit a worker is in the next block
+//! while another is in this one. With a high limit a worker waits for its neighbour.
 
 use crate::running::{file_of, run_gated};
 use sdf_options::{Options, Placement, Runner};
@@ -10,8 +10,8 @@ use std::thread;
 use std::thread::Threads;
 use test_texts::row_says;
 
-/// `half` and `left` are at home with a worker of their own. In a block each actor fires once, in file order. Where a
-/// sample stands before `half`, each finds its samples and its room when it is tested for the first time.
+/// A design in which `half` and `left` have a worker of their own. In a block each actor fires once, in file order. If
+/// a sample is before `half` at first, each actor finds its samples and its room at its first test.
 const SPLIT: &str = r#"format = 1
 actor = [{ name = "in", kind = "input", channel = 0, processor = 0 },
     { name = "fork", kind = "fork", ways = 2, processor = 0 },
@@ -21,10 +21,10 @@ actor = [{ name = "in", kind = "input", channel = 0, processor = 0 },
 link = [{ from = "in", to = "fork" }, { from = "fork:0", to = "half", initial = BEGUN },
     { from = "half", to = "left" }, { from = "fork:1", to = "right" }]"#;
 
-/// An actor, and which of its firings.
+/// An actor, and the number of one of its firings.
 type Firing = (ActorId, u64);
 
-/// A firing that waits until another one has begun, so many turns at most; or until these have passed.
+/// A firing that waits until another one has begun, at most `turns` turns; or for all turns, if `until` is `None`.
 #[derive(Clone, Copy)]
 struct Wait {
     firing: Firing,
@@ -32,7 +32,7 @@ struct Wait {
     turns: u32,
 }
 
-/// Firings that wait, and how many each actor has begun.
+/// A gate: the firings that wait, and how many firings each actor has begun.
 #[derive(Drop)]
 struct Order<'a> {
     waits: &'a [Wait],
@@ -74,11 +74,11 @@ impl Gate for Order<'_> {
     }
 }
 
-/// A firing waits for so many turns at most.
+/// The maximum number of turns that a firing waits for another.
 const TURNS: u32 = 2_000_000;
 
-/// The first firing of `right` waits until that of `left` has begun, and that until the second of `in` has, which
-/// stands in the next block.
+/// The first firing of `right` waits until the first of `left` has begun. The latter waits until the second of `in` has
+/// begun, which is in the next block.
 const AHEAD: &[Wait] = &[
     Wait {
         firing: (3, 0),
@@ -92,8 +92,8 @@ const AHEAD: &[Wait] = &[
     },
 ];
 
-/// The first firing of `in` waits for a while, in which the worker of `half` tests in vain, but not as often as a
-/// patient one may. That of `right` waits until that of `half` has begun.
+/// The first firing of `in` waits for a while. Meanwhile the worker of `half` tests in vain, but less often than its
+/// spin limit. The first firing of `right` waits until the first of `half` has begun.
 const LATE: &[Wait] = &[
     Wait {
         firing: (0, 0),
@@ -107,7 +107,7 @@ const LATE: &[Wait] = &[
     },
 ];
 
-/// The name of a row, what stands before `half`, patience, what waits, and the samples that are made.
+/// The name of a row, the samples before `half`, the spin limit, the waits, and the samples that are made.
 type Row = (
     &'static str,
     &'static str,
@@ -140,7 +140,7 @@ const ROWS: &[Row] = &[
     ),
 ];
 
-/// What a row's design makes of two samples, whose size is filled in or not, with this gate.
+/// Returns what a row's design makes of two samples, with the gate `order` and the sound's size `filled` in or not.
 fn run_patient<T: Threads + AllocGlobal + Sync>(
     rt: &T,
     (_, begun, patience, _, _): &Row,
@@ -162,7 +162,7 @@ fn run_patient<T: Threads + AllocGlobal + Sync>(
     Ok(run_gated(rt, &graph, &options, &input, order)?)
 }
 
-/// Whether the file is made, how many firings of each actor have begun, and whether one missed another.
+/// Reports whether the file is `wanted`, how many firings each actor has begun, and whether a firing waited in vain.
 fn told<T: Threads + AllocGlobal + Sync>(
     rt: &T,
     row: &Row,
@@ -189,8 +189,8 @@ fn told<T: Threads + AllocGlobal + Sync>(
     Ok(format!(in rt.alloc(); "{same} {begun:?} {missed}")?)
 }
 
-/// Refuses rows, or one thread, where workers over rings were asked for that are little patient, and workers that are
-/// not as patient as they are asked to be.
+/// Tests rings with several spin limits. Refuses rows, or one thread, in place of workers over rings with a low limit.
+/// Refuses also workers that spin less than their limit.
 #[test]
 fn with_any_patience(rt: HostRuntime) -> Result<(), Fail> {
     for row in ROWS {

@@ -1,4 +1,4 @@
-//! The line and the exit status of each fault, and what it means.
+//! Tests of each fault's line, exit status and explanation.
 
 use crate::fault_rows::{ALL, At, Given, Row, Wrong};
 use crate::running::fault_told;
@@ -11,7 +11,7 @@ use std::alloc::{AllocError, Global};
 use std::test::Fail;
 use test_texts::{row_says, says};
 
-/// The number that a text begins with.
+/// Returns the number that a text begins with, or 0.
 fn number_of(text: &str) -> u32 {
     match text.split(' ').next().map(|word| word.parse::<u32>()) {
         Some(Ok(number)) => number,
@@ -19,7 +19,7 @@ fn number_of(text: &str) -> u32 {
     }
 }
 
-/// Whether a fault's text begins as what it means does, and names a place where that says how.
+/// Checks whether `text` begins as `meaning` does, and names a place if and only if `meaning` says where.
 fn agrees(text: &str, meaning: &str) -> bool {
     match (text.split('\n').next(), meaning.split('\n').next()) {
         (Some(first), Some(begins)) => {
@@ -30,7 +30,7 @@ fn agrees(text: &str, meaning: &str) -> bool {
     }
 }
 
-/// Whether a text agrees with what its number means.
+/// Checks that a text agrees with the explanation of its number.
 fn is_explained(alloc: Global, text: &str) -> Result<(), Fail> {
     let meaning = explained(alloc, number_of(text))?;
     if agrees(text, meaning.as_str()) {
@@ -48,7 +48,7 @@ fn place(alloc: Global, at: At) -> Result<Place, AllocError> {
     }
 }
 
-/// What is wrong in a document, with its key.
+/// Returns the fault `wrong` of a document, with its key.
 fn document(alloc: Global, wrong: Wrong, key: &'static str) -> Result<DocumentFault, AllocError> {
     match wrong {
         Wrong::ActorCount => Ok(DocumentFault::ActorCount),
@@ -70,7 +70,7 @@ fn document(alloc: Global, wrong: Wrong, key: &'static str) -> Result<DocumentFa
     }
 }
 
-/// Actors of two firings a period, how many each did, and what it was short of.
+/// Returns a deadlock of actors with two firings a period: how many each did, and the link that it was short of.
 fn stalled(alloc: Global, short: &[(&str, u32, Option<usize>)]) -> Result<Stalled, AllocError> {
     let mut actors = Vec::new(alloc);
     for (name, done, short) in short {
@@ -108,8 +108,8 @@ fn told(alloc: Global, given: Given) -> Result<String, Fail> {
     fault_told(alloc, &fault_of(alloc, given)?)
 }
 
-/// Whether each fault has its line and status. Its number and name are those of its explanation, and it names a place
-/// where that says how. The numbers are added to the others.
+/// Checks that each fault has its line and status, and that its number, name and place agree with its explanation.
+/// Appends the numbers to `numbers`.
 fn have_lines(alloc: Global, rows: &[Row], numbers: &mut Vec<u32>) -> Result<(), Fail> {
     for (given, code, text) in rows {
         numbers.push(number_of(text))?;
@@ -120,7 +120,7 @@ fn have_lines(alloc: Global, rows: &[Row], numbers: &mut Vec<u32>) -> Result<(),
     Ok(())
 }
 
-/// The numbers from 1 to 63 that are not among these.
+/// Returns the numbers from 1 to 63 that are not in `numbers`.
 fn others(alloc: Global, numbers: &[u32]) -> Result<String, Fail> {
     let mut others = Vec::new(alloc);
     for number in 1..=63u32 {
@@ -131,18 +131,18 @@ fn others(alloc: Global, numbers: &[u32]) -> Result<String, Fail> {
     Ok(format!(in alloc; "{:?}", others.as_slice())?)
 }
 
-/// A fault without its line's end, or with another's number, is refused here.
+/// Tests the line of each fault. Refuses a fault without its line's end, or with another fault's number.
 #[test]
 fn each_fault_has_its_line(rt: HostRuntime) -> Result<(), Fail> {
     let mut numbers = Vec::new(rt.alloc());
     for rows in ALL {
         have_lines(rt.alloc(), rows, &mut numbers)?;
     }
-    // 61 was answered by earlier versions alone.
+    // Only earlier versions reported 61.
     says(others(rt.alloc(), &numbers), "[61]")
 }
 
-/// What a fault means, where its text has each of the parts.
+/// Reports the number that an explanation begins with, and whether it has its parts `means` and `remedy`.
 fn parts_of(alloc: Global, number: u32) -> Result<String, Fail> {
     let text = explained(alloc, number)?;
     let first = text.split(' ').next();
@@ -165,7 +165,7 @@ fn each_fault_is_explained(rt: HostRuntime) -> Result<(), Fail> {
     )
 }
 
-/// A text, and what is printed of it.
+/// A text, and how it is printed.
 const TEXTS: &[(&str, &str)] = &[
     ("", ""),
     ("gain", "gain"),

@@ -1,5 +1,5 @@
-//! Which word of the command line means which field, words that stand at one command and not at another, and words
-//! behind the last one of a command.
+//! Tests of the command line: the field that each word sets, words that one command has and another does not, and words
+//! after the last one of a command.
 
 use sdf_faults::{Fault, status};
 use sdf_options::Options;
@@ -8,10 +8,10 @@ use std::alloc::Global;
 use std::test::Fail;
 use test_texts::{row_says, says};
 
-/// The name of a row, the words behind the program's name, and what is read.
+/// The name of a row, the words after the program's name, and what is read.
 type Row = (&'static str, &'static str, &'static str);
 
-/// Runs: the options and the crew.
+/// Runs: the options, and the workers in parallel.
 const RUNS: &[Row] = &[
     ("defaults", "run g i o", "1 1 Round Homed One 1000 None"),
     (
@@ -126,7 +126,7 @@ const RUNS: &[Row] = &[
     ),
 ];
 
-/// Other commands, whole. Refuses other defaults than those that the help has.
+/// Other commands, in full. Refuses defaults that differ from the help's.
 const COMMANDS: &[Row] = &[
     ("kinds", "kinds", "Kinds { json: false }"),
     ("kinds in JSON", "kinds --json", "Kinds { json: true }"),
@@ -164,7 +164,7 @@ const COMMANDS: &[Row] = &[
     ),
 ];
 
-/// Words that an option or a command does not have: the exit status.
+/// Words that an option or a command does not have, with the exit status.
 const OTHER_WORDS: &[Row] = &[
     ("a number past its limits", "run g i o --blocking 0", "2"),
     ("a number past its limits", "run g i o --blocking 65", "2"),
@@ -194,8 +194,8 @@ const OTHER_WORDS: &[Row] = &[
     ("no number", "explain ", "2"),
 ];
 
-/// Lines that are no commands: the exit status. Refuses a command that takes the options of another one, and a name
-/// that is explained whatever stands behind it.
+/// Lines that are not commands, with the exit status. Refuses a command that takes the options of another one, and a
+/// name that is explained whatever follows it.
 const MISTAKES: &[Row] = &[
     ("a command that there is not", "play", "2"),
     ("too few words", "check", "2"),
@@ -237,7 +237,7 @@ const MISTAKES: &[Row] = &[
     ),
 ];
 
-/// Lines that ask for help, which is no mistake: the exit status.
+/// Lines that ask for help, which is not a mistake, with the exit status.
 const HELP: &[Row] = &[
     ("help", "--help", "0"),
     ("help", "run -h", "0"),
@@ -246,7 +246,7 @@ const HELP: &[Row] = &[
     ("a version", "--version", "0"),
 ];
 
-/// What is read of a line: of a run its options and its crew, another command whole, or the exit status.
+/// Returns what is read of a line: a run's options and parallel workers, another command in full, or the exit status.
 fn told<'a>(alloc: Global, line: &'a [&'a str]) -> Result<String, Fail> {
     match words(alloc, line) {
         Ok(
@@ -300,7 +300,7 @@ fn words_mean_their_fields(rt: HostRuntime) -> Result<(), Fail> {
     are_read(alloc, HELP)
 }
 
-/// A word can hold a blank, and there can be none.
+/// Tests a word with a blank, a line without words, and the default options.
 #[test]
 fn other_lines_and_defaults(rt: HostRuntime) -> Result<(), Fail> {
     let alloc = rt.alloc();
