@@ -1,4 +1,4 @@
--- What is printed of a filter.
+-- The texts that are printed of a filter.
 use Rattle.std.specs.Prelude.{◌≡◌, ℕ, ◌/◌, ◌%◌, ℤ, List, [], ◌∷◌, ◌++◌, length, codes, decimal}
 use Rattle.sdf_filters.specs.declared.measure.Measured.{Measured}
 use Rattle.sdf_filters.specs.declared.wanted.Band.{Band}

@@ -1,10 +1,10 @@
 //! The cost of a split into stages, in floats. No clause says anything of it.
 //!
-//! A stage takes r samples a second and puts s. Its taps are given by Kaiser's formula, at the rate r * up. Frequencies
-//! pass up to p, which is ten elevenths of half the lower rate of the conversion. They are stopped from the lesser of r
-//! and s, minus p, on. The products a second of the stage are its taps, divided by `up`, times s. A stage cannot be
-//! taken if it has more taps than a filter may have, or if s is below the lower rate. The cost of a split is the sum
-//! over its stages.
+//! A stage takes r samples a second and puts s. Kaiser's formula gives the number of its taps, at the rate r * up.
+//! Frequencies pass up to p, which is ten elevenths of half the lower rate of the conversion. They are stopped from the
+//! lesser of r and s, minus p, on. The products a second of the stage are the number of its taps, divided by `up`,
+//! times s. A stage cannot be taken if it has more taps than a filter may have, or if s is below the lower rate. The
+//! cost of a split is the sum over its stages.
 
 ghost use Rattle.std.specs.Prelude.{IfSome};
 ghost use Rattle.sdf_filters.specs.Stages.{IsPart};

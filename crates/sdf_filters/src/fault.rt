@@ -27,7 +27,7 @@ pub enum FilterFault {
     /// The stopped frequencies begin above half the rate.
     #[error("what is stopped begins at {stop} Hz, over half the rate of {rate}: take it lower, or a higher rate")]
     StopOverHalf { stop: u32, rate: u32 },
-    /// The formula asks for more taps than a filter may have.
+    /// Kaiser's formula asks for more taps than a filter may have.
     #[error("{taps} taps, over 1024: take what passes and what is stopped further apart, or less attenuation")]
     TooManyTaps { taps: usize },
     /// A tap of this size has more than 16 bits.

@@ -2,7 +2,7 @@
 //! two rates.
 //!
 //! It depends on `sdf_limits` alone. Begin at `wanted` (a filter in plain numbers), `filter` (its taps) and `texts`
-//! (what `sdfw fir` prints of them). These use `lowpass`, `differences` (high-passes and band-passes), `coefficients`
+//! (the texts that `sdfw fir` prints). These use `lowpass`, `differences` (high-passes and band-passes), `coefficients`
 //! (the text of taps) and `settling`. `settling` makes the sum of each phase exact by the steps of `phases`, in the
 //! `order` of taps. `split` splits a conversion into stages. `converter` makes their design for `sdfw resample`, with
 //! the graph file from `graph`. `sinc`, `cost` and `measure` compute with floats, and no clause says anything of their
