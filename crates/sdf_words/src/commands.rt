@@ -27,8 +27,8 @@ enum Values {
     OneOf(&'static [&'static str]),
 }
 
-/// An option that works without a value, and the options that it conflicts with. If there is a `value`, the option may
-/// also have one: its name in the help and its type.
+/// An option that works without a value, and the options that it conflicts with. If it may also have a value, `value`
+/// has the name of the value in the help, and its type.
 #[derive(Clone, Copy)]
 struct Switch {
     against: &'static [&'static str],

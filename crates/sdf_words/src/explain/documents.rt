@@ -1,4 +1,4 @@
-//! What the faults 49 to 63 mean: graph files and coefficient files, and what came later.
+//! What the faults 49 to 63 mean: graph files and coefficient files, and others.
 
 use super::Meaning;
 
