@@ -29,7 +29,8 @@ pub(crate) struct Lanes {
 }
 
 impl Lanes {
-    /// Counts the whole blocks of `bytes`. The limit keeps the full-scale samples of a lane within 16 bits.
+    /// Counts the whole blocks of `bytes`. The limit on their length keeps each lane's count of full-scale samples
+    /// within 16 bits.
     pub(crate) fn of(bytes: &[u8]) -> Lanes
         requires { length bytes.now < 524288 }
         ensures { result.blocks ≡ length bytes.now / 16 }

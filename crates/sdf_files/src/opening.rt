@@ -6,8 +6,8 @@ const START: u64 = 12;
 /// The bytes before the content of a chunk: its id and its size.
 const HEADER: usize = 8;
 
-/// How far a sound was read, up to the size of its samples. That size is replaced by 0xFFFFFFFF, as if it was never
-/// filled in.
+/// How far a sound was read, up to the size of its samples. That size is replaced by 0xFFFFFFFF, as if it had never
+/// been filled in.
 #[derive(Clone, Copy)]
 pub(crate) struct Opening {
     /// The number of bytes before the next header of a chunk.
