@@ -42,7 +42,7 @@ place_format place d files = key_line (codes "format") (get (codes "format") d) 
 
 -- ---- by fault
 
--- the list that the key `file` stands beside
+-- the line about the key `file` beside the list at a key, if that list is there
 abbrev pub listed_at : List ℕ → Data → List ℕ
 listed_at key d = if is_some (get key d) then codes "  file stands beside " ++ key ++ end else []
 

@@ -6,10 +6,10 @@ ghost use Rattle.sdf_why.specs.Limits.{limits_of};
 
 use crate::marks::{before, behind, has};
 
-/// An upper bound of the keys in a row of the table.
+/// An upper bound on the keys in a row of the table.
 pub(crate) const MOST_KEYS: u32 = 8;
 
-/// An upper bound of the lines in the table.
+/// An upper bound on the lines in the table.
 pub(crate) const MOST_ROWS: u32 = 32;
 
 /// Returns the limits of a value from the `form` behind the name of its key. Leaves out the default in parentheses, and
