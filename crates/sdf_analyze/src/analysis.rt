@@ -58,10 +58,10 @@ pub fn figured(
     Ok((blocking, table, figures))
 }
 
-/// Returns the text that the command `analyze` prints about the schedule that `schedule` prints. It gives the makespan,
-/// which is the end of the last firing. Each firing starts as soon as it may and takes its cost. Then come the work,
-/// the span and the bound of the block, and the speedup, which is the work over the makespan. For each worker it gives
-/// the part of the makespan in which the worker fires. Last are the links' capacities, the most samples that they hold:
+/// Returns the text that the command `analyze` prints about the schedule that `schedule` prints. First is the makespan,
+/// the end of the last firing when each firing starts as soon as it may and takes its cost. Then come the work, the
+/// span and the bound of the block, and the speedup, which is the work over the makespan. For each worker it gives the
+/// part of the makespan in which the worker fires. Last are the links' capacities, the most samples that they hold:
 /// their sum, then each of them. Hundredths are rounded down. The tests are listed at `sdf_plan::schedule::scheduled`.
 pub fn analyze(alloc: Global, design: &Design, options: &Options) -> Result<String, Fault>
     ensures { MatchResult result (λ s. IsAnalysis design.now options.now (string_bytes s))

@@ -190,8 +190,8 @@ fn entries_of(alloc: Global, design: &Design, ways: &[Options]) -> Result<Vec<En
 
 /// Returns the schedules of `design` by each policy and each placement, for 1, 2, 4, .. workers up to the workers of
 /// `options`. Each entry has the periods of its block, the makespan, the speedup, the rows and the samples held. An
-/// entry without a schedule has the number of the fault. A design without a schedule has none by any policy, so that
-/// fault is returned.
+/// entry without a schedule has the number of the fault. A design without a schedule has none by any policy, so its
+/// fault is returned instead.
 #[tactic(auto, using(crate::proofs::Crews::sizes_of_ways))]
 pub fn compared(alloc: Global, design: &Design, options: &Options) -> Result<Vec<Entry>, Fault>
     requires { AreSizes options.now }

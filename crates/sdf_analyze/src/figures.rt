@@ -21,7 +21,7 @@ use sdf_times::{Times, bound, held, work};
 use std::alloc::Global;
 use std::marker::Model;
 
-/// A limit on the work of a block, in units of cost.
+/// An upper bound on the work of a block, in units of cost.
 const MOST_WORK: u64 = MOST_ACTORS as u64 * MOST_BLOCK as u64 * MOST_COST as u64;
 
 /// The start and end times of a table's firings, the work, span and bound of its block, and what its channels hold. No
