@@ -86,8 +86,8 @@ IsClear p q = (right_of p < left_of q) ⊎ (bottom_of p < q.y)
 abbrev pub AreApart : List Place → Type 0
 AreApart ps = (a b : ℕ) → a < b → b < length ps → IsClear (place ps a) (place ps b) ⊎ IsClear (place ps b) (place ps a)
 
--- the route of an arrow between two depths: below the boxes if it leads back, across the gap if it leads to the next
--- depth, above the boxes if it leads farther
+-- the route of an arrow between two depths: below the boxes if it leads to no greater depth, across the gap if it leads
+-- to the next depth, above the boxes if it leads farther
 abbrev pub IsRoute : ℕ → ℕ → Route → Type 0
 IsRoute from to Across = to ≡ from + 1
 IsRoute from to (Above lane) = from + 1 < to
@@ -109,7 +109,7 @@ pub record AreRoutes (d : DesignValue) (depths : List ℕ) (above below : ℕ) (
       (slice_index depths (wire d.net c).to.0) (route rs c)
   pub within : (c : ℕ) → c < length rs → IsWithin above below (route rs c)
 
--- the layout of a design whose period has this order of firings: the highest boxes are below the lanes above the boxes
+-- the layout of a design whose period has this order of firings: the highest boxes begin below the upper lanes
 pub record IsLayout (d : DesignValue) (order : List ℕ) (ps : List Place) (above below : ℕ) (rs : List Route) : Type 0
   where
     pub depths : List ℕ
