@@ -21,11 +21,11 @@ abbrev pub stalled_value : List Progress → Data
 stalled_value actors =
     told 10 (codes "Deadlock") ((codes "actors", list_of (map progress_value actors)) ∷ [])
 
--- a mistake of usage has the number 0 and the parser's text
+-- a usage error: the number 0, and its text
 abbrev pub usage_value : List ℕ → Data
 usage_value text = told 0 (codes "Usage") ((codes "text", string text) ∷ [])
 
--- the text of a mistake of usage is the parser's own
+-- the value of a fault of the command line; the text of a usage error may be any
 abbrev pub IsWordsValue : WordFault → Data → Type 0
 IsWordsValue words.OutOfMemory d = d ≡ plain 1 (codes "OutOfMemory")
 IsWordsValue (words.Usage e) d = (text : List ℕ) × (d ≡ usage_value text)

@@ -47,7 +47,7 @@ fn stalled_value(alloc: Global, stalled: &Stalled) -> Result<Value, AllocError>
     Ok(Value::Object(members))
 }
 
-/// Returns a mistake of usage, with the parser's own text.
+/// Returns the value of a usage error, with the parser's own text.
 fn usage_value(alloc: Global, text: &str) -> Result<Value, AllocError>
     ensures { IfOk result (λ v. view v ≡ usage_value text.now) }
 {
@@ -68,7 +68,7 @@ fn words_value(alloc: Global, fault: &WordFault) -> Result<Value, AllocError>
     }
 }
 
-/// Returns the number of a fault, its name, and everything that it carries.
+/// Returns the value of `fault`: its number, its name, and everything that it carries.
 fn fault_value(alloc: Global, fault: &Fault) -> Result<Value, AllocError>
     ensures { IfOk result (λ v. IsFaultValue fault.now (view v)) }
 {
