@@ -94,8 +94,8 @@ fn compared_texts(alloc: Global, design: &Design, options: &Options) -> Result<C
     })
 }
 
-/// Prints the comparison of the schedules of `design` on `out`. If `is_said` is set, prints the lines that explain its
-/// fault numbers on `err`.
+/// Prints the comparison of the schedules of `design` to `out`. If `is_said` is set, prints the lines that explain its
+/// fault numbers to `err`.
 pub fn print_comparison<O: Write, E: Write>(
     alloc: Global,
     out: &mut O,

@@ -15,7 +15,7 @@ use std::io::{ErrorKind, Write};
 /// The name of a converter's graph file.
 const GRAPH: &str = "graph.toml";
 
-/// Returns `fault` as a mistake on the command line, or `OutOfMemory` if memory was refused.
+/// Returns `fault` as a usage error, or `OutOfMemory` if memory was refused.
 fn filter_fault(alloc: Global, fault: FilterFault) -> Fault {
     match fault.to_string(alloc) {
         Ok(text) if fault != FilterFault::OutOfMemory => Fault::from(mistake(alloc, text.as_str())),
@@ -23,7 +23,7 @@ fn filter_fault(alloc: Global, fault: FilterFault) -> Fault {
     }
 }
 
-/// Prints the coefficient file of the `wanted` filter on `out`, and a description of its taps on `err`.
+/// Prints the coefficient file of the `wanted` filter to `out`, and the measures of its taps to `err`.
 pub fn fir<S, T: AllocGlobal, O: Write, E: Write>(
     world: &World<S, T>,
     out: &mut O,
@@ -100,7 +100,7 @@ fn write_into<S: Storage, T: AllocGlobal>(
     )
 }
 
-/// Writes the files of a converter into `folder`, and a description of the taps of each stage to `err`.
+/// Writes the files of a converter into `folder`, and the measures of each stage's taps to `err`.
 fn write_all<S: Storage, T: AllocGlobal, E: Write>(
     world: &World<S, T>,
     err: &mut E,

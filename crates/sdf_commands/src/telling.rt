@@ -103,7 +103,7 @@ fn number_of(told: &str) -> &str {
     }
 }
 
-/// Returns the line that names `explain`, or no line for a mistake on the command line.
+/// Returns the line that names `explain`, or no line for a fault of the command line.
 fn pointer(alloc: Global, fault: &Fault) -> Result<String, AllocError> {
     if let Fault::Words(_) = fault {
         return Ok(String::new(alloc));
@@ -213,7 +213,7 @@ impl Background {
         }
     }
 
-    /// Sets the form of the report to JSON if `line`, which has a mistake, asks for JSON.
+    /// Sets the form of the report to JSON if `line`, which has a usage error, asks for JSON.
     pub fn misread(&mut self, line: &[&str]) {
         if line.iter().any(|word| *word == "--json") {
             self.telling = Telling::Json;
