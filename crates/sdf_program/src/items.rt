@@ -15,9 +15,9 @@ pub(crate) struct Batching<'a> {
     pub(crate) graph: &'a str,
     pub(crate) loaded: &'a Loaded,
     pub(crate) asked: &'a Batch<'a>,
-    /// Whether more than faults is reported.
+    /// Whether diagnostics and reports are printed.
     pub(crate) is_said: bool,
-    /// Whether it shows how many files are done.
+    /// Whether the number of files that are done is shown.
     pub(crate) is_shown: bool,
 }
 
@@ -37,21 +37,21 @@ fn name_of(input: &str) -> Option<&str> {
     Path::new(input).file_name()
 }
 
-/// Returns the mistake of a file without a name.
+/// Returns the usage error for a file without a name.
 fn unnamed(alloc: Global, input: &str) -> Result<Fault, AllocError> {
     let shown = printable(alloc, input)?;
     let text = format!(in alloc; "IN {} has no name for a file in FOLDER", shown.as_str())?;
     Ok(Fault::from(mistake(alloc, text.as_str())))
 }
 
-/// Returns the mistake of two files with the same name.
+/// Returns the usage error for two files with the same name.
 fn named_twice(alloc: Global, name: &str) -> Result<Fault, AllocError> {
     let shown = printable(alloc, name)?;
     let text = format!(in alloc; "two files IN have the name {}", shown.as_str())?;
     Ok(Fault::from(mistake(alloc, text.as_str())))
 }
 
-/// Returns the mistake of two files whose names differ only by `.part`.
+/// Returns the usage error for two files whose names differ only by `.part`.
 fn named_as_a_part(alloc: Global, name: &str) -> Result<Fault, AllocError> {
     let shown = printable(alloc, name)?;
     let text = format!(in alloc; "IN {} and another IN differ only by .part", shown.as_str())?;

@@ -46,7 +46,7 @@ fn bytes_at<S: Storage, T: AllocGlobal, I: Read>(
     }
 }
 
-/// Returns the mistake for a graph file into whose text costs cannot be written.
+/// Returns the usage error for a graph file whose text cannot take costs.
 fn unwritten(alloc: Global, design: &Design, fault: Unwritten) -> Result<Fault, AllocError> {
     let text = match fault {
         Unwritten::OutOfMemory => return Ok(Fault::OutOfMemory),

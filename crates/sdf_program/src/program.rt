@@ -29,7 +29,7 @@ use std::io::{Read, Write};
 use std::thread::Threads;
 use std::time::Clock;
 
-/// A task for a design, and when more than faults is reported.
+/// A task for a design, and when diagnostics and reports are printed.
 #[derive(Clone, Copy)]
 struct Asked<'a> {
     graph: &'a str,
@@ -43,7 +43,7 @@ struct Job<'a> {
     graph: &'a str,
     task: Task<'a>,
     loaded: &'a Loaded,
-    /// Whether more than faults is reported.
+    /// Whether diagnostics and reports are printed.
     is_said: bool,
 }
 
@@ -143,7 +143,7 @@ fn work_on<
     work(world, stdin, out, err, job, sources)
 }
 
-/// Runs of a design, and when more than faults is reported.
+/// Runs of a design, and when diagnostics and reports are printed.
 #[derive(Clone, Copy)]
 struct Runs<'a> {
     graph: &'a str,
@@ -232,8 +232,8 @@ fn help_or_fault<O: Write>(alloc: Global, out: &mut O, fault: WordFault) -> Resu
     }
 }
 
-/// Returns the text of a mistake, for standard error. The usage is left out if only a value is wrong, because it does
-/// not help then.
+/// Returns the text of a usage error, for standard error. The usage is left out if only a value is wrong, because it
+/// does not help then.
 fn mistake_text(alloc: Global, told: &clap::Error) -> Result<String, AllocError> {
     let whole = format!(in alloc; "{told}")?;
     match whole.as_str().split_once("\n\nUsage: ") {
@@ -253,7 +253,7 @@ fn told(alloc: Global, fault: &Fault, background: &Background) -> Result<String,
     }
 }
 
-/// Returns the text of the fault that memory was refused. It takes no memory.
+/// Returns the text of the fault `OutOfMemory`, in JSON if `json` is set. It needs no allocation.
 fn told_without_memory(json: bool) -> &'static [u8] {
     if json {
         b"{\"fault\":1,\"name\":\"OutOfMemory\"}\n"
@@ -337,7 +337,7 @@ fn ended<E: Write>(
 }
 
 /// Runs the whole program on its command line `given`, and returns its exit status. It works on `world` and `stdin`,
-/// and prints on `out` and `err`.
+/// and prints to `out` and `err`.
 pub fn serve<
     S: Storage,
     T: Threads + AllocGlobal + Clock + Clone + Drop + Sync,

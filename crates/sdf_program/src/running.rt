@@ -38,7 +38,7 @@ pub(crate) struct Running<'a> {
     pub(crate) graph: &'a str,
     pub(crate) loaded: &'a Loaded,
     pub(crate) asked: Run<'a>,
-    /// Whether more than faults is reported.
+    /// Whether diagnostics and reports are printed.
     pub(crate) is_said: bool,
     /// Whether the progress of the run is shown.
     pub(crate) is_shown: bool,
@@ -183,7 +183,7 @@ fn run_shown<T: Threads + AllocGlobal + Clock + Sync, R: Read, W: Write, E: Writ
     }
 }
 
-/// Runs a plan from `from` to `to`. A run that ends well reports how it went, if more than faults is reported.
+/// Runs a plan from `from` to `to`. A run that ends well reports how it went, if reports are asked for.
 fn run_into<T: Threads + AllocGlobal + Clock + Sync, R: Read, W: Write, E: Write>(
     threads: &T,
     from: &mut R,
@@ -198,7 +198,8 @@ fn run_into<T: Threads + AllocGlobal + Clock + Sync, R: Read, W: Write, E: Write
     ran.finish(threads.alloc(), err, planned, refused)
 }
 
-/// Runs a plan from `from`, which is open. Creates or empties OUT if it is not one of the files that are read.
+/// Runs a plan from `from`, which is open. Errs if OUT is one of the files that are read, otherwise creates or empties
+/// it.
 fn run_from<S: Storage, T: Threads + AllocGlobal + Clock + Sync, R: Read, O: Write, E: Write>(
     world: &World<S, T>,
     from: &mut R,
@@ -249,8 +250,8 @@ fn run_traced<S: Storage, T: Threads + AllocGlobal + Clock + Sync, R: Read, O: W
     ended
 }
 
-/// Runs a design by its plan on a WAV file. Creates or empties OUT once IN is open, if OUT is not one of the files that
-/// are read.
+/// Runs a design by its plan on a WAV file. Once IN is open, errs if OUT is one of the files that are read, otherwise
+/// creates or empties it.
 pub(crate) fn run_planned<
     S: Storage,
     T: Threads + AllocGlobal + Clock + Sync,
