@@ -89,8 +89,8 @@ fn many_steps_as_plainly(rt: HostRuntime) -> Result<(), Fail> {
     says(low_passes(rt.alloc(), TIES), "351 81 75 25 33 ")
 }
 
-/// Tests that each tap meets all others in the tree. The phases have one tap less or more than the number up to which
-/// each step looks at all taps. The steps are below and above their own limit.
+/// Tests that each tap meets all others in the tree. For up to 64 taps, or up to 8 steps, each step looks at all taps
+/// instead. The phases here have 63 taps and more, and some have fewer steps, and some more.
 #[test]
 fn trees_as_plainly(rt: HostRuntime) -> Result<(), Fail> {
     let mut text = String::new(rt.alloc());

@@ -27,7 +27,7 @@ pub(crate) enum Way {
 
 pub(crate) const WAYS: [Way; 3] = [Way::Whole, Way::Pieces(1), Way::Pieces(2)];
 
-/// Maximum bytes that a call moves: what is asked for, or one.
+/// How many bytes a call moves at most: what is asked for, or one.
 const MOVES: [usize; 2] = [usize::MAX, 1];
 
 /// Reads a file in pieces of `frames` frames, up to its end.

@@ -10,7 +10,7 @@ use test_devices::files::{self, Whole};
 use test_devices::{Faulty, Slip};
 use test_texts::{row_says, says};
 
-/// A file, how it is read, the maximum bytes that a call gives, and how many calls that takes.
+/// A file, how it is read, how many bytes a call gives at most, and how many calls that takes.
 #[derive(Clone, Copy)]
 struct Reading {
     file: Whole,
@@ -123,7 +123,7 @@ fn slips_anywhere(alloc: Global, reading: &Reading, slip: Slip) -> Result<(), Fa
 }
 
 /// How the file of `FRAMES` is written: whole or in pieces, by at most `most` bytes a call, in `calls` calls. `fronts`
-/// has the bytes written before each call, and is empty if a call takes one byte.
+/// has the number of bytes written before each call, and is empty if a call takes one byte.
 #[derive(Clone, Copy)]
 struct Writing {
     in_pieces: bool,

@@ -128,7 +128,7 @@ fn files(rt: HostRuntime) -> Result<(), Fail> {
 }
 
 /// Reads `bytes` and writes the sound again. Returns the rate, the channels, the frames, the samples and the bytes left
-/// behind the file. Then come how often the writer failed, and whether it took `CANONICAL`.
+/// behind the file. Adds how often the writer failed, and whether it took `CANONICAL`.
 fn both_ways(alloc: Global, bytes: &[u8]) -> Result<String, Fail> {
     let mut reader = FromRead::new(bytes);
     let wav = read_wav(alloc, &mut reader)?;

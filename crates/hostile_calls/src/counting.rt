@@ -54,7 +54,7 @@ link = [
 ]
 "#;
 
-/// The size of a run: its workers, the periods of a block in `j`, and its blocks.
+/// The size of a run: its workers, its periods in a block (`j`), and its blocks.
 #[derive(Clone, Copy)]
 struct Sizes {
     workers: usize,

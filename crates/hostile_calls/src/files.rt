@@ -12,7 +12,7 @@ pub(crate) struct Sources {
     pub(crate) beside: Vec<(String, Vec<u8>)>,
 }
 
-/// Reads the graph file `graph`, and the coefficient files that it names from the current directory.
+/// Reads the graph file `graph`, and from the current directory the coefficient files that it names.
 pub(crate) fn load<R: AllocGlobal + Files>(rt: &R, graph: &str) -> Result<Sources> {
     let graph = fs::read(rt, graph)?;
     let mut beside = Vec::new(rt.alloc());

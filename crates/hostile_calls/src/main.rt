@@ -1,8 +1,8 @@
 //! Makes one call of the libraries, prints its result, and makes the call again.
 //!
 //! `hostile_calls CALL run GRAPH IN OUT [OPTIONS]` calls with the files and the options of a run of `sdfw`; OUT is not
-//! written. It prints a line `call` before the call and a line `again` before the repetition. `hostile/calls.py`
-//! refuses memory or threads from the line `call` to the next one, so the second call has both.
+//! written. The program prints a line `call` before the call and a line `again` before the repetition.
+//! `hostile/calls.py` refuses memory or threads from the line `call` to the next one, so the second call has both.
 //!
 //! `hostile_calls disturb RUNS SEED GRAPH..` runs designs on workers that gates delay, and counts the runs that make
 //! what one thread makes. `hostile_calls hold GRAPH..` delays one worker at a time, and then each until another goes

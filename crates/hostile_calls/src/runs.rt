@@ -21,7 +21,7 @@ use std::thread::Threads;
 pub(crate) const BLOCKS: u32 = 2;
 
 /// Returns a list of samples for each input of `net`, as long as `periods` periods need. The samples are 0, 1, 2 and so
-/// on, below 30,000.
+/// on up to 29,999, then from 0 again.
 pub(crate) fn inputs_of(
     alloc: Global,
     net: &Net<Kit>,

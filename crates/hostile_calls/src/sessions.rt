@@ -68,7 +68,8 @@ pub(crate) fn open_twice<R: AllocGlobal + Print>(
     Ok(())
 }
 
-/// Feeds a session, feeds it the same samples again, feeds it no samples, and closes it. Does all this twice.
+/// Opens a session before the line, and then feeds it: the same samples twice, and then none. Closes it, and does all
+/// this twice.
 pub(crate) fn feed_twice<R: AllocGlobal + Print + Sync + Threads>(
     rt: &R,
     net: &Net<Kit>,

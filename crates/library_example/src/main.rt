@@ -1,7 +1,7 @@
 //! Runs the design `graph.toml` on the WAV file at standard input, and prints the WAV file that the design makes.
 //!
-//! It depends on `sdf_file`, which reads the design, and on `sdf_plan` and `sdf_options`, which plan it. `sdf_process`
-//! runs it from bytes to bytes. `sdf_wav` has the reader and the writer. Begin at `main`.
+//! It depends on `sdf_file`, which reads the design, on `sdf_plan` and `sdf_options` for its plan, on `sdf_process` for
+//! its run from bytes to bytes, and on `sdf_wav` for the reader and the writer. Begin at `main`.
 #![tactic(auto)]
 
 use anyhow::Result;
@@ -15,7 +15,7 @@ use std::io::{Read, Write};
 use std::rt::Files;
 use std::thread::Threads;
 
-/// Reads the graph file at `path`, and the coefficient files that it names from the current directory.
+/// Reads the graph file at `path`, and from the current directory the coefficient files that it names.
 fn load<R: AllocGlobal + Files>(rt: &R, path: &str) -> Result<Design> {
     let graph = fs::read(rt, path)?;
     let mut files = Vec::new(rt.alloc());

@@ -12,8 +12,8 @@ use test_actors::nets::{links, sink, source};
 use test_actors::{Regroup, Sum, Swap};
 use test_texts::says;
 
-/// Returns the sizes of `net`: its nodes and links, its inputs and outputs, the samples of a period, and the actors of
-/// its graph and of its repetition vector.
+/// Returns the sizes of `net`: its nodes and links, its inputs and outputs, the samples of a period, the actors of its
+/// graph, and the length of its repetition vector.
 fn sizes<A: Actor>(alloc: Global, net: &Net<A>) -> Result<String, Fail> {
     let parts = (net.len(), net.channels());
     let lists = (net.inputs(), net.outputs());
@@ -124,7 +124,7 @@ fn swap_once(alloc: Global) -> Result<String, Fail> {
     Ok(format!(in alloc; "{turned:?}")?)
 }
 
-/// Returns what an actor with two phases puts for two samples, and what it moves at its ports in the second phase.
+/// Returns what an actor with two phases puts for two samples, and what it moves at two ports in the second phase.
 fn regroup_twice(alloc: Global) -> Result<String, Fail> {
     let regroup = Regroup {
         cycle: 2,

@@ -257,10 +257,9 @@ fn what_commands_answer(rt: HostRuntime) -> Result<(), Fail> {
     are_told(&rt, RUNS)
 }
 
-/// A name, a line, the text that is counted in its report, and its number: line ends, four of which are not of
-/// schedules, schedules by two workers, and coefficient files. Refuses a comparison by the default options, since each
-/// policy and placement has a line for two workers. Refuses also a conversion in two stages that writes the first
-/// alone.
+/// A name, a line, a text, and how often the line's report has it. Counted are line ends (four are not of schedules),
+/// schedules by two workers, and coefficient files. Refuses a comparison by the default options, since each policy and
+/// placement has a line for two workers. Refuses also a conversion in two stages that writes the first alone.
 const COUNTED: &[(&str, &str, &str, &str)] = &[
     (
         "lines",

@@ -131,7 +131,7 @@ const CONVERTERS: &[Row] = &[
     },
 ];
 
-/// A gate that holds each `every`-th firing of an actor until a firing of any worker comes, or for `turns` turns.
+/// A gate that holds each `every`-th firing of an actor until another firing comes, or for `turns` turns.
 #[derive(Drop)]
 struct UntilAnother {
     every: u64,
@@ -235,8 +235,8 @@ fn a_fork(rt: HostRuntime) -> Result<(), Fail> {
     are_as_one(&rt, &HELD_FORK)
 }
 
-/// Tests small nets and the largest one. Refuses also out-of-memory faults when there is plenty, for over 60 actors or
-/// for 16 workers: from `Sizes::new`, `places`, `seats`, `make_jobs` or `make_works`.
+/// Tests small nets and the largest one. Refuses also out-of-memory faults when memory is plentiful, for over 60 actors
+/// or for 16 workers: from `Sizes::new`, `places`, `seats`, `make_jobs` or `make_works`.
 #[test]
 fn nets(rt: HostRuntime) -> Result<(), Fail> {
     for row in NETS {

@@ -113,8 +113,8 @@ pub(crate) fn planned<A: Actor>(
     })
 }
 
-/// Returns a schedule of `net`, and a table for two periods on three workers. All firings are on processor `home`,
-/// grouped in runs of a node's firings.
+/// Returns a schedule of `net`, and a table for two periods on three workers. All firings are on processor `home`, and
+/// each node fires in runs.
 pub(crate) fn in_runs<A: Actor>(
     alloc: Global,
     net: &Net<A>,
@@ -193,8 +193,8 @@ pub(crate) fn by_one<A: Actor<Token = i32>>(
     Ok(format!(in alloc; "{:?}", ran.outputs)?)
 }
 
-/// Returns the outputs of a run by workers, as text. Over rings it returns the number of rounds instead, if it is 0 or
-/// more than the firings. By rows the table fixes that number.
+/// Returns the outputs of a run by workers, as text. If the rounds over rings are none or more than the firings, it
+/// returns their number instead. By rows the table fixes the rounds.
 fn by_workers<R: Threads + AllocGlobal + Sync, A: Actor<Token = i32>, G: Gate>(
     rt: &R,
     net: &Net<A>,

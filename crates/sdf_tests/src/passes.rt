@@ -82,7 +82,8 @@ fn all_passed(rt: &impl Abort, name: &str, watch: &Watch, table: &Table, blocks:
     }
 }
 
-/// A table for a number of workers, free or homed; or one for three workers, with all firings, in runs, on this one.
+/// A table for a number of workers, free or homed; or one for three workers, of which this one has all firings, in
+/// runs.
 #[derive(Clone, Copy)]
 enum Kind {
     Free(usize),

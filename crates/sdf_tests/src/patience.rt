@@ -91,8 +91,8 @@ impl Gate for Held {
 }
 
 /// A net and its run: `blocks` blocks of `factor` periods, on the numbers of `samples.0..samples.1` and `zeros` zeros.
-/// If `homed`, one worker has all firings of an actor. The report gives the length of each output list and the start of
-/// the first, or the fault. If the rounds are outside `rounds`, both ends included, it gives them, too.
+/// If `homed`, each actor has all its firings on one worker. The report gives the length of each output list and the
+/// start of the first, or the fault. It gives the rounds, too, if they are below `rounds.0` or above `rounds.1`.
 #[derive(Clone, Copy)]
 struct Row {
     name: &'static str,

@@ -77,8 +77,8 @@ fn pieces_are_one<R: Threads + AllocGlobal + Sync, A: Actor<Token = i32>>(
     Ok(())
 }
 
-/// Feeds two blocks while the source's first firing is held up. Reports the rounds of the feed, and the sum of its
-/// session.
+/// Feeds two blocks while the source's first firing is held up. Reports the rounds of the feed, and the rounds that its
+/// session sums.
 fn rounds_of_a_feed<R: Threads + AllocGlobal + Sync, A: Actor<Token = i32>>(
     rt: &R,
     net: &Net<A>,

@@ -11,7 +11,7 @@ use test_devices::files::{CANONICAL, OPEN, Whole};
 use test_devices::{Faulty, Slip};
 use test_texts::row_says;
 
-/// A run over devices, as it is seen: how many bytes each call of the reader and of the writer asked for, what is
+/// The trace of a run over devices: how many bytes each call of the reader and of the writer asked for, what is
 /// written, and how the run ends.
 #[derive(Drop)]
 pub(crate) struct Trace {
@@ -138,7 +138,7 @@ fn told<T: Threads + AllocGlobal + Sync>(
 }
 
 /// Returns the wanted report. A device that slips is blamed, and not called again. The header is written if the content
-/// was begun and the size is filled in. The header and the samples are written by one call each, if a call takes them.
+/// was begun and its size is filled in. The header and the samples are written by one call each, if a call takes them.
 /// If the slip is past the last call, all is written.
 fn wanted(
     alloc: Global,

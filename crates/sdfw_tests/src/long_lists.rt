@@ -12,8 +12,8 @@ use std::test::Fail;
 use std::thread::Threads;
 use test_texts::row_says;
 
-/// A filter with values in place of `LIST`. The designs that follow have the values in a coefficient file, a table, or
-/// a link.
+/// A filter with values in place of `LIST`. In the designs that follow the values are in a table, on a link, or in a
+/// coefficient file of a filter or a table.
 const FILTER: &str = r#"format = 1
 actor = [{ name = "in", kind = "input", channel = 0 }, { name = "sum", kind = "fir", shift = 0, taps = [LIST] },
     { name = "out", kind = "output", channel = 0 }]
@@ -184,8 +184,8 @@ fn told<T: Threads + AllocGlobal + Sync>(rt: &T, row: &Row) -> Result<String, Fa
     }
 }
 
-/// Tests lists of the maximum length. Refuses an out-of-memory fault when there is plenty, a list that is cut, and a
-/// longer one that is taken.
+/// Tests lists of the maximum length. Refuses an out-of-memory fault when memory is plentiful, a list that is cut,
+/// and a longer one that is taken.
 #[test]
 fn as_long_as_they_may_be(rt: HostRuntime) -> Result<(), Fail> {
     for row in ROWS {

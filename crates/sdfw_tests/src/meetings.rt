@@ -1,4 +1,4 @@
-//! Tests of workers between an input and an output file, seen by gates. They are run as the options say, and a worker
+//! Tests of workers between an input and an output file, seen by gates. The runner is the one of the options. A worker
 //! runs ahead of the others as far as its plan allows, and no further.
 
 use crate::designs::{DEALT, LONG, PAIR, PLAIN, SUM};
@@ -153,7 +153,7 @@ const ONE_SAMPLE: Row = Row {
     ..TWO_GAINS
 };
 
-/// A sum whose actors are spread. Its first firing is held, before it takes a sample, until the source has begun the
+/// `SUM` with spread actors. The sum's first firing is held, before it takes a sample, until the source has begun the
 /// last firing for which there is room. A block has 1,024 periods, and the ring has room for one block.
 const SPREAD: Row = Row {
     graph: SUM,
@@ -169,7 +169,7 @@ const SPREAD: Row = Row {
     ..TWO_GAINS
 };
 
-/// A sum with homes by the file, in blocks of 64 periods. The source's last firing with room is its 64th.
+/// `SUM` with homes by the file, in blocks of 64 periods. The source's last firing with room is its 64th.
 const BY_THE_FILE: Row = Row {
     options: Options {
         blocking: 64,
@@ -411,8 +411,8 @@ fn is_told<T: Threads + AllocGlobal + Sync>(rt: &T, row: &Row) -> Result<(), Fai
 }
 
 /// Tests what gates see of runs. Refuses one thread in place of workers or of one worker, a block too many, and rings
-/// that take more than a block. Refuses an out-of-memory fault when there is plenty: for over 1,000,000 frames on one
-/// thread or by workers, or for a channel with room for them.
+/// that take more than a block. Refuses an out-of-memory fault when memory is plentiful: for over 1,000,000 frames on
+/// one thread or by workers, or for a channel with room for them.
 #[test]
 fn what_gates_see(rt: HostRuntime) -> Result<(), Fail> {
     for row in ROWS {

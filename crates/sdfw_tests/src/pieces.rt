@@ -172,7 +172,7 @@ const SPREAD_OUT: Options = Options {
     ..Options::DEFAULT
 };
 
-/// A sound of 5,000 frames, for a plan whose actors are spread. It reads 4,096 frames at a time, four long blocks.
+/// A sound of 5,000 frames, for a plan whose actors are spread. A run reads 4,096 frames at a time, four long blocks.
 const SPREAD: Cut = Cut {
     graph: SUM,
     options: SPREAD_OUT,

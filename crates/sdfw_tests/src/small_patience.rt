@@ -11,7 +11,7 @@ use std::thread::Threads;
 use test_texts::row_says;
 
 /// A design in which `half` and `left` have a worker of their own. In a block each actor fires once, in file order. If
-/// a sample is before `half` at first, each actor finds its samples and its room at its first test.
+/// the link to `half` begins with a sample, each actor finds its samples and its room at its first test.
 const SPLIT: &str = r#"format = 1
 actor = [{ name = "in", kind = "input", channel = 0, processor = 0 },
     { name = "fork", kind = "fork", ways = 2, processor = 0 },
@@ -107,7 +107,7 @@ const LATE: &[Wait] = &[
     },
 ];
 
-/// The name of a row, the samples before `half`, the spin limit, the waits, and the samples that are made.
+/// The name of a row, the initial samples of `half`, the spin limit, the waits, and the samples that are made.
 type Row = (
     &'static str,
     &'static str,
@@ -140,7 +140,8 @@ const ROWS: &[Row] = &[
     ),
 ];
 
-/// Returns what a row's design makes of two samples, with the gate `order` and the sound's size `filled` in or not.
+/// Returns what a row's design makes of two samples, with the gate `order`. `filled` says whether the sound's size is
+/// filled in.
 fn run_patient<T: Threads + AllocGlobal + Sync>(
     rt: &T,
     (_, begun, patience, _, _): &Row,

@@ -79,8 +79,8 @@ fn cells(alloc: Global, row: &[(usize, u32)]) -> Result<Vec<Option<Firing>>, All
     Ok(cells)
 }
 
-/// Returns the times of a table that was made for other costs. The sink's second firing waits for its first, which
-/// costs 10.
+/// Returns the times of a table with given rows. Firings don't start by the number of their row: the sink's second one
+/// waits for its first, which costs 10.
 fn of_other_rows(alloc: Global) -> Result<String, Fail> {
     let graph = graph(alloc, 2, BLOCKS)?;
     let period = period_of(alloc, &graph)?;

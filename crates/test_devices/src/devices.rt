@@ -20,13 +20,13 @@ pub enum Slip {
 #[derive(Drop)]
 pub struct Faulty<D> {
     pub device: D,
-    /// Maximum bytes that a call moves.
+    /// How many bytes a call moves at most.
     pub most: usize,
     /// What it does at call number `at`.
     pub slip: Slip,
     /// The number of the call that slips, counted from 1; 0 for none.
     pub at: usize,
-    /// Bytes that each call asked for.
+    /// How many bytes each call asked for.
     pub asked: Vec<usize>,
 }
 

@@ -1,4 +1,4 @@
-//! How a test compares: the text of what was made, and the text expected.
+//! Comparisons for tests: the text of what was made with the text that is wanted.
 //!
 //! It depends on std alone, and has no tests. The crates of tests use it, so that the comparison is proved once, and a
 //! test holds no text of its own. Begin at `says`.

@@ -88,7 +88,7 @@ actor = [{ name = \"in\", kind = \"input\", channel = 0, block = 2, processor = 
 link = [{ from = \"in\", to = \"out\" }]";
 
 /// The comparison of the blocks. With four workers there would be three lines for each policy and placement. On one
-/// worker `file` has no table. On two workers its link holds six samples by the policy `runs`, and four by the others.
+/// worker `file` has no table. On two workers it has six samples on the link by the policy `runs`, and four by the others.
 /// With `spread` one worker has both actors. A block then has 170 periods, since 6 samples go 170 times into 1,024, and
 /// all firings of `in` are first.
 const COMPARED: &str =
