@@ -59,7 +59,7 @@ WarmRunsLeave {A} {S} {T} s =
     RunsLate s n p few warm first later all outputs rest →
     HasRun s n all (periods_of p.repetitions (few + warm)) outputs rest
 
--- so a run that goes on from there is the next part of the long run
+-- a run that goes on from what the short run leaves is the next part of the long run
 abbrev pub WarmRunsGoOn : {A S T : Type 0} → Steps A S T → Type 0
 WarmRunsGoOn {A} {S} {T} s =
     (n : Netlist A T) (p : Schedule) (few warm more : ℕ)

@@ -37,7 +37,7 @@ pub record AreBranches (taps : List ℤ) (up : ℕ) (b : Branches) : Type 0 wher
   pub reach : (length taps - 1) / up < b.width
   pub are : (p : ℕ) → p < up → branch_at b p ≡ branch taps up p b.width
 
--- the rates and the shift of firings are within their limits
+-- the factors and the shift of firings are within their limits
 pub record AreFirings (f : Firings) : Type 0 where
   pub up : (1 ≤ f.up) × (f.up ≤ MOST_FACTOR)
   pub down : (1 ≤ f.down) × (f.down ≤ MOST_FACTOR)

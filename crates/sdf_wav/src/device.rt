@@ -1,4 +1,4 @@
-//! What bytes are read from and written to.
+//! Readers and writers of bytes, which count their failed calls.
 
 ghost use Rattle.std.specs.Prelude.{◌≡◌};
 ghost use Rattle.std.specs.Io.{ReadsAtMost, WritesAtMost};
