@@ -59,7 +59,7 @@ WarmRunsLeave {A} {S} {T} s =
     RunsLate s n p few warm first later all outputs rest →
     HasRun s n all (periods_of p.repetitions (few + warm)) outputs rest
 
--- so a run that goes on from there is the next part of the long run
+-- a run that goes on from what the short run leaves is the next part of the long run
 abbrev pub WarmRunsGoOn : {A S T : Type 0} → Steps A S T → Type 0
 WarmRunsGoOn {A} {S} {T} s =
     (n : Netlist A T) (p : Schedule) (few warm more : ℕ)
@@ -112,7 +112,7 @@ RestsWereLeft {A} {S} {T} s =
     (n : Netlist A T) (p : Schedule) (periods : ℕ) (inputs : List (List T)) (rest : Rest T S) →
     HasPeriod s n p → IsRest s n inputs (periods_of p.repetitions periods) rest → WasLeft s n p.repetitions rest
 
--- a run that goes on from there by all periods of its input again leaves a rest like this
+-- a run that goes on from a rest of WasLeft, by all periods of its input, leaves a rest of WasLeft again
 abbrev pub RunsLeaveRests : {A S T : Type 0} → Steps A S T → Type 0
 RunsLeaveRests {A} {S} {T} s =
     (n : Netlist A T) (q : List ℕ) (more : ℕ) (later on : List (List T)) (rest last : Rest T S) →

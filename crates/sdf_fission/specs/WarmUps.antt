@@ -1,4 +1,4 @@
--- The warm-up periods that a net needs.
+-- The number of warm-up periods that a net needs.
 use Rattle.std.specs.Prelude.{◌≡◌, ℕ, ◌+◌, ◌*◌, ◌≤◌, ◌<◌, ◌⊎◌, List, [], ◌∷◌, length, set, slice_index}
 use Rattle.sdf_limits.specs.declared.TheConstants.{MOST_INITIAL}
 use Rattle.sdf_graph.specs.Rates.{Rates, Shape, Edge, rates, channel, rate_at, sum_to, IsCycle}
@@ -35,7 +35,7 @@ pub record IsChannel (actors : ℕ) (e : Edge) : Type 0 where
   pub take : (n : ℕ) × IsCycle n e.take
   pub initial_small : e.initial ≤ MOST_INITIAL
 
--- the number of cold samples of a channel, initial samples included: its source puts them before it has forgotten what
+-- the number of cold samples of a channel: its initial samples, and what its source puts before it has forgotten what
 -- it took before its firing since
 abbrev pub cold : Edge → (ℕ → ℕ) → (ℕ → ℕ) → ℕ
 cold e memory since = e.initial + sum_to (rate_at e.put) (since e.from + memory e.from)
@@ -106,12 +106,12 @@ IsEnd g memory new Stays = AreLate g memory (slice_index new)
 IsEnd g memory new MovesOn = HasLoop (rates g)
 IsEnd g memory new TooFar = NoneIsLate g memory MAX_FIRINGS
 
--- in this number of periods each actor fires since times, and then memory times
+-- in this number of periods each actor fires at least since times, and then memory times
 abbrev pub AreWithin : List ℕ → ℕ → List ℕ → List ℕ → Type 0
 AreWithin q periods memory since =
     (a : ℕ) → a < length q → slice_index since a + slice_index memory a ≤ periods * slice_index q a
 
--- Why a net has no warm-up: samples go round in a loop, or a warm net has had more than MAX_FIRINGS firings of some
--- node. (An actor that keeps samples for ever stays cold.)
+-- Why a net has no warm-up: samples go round in a loop, or the net is warm only after more than MAX_FIRINGS firings of
+-- some node, if ever. (With an actor that keeps samples for ever, it stays cold.)
 abbrev pub IsLasting : {A S T : Type 0} → Steps A S T → Netlist A T → Type 0
 IsLasting s n = HasLoop (rates (graph_of s n)) ⊎ StaysCold s n MAX_FIRINGS

@@ -1,4 +1,4 @@
-//! The warm-up periods that a net needs until it has forgotten where it began.
+//! The number of warm-up periods that a net needs until it has forgotten where it began.
 
 ghost use Rattle.std.specs.Prelude.{◌≡◌, ◌+◌, ◌*◌, ◌≤◌, ◌<◌, ℕ, List, length, slice_index};
 ghost use Rattle.std.specs.Prelude.{◌⊎◌, IfOk, IfSome, IfNone, MatchOption};
@@ -53,7 +53,7 @@ fn memories_of<A: Forgetful>(alloc: Global, net: &Net<A>) -> Result<Option<Vec<u
     Ok(Some(memories))
 }
 
-/// Returns the number of cold samples of `channel`, initial samples included. Its source puts them before it has
+/// Returns the number of cold samples of `channel`: its initial samples, and what its source puts before it has
 /// forgotten what it took before its firing in `since`.
 fn cold_samples(channel: &Channel, memory: &[u32], since: &[u32]) -> u64
     requires channel { IsChannel (length since.now) channel.now }
@@ -90,8 +90,8 @@ fn first_past(rates: &[u32], amount: u64) -> Option<u32>
     }
 }
 
-/// Moves the firing of the channel's target in `since` on to the first that takes no cold sample, if it is earlier.
-/// From there on the channel is late.
+/// Moves the firing of the channel's target in `since` on, if necessary, to the first from which on the target takes no
+/// cold sample. With it the channel is late.
 #[tactic(auto, using(sdf_graph::proofs::Theorems::sums_rise))]
 fn move_target(channel: &Channel, memory: &[u32], since: &mut [u32]) -> Move
     requires channel { IsChannel (length since.old) channel.now }
@@ -110,7 +110,7 @@ fn move_target(channel: &Channel, memory: &[u32], since: &mut [u32]) -> Move
     }
 }
 
-/// Moves the firings of targets in `since` on until their channels are late, each channel once.
+/// Moves the firing of each channel's target in `since` on to where the channel is late, one channel after another.
 fn move_on(graph: &Graph, memory: &[u32], since: &mut [u32]) -> Move
     requires all { length since.old ≡ graph.now.actors }
     requires memory { AreFirings (length since.old) memory.now }
@@ -182,7 +182,7 @@ fn periods_with(periods: u32, firings: u32, in_period: u32) -> u32
     if wanted > periods { wanted } else { periods }
 }
 
-/// Returns the least number of periods in which each actor fires `since` times and then `memory` times.
+/// Returns the least number of periods in which each actor fires at least `since` times and then `memory` times.
 fn periods_for(repetitions: &[u32], memory: &[u32], since: &[u32]) -> u32
     requires some { (a : ℕ) → a < length repetitions.now → 0 < slice_index repetitions.now a }
     requires memory { AreFirings (length repetitions.now) memory.now }

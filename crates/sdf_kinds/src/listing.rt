@@ -61,7 +61,7 @@ fn push_from_least(text: &mut String, most: i32, absent: Option<i32>) -> Result<
     push_absent(text, absent)
 }
 
-/// Describes the range of a list's values.
+/// Returns the range of a list's values, in words.
 fn width_text(width: Width) -> &'static str
     ensures { result.now ≡ width_text width }
 {

@@ -37,7 +37,7 @@ pub record AreBranches (taps : List ℤ) (up : ℕ) (b : Branches) : Type 0 wher
   pub reach : (length taps - 1) / up < b.width
   pub are : (p : ℕ) → p < up → branch_at b p ≡ branch taps up p b.width
 
--- the values of a filter are within their limits
+-- the factors and the shift of firings are within their limits
 pub record AreFirings (f : Firings) : Type 0 where
   pub up : (1 ≤ f.up) × (f.up ≤ MOST_FACTOR)
   pub down : (1 ≤ f.down) × (f.down ≤ MOST_FACTOR)
@@ -48,9 +48,9 @@ abbrev pub branch_output : Branches → ℕ → ℕ → ℕ → List ℤ → ℕ
 branch_output b up down shift samples n =
     settled (dot (branch_at b (n * down % up)) (take b.width (drop (n * down / up) samples))) shift
 
--- The output of a filter at place t is the dot product of the branch of its phase with the samples up to its newest
--- one. Place 0 is at the first input that is taken. Of the inputs before it, K taps meet the last (K - 1) / up; zeros
--- are before these.
+-- The output of a filter at place t is the dot product of the branch of its phase, n taps, with the n samples up to
+-- its newest one. Place 0 is at the first input that is taken. Of the inputs before it, K taps meet the last
+-- (K - 1) / up; zeros are before these.
 abbrev pub BranchesAreTheFilter : Type 0
 BranchesAreTheFilter =
     (taps : List ℤ) (up : ℕ) → 1 ≤ up → (x : List ℤ) (pad n t : ℕ) → pad + (length taps - 1) / up + 1 ≡ n →

@@ -20,7 +20,7 @@ held Quiet high low n = take n high
 held Wide high low n = take n high
 held Split high low n = joined (take n high) (take n low)
 
--- no number exceeds the peak, or any 16-bit numbers are allowed
+-- no number is further from 0 than the peak, or the limits are wide and all numbers have 16 bits
 abbrev pub AreWithinLimits : Way → List ℤ → List ℤ → Limits → Type 0
 AreWithinLimits Quiet high low limits = AreWithin limits.peak high
 AreWithinLimits Wide high low limits = (limits.is_wide ≡ true) × Each1 (FitsSigned w16) high

@@ -12,7 +12,7 @@ ghost use Rattle.sdf_kit.specs.Stretches.{IsReach, is_wide, walked};
 use crate::arithmetic::MOST_SUM;
 use crate::stretches::{Branch, reach};
 
-/// The number of places in a table: the taps of a filter, and fewer than sixteen zeros for each branch.
+/// The number of places in a table: at most 1,024 taps, and at most sixteen zeros for each of 64 branches.
 pub(crate) const PLACES: usize = 2048;
 
 /// The number of sixteens in a table: groups of sixteen taps, each of which fills a vector.
@@ -37,7 +37,7 @@ pub(crate) struct Branches {
 /// The greatest value of the lowest eight bits of a sample. Samples can be split only if the peak is no lower.
 pub(crate) const LEAST_PEAK_TO_SPLIT: u32 = 255;
 
-/// The samples that the branches of a filter can be summed with.
+/// The limits of samples for which a filter can use vectors.
 #[derive(Clone, Copy)]
 pub(crate) struct Limits {
     /// The absolute value that no sample may exceed, so that each sum of products fits in 32 bits.
@@ -114,7 +114,7 @@ fn tap_at(taps: &[i32], at: usize) -> i16
     if at < taps.len() { taps[at] as i16 } else { 0 }
 }
 
-/// Returns the length of the stretch at each sixteen of a branch, in sixteens, or at most 1 if no stretch begins there.
+/// Returns the length of the stretch at each sixteen of all branches, in sixteens, or at most 1 if none begins there.
 fn stretches_of(table: &[i16], up: u32, width: usize) -> [u8; SIXTEENS]
     requires up { up ≤ 64 }
     requires whole { width % 16 ≡ 0 }
@@ -193,7 +193,7 @@ fn walked(stretches: &[u8]) -> usize
     walked
 }
 
-/// Returns the gain of the loudest branch: its sum of absolute values.
+/// Returns the greatest gain of a branch: the sum of the absolute values of its taps.
 fn gain(table: &[i16], up: u32, width: usize) -> u32
     requires up { up ≤ 64 }
     requires few { width ≤ 1024 }

@@ -9,7 +9,7 @@ use crate::ports::Ports;
 use sdf_kinds::{Key, Kind};
 use std::marker::Model;
 
-/// A clipper: it puts each sample, `least` if the sample is below that, and `greatest` if it is above that.
+/// A clipper: it puts each sample, or `least` if the sample is below that, or `greatest` if it is above that.
 #[derive(Drop)]
 pub struct Clip {
     least: i32,

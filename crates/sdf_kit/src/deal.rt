@@ -12,7 +12,7 @@ use crate::turns::Turns;
 use sdf_kinds::Kind;
 use std::marker::Model;
 
-/// A dealer that gives `run` samples to each of its output ports in turn:
+/// An actor that deals its input out to its output ports, `run` samples to each in turn:
 /// `y_j[n] = x[(n / run * ways + j) * run + n % run]` at port `j`.
 #[derive(Drop)]
 pub struct Deal {

@@ -12,7 +12,7 @@ use crate::turns::Turns;
 use sdf_kinds::Kind;
 use std::marker::Model;
 
-/// A merger that takes `run` samples from each of its input ports in turn:
+/// An actor that gathers its input ports into one output, `run` samples from each in turn:
 /// `y[n] = x_j[n / (ways * run) * run + n % run]`. Here `x_j` is what it takes at port `j = n / run % ways`.
 #[derive(Drop)]
 pub struct Gather {

@@ -113,21 +113,21 @@ impl Kit {
         Ok(Kit::Delay(Delay::new(length)?))
     }
 
-    /// Makes a table of 1 to 65,536 `values`, which puts the value at place sample plus `offset`.
+    /// Makes a table of 1 to 65,536 `values`, which puts `values[x + offset]` for each sample `x`.
     pub fn table(offset: i32, values: Vec<i32>) -> Result<Kit, KitFault>
         ensures { result ≡ kit_of kits.Table (lookup_of offset values.items) }
     {
         Ok(Kit::Table(Lookup::new(offset, values)?))
     }
 
-    /// Makes a dealer, which deals one way out to 2 to 16 `ways`, `run` samples, 1 to 64, to each in turn.
+    /// Makes an actor that deals one way out to 2 to 16 `ways`, `run` samples, 1 to 64, to each in turn.
     pub fn deal(ways: usize, run: u32) -> Result<Kit, KitFault>
         ensures { result ≡ kit_of kits.Deal (turns_of kinds.Deal ways run) }
     {
         Ok(Kit::Deal(Deal::new(ways, run)?))
     }
 
-    /// Makes a merger, which gathers 2 to 16 `ways` into one, `run` samples, 1 to 64, from each in turn.
+    /// Makes an actor that gathers 2 to 16 `ways` into one, `run` samples, 1 to 64, from each in turn.
     pub fn gather(ways: usize, run: u32) -> Result<Kit, KitFault>
         ensures { result ≡ kit_of kits.Gather (turns_of kinds.Gather ways run) }
     {

@@ -43,7 +43,7 @@ pub struct Ports {
 }
 
 impl Ports {
-    /// Returns ports with the same rate in every firing: `take` at each of `inputs`, `put` at each of `outputs`.
+    /// Returns ports with one rate in every firing: `take` at each of `inputs` ports, `put` at each of `outputs`.
     pub fn steady(inputs: usize, take: u32, outputs: usize, put: u32) -> Ports
         ensures { result ≡ steady inputs take outputs put }
     {

@@ -11,7 +11,7 @@ use sdf_kinds::{Key, Kind};
 use sdf_limits::{LEAST_WAYS, MOST_RUN, MOST_WAYS};
 use std::marker::Model;
 
-/// The number of ways, and the number of samples in a turn of one.
+/// The number of ways, and the number of samples in each turn.
 #[derive(Drop)]
 pub struct Turns {
     ways: usize,

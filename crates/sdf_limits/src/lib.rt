@@ -1,4 +1,4 @@
-//! The limits of the workspace. Code, contracts and documents name them, and each has its number here only.
+//! The limits of the workspace, each defined once. Code, contracts and documents name them.
 //!
 //! It depends on nothing, and has no functions. Begin at any line: there are only constants.
 #![tactic(auto)]

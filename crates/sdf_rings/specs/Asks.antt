@@ -23,7 +23,7 @@ pub record IsGreatestPut (r : Rates) (c m : ℕ) : Type 0 where
   pub reached : (k : ℕ) × (r.produced c (k + 1) - r.produced c k ≡ m)
 
 -- the room in the ring of channel c, in samples: the capacity of the channel. From an actor to itself there is room for
--- one more block, since an actor looks for room before it has taken
+-- one more block, the greatest, since an actor looks for room before it has taken
 pub record IsRoomOf (r : Rates) (cap : ℕ → ℕ) (c room : ℕ) : Type 0 where
   pub between_two : r.source c ≢ r.target c → room ≡ cap c
   pub own : r.source c ≡ r.target c → (m : ℕ) × IsGreatestPut r c m × (room ≡ cap c + m)

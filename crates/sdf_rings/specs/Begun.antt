@@ -66,7 +66,7 @@ pub record HasOuts {A S T : Type 0} (s : Steps A S T) (n : Netlist A T) (a : ℕ
 module _ {A S T : Type 0} (s : Steps A S T) (n : Netlist A T) (inputs : List (List T)) (asked : ℕ → ℕ)
     (producers : List (Option (Producer T Global AnyItems)))
     (consumers : List (Option (Consumer T Global AnyItems))) where
-  -- node a has not fired, and the firings asked of it are those given. It has its ends of these rings
+  -- node a has not fired, and asked a is the number of firings asked of it. It has its ends of these rings
   pub record HasBegun (a : ℕ) (x : Stand A T S) : Type 0 where
     pub is : IsStand s n inputs x
     pub actor_is : x.actor ≡ a

@@ -13,7 +13,8 @@ use Rattle.sdf_actor.specs.Histories.{Wiring, put, taken, taken_before}
 use Rattle.sdf_actor.specs.Nets.{Netlist, node, answers, wiring, IsNet, IsHistoryOf, InputsReach}
 use Rattle.sdf_rings.specs.Machine.{Machine, Event, put_on, taken_from, at_start, IsAllowed, IsRun, after}
 
--- a repetition vector of a graph, how many periods make a block, and a table of a block's firings on `width` processors
+-- a period of a graph (its firings by actor), how many periods make a block, and a table of a block's firings on
+-- `width` processors
 pub record MachinePlan : Type 0 where
   pub rates : Rates
   pub period : List ℕ
@@ -78,7 +79,7 @@ RunsGoOn {A} {S} {T} s =
     IsOver s n (firings p b) (reached s n inputs es)
     ⊎ ((e : Event) × IsAllowed (wiring s n) (firings p b) (capacity p) (reached s n inputs es) e)
 
--- how many blocks of k firings have still to move at the first channels, up to the given number
+-- how many blocks of k firings have still to move at the channels below the given number
 abbrev pub blocks_left : {A : Type 0} → Wiring A → (ℕ → ℕ) → Machine A → ℕ → ℕ
 blocks_left f k m zero = 0
 blocks_left f k m (suc c) = blocks_left f k m c + ((k (f.rates.target c) - m.took c)

@@ -133,7 +133,7 @@ HoldItems {A} {S} {T} n seats places items =
     (c : ℕ) (e : Seat A T S) (d : Stand A T S) (x : Consumer T Global AnyItems) → c < length n.wires →
     slice_index_or items c [] ≡ known_items (consumer_of n seats places e d x c)
 
--- a net state of what the seats hold: the state of each actor, and the items that are known of each ring
+-- the net state that the seats hold: the state of each actor, and the items that are known of each ring
 pub record HoldRest {A S T : Type 0} (n : Netlist A T) (seats : List (Seat A T S)) (places : List (ℕ × ℕ))
     (rest : Rest T S) : Type 0 where
   pub nodes : length rest.states.items ≡ length n.nodes

@@ -4,7 +4,7 @@ use Rattle.sdf_node.specs.Many.{nth_block, joined}
 use Rattle.sdf_rings.specs.declared.run_ends.RunBlocks.{RunBlocks}
 use Rattle.sdf_rings.specs.Blocks.{start_at, block_of}
 
--- there is this number of ports, and a firing moves at all of them together the sum of its sizes
+-- there is this number of ports, and size is the sum of the sizes at all of them
 pub record HasPorts (r : RunBlocks) (ports : ℕ) : Type 0 where
   pub all : ports ≡ length r.sizes.now
   pub size_is : r.size ≡ start_at (slice_index r.sizes.now) ports
@@ -13,6 +13,6 @@ pub record HasPorts (r : RunBlocks) (ports : ℕ) : Type 0 where
 abbrev pub sizes_of_run : RunBlocks → ℕ → ℕ
 sizes_of_run r p = r.many * slice_index r.sizes.now p
 
--- the blocks of a port, out of a list that has the blocks of one firing behind the blocks of another
+-- the blocks of a port, out of a list of all blocks in the order of the firings
 abbrev pub port_blocks : {T : Type 0} → RunBlocks → List T → ℕ → List T
 port_blocks r xs p = joined (λ i. block_of (slice_index r.sizes.now) p (nth_block r.size xs i)) r.many

@@ -43,8 +43,8 @@ module _ {A S T : Type 0} (s : Steps A S T) (n : Netlist A T) where
   abbrev pub HasIdled : Seat A T S → Seat A T S → Type 0
   HasIdled x y = HasWorked x y × (y.next ≡ x.next)
 
-  -- one worker's round: it ends when its list is empty, or its ends do not know samples or room for its next firing. It
-  -- does its first firing if that was known to be possible
+  -- one worker's round: it ends when its list is empty, or its next firing is not known to be possible. It does its
+  -- first firing if that was known to be possible
   pub record HasRounded (inputs : List (List T)) (x y : Seat A T S) : Type 0 where
     pub seat : IsSeat inputs y
     pub worked : HasWorked x y

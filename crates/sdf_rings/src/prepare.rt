@@ -81,8 +81,8 @@ fn prepare_homed<'a, A: Actor>(
 
 /// Returns the seats of a run of `blocks` blocks before its first round. Each processor of `table` has a seat with the
 /// actors at home there and their firing list. Each channel has a ring of the table's capacity with its initial
-/// samples. It has room for one more block if it leads from an actor to itself. Fails with 30 NotHomed, tested first,
-/// or 29 InputLength.
+/// samples. A ring from an actor to itself has room for one more block. Fails with 30 NotHomed, tested first, or 29
+/// InputLength.
 pub fn prepare<'a, A: Actor>(
     alloc: Global,
     net: &'a Net<A>,

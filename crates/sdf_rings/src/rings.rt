@@ -122,8 +122,8 @@ impl<'a, A: Actor> Rings<'a, A> {
         self.seats[place.0].stands[place.1].done
     }
 
-    /// Runs one round of worker `seat` in the caller's thread, and returns the firings done. `patience` is the spin
-    /// limit.
+    /// Runs one round of worker `seat` in the caller's thread, and returns the number of firings done. `patience` is
+    /// the spin limit.
     pub fn work_one<G: Gate>(&mut self, seat: usize, patience: u32, gate: &G) -> u64
         requires { seat < length self.old.seats }
         ensures worked { BecameAt (HasWorked A.steps self.new.net) self.old.seats self.new.seats seat }

@@ -43,8 +43,8 @@ struct Orders<'a, A: Actor, G> {
     gate: &'a G,
 }
 
-/// Checks whether `stand` can fire, and repeats the check while `tries` is above 0. Each repetition uses one try, and
-/// lets another thread run first.
+/// Checks whether `stand` can fire, and repeats a failed check while `tries` is above 0. Each repetition uses one try,
+/// and lets another thread run first.
 fn becomes_ready<A: Actor, G: Gate>(
     orders: Orders<'_, A, G>,
     stand: &mut Stand<A>,

@@ -1,4 +1,4 @@
--- The calls at the places of a list.
+-- Calls of a function with each element of a list.
 use Rattle.std.specs.Prelude.{◌≡◌, ℕ, ◌+◌, ◌<◌, List, length, slice_index_or}
 use denote.Ref.{MutBor}
 use denote.Param.Members.{Shared}

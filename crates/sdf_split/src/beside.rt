@@ -1,4 +1,4 @@
-//! Parallel calls, beside another one.
+//! Parallel calls of one function, beside a call of another.
 //!
 //! `thread::for_each_mut` halves a list, so threads start threads. Here one thread starts all others and then does work
 //! of its own. If a new thread at first shares the processor of the thread that made it, the last worker begins sooner.

@@ -6,8 +6,8 @@ ghost use Rattle.sdf_split.specs.Cuts.{cut};
 
 use std::alloc::{AllocError, Global};
 
-/// The source of the inputs of a run's parts, and the use of their outputs. Workers call both functions in parallel,
-/// for each stretch of their own parts.
+/// The inputs that the parts of a run read, and what their outputs become. Workers call both functions in parallel, for
+/// each stretch of their own parts.
 pub trait Ends<T>: Sync {
     /// What the outputs of a stretch become.
     type Made: Send + Drop;
@@ -31,7 +31,7 @@ pub trait Ends<T>: Sync {
             to ≤ length (slice_index_or (inputs self.now) e []) }
         ensures { IfOk result (λ v. lists v.items ≡ cut from to (inputs self.now)) };
 
-    /// Makes what `outputs`, the output lists of `periods` periods, become. Reuses the memory of `spare`.
+    /// Turns `outputs`, the output lists of `periods` periods, into what they become. Reuses the memory of `spare`.
     fn finish(
         &self,
         alloc: Global,

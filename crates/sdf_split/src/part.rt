@@ -73,7 +73,7 @@ impl<T: Copy> RunMemory<T> {
     }
 }
 
-/// The memory of a part, which later parts reuse. A warm-up and a stretch can have different lengths, so each run has
+/// The memory of a part, which later parts reuse. A warm-up and a stretch can differ in length, so each of the two has
 /// memory of its own.
 #[derive(Drop)]
 pub(crate) struct Memory<M, T> {
@@ -158,7 +158,7 @@ fn warmed_up<A: Actor, E: Ends<A::Token>>(
     Ok(rest)
 }
 
-/// Runs a stretch of a part from the state `begin`, and makes what its outputs become.
+/// Runs a stretch of a part from the state `begin`, and returns what its outputs became and the state after it.
 fn finished<A: Actor, E: Ends<A::Token>>(
     alloc: Global,
     ends: &E,

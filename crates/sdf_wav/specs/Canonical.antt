@@ -55,8 +55,9 @@ IsWritingFault faults.Write = Unit {0}
 IsWritingFault faults.Read = ⊥
 IsWritingFault faults.OutOfMemory = ⊥
 
--- What a call did that should write this file, unless this fault forbids it. It wrote all of it, or nothing at a fault
--- of the sound, or a front of it if the device failed. It never fails with a fault of memory or of a reader.
+-- What a call did that should write a file unless this fault of its sound forbids it. It wrote the whole file, or
+-- nothing at this fault, or a front of the file if the device failed. It never fails with a fault of memory or of a
+-- reader.
 abbrev pub Writes : {X : Type 0} → Option (List ℕ) → Option (List ℕ) → Option FormatFault → List ℕ → Result X WavFault →
     Type 0
 Writes old new fault file (Ok x) = (fault ≡ None) × Appends old new file

@@ -5,7 +5,7 @@ use Rattle.sdf_wav.specs.declared.fault.FormatFault.{FormatFault}
 use Rattle.sdf_wav.specs.declared.fault.FormatFault.TheVariants.{Truncated, PartialFrame, TooLong}
 use Rattle.sdf_wav.specs.Sound.{pcm_samples}
 
--- the samples of the first bytes of an input, at most limit of them. There were n
+-- the samples of the first n bytes of an input, and what is left behind them: n is limit, or fewer if the input ends
 pub record Holds (input left : List ℕ) (limit n : ℕ) (samples : List ℤ) : Type 0 where
   pub count : n ≡ min limit (length input)
   pub samples_are : samples ≡ pcm_samples (take limit input)

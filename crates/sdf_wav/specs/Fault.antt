@@ -1,4 +1,4 @@
--- The faults of inputs that are not WAV files: one rule for each way. No two rules give one input different faults.
+-- The faults of inputs that are not WAV files: one rule for each cause. No two rules give one input different faults.
 use Rattle.std.specs.Prelude.{◌≡◌, ◌≢◌, ◌⊎◌, ℕ, ◌*◌, ◌%◌, ◌≤◌, ◌<◌, min, List, [], ◌++◌, length, take, drop, Option}
 use Rattle.std.specs.Prelude.{Some, None, Result, Ok, Err, codes}
 use Rattle.byteorder.specs.Endian.{little_number}

@@ -41,7 +41,8 @@ pub record Opens (bytes : List ℕ) (format : Format) (size : ℕ) (rest : List 
   pub size_is : little_number 4 size_bytes ≡ size
   pub whole : size ≢ 0xFFFFFFFF → size % (2 * format.channels) ≡ 0
 
--- this number of bytes of a content can be gone: not past a known size, nor past the maximum of an unknown size
+-- this number of bytes of a content can be gone: at most a known size, which is whole frames, or at most the maximum of
+-- an unknown size
 abbrev pub IsWithin : ℕ → ℕ → ℕ → Type 0
 IsWithin align size gone =
     ((size ≢ 0xFFFFFFFF) × (size % align ≡ 0) × (gone ≤ size)) ⊎ ((size ≡ 0xFFFFFFFF) × (gone ≤ 4294967294))
@@ -93,8 +94,8 @@ next_at r frames bytes =
     if r.size == 0xFFFFFFFF then open_piece (2 * r.channels) r.gone (min asked (length bytes)) bytes
     else sized_piece (min asked (r.size - r.gone)) bytes
 
--- This number of samples can be read as the next frames, whatever is known of the bytes. It is at most what was asked
--- for. For a known size it is exactly that, or all that is left if this is less.
+-- This number of samples can be read as the next frames, whatever is known of the bytes. It is whole frames, at most
+-- what was asked for. For a known size it is exactly that, or all that is left if this is less.
 pub record IsPiece (r : Reading) (frames samples : ℕ) : Type 0 where
   pub most : samples ≤ frames * r.channels
   pub whole : samples % r.channels ≡ 0
@@ -115,8 +116,8 @@ pub record OpensAs (input : List ℕ) (s : Sound) : Type 0 where
   pub sized : size ≢ 0xFFFFFFFF → size ≡ 2 * length s.samples
 
 -- What a call returned, seen by view, is what `read` gives for the bytes before it. The bytes after it are what `read`
--- leaves. Both are said if the bytes are known, and unless memory or the reader failed. It never fails with a fault of
--- a writer.
+-- leaves. Both are true if the bytes are known and neither memory nor the reader failed. It never fails with a fault
+-- of a writer.
 abbrev pub AnswersBy : {X Y : Type 0} → (X → Y) → Option (List ℕ) → Option (List ℕ) →
     (List ℕ → Result (Y × List ℕ) FormatFault) → Result X WavFault → Type 0
 AnswersBy view old new read (Ok x) = Known old new

@@ -69,7 +69,7 @@ looked_at n size bytes = if nat_lt (length bytes) size then Err Truncated else O
 unfoldable pub pcm_at : ℕ → List ℕ → Result (Format × List ℕ) FormatFault
 pcm_at size bytes = looked_at (min size 40) size bytes >>= λ x. format_of x.0 >>= λ format. Ok (format, x.1)
 
--- a format chunk's content of 16 bytes or more, and the pad byte
+-- a format chunk's content, which needs 16 bytes or more, and the pad byte
 unfoldable pub format_at : ℕ → List ℕ → Result (Format × List ℕ) FormatFault
 format_at size bytes = if nat_lt size 16 then Err ShortFormat else
     (pcm_at size bytes >>= λ x. Ok (x.0, drop (size % 2) x.1))

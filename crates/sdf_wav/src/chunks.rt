@@ -27,7 +27,8 @@ fn read_riff<R: Reader>(reader: &mut R) -> Result<(), ReadFault>
     Ok(())
 }
 
-/// Reads the header of a chunk, eight bytes. Fails if the input ends there: the fault depends on `has_format`.
+/// Reads the header of a chunk, eight bytes. Fails with `Truncated` if the input ends within them. If it ends before
+/// them, the fault is `NoData` if `has_format`, otherwise `NoFormat`.
 fn read_header<R: Reader>(reader: &mut R, has_format: bool) -> Result<ChunkHeader, ReadFault>
     ensures bytes { Reads (λ x. x) (R.state reader.old).remaining (R.state reader.new).remaining
         (header_at has_format) result }

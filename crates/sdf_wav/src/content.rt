@@ -65,7 +65,7 @@ fn read_samples<R: Reader>(alloc: Global, reader: &mut R, limit: u64) -> Result<
     Ok(Content { samples, bytes })
 }
 
-/// The data size that a writer never filled in. The data then goes to the end of the input.
+/// The data size of a file whose writer never filled it in. The data then goes to the end of the input.
 pub(crate) const UNKNOWN: u32 = 0xFFFF_FFFF;
 
 /// Maximum bytes of data whose size was never filled in.

@@ -35,7 +35,7 @@ impl Model for ContentOut {
 impl ContentOut {
     /// Writes the header of a file of `frames` frames, at `rate` frames a second. All frames are missing then. Fails
     /// with `Channels`, `RateZero`, `RateTooLarge` or `TooLong`, tested in this order before the first byte. After
-    /// `Write`, the beginning of the header is written.
+    /// `Write`, a prefix of the header is written.
     pub fn start<W: Writer>(
         writer: &mut W,
         rate: u64,
@@ -87,7 +87,7 @@ impl ContentOut {
         requires whole { length samples.now % self.old.channels ≡ 0 }
         requires missing { length samples.now ≤ self.old.missing * self.old.channels }
 
-        // The samples are written, or the beginning of their bytes if the writer fails.
+        // The samples are written, or a prefix of their bytes if the writer fails.
         ensures writes { self.old.spent ≡ false → Puts (W.state writer.old).contents (W.state writer.new).contents
             (sample_bytes samples.now) result }
         ensures counted { self.old.spent ≡ false → (W.state writer.new).failures ≡

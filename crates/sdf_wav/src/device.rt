@@ -1,4 +1,4 @@
-//! What bytes are read from and written to.
+//! Readers and writers of bytes, which count their failed calls.
 
 ghost use Rattle.std.specs.Prelude.{◌≡◌};
 ghost use Rattle.std.specs.Io.{ReadsAtMost, WritesAtMost};
@@ -29,7 +29,7 @@ pub trait Writer {
     // The bytes that it has taken, and how many of its calls failed.
     ghost state: { Self → WriterState };
 
-    /// Takes bytes from the front of `bytes`, and returns how many. To take none if there are some counts as a failure.
+    /// Takes bytes from the front of `bytes`, and returns how many. Taking none counts as a failure if there are any.
     fn write(&mut self, bytes: &[u8]) -> Result<usize, DeviceFault>
         ensures bound { WritesAtMost result bytes.now }
         ensures bytes { WriteAppends (state self.old).contents (state self.new).contents result bytes.now }

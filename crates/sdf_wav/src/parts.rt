@@ -74,8 +74,9 @@ fn kind_of(id: &[u8]) -> ChunkKind
     }
 }
 
-/// Returns the chunk header in `front`: the first eight bytes at the place of a chunk, or all that are left. At the end
-/// of the input it fails with `NoData` if there was a format (`has_format`), otherwise with `NoFormat`.
+/// Returns the chunk header in `front`: the first eight bytes at the place of a chunk, or all that are left. Fails with
+/// `Truncated` if some are left, but fewer than eight. If none is left, the fault is `NoData` if there was a format
+/// (`has_format`), otherwise `NoFormat`.
 pub(crate) fn header_of(has_format: bool, front: &[u8]) -> Result<ChunkHeader, FormatFault>
     ensures value { result ≡ header_of has_format front.now }
     ensures fault { IfErr result IsInputFault }

@@ -34,8 +34,8 @@ fn read_content<R: Reader>(
     Ok(Wav::of_format(format, samples))
 }
 
-/// Reads a WAV file up to the end of its data, and leaves the rest unread. After a fault, the beginning of the input
-/// has been read. Memory grows with the samples that have arrived, whatever size the file announces.
+/// Reads a WAV file up to the end of its data, and leaves the rest unread. After a fault, a prefix of the input was
+/// read. Memory grows with the samples that have arrived, whatever size the file announces.
 ///
 /// The format is RIFF/WAVE with 16-bit PCM samples, under the plain tag or the extensible one. A data size of
 /// 0xFFFFFFFF was never filled in by its writer: that data goes to the end of the input.

@@ -67,7 +67,7 @@ impl<'a, W: Writer> WavOut<'a, W> {
         requires missing { length samples.now ≤ (owed self.old).missing * (owed self.old).channels }
         ensures same_writer { writer_name self.new ≡ writer_name self.old }
 
-        // The samples are written, or the beginning of their bytes if the writer fails.
+        // The samples are written, or a prefix of their bytes if the writer fails.
         ensures writes { (owed self.old).spent ≡ false →
             Puts (W.state (writer_of self.old)).contents (W.state (writer_of self.new)).contents
             (sample_bytes samples.now) result }

@@ -103,7 +103,7 @@ fn put_content<W: Writer>(
 }
 
 /// Writes the canonical file of `wav`: RIFF/WAVE with one `fmt ` chunk of 16 bytes and one `data` chunk. Fails with
-/// `RateTooLarge` or `TooLong`, tested in this order before the first byte. After `Write`, the beginning of the file is
+/// `RateTooLarge` or `TooLong`, tested in this order before the first byte. After `Write`, a prefix of the file is
 /// written.
 pub fn write_wav<W: Writer>(writer: &mut W, wav: &Wav) -> Result<(), WavFault>
     ensures writes { Writes (W.state writer.old).contents (W.state writer.new).contents (write_fault wav.now)
