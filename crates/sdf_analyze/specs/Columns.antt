@@ -29,7 +29,7 @@ placement_word Spread = codes "spread"
 abbrev pub spaces : ℕ → List ℕ
 spaces n = replicate n 32
 
--- a text padded with spaces on its right (left) or on its left (right); a longer text is left as it is
+-- `left` pads a text with spaces behind it, and `right` before it; neither changes a longer text
 abbrev pub left : ℕ → List ℕ → List ℕ
 left places text = text ++ spaces (places - length text)
 

@@ -16,7 +16,7 @@ number_text word n = word ++ decimal n
 unfoldable pub pair_text : List ℕ → ℕ → List ℕ → ℕ → List ℕ
 pair_text one x other y = number_text one x ++ number_text other y
 
--- a character escaped for markup (& < > " and ' by their names) or for a text between quotes (" and \ behind a \)
+-- a character escaped for markup (& < > " and ' as entities) or for a text between quotes (" and \ behind a \)
 abbrev pub escaped_char : Within → ℕ → List ℕ
 escaped_char Marks c =
     if c == 38 then codes "&amp;" else (if c == 60 then codes "&lt;" else (if c == 62 then codes "&gt;"

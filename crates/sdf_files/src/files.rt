@@ -242,8 +242,8 @@ fn read_graph<S: Storage>(
     }
 }
 
-/// Reads the design of the graph file at `graph` and its coefficient files, each of at most `most` bytes. What was read
-/// stays in `sources`, even after a fault.
+/// Reads the design of the graph file at `graph` and its coefficient files. A file of over `most` bytes is a fault.
+/// What was read stays in `sources`, even after a fault.
 pub fn load_into<S: Storage>(
     alloc: Global,
     storage: &S,

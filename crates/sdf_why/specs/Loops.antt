@@ -40,7 +40,7 @@ AreTargets g n kept = (c : ℕ) → c < n → is_kept kept (channel g c).to ≡ 
 abbrev pub HoldsLoops : Shape → List Bool → Type 0
 HoldsLoops g kept = (a : ℕ) (cs : List ℕ) → 0 < length cs → LeadBack g a cs a → is_kept kept a ≡ true
 
--- short is the channel by which an actor is fed, if it is kept
+-- short is a channel that feeds actor a: none if no channel does, or if a is not kept
 pub record IsFedBy (g : Shape) (kept : List Bool) (a : ℕ) (short : Option ℕ) : Type 0 where
   pub yes : is_kept kept a ≡ true → MatchOption short ((c : ℕ) → Feeds g kept a c → ⊥) (Feeds g kept a)
   pub no : is_kept kept a ≡ false → short ≡ None

@@ -61,7 +61,7 @@ firings_told d e m = firings_line m (actor_text (codes "name") d e.from) (actor_
 unfoldable pub samples_told : Data → ℕ → Meeting → List ℕ
 samples_told d c m = samples_line m (end_at (codes "from") d c) (end_at (codes "to") d c)
 
--- the lines about link c of some channels, if there is one
+-- the lines about the channel balance at link c, or nothing if there is no link c
 unfoldable pub meeting_told : Data → List Edge → ℕ → Meeting → List ℕ
 meeting_told d channels c m = if nat_lt c (length channels) then
     firings_told d (slice_index_or channels c no_channel) m ++ samples_told d c m else []

@@ -32,6 +32,6 @@ actor_ports actors a = lines_of ports_are (slice_get actors a)
 abbrev pub link_ports : List ActorValue → LinkValue → List ℕ
 link_ports actors l = actor_ports actors l.from.0 ++ actor_ports actors l.to.0
 
--- the ports at link c of a document, if there is one
+-- the ports of the source and of the target of link c of a document, or nothing if there is no link c
 unfoldable pub ports_told : DocumentValue → ℕ → List ℕ
 ports_told d c = lines_of (link_ports d.actors) (slice_get d.links c)

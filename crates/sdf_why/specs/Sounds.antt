@@ -11,12 +11,12 @@ reads_text wanted = codes "  the design reads " ++ decimal wanted ++ codes " cha
 unfoldable pub has_text : ℕ → List ℕ
 has_text channels = codes ", the sound has " ++ decimal channels ++ end
 
--- the channels of the design and of the sound, and the inputs that read them
+-- the numbers of channels of the design and of the sound, and all inputs with their channels
 unfoldable pub channels_told : Data → ℕ → ℕ → List ℕ
 channels_told d wanted channels =
     reads_text wanted ++ has_text channels ++ all_of (codes "input") (codes "channel") d
 
--- the formula of the output's rate
+-- the formula for the output's rate
 unfoldable pub product_text : ℕ → ℕ → ℕ → List ℕ
 product_text rate made taken =
     codes "  " ++ decimal rate ++ codes " * " ++ decimal made ++ codes " / " ++ decimal taken ++ codes " = "

@@ -10,7 +10,7 @@ use Rattle.sdf_why.specs.Limits.{has}
 abbrev pub end : List ℕ
 end = 10 ∷ []
 
--- a text from the user's file
+-- a text from the user's file, in quotes
 abbrev pub quoted : List ℕ → List ℕ
 quoted s = codes "\"" ++ printable_text s ++ codes "\""
 

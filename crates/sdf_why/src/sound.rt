@@ -51,7 +51,7 @@ pub(crate) fn push_channels(
     push_all_of(alloc, text, graph, "input", "channel")
 }
 
-/// Adds the formula of the output's rate: `rate` times `made` over `taken`.
+/// Adds the formula for the output's rate: `rate` times `made` over `taken`.
 #[tactic(auto, unfolding(crate::specs::Sounds::product_text))]
 fn push_product(text: &mut String, rate: u32, made: usize, taken: usize) -> Result<(), AllocError>
     ensures { OnOk result (string_bytes text.new ≡ string_bytes text.old ++ product_text rate made taken) }
