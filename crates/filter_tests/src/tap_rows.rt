@@ -65,7 +65,7 @@ fn low_passes(alloc: Global, rows: &[(u32, u32, u32, u32, u32, u32)]) -> Result<
     Ok(text)
 }
 
-/// Low-passes whose taps sum to far less than the total.
+/// Low-passes whose rounded taps sum to far less than the unit.
 const FAR: &[(u32, u32, u32, u32, u32, u32)] = &[
     (480_000, 0, 500, 8, 1, 15),
     (480_000, 0, 450, 8, 1, 14),
