@@ -40,7 +40,7 @@ fn others(alloc: Global, seed: u64, filters: u32) -> Result<String, Fail> {
     Ok(text)
 }
 
-/// Tests that the earlier one moves of two taps that are equally late and equally near to the middle, and that the
+/// Tests that of two equally late taps at the same distance from the middle the earlier one moves. Also tests that the
 /// middle tap keeps taps symmetric.
 #[test]
 fn taps_as_plainly(rt: HostRuntime) -> Result<(), Fail> {
