@@ -40,7 +40,7 @@ fn others(alloc: Global, seed: u64, filters: u32) -> Result<String, Fail> {
     Ok(text)
 }
 
-/// Tests that the earlier one moves of two taps that are equally late and equally near to the middle, and that the
+/// Tests that of two equally late taps at the same distance from the middle the earlier one moves. Also tests that the
 /// middle tap keeps taps symmetric.
 #[test]
 fn taps_as_plainly(rt: HostRuntime) -> Result<(), Fail> {
@@ -65,7 +65,7 @@ fn low_passes(alloc: Global, rows: &[(u32, u32, u32, u32, u32, u32)]) -> Result<
     Ok(text)
 }
 
-/// Low-passes whose taps sum to far less than the total.
+/// Low-passes whose rounded taps sum to far less than the unit.
 const FAR: &[(u32, u32, u32, u32, u32, u32)] = &[
     (480_000, 0, 500, 8, 1, 15),
     (480_000, 0, 450, 8, 1, 14),

@@ -31,7 +31,7 @@ fn few_taps(alloc: Global) -> Result<String, Fail> {
 }
 
 /// Returns the taps of a low-pass as a text, and the taps of its high-pass. Tests that a row has twelve values and that
-/// no comma follows the last one. Also tests that the high-pass is not just a low-pass turned round, and that its
+/// no comma follows the last one. Also tests that the high-pass is not just the negated low-pass, and that its
 /// middle is in its place.
 fn low_and_high(alloc: Global) -> Result<String, Fail> {
     let filter = Lowpass::new(8000, 1000, 2500, 40, 1, 15)?;

@@ -24,8 +24,8 @@ const MUTE: Around<'static> = Around {
     ..OPEN
 };
 
-/// Batches over files in memory. Refuses a program that stops at a file that fails, or keeps what this file has
-/// written. Refuses also the least or the last exit status, and two files that are written in one place.
+/// Batches over files in memory. Refuses a program that stops at a file that fails, or keeps what it has written for
+/// that file. Refuses also the least or the last exit status, and two files that are written in one place.
 const BATCHES: &[Row] = &[
     (
         "a file",

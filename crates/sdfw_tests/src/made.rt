@@ -315,8 +315,8 @@ fn converted<T: Threads + AllocGlobal + Sync>(rt: &T, many: usize) -> Result<Wav
     Ok(read_wav(rt.alloc(), &mut FromRead::new(output.as_slice()))?)
 }
 
-/// Checks whether `part` has the first 160 samples of `whole`, what is left of a sound that ended there, and zeros.
-/// Both must have 320 samples.
+/// Checks whether `part`, which is made of 148 samples, is filled up with zeros. It has the first 160 samples of
+/// `whole`, then three times the last sample, 147. Both must have 320 samples.
 fn is_filled_up(part: &[i16], whole: &[i16]) -> bool {
     for (i, (cut, kept)) in part.iter().zip(whole).enumerate() {
         let expected = match i {
@@ -331,7 +331,7 @@ fn is_filled_up(part: &[i16], whole: &[i16]) -> bool {
     part.len() == 320 && whole.len() == 320
 }
 
-/// Runs `CHAIN` on 294 samples and on half of them. Reports the rate, the number and some samples of the first output,
+/// Runs `CHAIN` on 294 samples and on the first 148. Reports the rate, the number and some samples of the first output,
 /// and whether the second is filled up.
 fn converted_told<T: Threads + AllocGlobal + Sync>(rt: &T) -> Result<String, Fail> {
     let whole = converted(rt, 294)?;

@@ -1,4 +1,4 @@
--- What the makers make.
+-- The channels and links that `graph` and `links` make.
 use Rattle.std.specs.Prelude.{ℕ, List, [], map, slice_index}
 use Rattle.std.specs.Borrow.{Bor}
 use Rattle.sdf_graph.specs.Rates.{Edge}

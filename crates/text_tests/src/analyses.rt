@@ -88,9 +88,9 @@ actor = [{ name = \"in\", kind = \"input\", channel = 0, block = 2, processor = 
 link = [{ from = \"in\", to = \"out\" }]";
 
 /// The comparison of the blocks. With four workers there would be three lines for each policy and placement. On one
-/// worker `file` has no table. On two workers it has six samples on the link by the policy `runs`, and four by the others.
-/// With `spread` one worker has both actors. A block then has 170 periods, since 6 samples go 170 times into 1,024, and
-/// all firings of `in` are first.
+/// worker `file` has no table. On two it has six samples on the link by the policy `runs`, and four by the others. With
+/// `spread` one worker has both actors. A block then has 170 periods, since 6 samples go 170 times into 1,024, and all
+/// firings of `in` are first.
 const COMPARED: &str =
     "policy placement workers blocking     makespan  speedup    rows        samples
 round  hu              1        1            5     1.00       5              6
