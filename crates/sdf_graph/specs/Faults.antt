@@ -36,7 +36,7 @@ has_rates e = are_rates e.put && are_rates e.take
 abbrev pub is_cycle : ℕ → List ℕ → Bool
 is_cycle n rates = is_within 1 MOST_CYCLE (length rates) && length rates == n
 
--- at both ends of a channel there is a rate for each firing of the actor's cycle, as all channels give its length
+-- each end of a channel has a rate for each firing of its actor's cycle, with the cycle lengths that `channels` gives
 abbrev pub has_cycles : List Edge → Edge → Bool
 has_cycles channels e = is_cycle (cycle_among channels e.from) e.put && is_cycle (cycle_among channels e.to) e.take
 
