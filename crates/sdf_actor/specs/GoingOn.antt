@@ -9,9 +9,9 @@ use Rattle.sdf_actor.specs.Nets.{Netlist, node, wiring, arrived, IsNet, IsHistor
 use Rattle.sdf_actor.specs.Rests.{AreWhole, Leaves, BeginsWith, AllRead, AreJoined}
 use Rattle.sdf_actor.specs.Steps.{Steps}
 
--- V is the history of net n on the lists first, after k a firings of each node a. They are whole periods, and read all
--- of these lists. Net m begins with what V leaves. U is the history of m on the lists later, after i a firings of each
--- node a
+-- V is the history of net n on the lists `first`, after k a firings of each node a. The counts k are whole periods, and
+-- these firings read all of `first`. Net m begins with what V leaves. U is the history of m on the lists `later`, after
+-- i a firings of each node a
 pub record GoesOn {A B S T : Type 0} (s : Steps A S T) (r : Steps B S T) (n : Netlist A T) (m : Netlist B T)
     (first later : List (List T)) (k i : ℕ → ℕ) (V U : ℕ → List T) (rest : Rest T S) : Type 0 where
   pub net : IsNet s n
@@ -41,7 +41,7 @@ RestsGoOn {A} {B} {S} {T} s r =
     (rest last : Rest T S) →
     GoesOn s r n m first later k i V U rest → Leaves r m i U last → Leaves s n (λ a. k a + i a) (in_all s n V U) last
 
--- at each sink arrives what arrived by V and then by U
+-- at each sink arrives what arrived there by V and then by U
 abbrev pub ArrivalsGoOn : {A B S T : Type 0} → Steps A S T → Steps B S T → Type 0
 ArrivalsGoOn {A} {B} {S} {T} s r =
     (n : Netlist A T) (m : Netlist B T) (first later : List (List T)) (k i : ℕ → ℕ) (V U : ℕ → List T)

@@ -22,8 +22,8 @@ state_left s (Source ext block) past = None
 state_left s (Sink ext block) past = None
 state_left s (Inner x) past = Some (state_after s x past)
 
--- rest is what the history V leaves after k a firings of each node a: each node's state after all that it took, and on
--- each channel the samples that were not taken
+-- `rest` is what the history V leaves after k a firings of each node a: each node's state after all that it took, and
+-- on each channel the samples that were not taken
 pub record Leaves {A S T : Type 0} (s : Steps A S T) (n : Netlist A T) (k : ℕ → ℕ) (V : ℕ → List T)
     (rest : Rest T S) : Type 0 where
   pub nodes : length rest.states.items ≡ length n.nodes
@@ -34,7 +34,7 @@ pub record Leaves {A S T : Type 0} (s : Steps A S T) (n : Netlist A T) (k : ℕ 
       slice_index_or (lists rest.held.items) c [] ≡
       drop ((wiring s n).rates.consumed c (k ((wiring s n).rates.target c))) (V c)
 
--- the history on these inputs leaves rest
+-- the history on these inputs leaves `rest`
 pub record IsRest {A S T : Type 0} (s : Steps A S T) (n : Netlist A T) (inputs : List (List T)) (k : ℕ → ℕ)
     (rest : Rest T S) : Type 0 where
   pub history : ℕ → List T
@@ -48,7 +48,7 @@ IsNodeIn s r state (Sink ext block) y = y ≡ Sink ext block
 IsNodeIn {A} {B} {S} {T} s r state (Inner x) y =
     (b : B) × (now : S) × (y ≡ Inner b) × (state ≡ Some now) × BeginsIn s r x now b
 
--- m is net n, except that its actors begin in the states of rest, and its channels with the samples of rest
+-- m is net n, except that its actors begin in the states of `rest`, and its channels with the samples of `rest`
 pub record BeginsWith {A B S T : Type 0} (s : Steps A S T) (r : Steps B S T) (n : Netlist A T) (rest : Rest T S)
     (m : Netlist B T) : Type 0 where
   pub nodes : length m.nodes ≡ length n.nodes
@@ -64,6 +64,6 @@ AllRead n inputs k =
     (a ext block : ℕ) → a < length n.nodes → node n a ≡ Source ext block →
     length (slice_index_or inputs ext []) ≡ block * k a
 
--- each list of all is the one of first, then the one of later
+-- each list of `all` is the one of `first`, then the one of `later`
 abbrev pub AreJoined : {T : Type 0} → List (List T) → List (List T) → List (List T) → Type 0
 AreJoined first later all = (e : ℕ) → slice_index_or all e [] ≡ slice_index_or first e [] ++ slice_index_or later e []

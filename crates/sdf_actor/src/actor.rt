@@ -52,8 +52,8 @@ pub trait Actor: Sync + Drop {
     fn again(&self, alloc: Global, state: &Self::State) -> Result<Self::State, AllocError>
         ensures { IfOk result (λ s. s ≡ state.now) };
 
-    /// Fires once, at `phase`. `taken` and `put` hold the blocks of all ports, one after another in port order. Takes
-    /// no memory.
+    /// Fires once, at `phase`. `taken` and `put` hold the blocks of all ports, one after another in port order.
+    /// Allocates no memory.
     fn fire(
         &self,
         phase: u32,
@@ -92,7 +92,7 @@ pub trait Actor: Sync + Drop {
     }
 
     /// Fires `many` times in one batch, if the actor has code for that, and returns whether it did. If not, nothing has
-    /// changed. `fire_many` tries this first. Takes no memory.
+    /// changed. `fire_many` tries this first. Allocates no memory.
     fn fire_at_once(
         &self,
         phase: u32,
@@ -111,7 +111,7 @@ pub trait Actor: Sync + Drop {
     }
 
     /// Fires `many` times, the first time at `phase`. `taken` and `put` hold the blocks of the firings, one after
-    /// another. Takes no memory.
+    /// another. Allocates no memory.
     fn fire_many(
         &self,
         phase: u32,

@@ -9,13 +9,14 @@ use Rattle.sdf_answer.specs.declared.fault.RunFault.{RunFault}
 use Rattle.sdf_answer.specs.declared.fault.RunFault.TheVariants.{OutOfMemory, InputLength, NotHomed, Patience, NoWorker}
 use Rattle.sdf_answer.specs.declared.fault.RunFault.TheVariants.{SessionFailed}
 
--- there are many lists, all of one length and none shorter than least
+-- there are `many` lists, all of one length and none shorter than `least`
 pub record AreInputs {T : Type 0} (many least : ℕ) (inputs : List (List T)) : Type 0 where
   pub count : length inputs ≡ many
   pub even : (e : ℕ) → e < length inputs → length (slice_index_or inputs e []) ≡ length (slice_index_or inputs 0 [])
   pub enough : (e : ℕ) → e < length inputs → least ≤ length (slice_index_or inputs e [])
 
--- the inputs are the lists that the net reads, each with at least the samples of the given number of periods of q
+-- the inputs are the lists that the net reads, all of one length, and each has at least the samples of `periods`
+-- periods of q
 abbrev pub HasInputs : {A T : Type 0} → Netlist A T → List ℕ → ℕ → List (List T) → Type 0
 HasInputs n q periods inputs = AreInputs (list_count Inputs n.nodes) (periods * period_samples n.nodes Inputs q) inputs
 

@@ -29,8 +29,8 @@ abbrev pub AreFull : {A T : Type 0} → Netlist A T → List ℕ → ℕ → Lis
 AreFull n q periods inputs = (e : ℕ) → e < length inputs →
     length (slice_index_or inputs e []) ≡ periods * period_samples n.nodes Inputs q
 
--- a run of net n on the lists first, and then a run of the net that begins with what it left on the lists later, are
--- one run of net n on the joined lists. Its outputs are theirs joined, and it leaves what the later run leaves
+-- a run of net n on the lists `first`, and then on the lists `later` a run of the net that begins with what it left,
+-- are one run of net n on the joined lists. Its outputs are theirs joined, and it leaves what the later run leaves
 abbrev pub FeedsGoOn : {A B S T : Type 0} → Steps A S T → Steps B S T → Type 0
 FeedsGoOn {A} {B} {S} {T} s r =
     (n : Netlist A T) (m : Netlist B T) (p : Schedule) (few more : ℕ) (first later all made on joined : List (List T))
@@ -74,8 +74,8 @@ BegunNetsMake {A} {B} {S} {T} s r =
     (n : Netlist A T) (rest : Rest T S) (m : Netlist B T) → BeginsWith s r n rest m →
     list_count Outputs m.nodes ≡ list_count Outputs n.nodes
 
--- a run goes on by more periods on the lists later: whatever run left rest, with nothing unread, the outputs on are
--- what it then makes beyond its own, and last is what it leaves
+-- a run goes on by `more` periods on the lists `later`. Whatever run left `rest`, with nothing unread, `on` is what it
+-- then makes beyond its outputs so far, and `last` is what it leaves
 pub record GoesOnBy {A S T : Type 0} (s : Steps A S T) (n : Netlist A T) (q : List ℕ) (rest : Rest T S) (more : ℕ)
     (later on : List (List T)) (last : Rest T S) : Type 0 where
   pub given : HasInputs n q more later
@@ -98,7 +98,7 @@ BegunRunsGoOn {A} {B} {S} {T} s r =
     HasRun r m later (periods_of p.repetitions more) on last →
     GoesOnBy s n p.repetitions rest more later on last
 
--- a fault of a net that begins with a rest is a fault of the net
+-- a fault of a run of the net that begins with a rest of net n is a fault of a run of n
 abbrev pub BegunRunsFail : {A B S T : Type 0} → Steps A S T → Steps B S T → Type 0
 BegunRunsFail {A} {B} {S} {T} s r =
     (n : Netlist A T) (rest : Rest T S) (m : Netlist B T) (q : List ℕ) (periods : ℕ) (inputs : List (List T))

@@ -1,4 +1,4 @@
--- Parts of a list, all of one width, and all at one distance from the part before.
+-- Parts of a list, all of one width and at equal distances.
 use Rattle.std.specs.Prelude.{◌≡◌, ℕ, ◌+◌, ◌*◌, ◌≤◌, ◌<◌, ◌⊎◌, List, length, slice_range}
 use Rattle.sdf_answer.specs.declared.parts.Stride.{Stride}
 
@@ -10,7 +10,7 @@ part_at s i = s.first + s.step * i
 abbrev pub part_of : {T : Type 0} → Stride → ℕ → List T → ℕ → List T
 part_of s width xs i = slice_range xs (part_at s i) (part_at s i + width)
 
--- the first many parts are within a list
+-- the first `many` parts are within a list
 abbrev pub HoldsParts : {T : Type 0} → Stride → ℕ → ℕ → List T → Type 0
 HoldsParts s width many xs = (i : ℕ) → i < many → part_at s i + width ≤ length xs
 
@@ -19,7 +19,7 @@ abbrev pub KeepsOthers : {T : Type 0} → Stride → ℕ → ℕ → List T → 
 KeepsOthers s width many xs ys = (a b : ℕ) → ((i : ℕ) → i < many → (b ≤ part_at s i) ⊎ (part_at s i + width ≤ a)) →
     slice_range ys a b ≡ slice_range xs a b
 
--- many parts of one list can be copied to places in another, which do not overlap
+-- `many` parts of one list can be copied to places in another, and these places do not overlap
 pub record CanCopy {T : Type 0} (out into : Stride) (width many : ℕ) (from to : List T) : Type 0 where
   pub from_holds : HoldsParts out width many from
   pub to_holds : HoldsParts into width many to

@@ -15,7 +15,7 @@ pub record IsTableOf (r : Rates) (q : List ℕ) (j : ℕ) (t : Tabled) : Type 0 
   pub short : IsShort j q
   pub table : IsTable r (slice_index (block j q)) width t
 
--- a schedule of the rates, and a table for blocks of factor periods
+-- a schedule of the rates, and a table for blocks of `factor` periods
 pub record IsBlockTableOf (r : Rates) (t : BlockTable) : Type 0 where
   pub period : IsPeriodOf r t.period
   pub table : IsTableOf r t.period.repetitions t.factor t.table

@@ -5,13 +5,13 @@ ghost use Rattle.std.specs.Prelude.{◌≡◌};
 use std::alloc::AllocError;
 use thiserror::Error;
 
-/// The fault of a run.
+/// The reason why there was no run.
 #[derive(Debug, Clone, Copy, PartialEq, Eq, Error)]
 pub enum RunFault {
-    /// Memory was refused.
+    /// An allocation was refused.
     #[error("1 OutOfMemory")]
     OutOfMemory,
-    /// The number of input lists is not the number that the net reads, they differ in length, or they are too short.
+    /// There are more or fewer input lists than the net reads, or they differ in length, or they are too short.
     #[error("29 InputLength")]
     InputLength,
     /// The table has an actor in two columns.
@@ -20,7 +20,7 @@ pub enum RunFault {
     /// The spin limit is out of range.
     #[error("31 Patience")]
     Patience,
-    /// A worker could not be started. No runner returns this: without threads the workers run one after another.
+    /// A worker could not be started. No runner returns this: the workers run one after another instead.
     #[error("32 NoWorker")]
     NoWorker,
     /// A session is used again after memory or a worker was refused in it.

@@ -62,7 +62,7 @@ pub fn feeds_go_on<A: Actor, B: Actor<Token = A::Token, State = A::State>>()
     ensures outputs { BegunNetsMake A.steps B.steps }
 {}
 
-/// Proves that a net that begins with what periods left is run in place of the net, from there on.
+/// Proves that a net that begins with what whole periods left can be run in place of the first net, from there on.
 pub fn begun_nets_go_on<A: Actor, B: Actor<Token = A::Token, State = A::State>>()
     ensures whole { PeriodsMayLeave A.steps }
     ensures runs { BegunRunsGoOn A.steps B.steps }

@@ -59,8 +59,8 @@ pub fn make_outputs<T: Copy>(
     renew_outputs(alloc, many, room, &mut spares)
 }
 
-/// Makes `many` empty output lists with room for `room` samples each. A list of `spares` is used again if its capacity
-/// is `room`.
+/// Makes `many` empty output lists with room for `room` samples each. Each is the list of its number in `spares` if
+/// this has the capacity `room`, otherwise a new one.
 pub fn renew_outputs<T: Copy>(
     alloc: Global,
     many: usize,

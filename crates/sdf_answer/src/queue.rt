@@ -16,9 +16,9 @@ use std::alloc::{AllocError, Global};
 use std::marker::Model;
 use std::mem;
 
-/// The samples on a channel, oldest first. Once it is made it takes no memory.
+/// The samples on a channel, oldest first. Once it is made it allocates no memory.
 ///
-/// The samples are in one piece of a buffer of twice their room, so that actors read and write them in place. Samples
+/// The samples are in one piece of a buffer of twice the room, so that actors read and write them in place. Samples
 /// that are taken are dropped at the front. The rest moves there when the end of the buffer is reached: at most one
 /// move for each sample put.
 #[derive(Drop)]
@@ -52,8 +52,8 @@ pub fn lengthen<T: Copy>(list: &mut Vec<T>, len: usize, filler: T)
 }
 
 /// Makes room for `more` samples behind the part of `list` from `start` to `end`, and returns where that part then
-/// begins and ends. It moves to the front if there is no room behind it. An empty part begins at the front again, so
-/// that a queue that is emptied often uses little of its buffer.
+/// begins and ends. The part moves to the front if there is no room behind it. An empty part begins at the front again,
+/// so that a queue that is emptied often uses little of its buffer.
 fn place_for<T: Copy>(list: &mut Vec<T>, start: usize, end: usize, more: usize) -> (usize, usize)
     requires rise { start ≤ end }
     requires within { end ≤ vec_len list.old }

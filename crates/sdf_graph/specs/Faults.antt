@@ -25,18 +25,18 @@ abbrev pub are_small : List ℕ → Bool
 are_small [] = true
 are_small (x ∷ xs) = nat_le x MOST_RATE && are_small xs
 
--- no rate is over the limit, and a cycle with firings does not move nothing
+-- no rate is over the limit, and a list that is not empty has a rate above 0
 abbrev pub are_rates : List ℕ → Bool
 are_rates rates = are_small rates && (length rates == 0 || nat_lt 0 (sum rates))
 
 abbrev pub has_rates : Edge → Bool
 has_rates e = are_rates e.put && are_rates e.take
 
--- there is a rate for each firing of a cycle of n
+-- there is a rate for each firing of a cycle of n, and n is from 1 to MOST_CYCLE
 abbrev pub is_cycle : ℕ → List ℕ → Bool
 is_cycle n rates = is_within 1 MOST_CYCLE (length rates) && length rates == n
 
--- the rates at both ends of a channel have the lengths of their actors' cycles, among all channels
+-- each end of a channel has a rate for each firing of its actor's cycle, with the cycle lengths that `channels` gives
 abbrev pub has_cycles : List Edge → Edge → Bool
 has_cycles channels e = is_cycle (cycle_among channels e.from) e.put && is_cycle (cycle_among channels e.to) e.take
 
@@ -61,7 +61,7 @@ channels_fault actors channels c [] = None
 channels_fault actors channels c (e ∷ es) = or_else (channel_fault actors channels c e)
     (channels_fault actors channels (c + 1) es)
 
--- the first fault of the numbers of a graph: of its actors, of its channels, then of each channel in order
+-- the first fault of a graph's numbers: how many actors, how many channels, then each channel's numbers in order
 abbrev pub numbers_fault : Shape → Option GraphFault
 numbers_fault g =
     if is_within 1 MOST_ACTORS g.actors then (
@@ -89,7 +89,7 @@ IsFirstFault g OutOfMemory = Unit {0}
 IsFirstFault g (NotConnected a) = (numbers_fault g ≡ None) × IsLowestUnreached g a
 IsFirstFault g fault = numbers_fault g ≡ Some fault
 
--- no repetition vector balances all channels, and the balance of channel c is uneven
+-- the graph has no repetition vector, and in m, the balance of channel c, the samples put and taken differ
 pub record IsInconsistent (g : Shape) (c : ℕ) (m : Meeting) : Type 0 where
   pub none : (p : List ℕ) → IsPeriodVector (rates g) p → ⊥
   pub meets : IsMeeting g c m

@@ -58,12 +58,12 @@ PeriodsRepeat =
     (r : Rates) (q : ℕ → ℕ) (w : List ℕ) (b : ℕ) → IsSound r → IsPeriod r q → IsPass r q w →
     IsAdmissible r (repeated b w) × ((a : ℕ) → a < r.actors → times (repeated b w) a ≡ b * q a)
 
--- the repeated schedule fits in equal capacities
+-- the repeated schedule fits in the same capacities
 abbrev pub CapacitiesRepeat : Type 0
 CapacitiesRepeat =
     (r : Rates) (q cap : ℕ → ℕ) (w : List ℕ) (b : ℕ) → IsSound r → IsPeriod r q → IsPass r q w →
     FitsIn r cap w → FitsIn r cap (repeated b w)
 
--- graphs with equal rates have equal admissible sequences
+-- graphs with the same rates have the same admissible sequences
 abbrev pub AlikeSequences : Type 0
 AlikeSequences = (r t : Rates) (w : List ℕ) → IsAlike r t → IsAdmissible r w → IsAdmissible t w

@@ -1,12 +1,11 @@
--- The balance of a channel, whether or not its ends can be balanced.
+-- The balance of a channel: the samples that its ends put and take, which may differ.
 use Rattle.std.specs.Prelude.{◌≡◌, ℕ, ◌*◌, ◌<◌, List, length}
 use Rattle.sdf_graph.specs.Rates.{Shape, IsShape, channel, cycle, rates}
 use Rattle.sdf_graph.specs.Shares.{AreShares, IsReduced, ratio}
 use Rattle.sdf_graph.specs.declared.repetitions.Ratio.{Ratio}
 use Rattle.sdf_graph.specs.declared.meeting.Meeting.{Meeting}
 
--- the balance of channel c over the fewest whole cycles of both ends, at relative rates that balance channels that join
--- all actors
+-- the balance of channel c over the fewest whole cycles of both ends, at some relative rates of the actors
 pub record IsMeeting (g : Shape) (c : ℕ) (m : Meeting) : Type 0 where
   pub shape : IsShape g
   pub known : c < length g.channels

@@ -6,8 +6,8 @@ use Rattle.sdf_graph.specs.Rates.{Rates}
 abbrev pub Divides : ℕ → ℕ → Type 0
 Divides d n = (k : ℕ) × (n ≡ k * d)
 
--- a repetition vector: the firings of each actor in a period. Each actor goes through whole cycles, and the samples put
--- on each channel are the samples taken
+-- a repetition vector: the firings of each actor in a period. Each actor goes through whole cycles, and equal numbers
+-- of samples are put on and taken from each channel
 pub record IsPeriodVector (r : Rates) (q : List ℕ) : Type 0 where
   pub all : length q ≡ r.actors
   pub positive : (a : ℕ) → a < r.actors → 0 < slice_index q a

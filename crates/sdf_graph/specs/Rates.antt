@@ -56,7 +56,7 @@ pub record Shape : Type 0 where
 abbrev pub channel : Shape → ℕ → Edge
 channel g c = slice_index_or g.channels c no_channel
 
--- the length of an actor's cycle: of its rate list at its first channel, or of `put` at a channel from it to itself. It
+-- the length of an actor's cycle: of its rate list at its first channel (of `put` if this goes from it to itself). It
 -- is 1 for an actor without channels
 abbrev pub cycle_among : List Edge → ℕ → ℕ
 cycle_among [] a = 1
@@ -105,7 +105,7 @@ pub record IsShape (g : Shape) : Type 0 where
   pub to_in : (c : ℕ) → c < length g.channels → (channel g c).to < g.actors
   pub initial_small : (c : ℕ) → c < length g.channels → (channel g c).initial ≤ MOST_INITIAL
 
--- two graphs with equal rates, as a net and the graph that is made of it
+-- two graphs with the same rates, for example a net and the graph made of it
 pub record IsAlike (r t : Rates) : Type 0 where
   pub actors : r.actors ≡ t.actors
   pub channels : r.channels ≡ t.channels

@@ -18,7 +18,7 @@ totals e = record { from = e.from; put = sum e.put; to = e.to; take = sum e.take
 abbrev pub no_totals : Totals
 no_totals = record { from = 0; put = 0; to = 0; take = 0 }
 
--- both ends are actors, and each moves something within the limits
+-- both ends are actors, and each moves something in a cycle, within the limits
 pub record AreWithin (g : Shape) (t : Totals) : Type 0 where
   pub from_in : t.from < g.actors
   pub to_in : t.to < g.actors
@@ -44,7 +44,7 @@ one = record { num = 1; den = 1 }
 abbrev pub ratio : List Ratio → ℕ → Ratio
 ratio parts a = slice_index_or parts a unreached
 
--- a / b is in lowest terms: each equal fraction is a multiple of it
+-- a / b is in lowest terms: in each equal fraction, a divides the top and b the bottom
 pub record IsLowest (a b : ℕ) : Type 0 where
   pub top : (x y : ℕ) → x * b ≡ y * a → Divides a x
   pub bottom : (x y : ℕ) → x * b ≡ y * a → Divides b y

@@ -14,8 +14,8 @@ use sdf_limits::{MOST_ACTORS, MOST_LINKS};
 use std::alloc::{AllocError, Global};
 use std::marker::Model;
 
-/// A synchronous dataflow graph (Lee and Messerschmitt 1987). Its actors are numbers from 0, and channels join them.
-/// Channels, walked both ways, join each actor to actor 0.
+/// A synchronous dataflow graph (Lee and Messerschmitt 1987). Its actors are numbers from 0. Its channels, walked both
+/// ways, join each actor to actor 0.
 #[derive(Drop)]
 pub struct Graph {
     pub(crate) actors: usize,
@@ -136,7 +136,7 @@ impl Graph {
     }
 }
 
-/// Returns the first fault of a graph's numbers: of its actors, of its channels, then of each channel in order.
+/// Returns the first fault of a graph's numbers: how many actors, how many channels, then each channel's numbers.
 pub(crate) fn numbers_fault(actors: usize, channels: &[Channel]) -> Option<GraphFault>
     ensures { result ≡ numbers_fault (record { actors = actors; channels = channels.now }) }
 {

@@ -1,4 +1,4 @@
-//! The balance of a channel, whether or not its ends can be balanced.
+//! The balance of a channel: the samples that its ends put and take, which may differ.
 
 ghost use Rattle.std.specs.Prelude.{◌≡◌, ◌*◌, ◌≤◌, ◌<◌, length};
 ghost use Rattle.sdf_graph.specs.Shares.{IsReduced, IsSmall, IsEvenAt, AreShares};

@@ -245,7 +245,7 @@ impl Graph {
     /// Messerschmitt 1987).
     ///
     /// It errs with `Inconsistent` if no vector balances the channels, and with `PeriodTooLong` if the least vector has
-    /// a sum over 65,536. An inconsistent graph may err with `PeriodTooLong` instead, if the walk first finds a
+    /// a sum over 65,536. For an inconsistent graph it may err with `PeriodTooLong` instead, if the walk finds a
     /// relative rate beyond the limit.
     pub fn repetitions(&self, alloc: Global) -> Result<Repetitions, GraphFault>
         ensures { MatchResult result

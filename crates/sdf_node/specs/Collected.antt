@@ -11,7 +11,7 @@ use Rattle.sdf_node.specs.declared.node.NodeState.{NodeState}
 use Rattle.sdf_node.specs.declared.node.NodeState.TheVariants.{Sink}
 use Rattle.sdf_node.specs.Nodes.{IsAt}
 
--- if node x is a sink, outputs' has the list that it made at its number; the other lists are as in outputs
+-- if node x is a sink, `outputs'` has at its number the list that it made; the other lists are as in `outputs`
 pub record IsCollected {A S T : Type 0} (x : Node A) (w : NodeState T S)
     (outputs outputs' : List (Vec T Global)) : Type 0 where
   pub all : length outputs' ≡ length outputs

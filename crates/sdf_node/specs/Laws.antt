@@ -14,14 +14,14 @@ NodesCanStep {A} {S} {T} s =
     IsAt s inputs many x past w →
     0 < cycle_of s x → length past < many → CanStep s inputs x w (takes_of s x (phase_at w)) (puts_of s x (phase_at w))
 
--- its phase is the phase of its next firing
+-- a node's phase is the phase of its next firing
 abbrev pub NodesKeepPhase : {A S T : Type 0} → Steps A S T → Type 0
 NodesKeepPhase {A} {S} {T} s =
     (inputs : List (List T)) (x : Node A) (many : ℕ) (past : List (List T)) (w : NodeState T S) →
     IsAt s inputs many x past w →
     phase_at w ≡ length past % cycle_of s x
 
--- a node of one phase with at least many firings left can do many firings in one batch
+-- a node of one phase with at least `many` firings left can do `many` firings in one batch
 abbrev pub NodesCanStepMany : {A S T : Type 0} → Steps A S T → Type 0
 NodesCanStepMany {A} {S} {T} s =
     (inputs : List (List T)) (x : Node A) (all many : ℕ) (past : List (List T)) (w : NodeState T S) →
@@ -29,7 +29,7 @@ NodesCanStepMany {A} {S} {T} s =
     cycle_of s x ≡ 1 → length past + many ≤ all → CanStepMany s inputs x w many (takes_of s x 0 * many)
     (puts_of s x 0 * many)
 
--- a list of many blocks of one size: each block has that size, and joined they are the list
+-- a list of `many` blocks of one size: each block has that size, and joined they are the list
 abbrev pub BlocksJoin : Type 0 → Type 0
 BlocksJoin T =
     (size many : ℕ) (xs : List T) → length xs ≡ size * many →

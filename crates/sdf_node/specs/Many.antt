@@ -26,8 +26,8 @@ joined block (suc i) = joined block i ++ block i
 abbrev pub AreFullBlocks : {A S T : Type 0} → Steps A S T → Node A → List (List T) → Type 0
 AreFullBlocks s x past = (i : ℕ) → i < length past → length (slice_index_or past i []) ≡ takes_of s x 0
 
--- the next many firings find what they read and have room for what they make; taken and put are their numbers of
--- samples
+-- the next `many` firings find what they read and have room for what they make; together they take `taken` samples and
+-- put `put` samples
 abbrev pub CanStepMany : {A S T : Type 0} → Steps A S T → List (List T) → Node A → NodeState T S → ℕ → ℕ → ℕ → Type 0
 CanStepMany s inputs (node.Source ext block) (Source next) many taken put =
     (ext < length inputs) × (next + put ≤ length (slice_index_or inputs ext [])) × (put ≡ block * many)

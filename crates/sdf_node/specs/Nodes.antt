@@ -25,11 +25,11 @@ puts_of s (node.Source ext block) j = block
 puts_of s (node.Sink ext block) j = 0
 puts_of s (node.Inner x) j = total_out s x j
 
--- no firing of a node takes more than most samples at all its ports, or puts more than most on them
+-- no firing of a node takes more than `most` samples at all its ports, or puts more than `most` on them
 abbrev pub IsMost : {A S T : Type 0} → Steps A S T → Node A → ℕ → Type 0
 IsMost s x most = (j : ℕ) → j < cycle_of s x → (takes_of s x j ≤ most) × (puts_of s x j ≤ most)
 
--- the next firing finds what it reads and has room for what it makes; taken and put are its numbers of samples
+-- the next firing finds what it reads and has room for what it makes; it takes `taken` samples and puts `put` samples
 abbrev pub CanStep : {A S T : Type 0} → Steps A S T → List (List T) → Node A → NodeState T S → ℕ → ℕ → Type 0
 CanStep s inputs (node.Source ext block) (Source next) taken put =
     (ext < length inputs) × (next + put ≤ length (slice_index_or inputs ext [])) × (put ≡ block)
@@ -39,7 +39,7 @@ CanStep s inputs (node.Inner x) (Inner j state) taken put =
     (j < s.cycle x) × (taken ≡ total_in s x j) × (put ≡ total_out s x j)
 CanStep s inputs x w taken put = ⊥
 
--- a node's state after it took the blocks past, if it has many firings in all
+-- a node's state after it took the blocks `past`, if it has `many` firings in all
 abbrev pub IsAt : {A S T : Type 0} → Steps A S T → List (List T) → ℕ → Node A → List (List T) → NodeState T S → Type 0
 IsAt s inputs many (node.Source ext block) past (Source next) =
     (next ≡ block * length past) × (ext < length inputs) × (block * many ≤ length (slice_index_or inputs ext []))
@@ -49,7 +49,8 @@ IsAt s inputs many (node.Sink ext block) past (Sink list) =
 IsAt s inputs many (node.Inner x) past (Inner j state) = (j ≡ phase s x (length past)) × (state ≡ state_after s x past)
 IsAt s inputs many x past w = ⊥
 
--- a source finds what it reads in many firings, and a sink's list with this room holds what it takes in them
+-- a source finds what it reads in `many` firings, and a sink's list with room for `room` samples holds what it takes in
+-- them
 abbrev pub CanBegin : {A T : Type 0} → List (List T) → ℕ → ℕ → Node A → Type 0
 CanBegin inputs many room (node.Source ext block) =
     (ext < length inputs) × (block * many ≤ length (slice_index_or inputs ext []))

@@ -20,7 +20,7 @@ fn swap_list<T, S>(state: &mut NodeState<T, S>, list: &mut Vec<T>)
     }
 }
 
-/// Moves the list of a sink to its number in `outputs`, and does nothing for other nodes. Takes no memory.
+/// Moves the list of a sink to its number in `outputs`, and does nothing for other nodes. Allocates no memory.
 pub fn collect_at<A: Actor>(
     node: &Node<A>,
     state: &mut NodeState<A::Token, A::State>,

@@ -13,7 +13,7 @@ pub fn nodes_can_step<A: Actor>()
     ensures phases { NodesKeepPhase A.steps }
 {}
 
-/// Proves that a node of one phase can do any number of its firings left in one batch.
+/// Proves that a node of one phase can do any number of its remaining firings in one batch.
 pub fn nodes_can_step_many<A: Actor>()
     ensures { NodesCanStepMany A.steps }
 {}

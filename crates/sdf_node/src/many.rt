@@ -9,8 +9,8 @@ ghost use Rattle.sdf_node.specs.Many.{nth_block, listed, AreFullBlocks, CanStepM
 use crate::node::{NodeState, append, read_input};
 use sdf_actor::{Actor, Node};
 
-/// Fires a node of one phase `many` times. `taken` and `put` hold the blocks of the firings, one after another. Takes
-/// no memory.
+/// Fires a node of one phase `many` times. `taken` and `put` hold the blocks of the firings, one after another.
+/// Allocates no memory.
 pub fn step_many<A: Actor>(
     node: &Node<A>,
     inputs: &[Vec<A::Token>],

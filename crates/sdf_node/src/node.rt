@@ -125,7 +125,7 @@ pub(crate) fn read_input<T: Copy>(
     read_block(inputs[ext].as_slice(), next, put)
 }
 
-/// Fires a node once, from the block `taken` to the block `put`. Takes no memory.
+/// Fires a node once, from the block `taken` to the block `put`. Allocates no memory.
 pub fn step<A: Actor>(
     node: &Node<A>,
     inputs: &[Vec<A::Token>],

@@ -5,7 +5,7 @@ use Rattle.sdf_graph.specs.Sequences.{repeated}
 use Rattle.sdf_prec.specs.Blocks.{block}
 use Rattle.sdf_prec.specs.Tables.{Tabled, IsTable}
 
--- b blocks in the row order of a table have the number of firings of their periods
+-- in the row order of a table, b blocks of j periods have b * (j * sum q) firings
 abbrev pub TablesCount : Type 0
 TablesCount =
     (r : Rates) (q : List ℕ) (j width : ℕ) (t : Tabled) (b : ℕ) → length q ≡ r.actors →

@@ -14,7 +14,7 @@ use Rattle.sdf_prec.specs.Trying.{IsQueue}
 use Rattle.sdf_prec.specs.Queued.{IsQueueOf, IsUnmarked}
 use Rattle.sdf_prec.specs.Floor.{IsNextReady, IsFloor, AreStarted, IsStuck, IsDue, IsDone}
 
--- the inputs to rows
+-- the inputs of Hu's rule: firings, levels, costs, and weights, each the cost of all firings of an actor
 pub record IsJob (actors : ℕ) (firings : List ℕ) (levels : Numbered) (costs weights : List ℕ) : Type 0 where
   pub actors_few : actors ≤ MOST_ACTORS
   pub firings_all : length firings ≡ actors

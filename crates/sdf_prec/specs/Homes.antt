@@ -11,7 +11,7 @@ IsStanding P Nowhere = (m : ℕ) → P m → ⊥
 IsStanding P (In j) = P j × ((m : ℕ) → P m → m ≡ j)
 IsStanding P Apart = (j : ℕ) × (m : ℕ) × P j × P m × (j ≡ m → ⊥)
 
--- the columns with one column more
+-- the columns with column m added
 abbrev pub also : Standing → ℕ → Standing
 also Nowhere m = In m
 also (In j) m = if j == m then In j else Apart

@@ -148,7 +148,7 @@ impl Table {
     /// Makes the table of the order of `period`, `j` times, for `m` workers. Each row has one firing, in its actor's
     /// home.
     ///
-    /// It errs with the first of `BlockingFactor`, `WorkerCount`, `BlockTooLong` and `BadHome`. The last one has the
+    /// It errs with the first of `BlockingFactor`, `WorkerCount`, `BlockTooLong` and `BadHome`. `BadHome` has the
     /// lowest actor without a home among the `m` columns.
     pub fn by_homes(
         alloc: Global,

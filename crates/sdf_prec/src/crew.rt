@@ -24,8 +24,8 @@ use sdf_graph::{Counts, Graph};
 use std::alloc::{AllocError, Global};
 use std::marker::Model;
 
-/// The inputs to rows: how often each actor fires in the block, the levels and the costs of firings, the cost of all
-/// firings of each actor (`weights`), and whether actors have homes.
+/// The inputs of Hu's rule: how often each actor fires in the block, the levels and the costs of firings, the cost of
+/// all firings of each actor (`weights`), and whether actors have homes.
 #[derive(Drop)]
 pub(crate) struct Job<'a> {
     pub(crate) firings: &'a [u32],

@@ -78,7 +78,7 @@ fn mark(graph: &Graph, actor: usize, marks: &mut Marks) -> Result<(), AllocError
     Ok(())
 }
 
-/// Ends the firings whose columns end them at time `now`, and marks the actors that may be ready then.
+/// Ends the firings that end at time `now`, and marks the actors that may be ready then.
 pub(crate) fn end_by(
     now: u64,
     graph: &Graph,

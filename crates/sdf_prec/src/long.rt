@@ -20,7 +20,7 @@ use sdf_limits::{MOST_BLOCK, MOST_WORKERS};
 use sdf_sched::Period;
 use std::alloc::Global;
 
-/// Samples that a long block may move on a channel, unless a single period moves more.
+/// The most samples that a long block moves on a channel, unless a single period moves more.
 pub const MOST_MOVED: u64 = 1024;
 
 /// Returns the samples that `channel` moves in a period.

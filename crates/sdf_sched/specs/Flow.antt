@@ -10,7 +10,7 @@ pub record IsFlow (r : Rates) (k : ℕ → ℕ) (a : ℕ) (f : Flow) : Type 0 wh
   pub put : f.put ≡ puts r k a
   pub taken : f.taken ≡ takes r k a
 
--- they are at most what all channels can move
+-- the samples put and taken are at most what all channels can move
 pub record AreSmall (f : Flow) : Type 0 where
   pub put : f.put ≤ MOST_RATE * MOST_LINKS
   pub taken : f.taken ≤ MOST_RATE * MOST_LINKS

@@ -296,7 +296,7 @@ pub fn class_s<P: Pick>(
 }
 
 /// Returns a schedule in which each actor fires the number of times in `firings`, for example in several periods.
-/// `pick` makes the choices. It finds a schedule if any sequence of enabled firings does them all.
+/// `pick` makes the choices. Some sequence of enabled firings must do them all.
 pub fn class_s_of<P: Pick>(
     alloc: Global,
     graph: &Graph,

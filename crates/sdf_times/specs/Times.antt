@@ -34,7 +34,7 @@ abbrev pub IsStart : Rates → (ℕ → ℕ) → List (List (Option Firing)) →
 IsStart r cost rows start f = IsGreatest (λ t. (g : Firing) × ComesBefore r rows g f
     × (end_of cost start g ≡ t)) (start f)
 
--- the times of a table: each of its firings starts at the latest end of the firings that come before it
+-- the times of a table: each of its firings starts at the latest end of the firings that come before it, or at 0
 abbrev pub AreStarts : Rates → (ℕ → ℕ) → List (List (Option Firing)) → (Firing → ℕ) → Type 0
 AreStarts r cost rows start = (f : Firing) → IsInTable rows f → IsStart r cost rows start f
 

@@ -54,7 +54,7 @@ pub record IsPrepared (r : Rates) (cost : ℕ → ℕ) (starts : List (List ℕ)
   pub rise : (a k : ℕ) → k + 1 < length (slice_index_or starts a []) →
       slice_index (slice_index_or starts a []) k ≤ slice_index (slice_index_or starts a []) (k + 1)
 
--- firing f has started in column j: the facts about its start, and about the lists after it
+-- firing f has started in column j: its start, and the lists starts' and until' after it
 pub record IsFired (r : Rates) (cost : ℕ → ℕ) (f : Firing) (j : ℕ) (starts : List (List ℕ)) (until : List ℕ)
     (starts' : List (List ℕ)) (until' : List ℕ) : Type 0 where
   pub start : ℕ

@@ -1,4 +1,5 @@
-//! A walk over the cells of a table, row by row. Each firing starts when its column is idle and its needs have ended.
+//! A walk over the cells of a table, row by row. Each firing starts when its column is idle and all firings that it
+//! waits for have ended.
 
 ghost use Rattle.std.specs.Prelude.{◌≡◌, ℕ, ◌+◌, ◌<◌, ◌^◌, length, slice_index, IfOk};
 ghost use Rattle.sdf_graph.specs.Rates.{rates};
