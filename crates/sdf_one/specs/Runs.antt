@@ -75,7 +75,7 @@ pub record IsInRun {A S T : Type 0} (r : Run A T S) (a times : ℕ) : Type 0 whe
   pub counted : a < length r.done.items
   pub few : slice_index r.done.items a + times < 2 ^ 63
 
--- node a of a run, an actor, can fire
+-- actor a of a run can fire
 pub record CanFireAt {A S T : Type 0} (s : Steps A S T) (r : Run A T S) (a : ℕ) : Type 0 where
   pub inside : IsInRun r a 1
   pub can : HoldsOfWork r a (λ w. ActorCanFire s ((wiring s r.net.now).ins a) ((wiring s r.net.now).outs a)

@@ -17,7 +17,7 @@ pub struct Spares<T> {
 }
 
 impl<T: Copy> Spares<T> {
-    /// Begins with no memory, and takes none.
+    /// Makes spares that hold no memory. Allocates nothing.
     pub fn none(alloc: Global) -> Spares<T> {
         Spares {
             queues: Vec::new(alloc),

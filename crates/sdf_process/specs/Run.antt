@@ -51,7 +51,7 @@ Announces r samples rest a =
 abbrev pub announced_size : Format → ℕ → Announced
 announced_size f size = record { rate = f.rate; channels = f.channels; frames = size / (2 * f.channels) }
 
--- the size of the data of an input was never filled in, if it opens
+-- the size of the data of an input was never filled in, if the input opens
 abbrev pub IsUnsized : List ℕ → Type 0
 IsUnsized input = (f : Format) (size : ℕ) (rest : List ℕ) → Opens input f size rest → size ≡ 0xFFFFFFFF
 
@@ -193,7 +193,7 @@ writer_failures result failures = failures
 pub record Handles {X : Type 0} (r r' : ReaderState) (w w' : WriterState) (result : Result X Fault) : Type 0 where
   -- no other fault is returned, whatever is known of the bytes
   pub faults : IfErr result IsProcessFault
-  -- nothing behind the samples is read, and no sample before all tests that come before them
+  -- nothing behind the samples is read, and no sample is read before the tests that come first
   pub leaves : Leaves r.remaining r'.remaining result
   -- whatever the reader returns, one canonical file is written, or a front of one if the run stopped behind its
   -- header, or nothing

@@ -39,7 +39,7 @@ pub record IsShared (t : Shared) : Type 0 where
   pub inputs : list_count Inputs t.net.now.nodes ≤ MOST_CHANNELS
   pub outputs : list_count Outputs t.net.now.nodes ≤ MOST_CHANNELS
 
--- the period is one of the net's
+-- the period is a period of the net
 abbrev pub IsScore : Score → Type 0
 IsScore t = IsPeriodOf (rates (graph_of kit_steps t.net.now)) t.period.now
 
