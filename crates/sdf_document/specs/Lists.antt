@@ -77,7 +77,7 @@ all_of w zs = if list_all (fits w) zs then Some zs else None
 abbrev pub is_list : ℕ → Width → List ℤ → Bool
 is_list most w zs = (nat_le 1 (length zs) && nat_le (length zs) most) && list_all (fits w) zs
 
--- the numbers, if they are a list of actor a; otherwise its key is at fault
+-- the numbers, if they are a list within its limits; otherwise the key of actor a is at fault
 abbrev pub listed : ℕ → List ℕ → ℕ → Width → List ℤ → Result (List ℤ) Fault
 listed a key most w zs = if is_list most w zs then Ok zs else Err (kit_value (actor a) key)
 

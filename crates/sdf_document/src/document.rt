@@ -235,7 +235,7 @@ impl GraphFile {
 
     /// Reads the actors and links of the graph file with its coefficient `files`, or returns the first failed test.
     ///
-    /// Each of `files` is a name and its bytes. If two have one name, the first counts.
+    /// Each of `files` is a name and its bytes. If two have the same name, the first counts.
     #[tactic(auto, unfolding(crate::specs::Document::document_in))]
     pub fn document(
         &self,
@@ -254,7 +254,7 @@ impl GraphFile {
 
 /// Reads `graph`, the bytes of a graph file, with its coefficient `files`, or returns the first failed test.
 ///
-/// Each of `files` is a name and its bytes. If two have one name, the first counts.
+/// Each of `files` is a name and its bytes. If two have the same name, the first counts.
 #[tactic(auto, unfolding(crate::specs::Document::document_of))]
 pub fn read_document(
     alloc: Global,

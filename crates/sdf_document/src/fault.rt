@@ -31,7 +31,7 @@ impl fmt::Display for Place {
     }
 }
 
-/// A `Place` that borrows its name, so that it is free to copy while there is no fault.
+/// A place that borrows its name. It takes an allocation only if a fault makes it a `Place`.
 #[derive(Clone, Copy)]
 pub(crate) enum Spot<'a> {
     Top,

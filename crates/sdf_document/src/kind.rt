@@ -155,7 +155,7 @@ fn entry_of(alloc: Global, kind: Kind, mut left: vec::IntoIter<KeyValue>) -> Kin
     }
 }
 
-/// Returns whether a clip's `least` is at most its `greatest`. This is true of all other kinds.
+/// Returns whether a clip's `least` is at most its `greatest`, and `true` for all other kinds.
 fn is_ordered(kind: &KindEntry) -> bool
     ensures { result ≡ is_ordered kind.now }
 {

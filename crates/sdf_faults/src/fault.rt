@@ -224,7 +224,7 @@ pub fn status(fault: &Fault) -> u8
 /// Returns the text of `fault` for standard error: one line, and for a deadlock one more line for each actor. For a
 /// mistake on the command line, it has the parser's own text.
 ///
-/// A control character, even in a key, is written as `\u{a}`, so that it can't begin a line or control the terminal.
+/// A control character, even in a key, is written like `\u{a}`, so that it can't begin a line or control the terminal.
 pub fn fault_text(alloc: Global, fault: &Fault) -> Result<String, AllocError>
     ensures { IfOk result (λ text. IsFaultText fault.now (string_bytes text)) }
 {

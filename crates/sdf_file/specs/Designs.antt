@@ -111,8 +111,8 @@ IsNamesFault graph = IsReadFault (file_names_of graph)
 
 -- ---- what is true of every design
 
--- each node has a name, a home or none, and a cost; the inputs are at most the channels of a WAV file, and so are the
--- outputs
+-- each node has a name, a home or none, and a cost; a WAV file can have a channel for each input, and one for each
+-- output
 pub record IsDesign (d : DesignValue) : Type 0 where
   pub named : length d.names ≡ length d.net.nodes
   pub housed : length d.homes ≡ length d.net.nodes

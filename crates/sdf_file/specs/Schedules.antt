@@ -86,7 +86,7 @@ table_text d order t =
 abbrev pub schedule_text : DesignValue → List ℕ → List ℕ → Tabled → List ℕ
 schedule_text d q order t = period_text d q ++ order_line d order ++ table_text d order t
 
--- the text of a schedule with the least repetition vector
+-- the text of a schedule, by the least repetition vector of its design
 pub record IsScheduleText (d : DesignValue) (order : List ℕ) (t : Tabled) (text : List ℕ) : Type 0 where
   pub period : List ℕ
   pub least : IsLeastPeriod (rates (graph_of kit_steps d.net)) period

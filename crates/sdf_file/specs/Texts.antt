@@ -34,7 +34,7 @@ check_text d q =
     ++ codes "input " ++ decimal (period_samples d.net.nodes Inputs q) ++ codes " output "
     ++ decimal (period_samples d.net.nodes Outputs q) ++ end
 
--- the text of a design with the least repetition vector
+-- the text of a design, by its least repetition vector
 pub record IsCheckText (d : DesignValue) (text : List ℕ) : Type 0 where
   pub period : List ℕ
   pub least : IsLeastPeriod (rates (graph_of kit_steps d.net)) period

@@ -71,7 +71,7 @@ impl Design {
         }
     }
 
-    /// Returns the home processor of each actor, if its key `processor` names one.
+    /// Returns the home processor of each actor, or `None` if its key `processor` is absent.
     pub fn homes(&self) -> &[Option<usize>]
         ensures { result.now ≡ self.now.homes }
     {
@@ -85,7 +85,7 @@ impl Design {
         &self.costs
     }
 
-    /// Returns a copy of the costs, in the type that the making of a table needs.
+    /// Returns a copy of the costs, as `Costs` for making a table.
     pub fn firing_costs(&self, alloc: Global) -> Result<Costs, AllocError>
         ensures { IfOk result (λ c. c ≡ self.now.costs) }
     {
@@ -149,8 +149,8 @@ fn design_of(alloc: Global, document: Document) -> Result<Design, FileFault>
 
 /// Makes the design of `graph` and its coefficient `files`, or returns the first test that they fail.
 ///
-/// Each of `files` is a name and its bytes. If two have one name, the first counts. Files that `graph` does not name
-/// are not read.
+/// Each of `files` is a name and its bytes. If two have the same name, the first counts. Files that `graph` does not
+/// name are not read.
 pub fn make_design(
     alloc: Global,
     graph: &GraphFile,
@@ -166,7 +166,7 @@ pub fn make_design(
 /// Reads the design of `graph`, the bytes of a graph file, with its coefficient `files`, or returns the first test
 /// that they fail.
 ///
-/// Each of `files` is a name and its bytes. If two have one name, the first counts. Files that the graph file does
+/// Each of `files` is a name and its bytes. If two have the same name, the first counts. Files that the graph file does
 /// not name are not read.
 #[tactic(auto, using(crate::proofs::Parsed::document_parsed, crate::proofs::Parsed::document_unparsed))]
 pub fn read_design(

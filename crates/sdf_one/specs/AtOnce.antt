@@ -25,25 +25,25 @@ GoesAtOnce s (Sink ext) ins outs = Unit {0}
 GoesAtOnce s (Inner actor phase state taken put lengths) ins outs =
     (s.cycle actor.now ≡ 1) × (length ins ≡ 1) × (length outs ≡ 1) × (slice_index ins 0 ≡ slice_index outs 0 → ⊥)
 
--- the input of times firings at the fronts of the queues
+-- the input of `times` firings, at the fronts of the queues
 abbrev pub fronts : {T : Type 0} → ℕ → List ℕ → List ℕ → List (Held T) → List T
 fronts times takes ins qs = flat_map (λ c. take (times * slice_index takes c) (samples qs c)) ins
 
--- what times firings put, if they take b
+-- what `times` firings put, if they take b
 abbrev pub all_made : {A S T : Type 0} → Steps A S T → List (List T) → ℕ → Work A T S → List T → List T
 all_made s inputs times (Source ext next block) b = between next (next + block * times) (slice_index_or inputs ext [])
 all_made s inputs times (Sink ext) b = []
 all_made s inputs times (Inner actor phase state taken put lengths) b = puts_to s actor.now phase state b times
 
--- the work after times firings that took b
+-- the work after `times` firings that took b
 abbrev pub HaveWorked : {A S T : Type 0} → Steps A S T → ℕ → Work A T S → List T → Work A T S → Type 0
 HaveWorked s times (Source ext next block) b w = w ≡ Source ext (next + block * times) block
 HaveWorked s times (Sink ext) b w = w ≡ Sink ext
 HaveWorked s times (Inner actor phase state taken put lengths) b w =
     w ≡ Inner actor phase (state_at s actor.now phase state b times) taken put lengths
 
--- times firings, which take many samples and put more, find what they read, have room in the output list, and move what
--- their rates say
+-- `times` firings take `many` samples and put `more`: a source finds what it reads, a sink has room in its output list,
+-- and an actor moves what its rates say
 abbrev pub CanWorkAtOnce : {A S T Z : Type 0} → Steps A S T → List (List T) → ℕ → Work A T S → List ℕ → List ℕ → ℕ → ℕ →
     List (Vec T Z) → Type 0
 CanWorkAtOnce s inputs times (Source ext next block) ins outs many more outputs =
@@ -55,7 +55,7 @@ CanWorkAtOnce s inputs times (Inner actor phase state taken put lengths) ins out
     (phase < s.cycle actor.now) × (length ins ≡ 1) × (length outs ≡ 1) × (slice_index ins 0 ≡ slice_index outs 0 → ⊥) ×
     (many ≡ sum_in s actor.now phase times) × (more ≡ sum_out s actor.now phase times)
 
--- a node that takes from the channels ins and puts on the channels outs can do times firings in one batch
+-- a node that takes from the channels ins and puts on the channels outs can do `times` firings in one batch
 pub record CanFireAtOnce {A S T Z : Type 0} (s : Steps A S T) (inputs : List (List T)) (times : ℕ)
     (ins outs takes puts : List ℕ) (w : Work A T S) (qs : List (Held T)) (outputs : List (Vec T Z)) : Type 0 where
   pub ins_are : ArePorts ins takes (length qs)
@@ -65,7 +65,7 @@ pub record CanFireAtOnce {A S T Z : Type 0} (s : Steps A S T) (inputs : List (Li
   pub work : CanWorkAtOnce s inputs times w ins outs (times * slice_index takes (slice_index ins 0))
       (times * slice_index puts (slice_index outs 0)) outputs
 
--- what times firings of a node in one batch do
+-- what `times` firings of a node in one batch do
 pub record AreFired {A S T Z : Type 0} (s : Steps A S T) (inputs : List (List T)) (times : ℕ)
     (ins outs takes puts : List ℕ) (w w' : Work A T S) (qs qs' : List (Held T))
     (outputs outputs' : List (Vec T Z)) : Type 0 where
@@ -77,14 +77,14 @@ pub record AreFired {A S T Z : Type 0} (s : Steps A S T) (inputs : List (List T)
   pub lists : (e : ℕ) → e < length outputs → list outputs' e ≡ list outputs e ++ added w (fronts times takes ins qs) e
   pub capacities : (e : ℕ) → e < length outputs → capacity outputs' e ≡ capacity outputs e
 
--- node a of a run can do times firings in one batch
+-- node a of a run can do `times` firings in one batch
 pub record CanFireAtOnceAt {A S T : Type 0} (s : Steps A S T) (r : Run A T S) (a times : ℕ) : Type 0 where
   pub inside : IsInRun r a times
   pub can : HoldsOfWork r a (λ w. CanFireAtOnce s (lists r.inputs.now) times ((wiring s r.net.now).ins a)
       ((wiring s r.net.now).outs a) (at_phase r.sizes.takes (phase_at w)) (at_phase r.sizes.puts (phase_at w)) w
       r.queues.items r.outputs.items)
 
--- what times firings of node a of a run in one batch do
+-- what `times` firings of node a of a run in one batch do
 pub record AreFiredAt {A S T : Type 0} (s : Steps A S T) (r r' : Run A T S) (a times : ℕ) : Type 0 where
   pub alone : FiresAlone r r' a times
   pub fired : (d : Work A T S) → let w = slice_index_or r.works.items a d in

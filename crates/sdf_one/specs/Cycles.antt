@@ -1,11 +1,11 @@
--- The samples that whole cycles of nodes move.
+-- The numbers of samples that whole cycles of nodes move.
 use Rattle.std.specs.Prelude.{◌≡◌, ◌⊎◌, ℕ, ◌<◌, List, length, slice_index}
 use Rattle.sdf_actor.specs.Nets.{Netlist, wiring}
 use Rattle.sdf_actor.specs.Steps.{Steps}
 use Rattle.sdf_answer.specs.Sizes.{at_phase}
 use Rattle.sdf_one.specs.declared.cycles.Cycles.{Cycles}
 
--- y has the samples that a cycle of the target takes from each channel, and that a cycle of the source puts on it
+-- y has, for each channel, how many samples a cycle of its target takes from it, and a cycle of its source puts on it
 pub record AreCycles {A S T : Type 0} (s : Steps A S T) (n : Netlist A T) (y : Cycles) : Type 0 where
   pub takes_all : length y.takes.items ≡ length n.wires
   pub puts_all : length y.puts.items ≡ length n.wires

@@ -27,7 +27,7 @@ abbrev pub TakeWhatItMakes : {A S T Z : Type 0} → Passage A T S → List (Vec 
 TakeWhatItMakes p outputs = AreEmpty outputs (list_count Outputs p.net.now.nodes)
     (p.periods * period_samples p.net.now.nodes Outputs p.period.now.repetitions)
 
--- each node has fired the given number of periods of q on these inputs, and the run is where the history ends
+-- each node has done the firings of `periods` periods of q on these inputs, and the run is in the state after them
 pub record HasFiredPeriods {A S T : Type 0} (s : Steps A S T) (n : Netlist A T) (inputs : List (List T)) (q : List ℕ)
     (periods : ℕ) (r : Run A T S) : Type 0 where
   pub good : IsNet s n

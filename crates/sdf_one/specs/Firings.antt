@@ -38,7 +38,7 @@ IsWorkAfter s (Inner actor phase state taken put lengths) b (Inner actor' phase'
     (vec_capacity taken' ≡ vec_capacity taken) × (length put'.items ≡ length put.items) × (lengths' ≡ lengths)
 IsWorkAfter s w b w' = ⊥
 
--- a firing takes many samples and puts more, and its blocks have room for them
+-- a firing takes `many` samples and puts `more`, and the actor's blocks have room for them
 abbrev pub CanWork : {A S T : Type 0} → Steps A S T → Work A T S → ℕ → ℕ → Type 0
 CanWork s (Inner actor phase state taken put lengths) many more =
     (phase < s.cycle actor.now) × (many ≡ total_in s actor.now phase) × (more ≡ total_out s actor.now phase)

@@ -8,8 +8,8 @@ pub record IsMostPut (r : Rates) (q : List ℕ) (channels most : ℕ) : Type 0 w
   pub above : (c : ℕ) → c < channels → r.produced c (slice_index q (r.source c)) ≤ most
   pub reached : (most ≡ 0) ⊎ ((c : ℕ) × (c < channels) × (r.produced c (slice_index q (r.source c)) ≡ most))
 
--- many periods of a run, each of which reads and puts these samples, together read at most MOST_READ of an input and
--- put at most MOST_PUT on a channel
+-- `many` of a run's periods together read at most MOST_READ samples of an input and put at most MOST_PUT on a channel,
+-- if each reads `read` and puts `put`
 pub record Fit (read put periods many : ℕ) : Type 0 where
   pub within : many ≤ periods
   pub reads : many * read ≤ MOST_READ

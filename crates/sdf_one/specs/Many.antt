@@ -29,19 +29,19 @@ GoesByMany s z (Inner actor phase state taken put lengths) ins outs =
     × IsInTurn ins z.takes (s.cycle actor.now) × IsInTurn outs z.puts (s.cycle actor.now)
 GoesByMany s z w ins outs = ⊥
 
--- a cycle takes many samples and puts more: its blocks have room for times cycles
+-- a cycle takes `many` samples and puts `more`: the actor's blocks have room for `times` cycles
 abbrev pub Fit : {A S T : Type 0} → Work A T S → ℕ → ℕ → ℕ → Type 0
 Fit (Inner actor phase state taken put lengths) many more times =
     (times * many ≤ vec_capacity taken) × (times * more ≤ length put.items)
 Fit w many more times = Unit {0}
 
--- what times cycles put, if they take b
+-- what `times` cycles put, if they take b
 abbrev pub all_put : {A S T : Type 0} → Steps A S T → Work A T S → List T → ℕ → List T
 all_put s (Inner actor phase state taken put lengths) b times =
     puts_to s actor.now phase state b (times * s.cycle actor.now)
 all_put s w b times = []
 
--- the work after times cycles that took b
+-- the work after `times` cycles that took b
 abbrev pub HaveManyWorked : {A S T : Type 0} → Steps A S T → ℕ → Work A T S → List T → Work A T S → Type 0
 HaveManyWorked s times (Inner actor phase state taken put lengths) b (Inner actor' phase' state' taken' put' lengths') =
     (actor' ≡ actor) × (phase' ≡ phase)
@@ -49,7 +49,7 @@ HaveManyWorked s times (Inner actor phase state taken put lengths) b (Inner acto
     (vec_capacity taken' ≡ vec_capacity taken) × (length put'.items ≡ length put.items) × (lengths' ≡ lengths)
 HaveManyWorked s times w b w' = ⊥
 
--- each of times cycles takes many samples and puts more: its blocks have room for one of them, and for all
+-- each of `times` cycles takes `many` samples and puts `more`: the blocks have room for one cycle, and for all
 abbrev pub CanWorkMany : {A S T : Type 0} → Steps A S T → ℕ → Work A T S → ℕ → ℕ → Type 0
 CanWorkMany s times (Inner actor phase state taken put lengths) many more =
     (phase < s.cycle actor.now) × (times * many ≡ sum_in s actor.now phase (times * s.cycle actor.now))
@@ -58,7 +58,7 @@ CanWorkMany s times (Inner actor phase state taken put lengths) many more =
     × (many ≤ vec_capacity taken) × (more ≤ length put.items) × (times * s.cycle actor.now < 2 ^ 63)
 CanWorkMany s times w many more = ⊥
 
--- an actor that takes from the channels ins and puts on the channels outs can do times cycles
+-- an actor that takes from the channels ins and puts on the channels outs can do `times` cycles
 pub record CanFireMany {A S T : Type 0} (s : Steps A S T) (times : ℕ) (ins outs takes puts : List ℕ) (w : Work A T S)
     (qs : List (Held T)) : Type 0 where
   pub ins_are : ArePorts ins takes (length qs)
@@ -67,7 +67,7 @@ pub record CanFireMany {A S T : Type 0} (s : Steps A S T) (times : ℕ) (ins out
   pub room : HaveRoomForMany times outs puts qs
   pub work : CanWorkMany s times w (sum_by (slice_index takes) ins) (sum_by (slice_index puts) outs)
 
--- what times cycles of an actor do
+-- what `times` cycles of an actor do
 pub record AreManyFired {A S T : Type 0} (s : Steps A S T) (times : ℕ) (ins outs takes puts : List ℕ)
     (w w' : Work A T S) (qs qs' : List (Held T)) : Type 0 where
   pub work : HaveManyWorked s times w (joined (front_at takes ins qs) times) w'
@@ -77,17 +77,17 @@ pub record AreManyFired {A S T : Type 0} (s : Steps A S T) (times : ℕ) (ins ou
       (all_put s w (joined (front_at takes ins qs) times) times) c times
   pub rooms : KeepRoom qs qs'
 
--- the number of firings in times cycles of node a of a run
+-- the number of firings in `times` cycles of node a of a run
 abbrev pub firings_in : {A S T : Type 0} → Steps A S T → Run A T S → ℕ → ℕ → ℕ
 firings_in s r a times = times * cycle_of s (node r.net.now a)
 
--- node a of a run can do times cycles
+-- node a of a run can do `times` cycles
 pub record CanFireManyAt {A S T : Type 0} (s : Steps A S T) (r : Run A T S) (a times : ℕ) : Type 0 where
   pub inside : IsInRun r a (firings_in s r a times)
   pub can : HoldsOfWork r a (λ w. CanFireMany s times ((wiring s r.net.now).ins a) ((wiring s r.net.now).outs a)
       r.cycles.takes.items r.cycles.puts.items w r.queues.items)
 
--- what times cycles of node a of a run do
+-- what `times` cycles of node a of a run do
 pub record AreManyFiredAt {A S T : Type 0} (s : Steps A S T) (r r' : Run A T S) (a times : ℕ) : Type 0 where
   pub alone : FiresAlone r r' a (firings_in s r a times)
   pub lists : r'.outputs ≡ r.outputs
@@ -95,7 +95,8 @@ pub record AreManyFiredAt {A S T : Type 0} (s : Steps A S T) (r r' : Run A T S) 
       r.cycles.takes.items r.cycles.puts.items (slice_index_or r.works.items a d) (slice_index_or r'.works.items a d)
       r.queues.items r'.queues.items
 
--- cycles of node a can be batched, the channels into it hold what times cycles take, and its blocks have room for them
+-- cycles of node a can be batched, the channels into it hold what `times` cycles take, and its blocks have room for
+-- them
 pub record GoManyAt {A S T : Type 0} (s : Steps A S T) (r : Run A T S) (a times : ℕ) : Type 0 where
   pub goes : HoldsOfWork r a (λ w. GoesByMany s r.sizes w ((wiring s r.net.now).ins a) ((wiring s r.net.now).outs a))
   pub held : HoldManyBlocks times ((wiring s r.net.now).ins a) r.cycles.takes.items r.queues.items

@@ -32,7 +32,7 @@ pub record HasBlocks {A S T : Type 0} (s : Steps A S T) (x : A) (taken put : Vec
   pub put_cycle : sum_out s x 0 (s.cycle x) ≤ length put.items
   pub lengths_are : (j : ℕ) → j < s.cycle x → slice_index lengths.items j ≡ total_out s x j
 
--- a node's work after it took the blocks past, with room for many firings in all
+-- a node's work after it took the blocks past, with room for `many` firings in all
 abbrev pub IsWork : {A S T Z : Type 0} → Steps A S T → List (List T) → List (Vec T Z) → ℕ → Node A → List (List T) →
     Work A T S → Type 0
 IsWork s inputs outputs many (node.Source ext block) past (Source e next size) =
@@ -66,7 +66,7 @@ IsRunAt s r many k = Stands s r.net.now (lists r.inputs.now) many k r.works.item
 abbrev pub HoldsOfWork : {A S T : Type 0} → Run A T S → ℕ → (Work A T S → Type 0) → Type 0
 HoldsOfWork {A} {S} {T} r a P = (d : Work A T S) → P (slice_index_or r.works.items a d)
 
--- node a of a run has its work and its sizes there, and times more of its firings can be counted
+-- node a of a run has its work and its sizes there, and `times` more of its firings can be counted
 pub record IsInRun {A S T : Type 0} (r : Run A T S) (a times : ℕ) : Type 0 where
   pub known : a < length r.net.now.nodes
   pub worked : a < length r.works.items
@@ -75,13 +75,13 @@ pub record IsInRun {A S T : Type 0} (r : Run A T S) (a times : ℕ) : Type 0 whe
   pub counted : a < length r.done.items
   pub few : slice_index r.done.items a + times < 2 ^ 63
 
--- node a of a run, an actor, can fire
+-- actor a of a run can fire
 pub record CanFireAt {A S T : Type 0} (s : Steps A S T) (r : Run A T S) (a : ℕ) : Type 0 where
   pub inside : IsInRun r a 1
   pub can : HoldsOfWork r a (λ w. ActorCanFire s ((wiring s r.net.now).ins a) ((wiring s r.net.now).outs a)
       (at_phase r.sizes.takes (phase_at w)) (at_phase r.sizes.puts (phase_at w)) w r.queues.items)
 
--- times firings of node a change nothing that is not its own
+-- `times` firings of node a change nothing that is not its own
 pub record FiresAlone {A S T : Type 0} (r r' : Run A T S) (a times : ℕ) : Type 0 where
   pub net : r'.net ≡ r.net
   pub inputs : r'.inputs ≡ r.inputs
@@ -97,7 +97,7 @@ pub record FiresAlone {A S T : Type 0} (r r' : Run A T S) (a times : ℕ) : Type
   pub others : (b : ℕ) (d : Work A T S) → (a ≡ b → ⊥) →
       slice_index_or r'.works.items b d ≡ slice_index_or r.works.items b d
 
--- what a firing of node a of a run, an actor, does
+-- what a firing of actor a of a run does
 pub record IsFiredAt {A S T : Type 0} (s : Steps A S T) (r r' : Run A T S) (a : ℕ) : Type 0 where
   pub alone : FiresAlone r r' a 1
   pub lists : r'.outputs ≡ r.outputs

@@ -50,16 +50,16 @@ IsSwept s r = Sweeps s r.net.now (lists r.inputs.now) r.sizes r.cycles r.repetit
 abbrev pub MayFire : {A S T : Type 0} → Steps A S T → Run A T S → ℕ → Type 0
 MayFire s r a = IsRunnable (wiring s r.net.now).rates (periods_of r.repetitions.now r.high) (slice_index r.done.items) a
 
--- node a has many firings left within the block
+-- node a has `many` firings left within the block
 abbrev pub IsLeft : {A S T : Type 0} → Run A T S → ℕ → ℕ → Type 0
 IsLeft r a many = slice_index r.done.items a + many ≡ r.high * slice_index r.repetitions.now a
 
--- each channel into node a holds what times firings take
+-- each channel into node a holds what `times` firings take
 abbrev pub AreHeld : {A S T : Type 0} → Steps A S T → Run A T S → ℕ → ℕ → Type 0
 AreHeld s r a times = HoldsOfWork r a (λ w.
     HoldManyBlocks times ((wiring s r.net.now).ins a) (at_phase r.sizes.takes (phase_at w)) r.queues.items)
 
--- the queues have room for a block of size periods
+-- the queues have room for a block of `size` periods
 abbrev pub HasRoom : {A S T : Type 0} → Steps A S T → ℕ → Run A T S → Type 0
 HasRoom s size r =
     (c : ℕ) → c < length r.net.now.wires →

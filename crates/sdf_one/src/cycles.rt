@@ -1,4 +1,4 @@
-//! The samples that whole cycles of nodes move.
+//! The numbers of samples that whole cycles of nodes move.
 
 ghost use Rattle.std.specs.Prelude.{◌≡◌, ◌≤◌, ◌<◌, ℕ, length, slice_index, IfOk, IsTrue};
 ghost use Rattle.sdf_graph.specs.Moved.{moves};
@@ -11,7 +11,7 @@ use sdf_answer::Sizes;
 use sdf_graph::{Channel, End};
 use std::alloc::{AllocError, Global};
 
-/// The samples that a cycle of the target takes from each channel, and that a cycle of the source puts on it.
+/// For each channel, how many samples a cycle of its target takes from it, and a cycle of its source puts on it.
 #[derive(Drop)]
 pub(crate) struct Cycles {
     pub(crate) takes: Vec<usize>,
@@ -31,7 +31,7 @@ fn moved(channel: &Channel, end: End, firings: u32) -> usize
     total
 }
 
-/// Returns the samples that the cycles of a net's nodes move on each channel.
+/// Returns how many samples the cycles of a net's nodes move on each channel.
 pub(crate) fn make_cycles<A: Actor>(alloc: Global, net: &Net<A>) -> Result<Cycles, AllocError>
     ensures { IfOk result (AreCycles A.steps net.now) }
 {

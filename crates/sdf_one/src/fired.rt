@@ -15,7 +15,7 @@ use sdf_answer::{Queue, Sizes};
 use sdf_sched::Period;
 use std::alloc::{AllocError, Global};
 
-/// Returns how often each node has fired before a run: never.
+/// Returns the firing counts of all nodes before a run, which are 0.
 fn none_done(alloc: Global, repetitions: &[u32]) -> Result<Vec<usize>, AllocError>
     ensures { IfOk result (λ v. v.items ≡ map (λ _. 0) repetitions.now) }
 {

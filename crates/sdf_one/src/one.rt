@@ -15,7 +15,7 @@ use std::alloc::Global;
 
 /// Runs `net` for `periods` periods. Each node in turn fires until its samples or the block of periods stop it.
 ///
-/// The room for all samples is taken before the first firing. A channel's queue has room for its initial samples and
+/// Room for all samples is allocated before the first firing. A channel's queue has room for its initial samples and
 /// for what one block puts on it, so it does not grow with the length of the run. The time of a run is linear in its
 /// length.
 pub fn run_one<A: Actor>(

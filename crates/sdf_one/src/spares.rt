@@ -17,7 +17,7 @@ pub struct Spares<T> {
 }
 
 impl<T: Copy> Spares<T> {
-    /// Begins with no memory, and takes none.
+    /// Makes spares that hold no memory. Allocates nothing.
     pub fn none(alloc: Global) -> Spares<T> {
         Spares {
             queues: Vec::new(alloc),
@@ -31,7 +31,7 @@ impl<T: Copy> Spares<T> {
     }
 
     /// Makes `many` empty output lists with room for `room` samples each. Lists that were given back are used if they
-    /// fit, otherwise they are freed.
+    /// fit, and freed otherwise.
     pub(crate) fn take_outputs(
         &mut self,
         alloc: Global,

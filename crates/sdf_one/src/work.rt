@@ -213,7 +213,7 @@ impl<'a, A: Actor> Work<'a, A> {
         }
     }
 
-    /// Checks whether its firings can be batched from queue to queue, if its channels are `ins` and `outs`.
+    /// Checks whether firings of the node can be batched from queue to queue, if its channels are `ins` and `outs`.
     pub(crate) fn goes_at_once(&self, ins: &[usize], outs: &[usize]) -> bool
         ensures goes { IsTrue result → GoesAtOnce A.steps self.now ins.now outs.now }
         ensures others { result ≡ false → IsActor self.now }
@@ -270,8 +270,8 @@ impl<'a, A: Actor> Work<'a, A> {
         }
     }
 
-    /// Checks whether its cycles can be batched through its blocks, if its channels are `ins` and `outs`. It must be at
-    /// the beginning of a cycle, share no channel between both sides, and serve its ports in turn.
+    /// Checks whether cycles of an actor can be batched through its blocks, if its channels are `ins` and `outs`. It
+    /// must be at the beginning of a cycle, have no channel on both sides, and serve its ports in turn.
     pub(crate) fn goes_by_many(&self, ins: &[usize], outs: &[usize], sizes: &Sizes) -> bool
         requires { HasRows A.steps sizes.now self.now ins.now outs.now }
         ensures { IsTrue result → GoesByMany A.steps sizes.now self.now ins.now outs.now }
@@ -288,7 +288,7 @@ impl<'a, A: Actor> Work<'a, A> {
         }
     }
 
-    /// Returns for how many cycles its blocks have room, at most `most`.
+    /// Returns the number of cycles for which the node's blocks have room, at most `most`.
     pub(crate) fn fits(&self, ports: &NodePorts, most: usize) -> usize
         requires ins { ArePorts ports.now.ins.channels.now ports.now.ins.sizes.now (length ports.now.ins.sizes.now) }
         requires outs { ArePorts ports.now.outs.channels.now ports.now.outs.sizes.now

@@ -73,7 +73,7 @@ IsWorkers workers = (1 ≤ workers) × (workers ≤ MOST_WORKERS)
 abbrev pub AreSizes : Options → Type 0
 AreSizes o = IsBlocking o.blocking × IsWorkers o.workers
 
--- the first of these numbers that is not within its limits
+-- the fault of the first of these numbers that is not within its limits
 abbrev pub IsSizeFault : Options → Fault → Type 0
 IsSizeFault o BlockingFactor = IsBlocking o.blocking → ⊥
 IsSizeFault o WorkerCount = IsBlocking o.blocking × (IsWorkers o.workers → ⊥)
@@ -174,7 +174,8 @@ pub record IsLive (d : DesignValue) : Type 0 where
   pub sequence : List ℕ
   pub completes : IsPass (rates (graph_of kit_steps d.net)) (slice_index period) sequence
 
--- no sequence completes it, and this is the progress of each actor where a schedule stopped
+-- no sequence of enabled firings completes the least period of a design, and this is the progress of each actor where a
+-- schedule stopped
 pub record IsDeadlockOf (d : DesignValue) (actors : List ProgressValue) : Type 0 where
   pub period : List ℕ
   pub least : IsLeastPeriod (rates (graph_of kit_steps d.net)) period

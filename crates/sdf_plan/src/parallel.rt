@@ -18,7 +18,7 @@ use std::alloc::Global;
 /// The way in which a design is run by several workers, or the reason why one thread runs it.
 #[derive(Clone, Copy, Debug, PartialEq, Eq)]
 pub enum Pace {
-    /// In up to `workers` parts of the sound in parallel, each in one thread after a warm-up. The warm-up has
+    /// In parts of the sound, up to `workers` of them in parallel, each in one thread after a warm-up. The warm-up has
     /// `periods` periods, which are `samples` samples of each input.
     Parts {
         workers: usize,

@@ -13,7 +13,8 @@ use sdf_prec::{PrecFault, Table, Team};
 use sdf_sched::Period;
 use std::alloc::Global;
 
-/// Returns the periods of a block: of a long block for the placement `spread`, otherwise `options.blocking`.
+/// Returns the number of periods in a block: `options.blocking`, except for the placement `spread`, which has long
+/// blocks.
 pub(crate) fn blocking_by(design: &Design, options: &Options, period: &Period) -> u32
     requires { IsPeriodOf (rates_of design.now) period.now }
     ensures { ArePeriodsOf design.now options.now period.now result }

@@ -22,7 +22,7 @@ pub enum Way {
         period: Period,
         blocking: u32,
     },
-    /// In up to `parts` parts of the sound in parallel, each as `One` runs the whole sound.
+    /// In parts of the sound, up to `parts` of them in parallel, each as `One` runs the whole sound.
     Parts {
         period: Period,
         blocking: u32,

@@ -112,7 +112,7 @@ pub fn period_by(alloc: Global, design: &Design, policy: Policy) -> Result<Perio
     }
 }
 
-/// Returns the first test that fails: of the blocking factor, then of the workers.
+/// Returns the first test that `options` fail: the blocking factor, then the workers, are within their limits.
 pub(crate) fn size_fault(options: &Options) -> Option<Fault>
     ensures { MatchOption result (AreSizes options.now) (IsSizeFault options.now) }
 {

@@ -30,7 +30,7 @@ pub fn scheduled(
     ensures answers { MatchResult result (λ s. IsScheduled design.now options.now s.2 s.0 s.1)
         (IsShowFault design.now options.now) }
 
-    // The table is one of the block.
+    // The table is a table of the block.
     ensures table { IfOk result (λ s. IsTable (rates_of design.now) (firings_of s.2 s.0)
         options.now.workers s.1) }
     ensures size { IfOk result (λ s. IsLongSize s.2 options.now.workers s.0.repetitions) }
@@ -56,7 +56,7 @@ pub fn tabled(
     ensures answers { MatchResult result (λ s. IsScheduled design.now options.now s.1 period.now s.0)
         (IsShowFault design.now options.now) }
 
-    // The table is one of the block.
+    // The table is a table of the block.
     ensures table { IfOk result (λ s. IsTable (rates_of design.now) (firings_of s.1 period.now)
         options.now.workers s.0) }
     ensures size { IfOk result (λ s. IsLongSize s.1 options.now.workers period.now.repetitions) }

@@ -28,8 +28,8 @@ use Rattle.sdf_process.specs.Output.{exchange_of, in_turn, periods_for, IsExchan
 use Rattle.sdf_process.specs.Sources.{reading_of, source_behind, Takes}
 use Rattle.sdf_process.specs.Streams.{AreWhole, Follows, GoesBy, StandsWhole, Streams, is_cut, left_by}
 
--- The start of a run: its net, a period, and the number of periods in a block; the source of its sound, the frames that
--- this has, and the frames that are owed for it; the reader and the writer.
+-- The start of a run: its net, a period, and the number of periods in a block; the source of its sound, the number of
+-- frames that this has, and the number of frames that are owed for it; the reader and the writer.
 pub record Start : Type 0 where
   pub net : Netlist Kit ℤ
   pub period : Schedule
@@ -98,7 +98,7 @@ pub record CameTo (b : Start) (g : Progress) : Type 0 where
   pub stands : StandsWhole b.net b.period b.blocking (sound_read (reading_in b) g.samples) g.blocks g.bytes g.left
   pub there : samples_run b g.blocks ≤ length g.samples
 
--- All frames that were made so far are written. `unread` frames are still to be taken, and this is what is owed.
+-- All frames that were made so far are written. `unread` frames are still to be taken, and o is what is owed.
 pub record Flows (b : Start) (g : Progress) (unread : ℕ) (source : Source) (o : Owed) (r : ReaderState)
     (w : WriterState) : Type 0 where
   pub came : CameTo b g

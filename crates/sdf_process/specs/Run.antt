@@ -51,7 +51,7 @@ Announces r samples rest a =
 abbrev pub announced_size : Format → ℕ → Announced
 announced_size f size = record { rate = f.rate; channels = f.channels; frames = size / (2 * f.channels) }
 
--- the size of the data of an input was never filled in, if it opens
+-- the size of the data of an input was never filled in, if the input opens
 abbrev pub IsUnsized : List ℕ → Type 0
 IsUnsized input = (f : Format) (size : ℕ) (rest : List ℕ) → Opens input f size rest → size ≡ 0xFFFFFFFF
 
@@ -110,10 +110,10 @@ WritesFront n q input before after = (text : List ℕ) × IsText n q input text 
 abbrev pub WhereKnown : Option (List ℕ) → (List ℕ → Type 0) → Type 0
 WhereKnown bytes P = (input : List ℕ) → bytes ≡ Some input → P input
 
--- What a run's result says of the input, and of what was written. On Ok the output's canonical file was written. On a
--- fault of the output nothing was written; nor on a fault of the input before its content, or on any fault of the input
--- if the size of its data was never filled in. A content that is cut off leaves a whole text, the writer's failure a
--- front of one, and memory and the reader nothing or a text.
+-- What a run's result says of the input, and of what was written. On Ok: the output's canonical file. On a fault of the
+-- output: nothing. On a fault of the input: nothing if it is before the content or if the size of the data was never
+-- filled in, otherwise (the content is cut off) a whole text. If the writer failed: a front of a text. If memory was
+-- refused or the reader failed: nothing or a whole text.
 abbrev pub Runs : Netlist Kit ℤ → List ℕ → List ℕ → Option (List ℕ) → Option (List ℕ) → Result (Unit {0}) Fault → Type 0
 Runs n q input before after (Ok x) = (out : Sound) × HasOutput n q input out × Appends before after (canonical_wav out)
 Runs n q input before after (Err Write) = WritesFront n q input before after
@@ -193,7 +193,7 @@ writer_failures result failures = failures
 pub record Handles {X : Type 0} (r r' : ReaderState) (w w' : WriterState) (result : Result X Fault) : Type 0 where
   -- no other fault is returned, whatever is known of the bytes
   pub faults : IfErr result IsProcessFault
-  -- nothing behind the samples is read, and no sample before all tests that come before them
+  -- nothing behind the samples is read, and no sample is read before the tests that come first
   pub leaves : Leaves r.remaining r'.remaining result
   -- whatever the reader returns, one canonical file is written, or a front of one if the run stopped behind its
   -- header, or nothing

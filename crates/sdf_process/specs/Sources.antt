@@ -29,7 +29,7 @@ ReadsMore c before frames kept r r' now (Err f) = ReadsContent c r r' (Err f)
 
 -- ---- a content, or a sound that was read before
 
--- a sound that was read before, as a content of the size of its samples
+-- a source as a content; a sound that was read before has the size of its samples
 abbrev pub reading_of : Source → Reading
 reading_of (Content c) = c
 reading_of (Heard s taken) = record {

@@ -63,7 +63,7 @@ ReadsContent c r r' (Err f) =
     (λ bytes left. ((input : List ℕ) → IsReadTo input c [] bytes → HasFault input g) × LosesFront bytes left)
     × (r'.failures ≡ r.failures) × (c.size ≢ 0xFFFFFFFF → g ≡ Truncated)))
 
--- an input was read to the end of its content, this is its sound, and its frames are those that it announced
+-- an input was read to the end of its content, this is its sound, and it has the announced number of frames
 pub record IsHeard (input : List ℕ) (s : Sound) (left : List ℕ) : Type 0 where
   pub reading : Reading
   pub read : IsReadTo input reading s.samples left
@@ -72,8 +72,8 @@ pub record IsHeard (input : List ℕ) (s : Sound) (left : List ℕ) : Type 0 whe
   pub channels : s.channels ≡ reading.channels
   pub announces : Announces reading s.samples left (announced_by s)
 
--- All that is known once a sound was heard and the header of its output is written: only the header of an output of
--- this rate and length is there.
+-- All that is known once a sound was heard and the header of its output is written. e is the rate and length of the
+-- output, of which nothing is written except the header.
 pub record Hears (x : Exchange) (r r' : ReaderState) (w w' : WriterState) (s : Sound) (e : Extent) (o : Owed) :
     Type 0 where
   pub heard : Known r.remaining r'.remaining (λ input rest. IsHeard input s rest × LosesFront input rest)

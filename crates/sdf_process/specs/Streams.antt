@@ -161,7 +161,7 @@ FeedsNext v now y made = (n : Netlist Kit ℤ) (p : Schedule) (j : ℕ) (s : Sou
     FeedsBy n p j v → CanRun n p j y → Follows n p j s few blocks bytes v.rest y →
     Makes n p j s few blocks y.frames bytes made now.rest × FeedsBy n p j now
 
--- a net can be played on the portion, from what it left
+-- a net can be played on the portion, from this state
 abbrev pub CanPlay : Netlist Kit ℤ → Schedule → Rest ℤ (List ℤ) → Portion → Type 0
 CanPlay n p rest y = (j : ℕ) × CanRun n p j y × IsFollowed n p j (Some rest) y
 
@@ -170,7 +170,7 @@ abbrev pub Plays : Netlist Kit ℤ → Schedule → Rest ℤ (List ℤ) → Rest
 Plays n p rest last y made = (j : ℕ) (s : Sound) (few blocks : ℕ) (bytes : List ℕ) →
     Follows n p j s few blocks bytes (Some rest) y → Makes n p j s few blocks y.frames bytes made (Some last)
 
--- a player can play the portion, from what it left
+-- a player can play the portion, from the state that it left
 abbrev pub CanPlayNext : Player → Portion → Type 0
 CanPlayNext v y = CanPlay v.net.now v.period.now v.rest y
 
@@ -178,7 +178,7 @@ abbrev pub PlaysNext : Player → Player → Portion → List (List ℤ) → Typ
 PlaysNext v now y made = Plays v.net.now v.period.now v.rest now.rest y made
 
 -- A run that reads and writes as it goes came this far: these samples were read, and these are the bytes of the frames
--- of this many periods of them.
+-- that it made of the first `periods` periods of them.
 pub record IsStream (n : Netlist Kit ℤ) (q : List ℕ) (c : Reading) (samples : List ℤ) (periods : ℕ)
     (frames : List ℕ) : Type 0 where
   pub within : 2 * length samples ≤ c.size

@@ -32,18 +32,18 @@ pub record IsTask (t : Task) : Type 0 where
   pub inputs : list_count Inputs t.net.now.nodes ≤ MOST_CHANNELS
   pub outputs : list_count Outputs t.net.now.nodes ≤ MOST_CHANNELS
 
--- the table is one of the net's blocks and can be run in this mode, and a WAV file can have the channels of the net
+-- the table is of blocks of the net and can be run in this mode, and a WAV file can have the channels of the net
 pub record IsShared (t : Shared) : Type 0 where
   pub table : IsBlockTableOf (rates (graph_of kit_steps t.net.now)) t.table.now
   pub may : MayRun t.table.now.table t.mode
   pub inputs : list_count Inputs t.net.now.nodes ≤ MOST_CHANNELS
   pub outputs : list_count Outputs t.net.now.nodes ≤ MOST_CHANNELS
 
--- the period is one of the net's
+-- the period is a period of the net
 abbrev pub IsScore : Score → Type 0
 IsScore t = IsPeriodOf (rates (graph_of kit_steps t.net.now)) t.period.now
 
--- a sound is cut in time for a net that is warm after the periods of warm-up, unless it is run on one thread
+-- the net is warm after the periods of warm-up of a cut, if there is one
 abbrev pub IsCut : Netlist Kit ℤ → List ℕ → Option Cut → Type 0
 IsCut n q cut = IfSome cut (λ (c : Cut). WarmsIn kit_steps n q c.warm)
 

@@ -1,5 +1,5 @@
-//! I/O rates: the channels and samples that a net exchanges with WAV files in a period. They give the rate and size of
-//! the output.
+//! I/O rates: the channels and samples that a net exchanges with WAV files in a period. With them the rate and size of
+//! an output follow from its input.
 
 ghost use Rattle.std.specs.Prelude.{◌≡◌, ◌≤◌, ◌<◌, ◌+◌, ◌*◌, ◌/◌, ℕ, List, length, nat_lt, MatchResult, Some};
 ghost use Rattle.sdf_graph.specs.Periods.{IsLeastPeriod};
@@ -58,7 +58,7 @@ pub(crate) struct Extent {
 }
 
 impl Exchange {
-    /// Returns what `net` exchanges in a period. It has at most eight inputs and at most eight outputs.
+    /// Returns what `net`, with at most eight inputs and at most eight outputs, exchanges in a period.
     pub(crate) fn of_net(net: &Net<Kit>) -> Exchange
         requires inputs { list_count Inputs net.now.nodes ≤ MOST_CHANNELS }
         requires outputs { list_count Outputs net.now.nodes ≤ MOST_CHANNELS }

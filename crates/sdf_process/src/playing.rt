@@ -63,7 +63,7 @@ impl Memory {
         }
     }
 
-    /// Plays `portion` from `rest`, the state that the periods before left, and returns its frames.
+    /// Plays `portion` from `rest`, the state that the periods before left, and returns the frames that it makes.
     fn play(
         &mut self,
         alloc: Global,
@@ -229,7 +229,7 @@ impl<'a> Player<'a> {
         }
     }
 
-    /// Runs `portion`, and returns its frames.
+    /// Runs `portion`, and returns the frames that it makes.
     pub(crate) fn run<T: Threads + Sync>(
         &mut self,
         rt: &T,

@@ -20,7 +20,7 @@ pub(crate) const KEY: &[u8] = b"cost = ";
 pub(crate) struct Place {
     pub(crate) start: usize,
     pub(crate) length: usize,
-    /// Whether an added line end has a carriage return, as the first line of the table has.
+    /// Whether a line end that is added has a carriage return, as the line end of `[[actor]]` has.
     pub(crate) long: bool,
 }
 

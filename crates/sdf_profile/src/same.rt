@@ -1,4 +1,4 @@
-//! Comparison of two documents except their costs.
+//! Comparison of two documents that may differ in their costs.
 
 ghost use Rattle.std.specs.Prelude.{◌≡◌, ◌↔◌, IsTrue, map, option_map, string_bytes};
 ghost use Rattle.sdf_document.specs.Actors.{actor_view, ActorValue};

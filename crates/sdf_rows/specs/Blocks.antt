@@ -25,7 +25,8 @@ pub record IsRound {A S T : Type 0} (s : Steps A S T) (n : Netlist A T) (k : ℕ
 abbrev pub block_after : List ℕ → ℕ → (ℕ → ℕ) → ℕ → ℕ
 block_after q j k a = k a + slice_index (block j q) a
 
--- between blocks, after b of all: each channel has room for its initial samples and for what a block puts on it
+-- between blocks, after the first b of `blocks`: each channel has room for its initial samples and for what a block
+-- puts on it
 pub record IsResting {A S T : Type 0} (s : Steps A S T) (n : Netlist A T) (inputs : List (List T)) (q : List ℕ)
     (j blocks b : ℕ) (k : ℕ → ℕ) (states : List (NodeState T S)) (ls : List (Held T)) : Type 0 where
   pub counts : (a : ℕ) → a < length n.nodes → k a ≡ b * (j * slice_index q a)

@@ -29,7 +29,7 @@ module _ {A S T : Type 0} (s : Steps A S T) (n : Netlist A T) (inputs : List (Li
         (sum_by (slice_index (at_phase z.takes j.phase)) ((wiring s n).ins j.actor))
         (puts_of s (node n j.actor) j.phase)
 
-  -- job k is job j after its firing: it has the node's answer to its block, and the node's state after it
+  -- job k is job j after its firing: it has the node's output for its block, and the node's state after it
   pub record HasFired (j k : Job A T S) : Type 0 where
     pub actor_kept : k.actor ≡ j.actor
     pub phase_kept : k.phase ≡ j.phase

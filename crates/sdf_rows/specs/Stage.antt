@@ -48,8 +48,8 @@ HasLoaded {A} {S} {T} (Some f) p done states states' jobs jobs' many more =
     ((a : ℕ) (w : NodeState T S) → (f.actor ≡ a → ⊥) → slice_index_or states' a w ≡ slice_index_or states a w) ×
     ((i : ℕ) (j : Job A T S) → (many ≡ i → ⊥) → slice_index_or jobs' i j ≡ slice_index_or jobs i j)
 
--- a job is filled for each firing of fs, of an actor each, for its column in the row; done has the number of firings of
--- each actor. Every other state and job is unchanged
+-- a job is filled for each firing of fs, for its column in the row, if their actors are all different; done has the
+-- number of firings of each actor. Every other state and job is unchanged
 pub record AreLoaded {A S T : Type 0} (row : List (Option Firing)) (done : List ℕ) (fs : List Firing)
     (states states' : List (NodeState T S)) (jobs jobs' : List (Job A T S)) : Type 0 where
   pub states_all : length states' ≡ length states
@@ -63,8 +63,8 @@ pub record AreLoaded {A S T : Type 0} (row : List (Option Firing)) (done : List 
       slice_index_or states' a w ≡ slice_index_or states a w
   pub rest : (i : ℕ) (j : Job A T S) → length fs ≤ i → slice_index_or jobs' i j ≡ slice_index_or jobs i j
 
--- what a job took is on its channels, there is room for what it made once that is gone, and it made the number of
--- samples that it puts
+-- the input of a job's firing is on its channels, there is room for its output once the input is gone, and the length
+-- of its output is what its ports put
 pub record CanSettle {A S T : Type 0} (s : Steps A S T) (n : Netlist A T) (z : Rows) (j : Job A T S)
     (ls : List (Held T)) : Type 0 where
   pub known : j.actor < length n.nodes

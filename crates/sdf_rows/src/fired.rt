@@ -31,7 +31,7 @@ pub struct TableBlocks<'a> {
     pub blocks: u32,
 }
 
-/// Returns how often each node has fired before a run: never.
+/// Returns the firing counts of all nodes before a run, which are 0.
 fn none_done(alloc: Global, repetitions: &[u32]) -> Result<Vec<u64>, AllocError>
     ensures { IfOk result (λ v. v.items ≡ map (λ _. 0) repetitions.now) }
 {

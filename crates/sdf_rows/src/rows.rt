@@ -17,7 +17,7 @@ use std::thread::Threads;
 /// Runs `net` for `blocks` blocks, as `table` says. The firings of a row run in parallel, each in a worker of its own,
 /// and are joined before the next row begins. The gate gets the column of a firing as its processor.
 ///
-/// The room for all samples is taken before the first firing. A channel has room for its initial samples and for what
+/// Room for all samples is allocated before the first firing. A channel has room for its initial samples and for what
 /// one block puts on it. If the system starts no thread, the firings of a row run one after another.
 pub fn run_rows<R: Threads + AllocGlobal + Sync, A: Actor, G: Gate>(
     rt: &R,

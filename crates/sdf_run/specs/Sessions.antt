@@ -22,14 +22,14 @@ use Rattle.sdf_answer.specs.declared.fault.RunFault.TheVariants.{SessionFailed}
 use Rattle.sdf_run.specs.declared.mode.Mode.{Mode}
 use Rattle.sdf_run.specs.declared.mode.Mode.TheVariants.{Rows, Rings}
 
--- there are many lists, and each has the samples of this number of blocks
+-- there are `many` lists, and each has the samples of this number of blocks, `samples` for a block
 pub record AreBlocks {T : Type 0} (many samples blocks : ℕ) (inputs : List (List T)) : Type 0 where
   pub few : blocks ≤ 4294967295
   pub count : length inputs ≡ many
   pub each : (e : ℕ) → e < length inputs → length (slice_index_or inputs e []) ≡ blocks * samples
 
--- a net, a schedule of its period, and a table for blocks of factor periods; the state that the feeds left, unless the
--- session is spent, and the counts
+-- a net, a schedule of its period, and a table for blocks of `factor` periods; the net state that the feeds left,
+-- unless the session is spent, and the counts
 pub record SessionValue (A S T : Type 0) : Type 0 where
   pub net : Netlist A T
   pub period : Schedule
@@ -53,7 +53,8 @@ IsModeFault t (Rings patience) NotHomed = IsHomed t → ⊥
 IsModeFault t (Rings patience) Patience = IsHomed t × (MOST_PATIENCE < patience)
 IsModeFault t (Rings patience) fault = ⊥
 
--- a run of these blocks takes these rounds: over rings each does some firing
+-- a run of `blocks` blocks can take this number of rounds: by rows, one for each row; over rings, at most one for each
+-- firing, and at least one if there are blocks
 abbrev pub HasRounds : Tabled → List ℕ → ℕ → Mode → ℕ → ℕ → Type 0
 HasRounds t q j Rows blocks rounds = rounds ≡ blocks * length t.rows
 HasRounds t q j (Rings patience) blocks rounds = (rounds ≤ blocks * (j * sum q)) × (0 < blocks → 0 < rounds)
@@ -71,8 +72,8 @@ abbrev pub FeedsBlocks : {A S T : Type 0} → SessionValue A S T → ℕ → Lis
 FeedsBlocks v blocks inputs = AreBlocks (list_count Inputs v.net.nodes)
     (v.factor * period_samples v.net.nodes Inputs v.period.repetitions) blocks inputs
 
--- the session is in the state after this number of blocks in the lists fed, of which a run makes the lists made: it
--- holds what that run leaves
+-- the session is in the state after this number of blocks in the lists fed: it holds the net state that a run on them
+-- leaves, which makes the lists made
 pub record StandsAfter {A S T : Type 0} (s : Steps A S T) (v : SessionValue A S T) (blocks : ℕ)
     (fed made : List (List T)) : Type 0 where
   pub given : HasInputs v.net v.period.repetitions (blocks * v.factor) fed
@@ -123,7 +124,7 @@ after_fault v OutOfMemory = record v { rest = None }
 after_fault v NoWorker = record v { rest = None }
 after_fault v fault = v
 
--- there are many lists, and no sample in them
+-- there are `many` lists, and no sample in them
 pub record AreNone {T : Type 0} (many : ℕ) (inputs : List (List T)) : Type 0 where
   pub count : length inputs ≡ many
   pub each : (e : ℕ) → slice_index_or inputs e [] ≡ []

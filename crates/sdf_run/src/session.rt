@@ -157,7 +157,7 @@ fn go_on<R: Threads + AllocGlobal + Sync, A: Actor, G: Gate>(
 }
 
 impl<'a, A: Actor> Session<'a, A> {
-    /// Opens a session that was fed nothing. The faults, over rings only, in this order: 30 NotHomed, 31 Patience.
+    /// Opens a session, before its first feed. The tests, over rings only, in this order: 30 NotHomed, 31 Patience.
     pub fn open(
         alloc: Global,
         net: &'a Net<A>,
@@ -203,7 +203,7 @@ impl<'a, A: Actor> Session<'a, A> {
     /// samples of the same number of blocks. Lists without samples are 0 blocks, and make empty lists.
     ///
     /// Returns 29 InputLength if the lists are not whole blocks, and leaves the session unchanged. After 1 OutOfMemory
-    /// the session is spent, and returns 33 SessionFailed. 32 NoWorker would spend it too, if a runner returned it.
+    /// the session is spent, and returns 33 SessionFailed.
     pub fn feed<R: Threads + AllocGlobal + Sync, G: Gate>(
         &mut self,
         rt: &R,
