@@ -29,47 +29,47 @@ pub fn net_facts<A: Actor>(net: &Net<A>)
     let _repetitions = net.repetitions();
 }
 
-/// Proves that a net and any period of it have what the laws of runs need.
+/// States that a net and any period of it have what the laws of runs need.
 pub fn nets_have_periods<A: Actor>(net: &Net<A>)
     ensures { (p : Schedule) → IsPeriodOf (rates (graph_of A.steps net.now)) p → HasPeriod A.steps net.now p }
 {
     net_facts(net);
 }
 
-/// Proves that a block of few firings reads and makes few samples.
+/// States that a block of few firings reads and makes few samples.
 pub fn blocks_are_small<A: Actor>(net: &Net<A>)
     ensures { AreBlocksSmall A.steps net.now }
 {
     net_facts(net);
 }
 
-/// Proves that a net with a period can be run for any number of periods that its inputs reach.
+/// States that a net with a period can be run for any number of periods that its inputs reach.
 pub fn nets_can_run<A: Actor>()
     ensures { NetsCanRun A.steps }
 {}
 
-/// Proves that the outputs of a run begin with the outputs of a run of fewer periods.
+/// States that the outputs of a run begin with the outputs of a run of fewer periods.
 pub fn runs_go_on<A: Actor>()
     ensures { RunsGoOn A.steps }
 {
     one_history::<A>();
 }
 
-/// Proves that a run fed in pieces makes, joined, the outputs of one run, and leaves the same net state.
+/// States that a run fed in pieces makes, joined, the outputs of one run, and leaves the same net state.
 pub fn feeds_go_on<A: Actor, B: Actor<Token = A::Token, State = A::State>>()
     ensures runs { FeedsGoOn A.steps B.steps }
     ensures inputs { BegunNetsAsk A.steps B.steps }
     ensures outputs { BegunNetsMake A.steps B.steps }
 {}
 
-/// Proves that a net that begins with what whole periods left can be run in place of the first net, from there on.
+/// States that a net that begins with what whole periods left can be run in place of the first net, from there on.
 pub fn begun_nets_go_on<A: Actor, B: Actor<Token = A::Token, State = A::State>>()
     ensures whole { PeriodsMayLeave A.steps }
     ensures runs { BegunRunsGoOn A.steps B.steps }
     ensures faults { BegunRunsFail A.steps B.steps }
 {}
 
-/// Proves that a history begins with the initial samples of the channels, and that what its sinks took is the outputs.
+/// States that a history begins with the initial samples of the channels, and that what its sinks took is the outputs.
 pub fn histories_make_outputs<A: Actor>()
     ensures begin { HistoriesBegin A.steps }
     ensures took { SinksTakeAll A.steps }
@@ -77,23 +77,23 @@ pub fn histories_make_outputs<A: Actor>()
     ensures nothing { NothingMakesNothing A.steps }
 {}
 
-/// Proves that what a history's sinks took, with what is left, is a run.
+/// States that what a history's sinks took, with what is left, is a run.
 pub fn histories_make_runs<A: Actor>()
     ensures runs { SinksMakeRuns A.steps }
     ensures nothing { NothingRuns A.steps }
 {}
 
-/// Proves that a node takes from the channels that lead to it, each at one of its ports, and from no other.
+/// States that a node takes from the channels that lead to it, each at one of its ports, and from no other.
 pub fn nodes_take_theirs<A: Actor>()
     ensures { NodesTakeTheirs A.steps }
 {}
 
-/// Proves that the sizes of a firing fit its node's ports.
+/// States that the sizes of a firing fit its node's ports.
 pub fn plans_fit<A: Actor>()
     ensures { PlansFit A.steps }
 {}
 
-/// Proves that a firing of an enabled node takes its block from the front of its channels, and leads from one history
+/// States that a firing of an enabled node takes its block from the front of its channels, and leads from one history
 /// to the next.
 pub fn firings_move_on<A: Actor>()
     ensures counts { BlocksAreCounted A.steps }

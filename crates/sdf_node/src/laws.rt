@@ -7,28 +7,28 @@ ghost use Rattle.sdf_node.specs.Kept.{NodesKeepStates};
 use sdf_actor::Actor;
 pub use sdf_actor::laws::{locals_are_history, locals_grow};
 
-/// Proves that a node with firings left can do the next one, and is at the phase of that firing.
+/// States that a node with firings left can do the next one, and is at the phase of that firing.
 pub fn nodes_can_step<A: Actor>()
     ensures steps { NodesCanStep A.steps }
     ensures phases { NodesKeepPhase A.steps }
 {}
 
-/// Proves that a node of one phase can do any number of its remaining firings in one batch.
+/// States that a node of one phase can do any number of its remaining firings in one batch.
 pub fn nodes_can_step_many<A: Actor>()
     ensures { NodesCanStepMany A.steps }
 {}
 
-/// Proves that consecutive blocks of one size, joined, are the list that they were cut from.
+/// States that consecutive blocks of one size, joined, are the list that they were cut from.
 pub fn blocks_join<T>()
     ensures { BlocksJoin T }
 {}
 
-/// Proves that a sink's list is all that the sink took.
+/// States that a sink's list is all that the sink took.
 pub fn sinks_hold_lists<A: Actor>()
     ensures { SinksHoldLists A.steps }
 {}
 
-/// Proves that the state of a node follows from all that it took.
+/// States that the state of a node follows from all that it took.
 pub fn nodes_keep_states<A: Actor>()
     ensures { NodesKeepStates A.steps }
 {}

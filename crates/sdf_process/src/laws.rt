@@ -6,7 +6,7 @@ use sdf_actor::laws::one_history;
 use sdf_file::Design;
 use sdf_kit::Kit;
 
-/// Proves that there is one output: every run of a design on a WAV file makes the same sound, by whatever order of
+/// States that there is one output: every run of a design on a WAV file makes the same sound, by whatever order of
 /// firings. The proof depends on the uniqueness of channel histories (Kahn 1974) and of the sound in a file.
 pub fn one_output(design: &Design)
     ensures { OneOutput design.now }

@@ -259,7 +259,7 @@ impl<'a, A: Actor> Session<'a, A> {
     }
 }
 
-/// Proves that the outputs of a session's feeds, joined, are the outputs of one run on all that they were given.
+/// States that the outputs of a session's feeds, joined, are the outputs of one run on all that they were given.
 pub fn feeds_are_one_run<A: Actor>()
     ensures { FeedsAreOneRun A.steps }
 {}
