@@ -78,7 +78,7 @@ module _ {A S T : Type 0} (s : Steps A S T) (fits : (x : A) → PutsFit s x) (n 
       blocks : (i : ℕ) → i < k a → length (get_or (taken_before (wiring s n) V a (k a)) i []) ≡
           total_in s x (phase s x i)
       blocks i h =
-          blocks_long (wiring s n) (wired s n good) V a (k a) known
+          blocks_long (wired s n good) V a (k a) known
           (λ c l e.
           let own : (wiring s n).rates.consumed c (k ((wiring s n).rates.target c)) ≡
           (wiring s n).rates.consumed c (k a) = ap (λ b. (wiring s n).rates.consumed c (k b)) e in

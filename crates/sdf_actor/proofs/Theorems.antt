@@ -54,11 +54,10 @@ locals_begin s n inputs a good = local_begins (wiring s n) (wired s n good) (ans
 
 pub locals_grow : {A S T : Type 0} (s : Steps A S T) → LocalsGrow s
 locals_grow s n inputs a k V W b good known local once =
-    local_grows (wiring s n) (wired s n good) (answers s n inputs) a k known V W local b once
+    local_grows (wired s n good) known local once
 
 pub locals_meet : {A S T : Type 0} (s : Steps A S T) → LocalsMeet s
-locals_meet s n inputs k own good =
-    locals_are_history (wiring s n) (wired s n good) (answers s n inputs) k own
+locals_meet s n inputs k own good = locals_are_history (wired s n good) k own
 
 pub periods_are_whole : {A S T : Type 0} (s : Steps A S T) → PeriodsAreWhole s
 periods_are_whole s n q b good shape alike accepted =
