@@ -8,7 +8,7 @@ use Rattle.sdf_actor.specs.Laws.{HistoryExists, HistoryGrowsByFiring}
 use Rattle.sdf_actor.specs.NetFaults.{IsAccepted}
 use Rattle.sdf_actor.specs.Nets.{Netlist, wiring, IsNet}
 use Rattle.sdf_actor.specs.Steps.{Steps}
-use Rattle.sdf_actor.proofs.Theorems.{nets_are_wired, ports_have_channels, taken_stays}
+use Rattle.sdf_actor.proofs.Theorems.{nets_are_wired, ports_have_channels}
 use Rattle.sdf_answer.specs.Feeds.{FeedsGoOn, BegunNetsAsk, BegunNetsMake, SinksMakeRuns, NothingRuns}
 use Rattle.sdf_answer.specs.Feeds.{PeriodsMayLeave, BegunRunsGoOn, BegunRunsFail}
 use Rattle.sdf_answer.specs.Laws.{RunsGoOn, NetsCanRun, HistoriesBegin, SinksTakeAll, SinksMakeOutputs}
@@ -86,16 +86,16 @@ pub nothing_runs : {A S T : Type 0} (s : Steps A S T) → NothingRuns s
 nothing_runs s = none_runs s (nets_are_wired s)
 
 pub nodes_take_theirs : {A S T : Type 0} (s : Steps A S T) → NodesTakeTheirs s
-nodes_take_theirs s = take_theirs s (nets_are_wired s) (ports_have_channels s)
+nodes_take_theirs = take_theirs
 
 pub plans_fit : {A S T : Type 0} (s : Steps A S T) → PlansFit s
-plans_fit s = fit s (nets_are_wired s) (ports_have_channels s)
+plans_fit = fit
 
 pub blocks_are_counted : {A S T : Type 0} (s : Steps A S T) → BlocksAreCounted s
 blocks_are_counted = are_counted
 
 pub blocks_stand : {A S T : Type 0} (s : Steps A S T) → BlocksStand s
-blocks_stand s = stand s (nets_are_wired s) (ports_have_channels s)
+blocks_stand = stand
 
 pub firings_move_on : {A S T : Type 0} (s : Steps A S T) → HistoryGrowsByFiring s → FiringsMoveOn s
-firings_move_on s grows = move_on s (nets_are_wired s) (ports_have_channels s) grows (taken_stays s)
+firings_move_on = move_on

@@ -34,7 +34,8 @@ linear f q none anew (suc b) =
     omega arith
 
 -- the samples of several periods are those of one times their number
-in_all : (block times periods : ℕ) {samples : ℕ} → block * times ≡ samples → block * (periods * times) ≡ periods * samples
+in_all : (block times periods : ℕ) {samples : ℕ} → block * times ≡ samples →
+    block * (periods * times) ≡ periods * samples
 in_all block times periods one =
     (let all : block * (periods * times) ≡ periods * (block * times) = omega arith in all) ∙ ap (λ k. periods * k) one
 
