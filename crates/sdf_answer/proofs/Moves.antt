@@ -9,12 +9,11 @@ use Rattle.sdf_graph.specs.Rates.{Rates}
 use Rattle.sdf_graph.specs.Sequences.{IsEnabled}
 use Rattle.sdf_actor.specs.Steps.{Steps}
 use Rattle.sdf_actor.specs.Histories.{Wiring, taken, taken_before, IsWired, spread}
-use Rattle.sdf_actor.specs.Nets.{Netlist, wiring, answers, IsNet, InputsReach, IsHistoryOf}
-use Rattle.sdf_actor.specs.Laws.{HistoryGrowsByFiring, NetsAreWired, PortsHaveChannels, TakenStays, after_firing}
+use Rattle.sdf_actor.specs.Nets.{wiring, answers}
+use Rattle.sdf_actor.specs.Laws.{HistoryGrowsByFiring, after_firing}
+use Rattle.sdf_actor.proofs.Theorems.{nets_are_wired, taken_stays}
 use Rattle.sdf_answer.specs.Blocks.{at_ports}
 use Rattle.sdf_answer.specs.Laws.{BlocksAreCounted, NodesTakeTheirs, PlansFit, BlocksStand, FiringsMoveOn}
-use Rattle.sdf_answer.specs.Moves.{IsLeft, MovesOn}
-use Rattle.sdf_answer.specs.Sizes.{IsPlan}
 use Rattle.sdf_answer.proofs.Routes.{spread_same, ins_once, ins_all, at_ins, sum_taken, sum_put}
 
 -- pieces that are the same, joined
@@ -58,28 +57,28 @@ taken_kept f V W a i on =
     between_is (V c) at end ∙ (ap (λ xs. drop at (take end xs)) is.0
     ∙ (ap (drop at) (take-take end (length (V c)) (W c) is.1) ∙ sym (between_is (W c) at end))))
 
-module _ {A S T : Type 0} (s : Steps A S T) (wired : NetsAreWired s) (ports : PortsHaveChannels s) where
+module _ {A S T : Type 0} (s : Steps A S T) where
   pub nodes_take_theirs : NodesTakeTheirs s
   nodes_take_theirs n a c good known l = (
-    λ e. let at = ins_all s ports n good a c known l e in
+    λ e. let at = ins_all good a c known l e in
         (at.0, at.1, get_or_default ((wiring s n).ins a) at.0 c 0 at.1 ∙ at.2),
-    λ many. at_ins s ports n good a many c known l,
+    λ many. at_ins good a many c known l,
   )
 
   pub plans_fit : PlansFit s
   plans_fit n a i takes puts good known plan = record {
     ins_are = record {
-      known = λ p l. ((wired n good).ins_are a p known l).0;
+      known = λ p l. ((nets_are_wired s n good).ins_are a p known l).0;
       sized = plan.takes_all;
-      once = λ p q. ins_once s ports n good a p q known;
+      once = λ p q. ins_once good a p q known;
     };
     outs_are = record {
-      known = λ p l. ((wired n good).outs_are a p known l).0;
+      known = λ p l. ((nets_are_wired s n good).outs_are a p known l).0;
       sized = plan.puts_all;
-      once = λ p q. (wired n good).outs_once a p q known;
+      once = λ p q. (nets_are_wired s n good).outs_once a p q known;
     };
-    taken = sum_taken s ports n good a i known takes puts plan;
-    put = sum_put s ports n good a i known takes puts plan;
+    taken = sum_taken good known plan;
+    put = sum_put good known plan;
   }
 
   pub blocks_stand : BlocksStand s
@@ -89,7 +88,7 @@ module _ {A S T : Type 0} (s : Steps A S T) (wired : NetsAreWired s) (ports : Po
       ((wiring s n).ins a)
       (λ i l.
       let c : ℕ = get_or ((wiring s n).ins a) i 0 in
-      let is = (wired n good).ins_are a i known l in
+      let is = (nets_are_wired s n good).ins_are a i known l in
       let size : get_or takes c 0 ≡ (wiring s n).rates.consumed c (k a + 1) - (wiring s n).rates.consumed c (k a) =
       omega (arith, plan.taken c is.0 is.1) in
       let own : k ((wiring s n).rates.target c) ≡ k a = ap k is.1 in
@@ -97,132 +96,124 @@ module _ {A S T : Type 0} (s : Steps A S T) (wired : NetsAreWired s) (ports : Po
       ap (take ((wiring s n).rates.consumed c (k a + 1) - (wiring s n).rates.consumed c (k a)))
       (stands c is.0 ∙ ap (λ i. drop ((wiring s n).rates.consumed c i) (V c)) own))
 
-  module _ (grows : HistoryGrowsByFiring s) (stays : TakenStays s) (n : Netlist A T) (inputs : List (List T))
-      (k m : ℕ → ℕ) (a : ℕ) (V : ℕ → List T) (takes puts : List ℕ) (queue : ℕ → List T) (good : IsNet s n)
-      (known : a < length n.nodes) (on : IsEnabled (wiring s n).rates k a) (one : m a ≡ k a + 1)
-      (others : (b : ℕ) → (a ≡ b → ⊥) → m b ≡ k b) (reach : InputsReach n inputs m)
-      (r : IsHistoryOf s n inputs k V) (plan : IsPlan s n a (k a) takes puts) (stands : IsLeft s n k V queue) where
-    wire_is : IsWired (wiring s n)
-    wire_is = wired n good
+  -- the names on the left are those of FiringsMoveOn, which gives their types
+  pub firings_move_on : HistoryGrowsByFiring s → FiringsMoveOn s
+  firings_move_on grows n inputs k m a V takes puts queue good known on one others reach r plan stands = record {
+    is = grows n inputs k m a V good known on one others reach r;
+    left = left;
+    own = took_own;
+    others = took_other;
+    ahead = takes_ahead;
+  }
+    where
+      wire_is : IsWired (wiring s n)
+      wire_is = nets_are_wired s n good
 
-    abbrev W : ℕ → List T
-    W = after_firing s n inputs k V a
+      W : ℕ → List T
+      W = after_firing s n inputs k V a
 
-    abbrev now : List T
-    now = answers s n inputs a (taken_before (wiring s n) V a (k a)) (taken (wiring s n) V a (k a))
+      now : List T
+      now = answers s n inputs a (taken_before (wiring s n) V a (k a)) (taken (wiring s n) V a (k a))
 
-    kept : (c : ℕ) → V c ≡ take (length (V c)) (W c)
-    kept c = sym (take_at (V c) (spread (λ d. (wiring s n).rates.produced d (k a + 1)
-        - (wiring s n).rates.produced d (k a)) ((wiring s n).outs a) now c) (length (V c)) refl)
+      kept : (c : ℕ) → V c ≡ take (length (V c)) (W c)
+      kept c = sym (take_at (V c) (spread (λ d. (wiring s n).rates.produced d (k a + 1)
+          - (wiring s n).rates.produced d (k a)) ((wiring s n).outs a) now c) (length (V c)) refl)
 
-    -- the answer is dealt out by the sizes
-    dealt : (c : ℕ) → spread (λ d. get_or puts d 0) ((wiring s n).outs a) now c ≡
-        spread (λ d. (wiring s n).rates.produced d (k a + 1) - (wiring s n).rates.produced d (k a))
-        ((wiring s n).outs a) now c
-    dealt c =
-        spread_same (λ d. get_or puts d 0) (λ d. (wiring s n).rates.produced d (k a + 1)
-        - (wiring s n).rates.produced d (k a)) ((wiring s n).outs a) now c
-        (λ p q. let is = wire_is.outs_are a p known q in
-        omega (arith, plan.put (get_or ((wiring s n).outs a) p 0) is.0 is.1))
+      -- the answer is dealt out by the sizes
+      dealt : (c : ℕ) → spread (λ d. get_or puts d 0) ((wiring s n).outs a) now c ≡
+          spread (λ d. (wiring s n).rates.produced d (k a + 1) - (wiring s n).rates.produced d (k a))
+          ((wiring s n).outs a) now c
+      dealt c =
+          spread_same (λ d. get_or puts d 0) (λ d. (wiring s n).rates.produced d (k a + 1)
+          - (wiring s n).rates.produced d (k a)) ((wiring s n).outs a) now c
+          (λ p q. let is = wire_is.outs_are a p known q in
+          omega (arith, plan.put (get_or ((wiring s n).outs a) p 0) is.0 is.1))
 
-    -- what is dropped of a channel goes on from what was consumed to what is
-    goes : (c : ℕ) → c < length n.wires →
-        (wiring s n).rates.consumed c (k ((wiring s n).rates.target c))
-        + at_ports ((wiring s n).ins a) (get_or takes c 0) c ≡
-        (wiring s n).rates.consumed c (m ((wiring s n).rates.target c))
-    goes c l = go (cases_eq a ((wiring s n).rates.target c))
-      where
-        at : at_ports ((wiring s n).ins a) (get_or takes c 0) c ≡
-            cond (eqb ((wiring s n).rates.target c) a) (get_or takes c 0) 0
-        at = at_ins s ports n good a (get_or takes c 0) c known l
+      -- what is dropped of a channel goes on from what was consumed to what is
+      goes : (c : ℕ) → c < length n.wires →
+          (wiring s n).rates.consumed c (k ((wiring s n).rates.target c))
+          + at_ports ((wiring s n).ins a) (get_or takes c 0) c ≡
+          (wiring s n).rates.consumed c (m ((wiring s n).rates.target c))
+      goes c l = go (cases_eq a ((wiring s n).rates.target c))
+        where
+          at : at_ports ((wiring s n).ins a) (get_or takes c 0) c ≡
+              cond (eqb ((wiring s n).rates.target c) a) (get_or takes c 0) 0
+          at = at_ins good a (get_or takes c 0) c known l
 
-        go : (a ≡ (wiring s n).rates.target c) ⊎ (a ≡ (wiring s n).rates.target c → ⊥) →
-            (wiring s n).rates.consumed c (k ((wiring s n).rates.target c))
-            + at_ports ((wiring s n).ins a) (get_or takes c 0) c ≡
-            (wiring s n).rates.consumed c (m ((wiring s n).rates.target c))
-        go (inl e) =
-            let size : at_ports ((wiring s n).ins a) (get_or takes c 0) c ≡ get_or takes c 0 =
-            at ∙ ap (λ t. cond t (get_or takes c 0) 0) (eq-eqb ((wiring s n).rates.target c) a (sym e)) in
-            let own : (wiring s n).rates.consumed c (k ((wiring s n).rates.target c)) ≡
-            (wiring s n).rates.consumed c (k a) = ap (λ d. (wiring s n).rates.consumed c (k d)) (sym e) in
-            let then : (wiring s n).rates.consumed c (m ((wiring s n).rates.target c)) ≡
-            (wiring s n).rates.consumed c (k a + 1) =
-            ap (λ d. (wiring s n).rates.consumed c (m d)) (sym e) ∙ ap ((wiring s n).rates.consumed c) one in
-            omega (arith, size, own, then, plan.taken c l (sym e))
-        go (inr ne) =
-            let size : at_ports ((wiring s n).ins a) (get_or takes c 0) c ≡ 0 =
-            at ∙ ap (λ t. cond t (get_or takes c 0) 0) (ne_eqb ((wiring s n).rates.target c) a (λ e. ne (sym e))) in
-            let then : (wiring s n).rates.consumed c (m ((wiring s n).rates.target c)) ≡
-            (wiring s n).rates.consumed c (k ((wiring s n).rates.target c)) =
-            ap ((wiring s n).rates.consumed c) (others ((wiring s n).rates.target c) ne) in
-            omega (arith, size, then)
+          go : (a ≡ (wiring s n).rates.target c) ⊎ (a ≡ (wiring s n).rates.target c → ⊥) →
+              (wiring s n).rates.consumed c (k ((wiring s n).rates.target c))
+              + at_ports ((wiring s n).ins a) (get_or takes c 0) c ≡
+              (wiring s n).rates.consumed c (m ((wiring s n).rates.target c))
+          go (inl e) =
+              let size : at_ports ((wiring s n).ins a) (get_or takes c 0) c ≡ get_or takes c 0 =
+              at ∙ ap (λ t. cond t (get_or takes c 0) 0) (eq-eqb ((wiring s n).rates.target c) a (sym e)) in
+              let own : (wiring s n).rates.consumed c (k ((wiring s n).rates.target c)) ≡
+              (wiring s n).rates.consumed c (k a) = ap (λ d. (wiring s n).rates.consumed c (k d)) (sym e) in
+              let then : (wiring s n).rates.consumed c (m ((wiring s n).rates.target c)) ≡
+              (wiring s n).rates.consumed c (k a + 1) =
+              ap (λ d. (wiring s n).rates.consumed c (m d)) (sym e) ∙ ap ((wiring s n).rates.consumed c) one in
+              omega (arith, size, own, then, plan.taken c l (sym e))
+          go (inr ne) =
+              let size : at_ports ((wiring s n).ins a) (get_or takes c 0) c ≡ 0 =
+              at ∙ ap (λ t. cond t (get_or takes c 0) 0) (ne_eqb ((wiring s n).rates.target c) a (λ e. ne (sym e))) in
+              let then : (wiring s n).rates.consumed c (m ((wiring s n).rates.target c)) ≡
+              (wiring s n).rates.consumed c (k ((wiring s n).rates.target c)) =
+              ap ((wiring s n).rates.consumed c) (others ((wiring s n).rates.target c) ne) in
+              omega (arith, size, then)
 
-    -- all of it has come
-    come : (c : ℕ) → c < length n.wires → (wiring s n).rates.consumed c (m ((wiring s n).rates.target c)) ≤ length (V c)
-    come c l = go (cases_eq a ((wiring s n).rates.target c))
-      where
-        go : (a ≡ (wiring s n).rates.target c) ⊎ (a ≡ (wiring s n).rates.target c → ⊥) →
-            (wiring s n).rates.consumed c (m ((wiring s n).rates.target c)) ≤ length (V c)
-        go (inl e) =
-            let then : (wiring s n).rates.consumed c (m ((wiring s n).rates.target c)) ≡
-            (wiring s n).rates.consumed c (k a + 1) =
-            ap (λ d. (wiring s n).rates.consumed c (m d)) (sym e) ∙ ap ((wiring s n).rates.consumed c) one in
-            omega (arith, then, enabled_within (wiring s n).rates k a on c l (sym e), r.lengths c l)
-        go (inr ne) =
-            let then : (wiring s n).rates.consumed c (m ((wiring s n).rates.target c)) ≡
-            (wiring s n).rates.consumed c (k ((wiring s n).rates.target c)) =
-            ap ((wiring s n).rates.consumed c) (others ((wiring s n).rates.target c) ne) in
-            omega (arith, then, r.lengths c l, r.enough c l)
+      -- all of it has come
+      come : (c : ℕ) → c < length n.wires → (wiring s n).rates.consumed c (m ((wiring s n).rates.target c)) ≤ length (V c)
+      come c l = go (cases_eq a ((wiring s n).rates.target c))
+        where
+          go : (a ≡ (wiring s n).rates.target c) ⊎ (a ≡ (wiring s n).rates.target c → ⊥) →
+              (wiring s n).rates.consumed c (m ((wiring s n).rates.target c)) ≤ length (V c)
+          go (inl e) =
+              let then : (wiring s n).rates.consumed c (m ((wiring s n).rates.target c)) ≡
+              (wiring s n).rates.consumed c (k a + 1) =
+              ap (λ d. (wiring s n).rates.consumed c (m d)) (sym e) ∙ ap ((wiring s n).rates.consumed c) one in
+              omega (arith, then, enabled_within (wiring s n).rates k a on c l (sym e), r.lengths c l)
+          go (inr ne) =
+              let then : (wiring s n).rates.consumed c (m ((wiring s n).rates.target c)) ≡
+              (wiring s n).rates.consumed c (k ((wiring s n).rates.target c)) =
+              ap ((wiring s n).rates.consumed c) (others ((wiring s n).rates.target c) ne) in
+              omega (arith, then, r.lengths c l, r.enough c l)
 
-    left : (c : ℕ) → c < length n.wires →
-        drop (at_ports ((wiring s n).ins a) (get_or takes c 0) c) (queue c)
-        ++ spread (λ d. get_or puts d 0) ((wiring s n).outs a) now c ≡
-        drop ((wiring s n).rates.consumed c (m ((wiring s n).rates.target c))) (W c)
-    left c l =
-        let more : List T = spread (λ d. (wiring s n).rates.produced d (k a + 1) - (wiring s n).rates.produced d (k a))
-        ((wiring s n).outs a) now c in
-        let many : ℕ = at_ports ((wiring s n).ins a) (get_or takes c 0) c in
-        ap (λ ys. drop many (queue c) ++ ys) (dealt c) ∙
-        (ap (λ q. drop many q ++ more) (stands c l) ∙ (ap (λ q. q ++ more)
-        (drop-drop many ((wiring s n).rates.consumed c (k ((wiring s n).rates.target c))) (V c)) ∙
-        (ap (λ i. drop i (V c) ++ more) (goes c l) ∙ sym
-        (drop-append-le ((wiring s n).rates.consumed c (m ((wiring s n).rates.target c))) (V c)
-        more (come c l)))))
+      left : (c : ℕ) → c < length n.wires →
+          drop (at_ports ((wiring s n).ins a) (get_or takes c 0) c) (queue c)
+          ++ spread (λ d. get_or puts d 0) ((wiring s n).outs a) now c ≡
+          drop ((wiring s n).rates.consumed c (m ((wiring s n).rates.target c))) (W c)
+      left c l =
+          let more : List T = spread (λ d. (wiring s n).rates.produced d (k a + 1) - (wiring s n).rates.produced d (k a))
+          ((wiring s n).outs a) now c in
+          let many : ℕ = at_ports ((wiring s n).ins a) (get_or takes c 0) c in
+          ap (λ ys. drop many (queue c) ++ ys) (dealt c) ∙
+          (ap (λ q. drop many q ++ more) (stands c l) ∙ (ap (λ q. q ++ more)
+          (drop-drop many ((wiring s n).rates.consumed c (k ((wiring s n).rates.target c))) (V c)) ∙
+          (ap (λ i. drop i (V c) ++ more) (goes c l) ∙ sym
+          (drop-append-le ((wiring s n).rates.consumed c (m ((wiring s n).rates.target c))) (V c)
+          more (come c l)))))
 
-    -- the blocks taken then
-    took_own : taken_before (wiring s n) W a (m a) ≡
-        taken_before (wiring s n) V a (k a) ++ taken (wiring s n) V a (k a) ∷ []
-    took_own =
-        let count : m a ≡ suc (k a) = omega arith in
-        ap (taken_before (wiring s n) W a) count ∙
-        sym (stays n V W a (suc (k a)) good known (λ c l e. subst (λ i. (wiring s n).rates.consumed c i ≤ length (V c))
-        (ap m e ∙ count) (come c l)) (λ c l. kept c))
+      -- the blocks taken then
+      took_own : taken_before (wiring s n) W a (m a) ≡
+          taken_before (wiring s n) V a (k a) ++ taken (wiring s n) V a (k a) ∷ []
+      took_own =
+          let count : m a ≡ suc (k a) = omega arith in
+          ap (taken_before (wiring s n) W a) count ∙
+          sym (taken_stays s n V W a (suc (k a)) good known (λ c l e. subst (λ i. (wiring s n).rates.consumed c i ≤ length (V c))
+          (ap m e ∙ count) (come c l)) (λ c l. kept c))
 
-    took_other : (b : ℕ) → b < length n.nodes → (a ≡ b → ⊥) →
-        taken_before (wiring s n) W b (m b) ≡ taken_before (wiring s n) V b (k b)
-    took_other b in_range ne =
-        ap (taken_before (wiring s n) W b) (others b ne) ∙
-        sym (stays n V W b (k b) good in_range (λ c l e. subst (λ i. (wiring s n).rates.consumed c i ≤ length (V c))
-        (ap m e ∙ others b ne) (come c l)) (λ c l. kept c))
+      took_other : (b : ℕ) → b < length n.nodes → (a ≡ b → ⊥) →
+          taken_before (wiring s n) W b (m b) ≡ taken_before (wiring s n) V b (k b)
+      took_other b in_range ne =
+          ap (taken_before (wiring s n) W b) (others b ne) ∙
+          sym (taken_stays s n V W b (k b) good in_range (λ c l e. subst (λ i. (wiring s n).rates.consumed c i ≤ length (V c))
+          (ap m e ∙ others b ne) (come c l)) (λ c l. kept c))
 
-    takes_ahead : (b : ℕ) → b < length n.nodes → (a ≡ b → ⊥) → IsEnabled (wiring s n).rates k b →
-        taken (wiring s n) W b (m b) ≡ taken (wiring s n) V b (k b)
-    takes_ahead b in_range ne able =
-        ap (taken (wiring s n) W b) (others b ne) ∙
-        sym (taken_kept (wiring s n) V W b (k b)
-        (λ p l. let is = wire_is.ins_are b p in_range l in
-        let c : ℕ = get_or ((wiring s n).ins b) p 0 in
-        (kept c, omega (arith, enabled_within (wiring s n).rates k b able c is.0 is.1, r.lengths c is.0))))
-
-    moves : MovesOn s n inputs k m a V takes puts queue
-    moves = record {
-      is = grows n inputs k m a V good known on one others reach r;
-      left = left;
-      own = took_own;
-      others = took_other;
-      ahead = takes_ahead;
-    }
-
-  pub firings_move_on : HistoryGrowsByFiring s → TakenStays s → FiringsMoveOn s
-  firings_move_on grows stays n inputs k m a V takes puts queue good known on one others reach r plan stands =
-      moves grows stays n inputs k m a V takes puts queue good known on one others reach r plan stands
+      takes_ahead : (b : ℕ) → b < length n.nodes → (a ≡ b → ⊥) → IsEnabled (wiring s n).rates k b →
+          taken (wiring s n) W b (m b) ≡ taken (wiring s n) V b (k b)
+      takes_ahead b in_range ne able =
+          ap (taken (wiring s n) W b) (others b ne) ∙
+          sym (taken_kept (wiring s n) V W b (k b)
+          (λ p l. let is = wire_is.ins_are b p in_range l in
+          let c : ℕ = get_or ((wiring s n).ins b) p 0 in
+          (kept c, omega (arith, enabled_within (wiring s n).rates k b able c is.0 is.1, r.lengths c is.0))))

@@ -13,7 +13,7 @@ use Rattle.sdf_actor.specs.declared.sides.Side.TheVariants.{Input, Output}
 use Rattle.sdf_actor.specs.Nets.{Netlist, wire, node, inputs_of, outputs_of, to_port, from_port, consumed_at}
 use Rattle.sdf_actor.specs.Nets.{produced_at, wiring, IsNet}
 use Rattle.sdf_actor.specs.Graphs.{rate_of}
-use Rattle.sdf_actor.specs.Laws.{PortsHaveChannels}
+use Rattle.sdf_actor.proofs.Theorems.{ports_have_channels}
 use Rattle.sdf_answer.specs.Blocks.{at_ports}
 use Rattle.sdf_answer.specs.Sizes.{IsPlan, phase_of, in_all, out_all}
 use Rattle.sdf_answer.proofs.Ports.{at_none}
@@ -63,7 +63,7 @@ produced_more s (Source ext block) p i h = omega arith
 produced_more s (Sink ext block) p i h = absurd (omega (arith, h))
 produced_more s (Inner x) p i h = rw add-one refl
 
-module _ {A S T : Type 0} (s : Steps A S T) (ports : PortsHaveChannels s) (n : Netlist A T) (good : IsNet s n) where
+module _ {A S T : Type 0} {s : Steps A S T} {n : Netlist A T} (good : IsNet s n) where
   pub at_port : (a p d : ℕ) → p < inputs_of s (node n a) → get_or ((wiring s n).ins a) p d ≡ to_port n a p
   at_port a p d h = get_or-map-range_with_len (to_port n a) 0 (inputs_of s (node n a)) p p d h (omega arith)
 
@@ -76,7 +76,7 @@ module _ {A S T : Type 0} (s : Steps A S T) (ports : PortsHaveChannels s) (n : N
       let hi : i < inputs_of s (node n a) = omega (arith, long a) in
       let hj : j < inputs_of s (node n a) = omega (arith, long a) in
       let same : to_port n a i ≡ to_port n a j = sym (at_port a i 0 hi) ∙ (e ∙ at_port a j 0 hj) in
-      sym ((ports n a i good l).0 hi).1 ∙ (ap (λ c. (wire n c).to.1) same ∙ ((ports n a j good l).0 hj).1)
+      sym ((ports_have_channels s n a i good l).0 hi).1 ∙ (ap (λ c. (wire n c).to.1) same ∙ ((ports_have_channels s n a j good l).0 hj).1)
 
   -- a channel that leads to a node is at one of its ports
   pub ins_all : (a c : ℕ) → a < length n.nodes → c < length n.wires → (wire n c).to.0 ≡ a →
@@ -85,7 +85,7 @@ module _ {A S T : Type 0} (s : Steps A S T) (ports : PortsHaveChannels s) (n : N
       let p : ℕ = (wire n c).to.1 in
       let in_range = good.to_in c l in
       let h : p < inputs_of s (node n a) = subst (λ b. p < inputs_of s (node n b)) e in_range.1 in
-      let is = (ports n a p good known).0 h in
+      let is = (ports_have_channels s n a p good known).0 h in
       let same : (wire n (to_port n a p)).to ≡ (wire n c).to = λ i. ((is.0 ∙ sym e) i, is.1 i) in
       let found : to_port n a p ≡ c = good.to_once (to_port n a p) c (good.to_all a p known h) l same in
       (p, omega (arith, long a), at_port a p 0 h ∙ found)
@@ -103,17 +103,17 @@ module _ {A S T : Type 0} (s : Steps A S T) (ports : PortsHaveChannels s) (n : N
       go (inr ne) =
           at_none ((wiring s n).ins a) many c
           (λ i h e. let hi : i < inputs_of s (node n a) = omega (arith, long a) in
-          ne (subst (λ c. (wire n c).to.0 ≡ a) (sym (at_port a i 0 hi) ∙ e) ((ports n a i good known).0 hi).0)) ∙
+          ne (subst (λ c. (wire n c).to.0 ≡ a) (sym (at_port a i 0 hi) ∙ e) ((ports_have_channels s n a i good known).0 hi).0)) ∙
           ap (λ t. cond t many 0) (sym (ne_eqb (wire n c).to.0 a ne))
 
-  module _ (a i : ℕ) (l : a < length n.nodes) (takes puts : List ℕ) (plan : IsPlan s n a i takes puts) where
+  module _ {a i : ℕ} {takes puts : List ℕ} (l : a < length n.nodes) (plan : IsPlan s n a i takes puts) where
     -- the samples that a firing of a node takes and puts in all
     pub sum_taken : sum_by (λ c. get_or takes c 0) ((wiring s n).ins a) ≡ in_all s (node n a) i
     sum_taken =
         sum_along (λ c. get_or takes c 0) (λ p. rate_of s Input (node n a) p (phase_of s (node n a) i)) (to_port n a)
         (inputs_of s (node n a))
         (λ p h.
-        let is = (ports n a p good l).0 h in
+        let is = (ports_have_channels s n a p good l).0 h in
         let c : ℕ = to_port n a p in
         let all : consumed_at s (node n (wire n c).to.0) (wire n c).to.1 (i + 1) ≡
         consumed_at s (node n (wire n c).to.0) (wire n c).to.1 i + get_or takes c 0 =
@@ -130,7 +130,7 @@ module _ {A S T : Type 0} (s : Steps A S T) (ports : PortsHaveChannels s) (n : N
         sum_along (λ c. get_or puts c 0) (λ p. rate_of s Output (node n a) p (phase_of s (node n a) i)) (from_port n a)
         (outputs_of s (node n a))
         (λ p h.
-        let is = (ports n a p good l).1 h in
+        let is = (ports_have_channels s n a p good l).1 h in
         let c : ℕ = from_port n a p in
         let all : produced_at s (node n (wire n c).from.0) (wire n c).from.1 (i + 1) ≡
         produced_at s (node n (wire n c).from.0) (wire n c).from.1 i + get_or puts c 0 =

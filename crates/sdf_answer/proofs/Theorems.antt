@@ -8,26 +8,24 @@ use Rattle.sdf_actor.specs.Laws.{HistoryExists, HistoryGrowsByFiring}
 use Rattle.sdf_actor.specs.NetFaults.{IsAccepted}
 use Rattle.sdf_actor.specs.Nets.{Netlist, wiring, IsNet}
 use Rattle.sdf_actor.specs.Steps.{Steps}
-use Rattle.sdf_actor.proofs.Theorems.{arrivals_go_on, histories_go_on, histories_grow, nets_are_wired}
-use Rattle.sdf_actor.proofs.Theorems.{periods_are_whole, ports_have_channels, rests_go_on, taken_stays}
+use Rattle.sdf_actor.proofs.Theorems.{nets_are_wired, ports_have_channels}
 use Rattle.sdf_answer.specs.Feeds.{FeedsGoOn, BegunNetsAsk, BegunNetsMake, SinksMakeRuns, NothingRuns}
 use Rattle.sdf_answer.specs.Feeds.{PeriodsMayLeave, BegunRunsGoOn, BegunRunsFail}
 use Rattle.sdf_answer.specs.Laws.{RunsGoOn, NetsCanRun, HistoriesBegin, SinksTakeAll, SinksMakeOutputs}
 use Rattle.sdf_answer.specs.Laws.{NothingMakesNothing, BlocksAreCounted, NodesTakeTheirs, PlansFit, BlocksStand}
 use Rattle.sdf_answer.specs.Laws.{FiringsMoveOn}
 use Rattle.sdf_answer.specs.Periods.{HasPeriod, AreBlocksSmall}
-use Rattle.sdf_answer.proofs.Begun.{periods_may_leave as may_leave, begun_runs_go_on as go_on, begun_runs_fail as fail}
+use Rattle.sdf_answer.proofs.Begun.{begun_runs_go_on as go_on, begun_runs_fail as fail}
 use Rattle.sdf_answer.proofs.BegunLists.{begun_nets_ask as ask, as_many_lists}
 use Rattle.sdf_answer.proofs.Feeds.{run_in_all}
 use Rattle.sdf_answer.proofs.GoingOn.{runs_go_on_of}
-use Rattle.sdf_answer.proofs.GraphTheorems.{graph_laws}
 use Rattle.sdf_answer.proofs.Histories.{histories_begin as begin, sinks_take_all as take_all}
 use Rattle.sdf_answer.proofs.Histories.{sinks_make_outputs as make_outputs, nothing_makes_nothing as makes_nothing}
 use Rattle.sdf_answer.proofs.Histories.{sinks_make_runs as make_runs, nothing_runs as none_runs}
 use Rattle.sdf_answer.proofs.Moves.{blocks_are_counted as are_counted, nodes_take_theirs as take_theirs}
 use Rattle.sdf_answer.proofs.Moves.{plans_fit as fit, blocks_stand as stand, firings_move_on as move_on}
 use Rattle.sdf_answer.proofs.Samples.{blocks_small}
-use Rattle.sdf_answer.proofs.Wholes.{can_run}
+use Rattle.sdf_answer.proofs.Wholes.{can_run, may_leave}
 
 -- a net that was accepted and any period of it have what the laws of runs ask for
 pub nets_have_periods : {A S T : Type 0} (s : Steps A S T) (n : Netlist A T) → IsNet s n → IsShape (graph_of s n) →
@@ -46,17 +44,13 @@ pub blocks_are_small : {A S T : Type 0} (s : Steps A S T) (n : Netlist A T) → 
 blocks_are_small s n net shape alike = blocks_small s n net shape alike (ports_have_channels s)
 
 pub nets_can_run : {A S T : Type 0} (s : Steps A S T) → NetsCanRun s
-nets_can_run s = can_run s graph_laws
+nets_can_run = can_run
 
 pub runs_go_on : {A S T : Type 0} (s : Steps A S T) → HistoryExists s → RunsGoOn s
-runs_go_on s exists = runs_go_on_of graph_laws s (nets_are_wired s) (ports_have_channels s) exists (histories_grow s)
+runs_go_on = runs_go_on_of
 
 pub feeds_go_on : {A B S T : Type 0} (s : Steps A S T) (r : Steps B S T) → FeedsGoOn s r
-feeds_go_on s r n m p few more first later all made on joined rest last has given full before begins after all_are
-    joined_are as_many =
-    run_in_all graph_laws s r (periods_are_whole s) (histories_go_on s r) (rests_go_on s r) (arrivals_go_on s r)
-    n m p few more first later all made on joined rest last has given full before begins after all_are
-    joined_are as_many
+feeds_go_on = run_in_all
 
 pub begun_nets_ask : {A B S T : Type 0} (s : Steps A S T) (r : Steps B S T) → BegunNetsAsk s r
 begun_nets_ask = ask
@@ -65,13 +59,13 @@ pub begun_nets_make : {A B S T : Type 0} (s : Steps A S T) (r : Steps B S T) →
 begun_nets_make s r n rest m begins = as_many_lists s r n rest m begins Outputs
 
 pub periods_may_leave : {A S T : Type 0} (s : Steps A S T) → PeriodsMayLeave s
-periods_may_leave s = may_leave graph_laws s (periods_are_whole s)
+periods_may_leave = may_leave
 
 pub begun_runs_go_on : {A B S T : Type 0} (s : Steps A S T) (r : Steps B S T) → BegunRunsGoOn s r
-begun_runs_go_on s r = go_on s r (feeds_go_on s r) (begun_nets_ask s r) (begun_nets_make s r)
+begun_runs_go_on = go_on
 
 pub begun_runs_fail : {A B S T : Type 0} (s : Steps A S T) (r : Steps B S T) → BegunRunsFail s r
-begun_runs_fail s r = fail s r (begun_nets_ask s r)
+begun_runs_fail = fail
 
 pub histories_begin : {A S T : Type 0} (s : Steps A S T) → HistoriesBegin s
 histories_begin s = begin s (nets_are_wired s)
@@ -92,16 +86,16 @@ pub nothing_runs : {A S T : Type 0} (s : Steps A S T) → NothingRuns s
 nothing_runs s = none_runs s (nets_are_wired s)
 
 pub nodes_take_theirs : {A S T : Type 0} (s : Steps A S T) → NodesTakeTheirs s
-nodes_take_theirs s = take_theirs s (nets_are_wired s) (ports_have_channels s)
+nodes_take_theirs = take_theirs
 
 pub plans_fit : {A S T : Type 0} (s : Steps A S T) → PlansFit s
-plans_fit s = fit s (nets_are_wired s) (ports_have_channels s)
+plans_fit = fit
 
 pub blocks_are_counted : {A S T : Type 0} (s : Steps A S T) → BlocksAreCounted s
 blocks_are_counted = are_counted
 
 pub blocks_stand : {A S T : Type 0} (s : Steps A S T) → BlocksStand s
-blocks_stand s = stand s (nets_are_wired s) (ports_have_channels s)
+blocks_stand = stand
 
 pub firings_move_on : {A S T : Type 0} (s : Steps A S T) → HistoryGrowsByFiring s → FiringsMoveOn s
-firings_move_on s grows = move_on s (nets_are_wired s) (ports_have_channels s) grows (taken_stays s)
+firings_move_on = move_on

@@ -4,9 +4,9 @@ use Rattle.std.proofs.Common.{subst, arith}
 use Rattle.std.specs.Prelude.{IsTrue, is_some}
 use Rattle.std.proofs.lemmas.List.Sums.{get_or-le-sum_by}
 use Rattle.std.proofs.lemmas.List.{length-map}
-use Rattle.sdf_graph.specs.Rates.{rates, IsShape, IsSound, IsAlike}
+use Rattle.sdf_graph.specs.Rates.{Rates, rates, IsSound}
 use Rattle.sdf_graph.specs.Sequences.{IsPass, IsPeriod, repeated}
-use Rattle.sdf_sched.specs.Period.{IsPeriodOf}
+use Rattle.sdf_sched.specs.Period.{Schedule}
 use Rattle.sdf_actor.specs.declared.node.Node.{Node}
 use Rattle.sdf_actor.specs.declared.node.Node.TheVariants.{Source, Sink, Inner}
 use Rattle.sdf_actor.specs.declared.sides.Lists.TheVariants.{Inputs, Outputs}
@@ -15,11 +15,12 @@ use Rattle.sdf_actor.specs.Nets.{Netlist, node, wiring, SourceReaches, InputsRea
 use Rattle.sdf_actor.specs.Graphs.{graph_of, channel_of}
 use Rattle.sdf_actor.specs.Sides.{list_of, block_of, period_samples}
 use Rattle.sdf_actor.specs.NetFaults.{IsAccepted}
-use Rattle.sdf_actor.proofs.Theorems.{list_below}
+use Rattle.sdf_actor.proofs.Theorems.{list_below, periods_are_whole}
 use Rattle.sdf_answer.specs.Answer.{HasInputs, periods_of}
-use Rattle.sdf_answer.specs.GraphLaws.{GraphLaws}
+use Rattle.sdf_answer.specs.Feeds.{PeriodsMayLeave}
 use Rattle.sdf_answer.specs.Laws.{NetsCanRun}
-use Rattle.sdf_answer.specs.Periods.{IsPaced}
+use Rattle.sdf_answer.specs.Periods.{HasPeriod, IsPaced}
+use Rattle.sdf_answer.proofs.GraphTheorems.{graph_laws}
 
 -- what begins anew after each period comes to as much in each
 linear : (f : ℕ → ℕ) (q : ℕ) → f 0 ≡ 0 → ((i : ℕ) → f (i + q) ≡ f i + f q) → (b : ℕ) → f (b * q) ≡ b * f q
@@ -32,125 +33,128 @@ linear f q none anew (suc b) =
     let split : suc b * f q ≡ b * f q + f q = omega arith in
     omega arith
 
-module _ {A S T : Type 0} (laws : GraphLaws) (s : Steps A S T) (n : Netlist A T)
-    (alike : IsAlike (rates (graph_of s n)) (wiring s n).rates) (shape : IsShape (graph_of s n))
-    (order q : List ℕ) (is : IsPeriodOf (rates (graph_of s n))
-    (record { order = order; repetitions = q })) (p : ℕ) where
-  sound : IsSound (rates (graph_of s n))
-  sound = laws.sound (graph_of s n) shape
+-- the samples of several periods are those of one times their number
+in_all : (block times periods : ℕ) {samples : ℕ} → block * times ≡ samples →
+    block * (periods * times) ≡ periods * samples
+in_all block times periods one =
+    (let all : block * (periods * times) ≡ periods * (block * times) = omega arith in all) ∙ ap (λ k. periods * k) one
 
-  period : IsPeriod (rates (graph_of s n)) (λ a. get_or q a 0)
-  period = laws.periods (graph_of s n) q shape is.least.is
+-- the net, its period and what is known of them are one record
+module _ {A S T : Type 0} {s : Steps A S T} {n : Netlist A T} {p : Schedule} (has : HasPeriod s n p) where
+  abbrev q : List ℕ
+  q = p.repetitions
 
-  -- so many periods can be fired from the start
-  pub passes : (b : ℕ) → (w : List ℕ) × IsPass (wiring s n).rates (periods_of q b) w
+  -- the rates of its graph, and its own
+  abbrev graph : Rates
+  graph = rates (graph_of s n)
+
+  abbrev net : Rates
+  net = (wiring s n).rates
+
+  sound : IsSound graph
+  sound = graph_laws.sound (graph_of s n) has.shape
+
+  period : IsPeriod graph (λ a. get_or q a 0)
+  period = graph_laws.periods (graph_of s n) q has.shape has.period.least.is
+
+  -- any number of periods can be fired from the start
+  pub passes : (b : ℕ) → (w : List ℕ) × IsPass net (periods_of q b) w
   passes b =
-      let all = laws.repeat (rates (graph_of s n)) (λ a. get_or q a 0) order b sound period is.pass in
-      (repeated b order, (laws.alike (rates (graph_of s n)) (wiring s n).rates (repeated b order) alike all.0, all.1))
+      let all = graph_laws.repeat graph (λ a. get_or q a 0) p.order b sound period has.period.pass in
+      (repeated b p.order, (graph_laws.alike graph net (repeated b p.order) has.alike all.0, all.1))
 
   -- what each period puts and takes on a channel
   module _ (c : ℕ) (l : c < length n.wires) where
     known : c < length (graph_of s n).channels
     known = omega (arith, length-map n.wires (channel_of s n.nodes))
 
-    put_of : (b : ℕ) → (rates (graph_of s n)).produced c (b * get_or q ((rates (graph_of s n)).source c) 0) ≡
-        (wiring s n).rates.produced c (b * get_or q ((wiring s n).rates.source c) 0)
-    put_of b =
-        alike.produced c (b * get_or q ((rates (graph_of s n)).source c) 0) known ∙
-        ap (λ x. (wiring s n).rates.produced c (b * get_or q x 0)) (alike.source c known)
+    -- the graph and the net agree on it
+    put : (m : ℕ → ℕ) → graph.produced c (m (graph.source c)) ≡ net.produced c (m (net.source c))
+    put m = has.alike.produced c (m (graph.source c)) known ∙
+        ap (λ a. net.produced c (m a)) (has.alike.source c known)
 
-    taken_of : (b : ℕ) → (rates (graph_of s n)).consumed c (b * get_or q ((rates (graph_of s n)).target c) 0) ≡
-        (wiring s n).rates.consumed c (b * get_or q ((wiring s n).rates.target c) 0)
-    taken_of b =
-        alike.consumed c (b * get_or q ((rates (graph_of s n)).target c) 0) known ∙
-        ap (λ x. (wiring s n).rates.consumed c (b * get_or q x 0)) (alike.target c known)
+    taken : (m : ℕ → ℕ) → graph.consumed c (m (graph.target c)) ≡ net.consumed c (m (net.target c))
+    taken m = has.alike.consumed c (m (graph.target c)) known ∙
+        ap (λ a. net.consumed c (m a)) (has.alike.target c known)
 
-    put_one : (rates (graph_of s n)).produced c (get_or q ((rates (graph_of s n)).source c) 0) ≡
-        (wiring s n).rates.produced c (get_or q ((wiring s n).rates.source c) 0)
-    put_one =
-        alike.produced c (get_or q ((rates (graph_of s n)).source c) 0) known ∙
-        ap (λ x. (wiring s n).rates.produced c (get_or q x 0)) (alike.source c known)
+    put_one : graph.produced c (get_or q (graph.source c) 0) ≡ net.produced c (get_or q (net.source c) 0)
+    put_one = put (λ a. get_or q a 0)
 
-    put_all : (b : ℕ) → (wiring s n).rates.produced c (b * get_or q ((wiring s n).rates.source c) 0) ≡
-        b * (wiring s n).rates.produced c (get_or q ((wiring s n).rates.source c) 0)
+    put_all : (b : ℕ) → net.produced c (periods_of q b (net.source c)) ≡
+        b * net.produced c (get_or q (net.source c) 0)
     put_all b =
-        sym (put_of b) ∙ (linear ((rates (graph_of s n)).produced c) (get_or q ((rates (graph_of s n)).source c) 0)
-        (sound.produced_none c) (λ i. period.produced_anew c i known) b ∙
-        ap (λ m. b * m) put_one)
+        sym (put (periods_of q b)) ∙ (linear (graph.produced c) (get_or q (graph.source c) 0) (sound.produced_none c)
+        (λ i. period.produced_anew c i known) b ∙ ap (λ m. b * m) put_one)
 
-    taken_all : (b : ℕ) → (wiring s n).rates.consumed c (b * get_or q ((wiring s n).rates.target c) 0) ≡
-        b * (wiring s n).rates.produced c (get_or q ((wiring s n).rates.source c) 0)
+    taken_all : (b : ℕ) → net.consumed c (periods_of q b (net.target c)) ≡
+        b * net.produced c (get_or q (net.source c) 0)
     taken_all b =
-        sym (taken_of b) ∙ (linear ((rates (graph_of s n)).consumed c) (get_or q ((rates (graph_of s n)).target c) 0)
-        (sound.consumed_none c) (λ i. period.consumed_anew c i known) b ∙
-        (ap (λ m. b * m) (sym (period.balanced c known)) ∙ ap (λ m. b * m) put_one))
+        sym (taken (periods_of q b)) ∙ (linear (graph.consumed c) (get_or q (graph.target c) 0) (sound.consumed_none c)
+        (λ i. period.consumed_anew c i known) b ∙ ap (λ m. b * m) (sym (period.balanced c known) ∙ put_one))
 
-  pub paced : IsPaced (wiring s n).rates q
+  pub paced : IsPaced net q
   paced = record {
-    all = is.least.is.all;
-    small = λ a l. omega (arith, get_or-le-sum_by (λ x. x) q a 0 (omega (arith, is.least.is.all)), is.all, is.within);
+    all = has.period.least.is.all;
+    small = λ a l. omega (
+      arith,
+      get_or-le-sum_by (λ x. x) q a 0 (omega (arith, has.period.least.is.all)),
+      has.period.all,
+      has.period.within,
+    );
     passes = passes;
     put = λ b c l. put_all c l b;
     taken = λ b c l. taken_all c l b;
   }
 
-  module _ (r : List ℕ) (accepted_at : IsAccepted s n r) where
-    same : r ≡ q
-    same = laws.one (rates (graph_of s n)) r q accepted_at.period is.least
+  pub accepted : IsAccepted s n q
+  accepted = subst (IsAccepted s n)
+      (graph_laws.one graph has.accepted.0 q has.accepted.1.period has.period.least) has.accepted.1
 
-    pub accepted : IsAccepted s n q
-    accepted = subst (IsAccepted s n) same accepted_at
-
+  module _ (periods : ℕ) where
     -- a source reads as many samples as all do
     pub asks : (a ext block : ℕ) → a < length n.nodes → node n a ≡ Source ext block →
-        block * (p * get_or q a 0) ≡ p * period_samples n.nodes Inputs q
-    asks a ext block l x =
-        let on : IsTrue (is_some (list_of Inputs (node n a))) =
-        subst (λ y. IsTrue (is_some (list_of Inputs y))) (sym x) refl in
-        let each : block_of (node n a) * get_or q a 0 ≡ period_samples n.nodes Inputs q = accepted.inputs a l on in
-        let one : block * get_or q a 0 ≡ period_samples n.nodes Inputs q =
-        ap (λ b. b * get_or q a 0) (sym (ap block_of x)) ∙ each in
-        (let m : block * (p * get_or q a 0) ≡ p * (block * get_or q a 0) = omega arith in m) ∙ ap (λ k. p * k) one
+        block * periods_of q periods a ≡ periods * period_samples n.nodes Inputs q
+    asks a ext block l x = in_all block (get_or q a 0) periods
+        (ap (λ b. b * get_or q a 0) (sym (ap block_of x)) ∙
+        accepted.inputs a l (subst (λ y. IsTrue (is_some (list_of Inputs y))) (sym x) refl))
 
     -- each source finds what it reads
-    pub reads : (inputs : List (List T)) → HasInputs n q p inputs → (a ext block : ℕ) → a < length n.nodes →
+    pub reads : (inputs : List (List T)) → HasInputs n q periods inputs → (a ext block : ℕ) → a < length n.nodes →
         node n a ≡ Source ext block →
-        (ext < length inputs) × (block * (p * get_or q a 0) ≤ length (get_or inputs ext []))
-    reads inputs has a ext block l x =
+        (ext < length inputs) × (block * periods_of q periods a ≤ length (get_or inputs ext []))
+    reads inputs given a ext block l x =
         let below : ext < length inputs = omega (
           arith,
-          has.count,
+          given.count,
           list_below Inputs n.nodes a ext l (ap (list_of Inputs) x),
         ) in
-        (below, omega (arith, asks a ext block l x, has.enough ext below))
+        (below, omega (arith, asks a ext block l x, given.enough ext below))
 
-    pub all_read : (inputs : List (List T)) → HasInputs n q p inputs → InputsReach n inputs (periods_of q p)
-    all_read inputs has a l = go (node n a) refl
+    pub all_read : (inputs : List (List T)) → HasInputs n q periods inputs → InputsReach n inputs (periods_of q periods)
+    all_read inputs given a l = go (node n a) refl
       where
-        go : (x : Node A) → node n a ≡ x → SourceReaches inputs (periods_of q p) a x
-        go (Source ext block) x = (reads inputs has a ext block l x).1
+        go : (x : Node A) → node n a ≡ x → SourceReaches inputs (periods_of q periods) a x
+        go (Source ext block) x = (reads inputs given a ext block l x).1
         go (Sink ext block) x = tt
         go (Inner y) x = tt
 
     -- as many samples reach each sink
     pub makes : (a ext block : ℕ) → a < length n.nodes → node n a ≡ Sink ext block →
-        block * (p * get_or q a 0) ≡ p * period_samples n.nodes Outputs q
-    makes a ext block l x =
-        let on : IsTrue (is_some (list_of Outputs (node n a))) =
-        subst (λ y. IsTrue (is_some (list_of Outputs y))) (sym x) refl in
-        let each : block_of (node n a) * get_or q a 0 ≡ period_samples n.nodes Outputs q = accepted.outputs a l on in
-        let one : block * get_or q a 0 ≡ period_samples n.nodes Outputs q =
-        ap (λ b. b * get_or q a 0) (sym (ap block_of x)) ∙ each in
-        (let m : block * (p * get_or q a 0) ≡ p * (block * get_or q a 0) = omega arith in m) ∙ ap (λ k. p * k) one
+        block * periods_of q periods a ≡ periods * period_samples n.nodes Outputs q
+    makes a ext block l x = in_all block (get_or q a 0) periods
+        (ap (λ b. b * get_or q a 0) (sym (ap block_of x)) ∙
+        accepted.outputs a l (subst (λ y. IsTrue (is_some (list_of Outputs y))) (sym x) refl))
 
 -- so it can be run
-pub can_run : {A S T : Type 0} (s : Steps A S T) → GraphLaws → NetsCanRun s
-can_run s laws n p periods inputs has given = record {
-  paced = paced laws s n has.alike has.shape p.order p.repetitions has.period periods;
-  reads = reads laws s n has.alike has.shape p.order p.repetitions has.period periods has.accepted.0
-      has.accepted.1 inputs given;
-  reach = all_read laws s n has.alike has.shape p.order p.repetitions has.period periods has.accepted.0
-      has.accepted.1 inputs given;
-  makes = makes laws s n has.alike has.shape p.order p.repetitions has.period periods has.accepted.0 has.accepted.1;
-  put = put_one laws s n has.alike has.shape p.order p.repetitions has.period periods;
+pub can_run : {A S T : Type 0} (s : Steps A S T) → NetsCanRun s
+can_run s n p periods inputs has given = record {
+  paced = paced has;
+  reads = reads has periods inputs given;
+  reach = all_read has periods inputs given;
+  makes = makes has periods;
+  put = put_one has;
 }
+
+-- and another net may begin with what is left after it
+pub may_leave : {A S T : Type 0} (s : Steps A S T) → PeriodsMayLeave s
+may_leave s n p periods has = periods_are_whole s n p.repetitions periods has.net has.shape has.alike (accepted has)
