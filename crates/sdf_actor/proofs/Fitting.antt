@@ -37,7 +37,7 @@ module _ {A S T : Type 0} (s : Steps A S T) (x : A) (fits : PutsFit s x) (before
   }
 
   turn : (j : ℕ) → phase s x (length before + j) ≡ phase s x j
-  turn j = phases s (beginning s state) x state x same (length before) whole j
+  turn j = phases same (length before) whole j
 
   all_sized : (past : List (List T)) → ((i : ℕ) → i < length past →
       length (get_or past i []) ≡ total_in s x (phase s x i)) →
@@ -58,7 +58,7 @@ module _ {A S T : Type 0} (s : Steps A S T) (x : A) (fits : PutsFit s x) (before
       let at : phase s x (length (before ++ past)) ≡ phase s x (length past) =
       ap (phase s x) (length-append before past) ∙ turn (length past) in
       let reached : state_after s x (before ++ past) ≡ state_after (beginning s state) x past =
-      state_on s (beginning s state) x state x same (length before) whole before past refl refl in
+      state_on same (length before) whole before past refl refl in
       (λ κ. length (s.puts x (sym at κ) (sym reached κ) now)) ∙
       (fits (before ++ past) now (all_sized past each) (size ∙ ap (total_in s x) (sym at)) ∙
       ap (total_out s x) at)
