@@ -127,7 +127,7 @@ module _ {A B S T : Type 0} {s : Steps A S T} {r : Steps B S T} {n : Netlist A T
   begins_with c l = h.begins.initial c l ∙ h.left.held c l
 
   as_many : (c : ℕ) → c < length n.wires → length (wire m c).initial ≡ length (wire n c).initial
-  as_many c l = ap length (begins_with c l) ∙ held_as_many s n first k V h.whole.period h.before c l
+  as_many c l = ap length (begins_with c l) ∙ held_as_many h.before h.whole.period c l
 
   same_wiring : SameWiring (wiring s n) (wiring r m)
   same_wiring = record {
