@@ -3,7 +3,7 @@ use Rattle.std.proofs.Common.{◌≡◌, ℕ, ◌+◌, ◌≤◌, ◌<◌, List,
 use Rattle.std.proofs.Common.{ap, ◌∙◌, subst, inl, inr, ◌⊎◌, arith}
 use Rattle.std.specs.List.{range_with_len}
 use Rattle.std.proofs.lemmas.Bool.{cases_lt}
-use Rattle.std.proofs.lemmas.List.{take_all, get_or-map, length-map, length-drop, same_lists, get_or_append_left}
+use Rattle.std.proofs.lemmas.List.{get_or-map, length-map, length-drop, same_lists, get_or_append_left}
 use Rattle.std.proofs.lemmas.List.{get_or_push}
 use Rattle.sdf_graph.specs.Sequences.{IsPeriod}
 use Rattle.sdf_actor.specs.declared.node.Node.{Node}
@@ -14,9 +14,12 @@ use Rattle.sdf_actor.specs.declared.link.Link.{Link}
 use Rattle.sdf_actor.specs.declared.rest.Rest.{Rest}
 use Rattle.sdf_actor.specs.Graphs.{rates_at, channel_of, graph_of}
 use Rattle.sdf_actor.specs.Nets.{Wire, Netlist, no_wire, wire, node, wiring, IsNet, IsHistoryOf}
-use Rattle.sdf_actor.specs.Rests.{Leaves, IsNodeIn, BeginsWith}
+use Rattle.sdf_actor.specs.Histories.{Wiring, Answers, IsHistory}
+use Rattle.sdf_actor.specs.Rests.{IsRest, IsNodeIn, BeginsWith}
 use Rattle.sdf_actor.specs.Steps.{Steps}
 use Rattle.sdf_actor.specs.Wires.{wires, lists, netlist}
+use Rattle.sdf_actor.specs.Nets.{answers}
+use Rattle.sdf_actor.proofs.Exists.{history_begins}
 use Rattle.sdf_actor.proofs.Netlists.{wired}
 use Rattle.sdf_actor.proofs.Readings.{length-wires}
 
@@ -35,27 +38,14 @@ each_pushed {X} P xs y d n long each last i h = go (cases_lt i n)
 -- before its first firing the channels have what they begin with
 pub no_firing : {A S T : Type 0} (s : Steps A S T) (n : Netlist A T) → IsNet s n → (inputs : List (List T)) →
     IsHistoryOf s n inputs (λ _. 0) (wiring s n).starts
-no_firing s n good inputs =
-    let sound = (wired s n good).sound in
-    record {
-      begins = λ c l. take_all (length (wire n c).initial) (wire n c).initial (omega arith);
-      lengths = λ c l. omega (arith, sound.produced_none c);
-      enough = λ c l. omega (arith, sound.consumed_none c);
-      steps = λ a i l h. absurd (omega arith);
-    }
+no_firing s n good inputs = history_begins (wired s n good) (answers s n inputs)
 
 -- after a whole period a channel holds as many samples as at first
-pub held_as_many : {A S T : Type 0} (s : Steps A S T) (n : Netlist A T) (inputs : List (List T)) (k : ℕ → ℕ)
-    (V : ℕ → List T) → IsPeriod (wiring s n).rates k → IsHistoryOf s n inputs k V →
-    (c : ℕ) → c < length n.wires → length (drop ((wiring s n).rates.consumed c (k ((wiring s n).rates.target c)))
-    (V c)) ≡ length (wire n c).initial
-held_as_many s n inputs k V period r c l =
-    omega (
-      arith,
-      length-drop ((wiring s n).rates.consumed c (k ((wiring s n).rates.target c))) (V c),
-      r.lengths c l,
-      period.balanced c l,
-    )
+pub held_as_many : {T : Type 0} {f : Wiring T} {x : Answers T} {k : ℕ → ℕ} {V : ℕ → List T} → IsHistory f x k V →
+    IsPeriod f.rates k → (c : ℕ) → c < f.rates.channels →
+    length (drop (f.rates.consumed c (k (f.rates.target c))) (V c)) ≡ f.rates.initial c
+held_as_many {T} {f} {x} {k} {V} r period c l =
+    omega (arith, length-drop (f.rates.consumed c (k (f.rates.target c))) (V c), r.lengths c l, period.balanced c l)
 
 -- a node that begins in a state has its rates
 rates_same : {A B S T : Type 0} (s : Steps A S T) (r : Steps B S T) (state : Option S) (x : Node A) (y : Node B) →
@@ -70,10 +60,10 @@ rates_same s r state (Inner x) y (b, now, e, _, same) Input p =
 rates_same s r state (Inner x) y (b, now, e, _, same) Output p =
     ap (λ t. rates_at r Output t p) e ∙ (λ κ. map (same.put κ p) (range_with_len 0 (same.cycle κ)))
 
-module _ {A B S T : Type 0} (s : Steps A S T) (r : Steps B S T) (n : Netlist A T) (good : IsNet s n)
-    (inputs : List (List T)) (k : ℕ → ℕ) (period : IsPeriod (wiring s n).rates k)
-    (V : ℕ → List T) (is : IsHistoryOf s n inputs k V) (rest : Rest T S) (left : Leaves s n k V rest) (m : Netlist B T)
-    (begins : BeginsWith s r n rest m) where
+-- a net that begins with what whole periods of another leave
+module _ {A B S T : Type 0} {s : Steps A S T} {r : Steps B S T} {n : Netlist A T} (good : IsNet s n)
+    {inputs : List (List T)} {k : ℕ → ℕ} (period : IsPeriod (wiring s n).rates k) {rest : Rest T S}
+    (is : IsRest s n inputs k rest) {m : Netlist B T} (begins : BeginsWith s r n rest m) where
   channel_same : (c : ℕ) → c < length n.wires → channel_of r m.nodes (wire m c) ≡ channel_of s n.nodes (wire n c)
   channel_same c l =
       let from = begins.from c l in
@@ -89,7 +79,7 @@ module _ {A B S T : Type 0} (s : Steps A S T) (r : Steps B S T) (n : Netlist A T
       rates_same s r (get_or rest.states.items (wire n c).to.0 None) (node n (wire n c).to.0) (node m (wire n c).to.0)
       (begins.each (wire n c).to.0 (good.to_in c l).0) Input (wire n c).to.1 in
       let initial : length (wire m c).initial ≡ length (wire n c).initial =
-      ap length (begins.initial c l ∙ left.held c l) ∙ held_as_many s n inputs k V period is c l in
+      ap length (begins.initial c l ∙ is.left.held c l) ∙ held_as_many is.is period c l in
       λ κ. record { from = (from κ).0; put = put κ; to = (to κ).0; take = take κ; initial = initial κ }
 
   -- so the graph is the same

@@ -10,7 +10,7 @@ use Rattle.sdf_actor.specs.declared.node.Node.{Node}
 use Rattle.sdf_actor.specs.declared.node.Node.TheVariants.{Source, Sink, Inner}
 use Rattle.sdf_actor.specs.declared.rest.Rest.{Rest}
 use Rattle.sdf_actor.specs.Begun.{BeginsIn}
-use Rattle.sdf_actor.specs.Histories.{IsWired, AnswersAgree, taken_before}
+use Rattle.sdf_actor.specs.Histories.{AnswersAgree, taken_before}
 use Rattle.sdf_actor.specs.Nets.{Wire, Netlist, no_wire, wire, node, inputs_of, outputs_of, consumed_at, produced_at}
 use Rattle.sdf_actor.specs.Nets.{cycle_of, from_port, to_port, wiring, answers, answer_of, arrived, IsHistoryOf}
 use Rattle.sdf_actor.specs.Nets.{SourceReaches, InputsReach}
@@ -19,7 +19,7 @@ use Rattle.sdf_actor.specs.Rests.{state_left, Leaves, IsNodeIn, AreJoined}
 use Rattle.sdf_actor.specs.GoingOn.{GoesOn, in_all}
 use Rattle.sdf_actor.proofs.Agree.{length_taken_before}
 use Rattle.sdf_actor.proofs.BegunGraphs.{held_as_many}
-use Rattle.sdf_actor.proofs.GoesOn.{SameWiring, between_past, past_late, goes_on, left_on, arrived_on}
+use Rattle.sdf_actor.proofs.GoesOn.{Going, SameWiring, between_past, past_late, goes_on, left_on, arrived_on}
 use Rattle.sdf_actor.proofs.Netlists.{wired, agree, to_port_is}
 
 -- an actor's state after some blocks and then others
@@ -31,8 +31,8 @@ state_append s x j state (b ∷ past) more =
     ap (λ n. state_from s x n (state_from s x (j + 1) (s.next x (phase s x j) state b) past) more)
     (let e : j + 1 + length past ≡ j + suc (length past) = omega arith in e)
 
-module _ {A B S T : Type 0} (s : Steps A S T) (r : Steps B S T) (x : A) (now : S) (b : B) (same : BeginsIn s r x now b)
-    (whole : ℕ) (cycles : Divides (s.cycle x) whole) where
+module _ {A B S T : Type 0} {s : Steps A S T} {r : Steps B S T} {x : A} {now : S} {b : B}
+    (same : BeginsIn s r x now b) (whole : ℕ) (cycles : Divides (s.cycle x) whole) where
   -- after whole cycles the phases begin anew
   pub phases : (j : ℕ) → phase s x (whole + j) ≡ phase r b j
   phases j =
@@ -105,9 +105,9 @@ first_same test (x ∷ xs) (y ∷ ys) e h =
     first_same test xs ys (omega arith) (λ c l. h (suc c) (omega arith)) in
     λ κ. cond (not (here κ)) (1 + more κ) 0
 
-module _ {A B S T : Type 0} (s : Steps A S T) (r : Steps B S T) (n : Netlist A T) (m : Netlist B T)
-    (first later : List (List T)) (k i : ℕ → ℕ)
-    (V U : ℕ → List T) (rest : Rest T S) (h : GoesOn s r n m first later k i V U rest) where
+module _ {A B S T : Type 0} {s : Steps A S T} {r : Steps B S T} {n : Netlist A T} {m : Netlist B T}
+    {first later : List (List T)} {k i : ℕ → ℕ} {V U : ℕ → List T} {rest : Rest T S}
+    (h : GoesOn s r n m first later k i V U rest) where
   from_same : (c : ℕ) → c < length n.wires → (wire m c).from ≡ (wire n c).from
   from_same c l = h.begins.from c l
 
@@ -127,9 +127,9 @@ module _ {A B S T : Type 0} (s : Steps A S T) (r : Steps B S T) (n : Netlist A T
   begins_with c l = h.begins.initial c l ∙ h.left.held c l
 
   as_many : (c : ℕ) → c < length n.wires → length (wire m c).initial ≡ length (wire n c).initial
-  as_many c l = ap length (begins_with c l) ∙ held_as_many s n first k V h.whole.period h.before c l
+  as_many c l = ap length (begins_with c l) ∙ held_as_many h.before h.whole.period c l
 
-  pub same_wiring : SameWiring (wiring s n) (wiring r m)
+  same_wiring : SameWiring (wiring s n) (wiring r m)
   same_wiring = record {
     actors = h.begins.nodes;
     channels = h.begins.wires;
@@ -152,8 +152,23 @@ module _ {A B S T : Type 0} (s : Steps A S T) (r : Steps B S T) (n : Netlist A T
         λ κ. map (λ p. from_ports a p κ) (range_with_len 0 (many κ));
   }
 
-  here : IsWired (wiring s n)
-  here = wired s n h.net
+  abbrev going : Going T
+  going = record {
+    f = wiring s n;
+    g = wiring r m;
+    wired = wired s n h.net;
+    same = same_wiring;
+    x = answers s n first;
+    y = answers r m later;
+    k = k;
+    i = i;
+    V = V;
+    U = U;
+    period = h.whole.period;
+    before = h.before;
+    on = h.on;
+    starts = begins_with;
+  }
 
   abbrev before : ℕ → List (List T)
   before a = taken_before (wiring s n) V a (k a)
@@ -171,11 +186,11 @@ module _ {A B S T : Type 0} (s : Steps A S T) (r : Steps B S T) (n : Netlist A T
     pub puts_as : (past : List (List T)) (block : List T) →
         s.puts x (phase s x (length (before a ++ past))) (state_after s x (before a ++ past)) block ≡
         r.puts b (phase r b (length past)) (state_after r b past) block
-    puts_as past block = puts_on s r x now b same (k a) cycles (before a) past block
+    puts_as past block = puts_on same (k a) cycles (before a) past block
         (length_taken_before (wiring s n) V a (k a)) left_in
 
     pub state_as : (past : List (List T)) → state_after s x (before a ++ past) ≡ state_after r b past
-    state_as past = state_on s r x now b same (k a) cycles (before a) past
+    state_as past = state_on same (k a) cycles (before a) past
         (length_taken_before (wiring s n) V a (k a)) left_in
 
   module _ (all : List (List T)) (joined : AreJoined first later all) where
@@ -219,8 +234,7 @@ module _ {A B S T : Type 0} (s : Steps A S T) (r : Steps B S T) (n : Netlist A T
             puts_as a l x e b state given same past now ∙ ap (λ t. answer_of r later t past now) (sym is)
 
     pub history_goes_on : IsHistoryOf s n all (λ a. k a + i a) (in_all s n V U)
-    history_goes_on = goes_on (wiring s n) (wiring r m) here same_wiring (answers s n first) (answers r m later) k i V U
-        h.whole.period h.before h.on begins_with (answers s n all) early late
+    history_goes_on = goes_on going (answers s n all) early late
 
   abbrev over : ℕ → List (List T)
   over a = taken_before (wiring s n) (in_all s n V U) a (k a + i a)
@@ -232,8 +246,7 @@ module _ {A B S T : Type 0} (s : Steps A S T) (r : Steps B S T) (n : Netlist A T
     channels = left.channels ∙ h.begins.wires;
     held = λ c l.
         left.held c (subst (λ j. c < j) (sym h.begins.wires) l) ∙
-        sym (left_on (wiring s n) (wiring r m) here same_wiring (answers s n first) (answers r m later) k i V U
-        h.whole.period h.before h.on begins_with c l);
+        sym (left_on going c l);
   }
     where
       at_end : (a : ℕ) → a < length n.nodes →
@@ -256,8 +269,7 @@ module _ {A B S T : Type 0} (s : Steps A S T) (r : Steps B S T) (n : Netlist A T
           go (Inner x) is (b, now, there, given, same) =
               at_end a l ∙ (ap (λ y. state_left r y (taken_before (wiring r m) U a (i a))) there ∙
               (ap Some (sym (state_as a l x is b now given same (taken_before (wiring r m) U a (i a))) ∙
-              ap (state_after s x) (sym (past_late (wiring s n) (wiring r m) here same_wiring (answers s n first)
-              (answers r m later) k i V U h.whole.period h.before h.on begins_with a l (i a)))) ∙
+              ap (state_after s x) (sym (past_late going a l (i a)))) ∙
               ap (λ y. state_left s y (over a)) (sym is)))
 
   pub arrivals_go_on : (a e block : ℕ) → a < length n.nodes → node n a ≡ Sink e block →
@@ -266,6 +278,5 @@ module _ {A B S T : Type 0} (s : Steps A S T) (r : Steps B S T) (n : Netlist A T
       let port : 0 < inputs_of s (node n a) = subst (λ x. 0 < inputs_of s x) (sym is) (omega arith) in
       let c : ℕ = to_port n a 0 in
       let there : c < length n.wires = h.net.to_all a 0 l port in
-      arrived_on (wiring s n) (wiring r m) here same_wiring (answers s n first) (answers r m later) k i V U
-      h.whole.period h.before h.on begins_with a c there (to_port_is s n h.net a 0 l port).0 ∙
+      arrived_on going a c there (to_port_is s n h.net a 0 l port).0 ∙
       ap (λ d. arrived s n k V a ++ take ((wiring r m).rates.consumed d (i a)) (U d)) (sym (to_ports a 0))

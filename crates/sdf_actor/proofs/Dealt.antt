@@ -1,9 +1,8 @@
 -- What a node puts, channel by channel.
-use Rattle.std.proofs.Common.{◌≡◌, ℕ, ◌+◌, ◌-◌, ◌≤◌, ◌<◌, List, length, get_or, take, ◌∙◌, refl, subst, arith}
-use Rattle.std.proofs.lemmas.List.{take_all}
+use Rattle.std.proofs.Common.{◌≡◌, ℕ, ◌+◌, ◌-◌, ◌≤◌, ◌<◌, List, length, get_or, refl, subst, arith}
 use Rattle.std.proofs.lemmas.List.Edits.{length-between}
 use Rattle.sdf_actor.specs.Histories.{Wiring, IsWired, put, spread}
-use Rattle.sdf_actor.proofs.Pieces.{between_agree, flat_map_same, spread_of_joined}
+use Rattle.sdf_actor.proofs.Pieces.{spread_of_joined}
 use Rattle.sdf_actor.proofs.Agree.{part, port}
 
 pub put_is_dealt : {A : Type 0} (f : Wiring A) → IsWired f → (V : ℕ → List A) (c i : ℕ) → c < f.rates.channels →
@@ -30,17 +29,3 @@ put_is_dealt f wired V c i l long =
     omega arith) in
     subst (λ d. spread size (f.outs a) (put f V a i) d ≡ part f V i d) at.2
     (spread_of_joined size (part f V i) (f.outs a) at.0 at.1 sizes)
-
-pub put_agrees : {A : Type 0} (f : Wiring A) → IsWired f → (V W : ℕ → List A) (a i : ℕ) → a < f.rates.actors →
-    ((c : ℕ) → c < f.rates.channels → f.rates.source c ≡ a →
-    f.rates.initial c + f.rates.produced c (i + 1) ≤ length (V c)) →
-    ((c : ℕ) → c < f.rates.channels → V c ≡ take (length (V c)) (W c)) →
-    put f V a i ≡ put f W a i
-put_agrees f wired V W a i known long on =
-    flat_map_same (part f V i) (part f W i) (f.outs a)
-    (λ m h.
-    let d : ℕ = get_or (f.outs a) m 0 in
-    let is = wired.outs_are a m known h in
-    between_agree (V d) (W d) (length (V d)) (f.rates.initial d + f.rates.produced d i)
-    (f.rates.initial d + f.rates.produced d (i + 1))
-    (take_all (length (V d)) (V d) (omega arith) ∙ on d is.0) (long d is.0 is.1))

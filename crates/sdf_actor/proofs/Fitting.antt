@@ -10,7 +10,7 @@ use Rattle.sdf_actor.specs.declared.node.Node.TheVariants.{Source, Sink, Inner}
 use Rattle.sdf_actor.specs.declared.rest.Rest.{Rest}
 use Rattle.sdf_actor.specs.Begun.{beginning, BeginsIn, MayBegin}
 use Rattle.sdf_actor.specs.Histories.{taken_before}
-use Rattle.sdf_actor.specs.Nets.{Netlist, node, wiring, inputs_of, consumed_at, cycle_of, IsNet, IsHistoryOf}
+use Rattle.sdf_actor.specs.Nets.{Netlist, node, wiring, inputs_of, consumed_at, cycle_of, IsNet}
 use Rattle.sdf_actor.specs.Rests.{AreWhole, state_left, IsRest}
 use Rattle.sdf_actor.specs.Steps.{Steps, phase, total_in, total_out, state_after, PutsFit}
 use Rattle.sdf_actor.proofs.Agree.{length_taken_before}
@@ -37,7 +37,7 @@ module _ {A S T : Type 0} (s : Steps A S T) (x : A) (fits : PutsFit s x) (before
   }
 
   turn : (j : ℕ) → phase s x (length before + j) ≡ phase s x j
-  turn j = phases s (beginning s state) x state x same (length before) whole j
+  turn j = phases same (length before) whole j
 
   all_sized : (past : List (List T)) → ((i : ℕ) → i < length past →
       length (get_or past i []) ≡ total_in s x (phase s x i)) →
@@ -58,48 +58,46 @@ module _ {A S T : Type 0} (s : Steps A S T) (x : A) (fits : PutsFit s x) (before
       let at : phase s x (length (before ++ past)) ≡ phase s x (length past) =
       ap (phase s x) (length-append before past) ∙ turn (length past) in
       let reached : state_after s x (before ++ past) ≡ state_after (beginning s state) x past =
-      state_on s (beginning s state) x state x same (length before) whole before past refl refl in
+      state_on same (length before) whole before past refl refl in
       (λ κ. length (s.puts x (sym at κ) (sym reached κ) now)) ∙
       (fits (before ++ past) now (all_sized past each) (size ∙ ap (total_in s x) (sym at)) ∙
       ap (total_out s x) at)
 
-module _ {A S T : Type 0} (s : Steps A S T) (fits : (x : A) → PutsFit s x) (n : Netlist A T)
-    (good : IsNet s n) (inputs : List (List T)) (k : ℕ → ℕ) (whole : AreWhole s n k)
-    (V : ℕ → List T) (r : IsHistoryOf s n inputs k V) (a : ℕ) (known : a < length n.nodes) (x : A)
-    (is : node n a ≡ Inner x) where
-  -- so it is in a net after whole periods
-  pub fits_left : PutsFit (beginning s (state_after s x (taken_before (wiring s n) V a (k a)))) x
-  fits_left =
-      let long : length (taken_before (wiring s n) V a (k a)) ≡ k a = length_taken_before (wiring s n) V a (k a) in
-      fits_on s x (fits x) (taken_before (wiring s n) V a (k a))
-      (subst (Divides (s.cycle x)) (sym long) (subst (λ y. Divides (cycle_of s y) (k a)) is (whole.cycles a known)))
-      (λ i h. blocks i (omega (arith, long, h)))
-    where
-      blocks : (i : ℕ) → i < k a → length (get_or (taken_before (wiring s n) V a (k a)) i []) ≡
-          total_in s x (phase s x i)
-      blocks i h =
-          blocks_long (wired s n good) V a (k a) known
-          (λ c l e.
-          let own : (wiring s n).rates.consumed c (k ((wiring s n).rates.target c)) ≡
-          (wiring s n).rates.consumed c (k a) = ap (λ b. (wiring s n).rates.consumed c (k b)) e in
-          omega (arith, r.lengths c l, r.enough c l, own))
-          (k a) (omega arith) i h ∙
-          (size_in_is s n good a i known ∙
-          (ap (λ y. sum_by (λ p. consumed_at s y p (i + 1) - consumed_at s y p i)
-          (range_with_len 0 (inputs_of s y))) is ∙
-          ap (λ f. sum_by f (range_with_len 0 (s.inputs x))) (λ κ p. sum_to_one (λ j. s.take x p (phase s x j)) i κ)))
+-- so it is in a net after whole periods
+module _ {A S T : Type 0} {s : Steps A S T} {n : Netlist A T} (good : IsNet s n) {inputs : List (List T)} {k : ℕ → ℕ}
+    (whole : AreWhole s n k) {rest : Rest T S} (is : IsRest s n inputs k rest) (fits : (x : A) → PutsFit s x)
+    (a : ℕ) (known : a < length n.nodes) where
+  open is use {history, is as r, left}
 
--- so each node may begin there
-pub may_begin : {A S T : Type 0} (s : Steps A S T) → ((x : A) → PutsFit s x) → (n : Netlist A T) →
-    IsNet s n → (inputs : List (List T)) (k : ℕ → ℕ) → AreWhole s n k → (rest : Rest T S) → IsRest s n inputs k rest →
-    (a : ℕ) → a < length n.nodes → MayBegin s (get_or rest.states.items a None) (node n a)
-may_begin {A} s fits n good inputs k whole rest is a known = go (node n a) refl
-  where
-    go : (x : Node A) → node n a ≡ x → MayBegin s (get_or rest.states.items a None) x
-    go (Source ext block) e = tt
-    go (Sink ext block) e = tt
-    go (Inner x) e = (
-      state_after s x (taken_before (wiring s n) is.history a (k a)),
-      is.left.states a known ∙ ap (λ y. state_left s y (taken_before (wiring s n) is.history a (k a))) e,
-      fits_left s fits n good inputs k whole is.history is.is a known x e,
-    )
+  abbrev taken : List (List T)
+  taken = taken_before (wiring s n) history a (k a)
+
+  -- the blocks that an actor took have their lengths
+  blocks : (x : A) → node n a ≡ Inner x → (i : ℕ) → i < k a → length (get_or taken i []) ≡ total_in s x (phase s x i)
+  blocks x e i h =
+      blocks_long (wired s n good) history a (k a) known
+      (λ c l t.
+      let own : (wiring s n).rates.consumed c (k ((wiring s n).rates.target c)) ≡
+      (wiring s n).rates.consumed c (k a) = ap (λ b. (wiring s n).rates.consumed c (k b)) t in
+      omega (arith, r.lengths c l, r.enough c l, own))
+      (k a) (omega arith) i h ∙
+      (size_in_is s n good a i known ∙
+      (ap (λ y. sum_by (λ p. consumed_at s y p (i + 1) - consumed_at s y p i) (range_with_len 0 (inputs_of s y))) e ∙
+      ap (λ f. sum_by f (range_with_len 0 (s.inputs x))) (λ κ p. sum_to_one (λ j. s.take x p (phase s x j)) i κ)))
+
+  -- so each node may begin there
+  pub may_begin : MayBegin s (get_or rest.states.items a None) (node n a)
+  may_begin = go (node n a) refl
+    where
+      go : (x : Node A) → node n a ≡ x → MayBegin s (get_or rest.states.items a None) x
+      go (Source ext block) e = tt
+      go (Sink ext block) e = tt
+      go (Inner x) e =
+          let long : length taken ≡ k a = length_taken_before (wiring s n) history a (k a) in (
+            state_after s x taken,
+            left.states a known ∙ ap (λ y. state_left s y taken) e,
+            fits_on s x (fits x) taken
+                (subst (Divides (s.cycle x)) (sym long)
+                (subst (λ y. Divides (cycle_of s y) (k a)) e (whole.cycles a known)))
+                (λ i h. blocks x e i (omega (arith, long, h))),
+          )

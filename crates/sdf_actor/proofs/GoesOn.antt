@@ -2,13 +2,12 @@
 use Rattle.std.proofs.Common.{◌≡◌, ℕ, zero, suc, ◌+◌, ◌-◌, ◌≤◌, ◌<◌, List, [], ◌∷◌, ◌++◌, length, get_or, take, drop}
 use Rattle.std.proofs.Common.{sym, ap, ◌∙◌, subst, inl, inr, ◌⊎◌, arith, append_assoc}
 use Rattle.std.specs.List.{flat_map, between}
-use Rattle.std.proofs.lemmas.List.{take_all, take_at, take-append-le, take-append-drop, drop-append-le, drop-drop}
+use Rattle.std.proofs.lemmas.List.{take-append-le, take-append-drop, drop-append-le, drop-drop}
 use Rattle.std.proofs.lemmas.List.{append-nil, length-append, length-drop}
 use Rattle.std.proofs.lemmas.Bool.{cases_lt}
 use Rattle.sdf_graph.specs.Sequences.{IsPeriod}
 use Rattle.sdf_actor.specs.Histories.{Wiring, Answers, taken, put, taken_before, IsHistory, IsWired, AnswersAgree}
-use Rattle.sdf_actor.proofs.Agree.{length_taken_before, taken_agrees, taken_before_agrees}
-use Rattle.sdf_actor.proofs.Dealt.{put_agrees}
+use Rattle.sdf_actor.proofs.Agree.{length_taken_before, Took, Gave, taken_agrees, taken_before_agrees, put_agrees}
 use Rattle.sdf_actor.proofs.Pieces.{flat_map_same, take_on}
 
 -- wirings with the same channels, rates and ports, whatever the channels begin with
@@ -37,11 +36,26 @@ take_past xs n i =
     let size : n + i - n ≡ i = omega arith in
     take_on xs n (n + i) (omega arith) ∙ ap (λ m. take n xs ++ take m (drop n xs)) size
 
-module _ {T : Type 0} (f g : Wiring T) (wired : IsWired f) (same : SameWiring f g) (x y : Answers T) (k i : ℕ → ℕ)
-    (V U : ℕ → List T)
-    (period : IsPeriod f.rates k) (before : IsHistory f x k V) (on : IsHistory g y i U)
-    (starts : (c : ℕ) → c < f.rates.channels → g.starts c ≡
-    drop (f.rates.consumed c (k (f.rates.target c))) (V c)) where
+-- a history of whole periods, and one on a wiring like it, whose channels begin with what the first left on them
+pub record Going (T : Type 0) : Type 0 where
+  pub f : Wiring T
+  pub g : Wiring T
+  pub wired : IsWired f
+  pub same : SameWiring f g
+  pub x : Answers T
+  pub y : Answers T
+  pub k : ℕ → ℕ
+  pub i : ℕ → ℕ
+  pub V : ℕ → List T
+  pub U : ℕ → List T
+  pub period : IsPeriod f.rates k
+  pub before : IsHistory f x k V
+  pub on : IsHistory g y i U
+  pub starts : (c : ℕ) → c < f.rates.channels → g.starts c ≡ drop (f.rates.consumed c (k (f.rates.target c))) (V c)
+
+module _ {T : Type 0} (going : Going T) where
+  open going use {f, g, wired, same, x, y, k, i, V, U, period, before, on, starts}
+
   -- how many samples of a channel were taken
   abbrev pub used : ℕ → ℕ
   used c = f.rates.consumed c (k (f.rates.target c))
@@ -81,11 +95,8 @@ module _ {T : Type 0} (f g : Wiring T) (wired : IsWired f) (same : SameWiring f 
       drop-append-le (used c) (V c) (drop (f.rates.initial c) (U c)) (omega (arith, length_before c l)) ∙
       (ap (λ ys. ys ++ drop (f.rates.initial c) (U c)) (sym first) ∙ take-append-drop (f.rates.initial c) (U c))
 
-  pub front_is : (c : ℕ) → V c ≡ take (length (V c)) (whole c)
-  front_is c = sym (take_at (V c) (drop (f.rates.initial c) (U c)) (length (V c)) (λ _. length (V c)))
-
-  fronts : (c : ℕ) → c < f.rates.channels → take (length (V c)) (V c) ≡ take (length (V c)) (whole c)
-  fronts c l = take_all (length (V c)) (V c) (omega arith) ∙ front_is c
+  kept : (c n : ℕ) → n ≤ length (V c) → take n (V c) ≡ take n (whole c)
+  kept c n h = sym (take-append-le n (V c) (drop (f.rates.initial c) (U c)) h)
 
   -- rates begin anew
   pub consumed_on : (a j c : ℕ) → c < f.rates.channels → f.rates.target c ≡ a →
@@ -102,24 +113,24 @@ module _ {T : Type 0} (f g : Wiring T) (wired : IsWired f) (same : SameWiring f 
       ∙ ap (λ n. f.rates.produced c j + n) (period.balanced c l))
 
   module _ (a : ℕ) (known : a < f.rates.actors) where
-    reached : (c : ℕ) → c < f.rates.channels → f.rates.target c ≡ a → f.rates.consumed c (k a) ≤ length (V c)
-    reached c l e = let own : used c ≡ f.rates.consumed c (k a) = ap (λ b. f.rates.consumed c (k b)) e in
-        omega (arith, length_before c l)
+    took : Took f V whole a (k a)
+    took = record {
+      known = known;
+      same = λ c l e. let own : used c ≡ f.rates.consumed c (k a) = ap (λ b. f.rates.consumed c (k b)) e in
+          kept c (f.rates.consumed c (k a)) (omega (arith, length_before c l));
+    }
 
-    taken_early : (j : ℕ) → j < k a → taken f V a j ≡ taken f whole a j
-    taken_early j h = taken_agrees f wired V whole (λ c. length (V c)) a (k a) known reached fronts j h
+    gave : Gave f V whole a (k a)
+    gave = record {
+      known = known;
+      same = λ c l e.
+          let own : f.rates.produced c (k (f.rates.source c)) ≡ f.rates.produced c (k a) =
+          ap (λ b. f.rates.produced c (k b)) e in
+          kept c (f.rates.initial c + f.rates.produced c (k a)) (omega (arith, before.lengths c l));
+    }
 
-    pub past_early : (j : ℕ) → j ≤ k a → taken_before f V a j ≡ taken_before f whole a j
-    past_early j h = taken_before_agrees f wired V whole (λ c. length (V c)) a (k a) known reached fronts j h
-
-    put_early : (j : ℕ) → j < k a → put f V a j ≡ put f whole a j
-    put_early j h =
-        put_agrees f wired V whole a j known
-        (λ c l e.
-        let own : f.rates.produced c (k (f.rates.source c)) ≡ f.rates.produced c (k a) =
-        ap (λ b. f.rates.produced c (k b)) e in
-        omega (arith, before.lengths c l, wired.sound.produced_rises c (j + 1) (k a) (omega arith)))
-        (λ c l. front_is c)
+    past_early : (j : ℕ) → j ≤ k a → taken_before f V a j ≡ taken_before f whole a j
+    past_early = taken_before_agrees wired took
 
     -- what its further firings take and put
     taken_late : (j : ℕ) → taken f whole a (k a + j) ≡ taken g U a j
@@ -193,8 +204,8 @@ module _ {T : Type 0} (f g : Wiring T) (wired : IsWired f) (same : SameWiring f 
         put f whole a j ≡ z a (taken_before f whole a j) (taken f whole a j)
     step_early a j known h =
         let past = past_early a known j (omega arith) in
-        let now = taken_early a known j h in
-        sym (put_early a known j h) ∙
+        let now = taken_agrees wired (took a known) j h in
+        sym (put_agrees wired (gave a known) j h) ∙
         (before.steps a j known h ∙
         (early a (taken_before f V a j) (taken f V a j) known (omega (arith, length_taken_before f V a j, h)) ∙
         (λ κ. z a (past κ) (now κ))))
@@ -263,10 +274,8 @@ module _ {T : Type 0} (f g : Wiring T) (wired : IsWired f) (same : SameWiring f 
       let at : f.rates.consumed c (k a + i a) ≡ used c + f.rates.consumed c (i a) =
       omega (arith, consumed_on a (i a) c l e) in
       let took = sym (same.consumed c (i a) l) in
+      let front = sym (kept c (used c) (omega (arith, length_before c l))) in
       ap (λ n. take n (whole c)) at ∙
       (take_past (whole c) (used c) (f.rates.consumed c (i a)) ∙
       (λ κ. front κ ++ take (took κ) (rest_is c l κ))
       ∙ ap (λ n. take n (V c) ++ take (g.rates.consumed c (i a)) (U c)) own)
-    where
-      front : take (used c) (whole c) ≡ take (used c) (V c)
-      front = take-append-le (used c) (V c) (drop (f.rates.initial c) (U c)) (omega (arith, length_before c l))

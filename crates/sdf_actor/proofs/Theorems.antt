@@ -1,8 +1,7 @@
 -- What proofs of other crates cite of this one: laws of histories and nets, by their lemmas, for actors of any steps;
 -- and lemmas about parts of lists, and about the numbers of a net's lists, that these need.
-use Rattle.std.proofs.Common.{◌≡◌, ℕ, ◌+◌, ◌≤◌, ◌<◌, List, ◌++◌, ◌∙◌, Some, length, get_or, take, drop, arith}
+use Rattle.std.proofs.Common.{◌≡◌, ℕ, ◌+◌, ◌≤◌, ◌<◌, List, ◌++◌, Some, length, get_or, take, drop, arith}
 use Rattle.std.specs.List.{flat_map, between}
-use Rattle.std.proofs.lemmas.List.{take_all}
 use Rattle.sdf_graph.proofs.Theorems.{graphs_have_periods}
 use Rattle.sdf_actor.specs.declared.node.Node.{Node}
 use Rattle.sdf_actor.specs.declared.node.Node.TheVariants.{Sink}
@@ -14,15 +13,15 @@ use Rattle.sdf_actor.specs.Locals.{LocalsBegin, LocalsGrow, LocalsMeet}
 use Rattle.sdf_actor.specs.Nets.{wiring, answers}
 use Rattle.sdf_actor.specs.Sides.{list_of, list_count}
 use Rattle.sdf_actor.specs.Steps.{Steps}
-use Rattle.sdf_actor.proofs.Agree.{taken_before_agrees}
+use Rattle.sdf_actor.proofs.Agree.{Took, Gave, taken_before_agrees, put_agrees}
 use Rattle.sdf_actor.proofs.Continuing.{history_goes_on, rest_goes_on, arrivals_go_on as arrivals_on}
 use Rattle.sdf_actor.proofs.Counts.{list_below as is_below}
-use Rattle.sdf_actor.proofs.Dealt.{put_is_dealt as is_dealt, put_agrees}
+use Rattle.sdf_actor.proofs.Dealt.{put_is_dealt as is_dealt}
 use Rattle.sdf_actor.proofs.GoesOn.{between_past as part_past}
 use Rattle.sdf_actor.proofs.HistoryLaws.{history_is_unique as is_unique, histories_grow as all_grow}
 use Rattle.sdf_actor.proofs.Locals.{local_begins, local_grows, locals_are_history}
 use Rattle.sdf_actor.proofs.Netlists.{wired, to_port_is, from_port_is}
-use Rattle.sdf_actor.proofs.Pieces.{between_agree as parts_agree, take_on as front_goes_on}
+use Rattle.sdf_actor.proofs.Pieces.{between_agree as parts_agree, take_on as front_goes_on, take_begun}
 use Rattle.sdf_actor.proofs.Pieces.{flat_map_same as all_same, flat_map_apart as all_apart}
 use Rattle.sdf_actor.proofs.WholePeriods.{are_whole}
 
@@ -40,17 +39,26 @@ ports_have_channels s n a p good known = (to_port_is s n good a p known, from_po
 
 pub taken_stays : {A S T : Type 0} (s : Steps A S T) → TakenStays s
 taken_stays s n V W a i good known within on =
-    taken_before_agrees (wiring s n) (wired s n good) V W (λ d. length (V d)) a i known within
-    (λ d l. take_all (length (V d)) (V d) (omega arith) ∙ on d l) i (omega arith)
+    let took : Took (wiring s n) V W a i = record {
+      known = known;
+      same = λ c l e. take_begun (V c) (W c) ((wiring s n).rates.consumed c i) (on c l) (within c l e);
+    } in
+    taken_before_agrees (wired s n good) took i (omega arith)
 
 pub put_is_dealt : {A S T : Type 0} (s : Steps A S T) → PutIsDealt s
 put_is_dealt s n V ch i good = is_dealt (wiring s n) (wired s n good) V ch i
 
 pub put_stays : {A S T : Type 0} (s : Steps A S T) → PutStays s
-put_stays s n V W a i good = put_agrees (wiring s n) (wired s n good) V W a i
+put_stays s n V W a i good known within on =
+    let gave : Gave (wiring s n) V W a (i + 1) = record {
+      known = known;
+      same = λ c l e. take_begun (V c) (W c)
+          ((wiring s n).rates.initial c + (wiring s n).rates.produced c (i + 1)) (on c l) (within c l e);
+    } in
+    put_agrees (wired s n good) gave i (omega arith)
 
 pub locals_begin : {A S T : Type 0} (s : Steps A S T) → LocalsBegin s
-locals_begin s n inputs a good = local_begins (wiring s n) (wired s n good) (answers s n inputs) a
+locals_begin s n inputs a good = local_begins (wired s n good) (answers s n inputs) a
 
 pub locals_grow : {A S T : Type 0} (s : Steps A S T) → LocalsGrow s
 locals_grow s n inputs a k V W b good known local once =
@@ -64,13 +72,13 @@ periods_are_whole s n q b good shape alike accepted =
     are_whole s n graphs_have_periods good shape alike q accepted b
 
 pub histories_go_on : {A B S T : Type 0} (s : Steps A S T) (r : Steps B S T) → HistoriesGoOn s r
-histories_go_on s r n m first later all k i V U rest h = history_goes_on s r n m first later k i V U rest h all
+histories_go_on s r n m first later all k i V U rest h = history_goes_on h all
 
 pub rests_go_on : {A B S T : Type 0} (s : Steps A S T) (r : Steps B S T) → RestsGoOn s r
-rests_go_on s r n m first later k i V U rest last h = rest_goes_on s r n m first later k i V U rest h last
+rests_go_on s r n m first later k i V U rest last h = rest_goes_on h last
 
 pub arrivals_go_on : {A B S T : Type 0} (s : Steps A S T) (r : Steps B S T) → ArrivalsGoOn s r
-arrivals_go_on s r n m first later k i V U rest h = arrivals_on s r n m first later k i V U rest h
+arrivals_go_on s r n m first later k i V U rest h = arrivals_on h
 
 -- a part within an equal beginning
 pub between_agree : {X : Type 0} (xs ys : List X) (n i j : ℕ) → take n xs ≡ take n ys → j ≤ n →

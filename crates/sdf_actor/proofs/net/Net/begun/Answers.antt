@@ -17,8 +17,7 @@ nodes_in-requires-clause-each g c κs within = λ a h.
     let fits = (g.met.A.Actor g.world.𝓛 g.world.𝓜 g.world.𝓡 ((λ s x. x), (λ x. x), (λ x. x), (λ x. x))).puts_fit in
     subst (λ v. MayBegin s (get_or c.deref-2.result.now a None) (get_or v a (Sink 0 0))) (sym nodes)
     (subst (λ v. MayBegin s (get_or v a None) (get_or c.args.self.now.nodes a (Sink 0 0))) (sym c.deref-2.ensures.value)
-    (may_begin s fits c.args.self.now good c.requires.rest.0 c.requires.rest.1 c.requires.rest.2
-    c.args.rest.now c.requires.rest.3 a (subst (λ v. a < length v) nodes h)))
+    (may_begin good c.requires.rest.2 c.requires.rest.3 fits a (subst (λ v. a < length v) nodes h)))
 
 pub returns-in-Ok-clause-begins : goal.returns-in-Ok-clause-begins
 returns-in-Ok-clause-begins g c =
@@ -48,6 +47,4 @@ pub returns-in-Ok-clause-graph : goal.returns-in-Ok-clause-graph
 returns-in-Ok-clause-graph g c =
     let s = g.A.Actor.steps in
     let good = subst (IsNet s) c.self.view_is c.self.invariant.is_net in
-    let is = c.requires.rest.3 in
-    graph_same s (begun_steps g.A.Actor) c.args.self.now good c.requires.rest.0 c.requires.rest.1
-    c.requires.rest.2.period is.history is.is c.args.rest.now is.left c.in-Ok.net (returns-in-Ok-clause-begins g c)
+    graph_same good c.requires.rest.2.period c.requires.rest.3 (returns-in-Ok-clause-begins g c)
