@@ -7,7 +7,8 @@ use Rattle.std.proofs.lemmas.List.{append-nil, length-append, length-drop}
 use Rattle.std.proofs.lemmas.Bool.{cases_lt}
 use Rattle.sdf_graph.specs.Sequences.{IsPeriod}
 use Rattle.sdf_actor.specs.Histories.{Wiring, Answers, taken, put, taken_before, IsHistory, IsWired, AnswersAgree}
-use Rattle.sdf_actor.proofs.Agree.{length_taken_before, Took, Gave, taken_agrees, taken_before_agrees, put_agrees}
+use Rattle.sdf_actor.proofs.Agree.{SameInput, SameOutput, taken_agrees, taken_before_agrees, put_agrees}
+use Rattle.sdf_actor.proofs.Agree.{length_taken_before}
 use Rattle.sdf_actor.proofs.Pieces.{flat_map_same, take_on}
 
 -- wirings with the same channels, rates and ports, whatever the channels begin with
@@ -36,7 +37,8 @@ take_past xs n i =
     let size : n + i - n ≡ i = omega arith in
     take_on xs n (n + i) (omega arith) ∙ ap (λ m. take n xs ++ take m (drop n xs)) size
 
--- a history of whole periods, and one on a wiring like it, whose channels begin with what the first left on them
+-- a history V of whole periods on wiring f, and a history U on a wiring g like it, whose channels begin with the
+-- samples that V leaves
 pub record Going (T : Type 0) : Type 0 where
   pub f : Wiring T
   pub g : Wiring T
@@ -113,24 +115,24 @@ module _ {T : Type 0} (going : Going T) where
       ∙ ap (λ n. f.rates.produced c j + n) (period.balanced c l))
 
   module _ (a : ℕ) (known : a < f.rates.actors) where
-    took : Took f V whole a (k a)
-    took = record {
+    input : SameInput f V whole a (k a)
+    input = record {
       known = known;
-      same = λ c l e. let own : used c ≡ f.rates.consumed c (k a) = ap (λ b. f.rates.consumed c (k b)) e in
+      agree = λ c l e. let own : used c ≡ f.rates.consumed c (k a) = ap (λ b. f.rates.consumed c (k b)) e in
           kept c (f.rates.consumed c (k a)) (omega (arith, length_before c l));
     }
 
-    gave : Gave f V whole a (k a)
-    gave = record {
+    output : SameOutput f V whole a (k a)
+    output = record {
       known = known;
-      same = λ c l e.
+      agree = λ c l e.
           let own : f.rates.produced c (k (f.rates.source c)) ≡ f.rates.produced c (k a) =
           ap (λ b. f.rates.produced c (k b)) e in
           kept c (f.rates.initial c + f.rates.produced c (k a)) (omega (arith, before.lengths c l));
     }
 
     past_early : (j : ℕ) → j ≤ k a → taken_before f V a j ≡ taken_before f whole a j
-    past_early = taken_before_agrees wired took
+    past_early = taken_before_agrees wired input
 
     -- what its further firings take and put
     taken_late : (j : ℕ) → taken f whole a (k a + j) ≡ taken g U a j
@@ -204,8 +206,8 @@ module _ {T : Type 0} (going : Going T) where
         put f whole a j ≡ z a (taken_before f whole a j) (taken f whole a j)
     step_early a j known h =
         let past = past_early a known j (omega arith) in
-        let now = taken_agrees wired (took a known) j h in
-        sym (put_agrees wired (gave a known) j h) ∙
+        let now = taken_agrees wired (input a known) j h in
+        sym (put_agrees wired (output a known) j h) ∙
         (before.steps a j known h ∙
         (early a (taken_before f V a j) (taken f V a j) known (omega (arith, length_taken_before f V a j, h)) ∙
         (λ κ. z a (past κ) (now κ))))

@@ -6,21 +6,21 @@ use Rattle.std.proofs.lemmas.List.{take_all, length-append, take-append-le}
 use Rattle.std.proofs.lemmas.Bool.{cases_lt}
 use Rattle.sdf_actor.specs.Histories.{Wiring, Answers, taken, put, taken_before, spread, IsHistory, IsWired}
 use Rattle.sdf_actor.proofs.Pieces.{flat_map_same, length_spread, spread_joined, between_after}
-use Rattle.sdf_actor.proofs.Agree.{part, port, Took, Gave, taken_agrees, taken_before_agrees, put_agrees}
+use Rattle.sdf_actor.proofs.Agree.{part, port, SameInput, SameOutput, taken_agrees, taken_before_agrees, put_agrees}
 use Rattle.sdf_actor.specs.Locals.{IsLocal, IsFiredOnce}
 
--- what one firing of a node adds to its channel c, after i firings
+-- the size of what a node puts on channel c in firing i
 abbrev pub size_at : {A : Type 0} → Wiring A → ℕ → ℕ → ℕ
 size_at f i c = f.rates.produced c (i + 1) - f.rates.produced c i
 
--- a node's equations stay where its channels do
+-- a node's equations stay where its channels have the same samples
 pub steps_stay : {A : Type 0} {f : Wiring A} → IsWired f → {x : Answers A} {a k : ℕ} {V W : ℕ → List A} →
-    IsLocal f x a k V → Took f V W a k → Gave f V W a k →
+    IsLocal f x a k V → SameInput f V W a k → SameOutput f V W a k →
     (i : ℕ) → i < k → put f W a i ≡ x a (taken_before f W a i) (taken f W a i)
-steps_stay {A} {f} wired {x} {a} {k} {V} {W} r took gave i h =
-    let p : put f V a i ≡ put f W a i = put_agrees wired gave i h in
-    let t : taken f V a i ≡ taken f W a i = taken_agrees wired took i h in
-    let u : taken_before f V a i ≡ taken_before f W a i = taken_before_agrees wired took i (omega arith) in
+steps_stay {A} {f} wired {x} {a} {k} {V} {W} r input output i h =
+    let p : put f V a i ≡ put f W a i = put_agrees wired output i h in
+    let t : taken f V a i ≡ taken f W a i = taken_agrees wired input i h in
+    let u : taken_before f V a i ≡ taken_before f W a i = taken_before_agrees wired input i (omega arith) in
     let s : put f V a i ≡ x a (taken_before f V a i) (taken f V a i) = r.steps i h in
     cc
 
@@ -34,13 +34,13 @@ module _ {A : Type 0} {f : Wiring A} (wired : IsWired f) {x : Answers A} {a k : 
       subst (λ d. length (spread (size_at f k) (f.outs a) b d) ≡ size_at f k d) at.2
       (length_spread (size_at f k) (f.outs a) b at.0 at.1 once.long)
 
-  took : Took f V W a k
-  took = record { known = known; same = once.kept }
+  input : SameInput f V W a k
+  input = record { known = known; agree = once.kept }
 
-  gave : Gave f V W a k
-  gave = record {
+  output : SameOutput f V W a k
+  output = record {
     known = known;
-    same = λ c l e.
+    agree = λ c l e.
         let all = r.given c l e in
         sym (ap (take (f.rates.initial c + f.rates.produced c k)) (once.given c l e)
         ∙ take-append-le (f.rates.initial c + f.rates.produced c k) (V c)
@@ -79,7 +79,7 @@ module _ {A : Type 0} {f : Wiring A} (wired : IsWired f) {x : Answers A} {a k : 
   }
     where
       go : (i : ℕ) → i < k + 1 → (i < k) ⊎ (k ≤ i) → put f W a i ≡ x a (taken_before f W a i) (taken f W a i)
-      go i h (inl below) = steps_stay wired r took gave i below
+      go i h (inl below) = steps_stay wired r input output i below
       go i h (inr above) =
           let e : k ≡ i = omega arith in
           subst (λ i. put f W a i ≡ x a (taken_before f W a i) (taken f W a i)) e (new_put ∙ once.answers_it)
@@ -98,16 +98,16 @@ locals_are_history {A} {f} wired k own each enough met = record {
       omega (arith, enough c l);
   steps = λ a i known h.
       let V : ℕ → List A = λ c. own (f.rates.source c) c in
-      let took : Took f (own a) V a (k a) = record {
+      let input : SameInput f (own a) V a (k a) = record {
         known = known;
-        same = λ c l e. subst (λ d. take (f.rates.consumed c (k d)) (own d c) ≡
+        agree = λ c l e. subst (λ d. take (f.rates.consumed c (k d)) (own d c) ≡
             take (f.rates.consumed c (k d)) (V c)) e (met c l);
       } in
-      let gave : Gave f (own a) V a (k a) = record {
+      let output : SameOutput f (own a) V a (k a) = record {
         known = known;
-        same = λ c l e. ap (λ d. take (f.rates.initial c + f.rates.produced c (k a)) (own d c)) (sym e);
+        agree = λ c l e. ap (λ d. take (f.rates.initial c + f.rates.produced c (k a)) (own d c)) (sym e);
       } in
-      steps_stay wired (each a known) took gave i h;
+      steps_stay wired (each a known) input output i h;
 }
 
 pub local_begins : {A : Type 0} {f : Wiring A} → IsWired f → (x : Answers A) (a : ℕ) → IsLocal f x a 0 f.starts

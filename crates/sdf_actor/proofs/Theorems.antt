@@ -13,7 +13,7 @@ use Rattle.sdf_actor.specs.Locals.{LocalsBegin, LocalsGrow, LocalsMeet}
 use Rattle.sdf_actor.specs.Nets.{wiring, answers}
 use Rattle.sdf_actor.specs.Sides.{list_of, list_count}
 use Rattle.sdf_actor.specs.Steps.{Steps}
-use Rattle.sdf_actor.proofs.Agree.{Took, Gave, taken_before_agrees, put_agrees}
+use Rattle.sdf_actor.proofs.Agree.{SameInput, SameOutput, taken_before_agrees, put_agrees}
 use Rattle.sdf_actor.proofs.Continuing.{history_goes_on, rest_goes_on, arrivals_go_on as arrivals_on}
 use Rattle.sdf_actor.proofs.Counts.{list_below as is_below}
 use Rattle.sdf_actor.proofs.Dealt.{put_is_dealt as is_dealt}
@@ -39,23 +39,23 @@ ports_have_channels s n a p good known = (to_port_is s n good a p known, from_po
 
 pub taken_stays : {A S T : Type 0} (s : Steps A S T) → TakenStays s
 taken_stays s n V W a i good known within on =
-    let took : Took (wiring s n) V W a i = record {
+    let input : SameInput (wiring s n) V W a i = record {
       known = known;
-      same = λ c l e. take_begun (V c) (W c) ((wiring s n).rates.consumed c i) (on c l) (within c l e);
+      agree = λ c l e. take_begun (V c) (W c) ((wiring s n).rates.consumed c i) (on c l) (within c l e);
     } in
-    taken_before_agrees (wired s n good) took i (omega arith)
+    taken_before_agrees (wired s n good) input i (omega arith)
 
 pub put_is_dealt : {A S T : Type 0} (s : Steps A S T) → PutIsDealt s
 put_is_dealt s n V ch i good = is_dealt (wiring s n) (wired s n good) V ch i
 
 pub put_stays : {A S T : Type 0} (s : Steps A S T) → PutStays s
 put_stays s n V W a i good known within on =
-    let gave : Gave (wiring s n) V W a (i + 1) = record {
+    let output : SameOutput (wiring s n) V W a (i + 1) = record {
       known = known;
-      same = λ c l e. take_begun (V c) (W c)
+      agree = λ c l e. take_begun (V c) (W c)
           ((wiring s n).rates.initial c + (wiring s n).rates.produced c (i + 1)) (on c l) (within c l e);
     } in
-    put_agrees (wired s n good) gave i (omega arith)
+    put_agrees (wired s n good) output i (omega arith)
 
 pub locals_begin : {A S T : Type 0} (s : Steps A S T) → LocalsBegin s
 locals_begin s n inputs a good = local_begins (wired s n good) (answers s n inputs) a
