@@ -78,19 +78,18 @@ module _ (r : Rates) (n cost : ℕ → ℕ) (level : Firing → ℕ) (width : �
         homes' wide waiting;
   }
 
-module _ (r : Rates) (n cost : ℕ → ℕ) (level : Firing → ℕ) (width : ℕ) (homed : Bool) (past : List Timed) (now : ℕ)
-    (ended started whose until : ℕ → ℕ) (homes homes' : ℕ → Option ℕ) (s : IsSound r)
-    (d : IsDue r n cost level width homed past now ended started whose until homes) (cells : List (Option Firing))
+module _ {r : Rates} {n cost : ℕ → ℕ} {level : Firing → ℕ} {width : ℕ} {homed : Bool} {past : List Timed} {now : ℕ}
+    {ended started whose until : ℕ → ℕ} {homes homes' : ℕ → Option ℕ} {cells : List (Option Firing)} (s : IsSound r)
+    (d : IsDue r n cost level width homed past now ended started whose until homes)
     (row : IsRowAt r n cost level width homed past now ended started whose until homes' cells) where
   -- a row with a firing is added
   pub row_added : (dear : (a : ℕ) → a < r.actors → 1 ≤ cost a) → (firings cells ≡ [] → ⊥) →
-      (started' whose' until' : ℕ → ℕ) → AreStarted cost now (length cells) cells started whose until
+      {started' whose' until' : ℕ → ℕ} → AreStarted cost now (length cells) cells started whose until
       started' whose' until' →
       IsDone r n cost level width homed (past ++ record { start = now; cells = cells } ∷ []) now ended started'
       whose' until' homes'
-  row_added dear some started' whose' until' b =
-      done_row r n cost level width s homed past now ended started whose until homes d started' whose' until' homes'
-      cells row.by_rule row.wide some dear row.each row.apart b
+  row_added dear some {started' = started'} {whose' = whose'} {until' = until'} b =
+      done_row s d homes' cells row.by_rule row.wide some dear row.each row.apart b
       (λ h. row.homes_then h (past ++ record { start = now; cells = cells } ∷ [])
       (settled_more past (record { start = now; cells = cells })))
       (row.stuck started' whose' until' b)
@@ -98,8 +97,7 @@ module _ (r : Rates) (n cost : ℕ → ℕ) (level : Firing → ℕ) (width : �
   -- an empty one is not
   pub row_left : firings cells ≡ [] → IsDone r n cost level width homed past now ended started whose until homes'
   row_left none =
-      done_none r n cost level width s homed past now ended started whose until homes d started whose until homes' cells
-      row.by_rule none
+      done_none s d homes' cells row.by_rule none
       (λ h. row.homes_then h past (λ a j. (λ x. inl x, back a j)))
       (row.stuck started whose until (starting_none cost now (length cells) cells started whose until
       (λ j f l e. nothing_stands cells none j f e)))
@@ -147,8 +145,8 @@ row_started job old placed new past cells s dear due is row some then columns be
         (λ j. get_or new.until j 0) (λ a. get_or k.homes a None)
 
     added : P (record old { homes = placed.homes }) (length old.until)
-    added = row_added _ _ _ _ _ _ _ _ _ _ _ _ _ _ s due cells
-        (subst (λ (k : Crewed). IsRowFor job k past cells) is row) dear some _ _ _
+    added = row_added s due
+        (subst (λ (k : Crewed). IsRowFor job k past cells) is row) dear some
         (subst (λ (k : Crewed). AreStarted (λ a. get_or job.costs.now a 0) k.time (length cells) cells
         (λ a. get_or k.started a 0) (λ a. get_or k.whose a 0) (λ j. get_or k.until j 0)
         (λ a. get_or new.started a 0) (λ a. get_or new.whose a 0) (λ j. get_or new.until j 0)) is begun)
@@ -165,7 +163,7 @@ pub row_skipped : (job : Job) (old new : Crewed) (past : List Timed) (cells : Li
     IsRowFor job new past cells → firings cells ≡ [] → IsDoneBy job new past
 row_skipped job old new past cells s due is row none =
     subst (λ (k : Crewed). IsDoneBy job k past) (sym is)
-    (row_left _ _ _ _ _ _ _ _ _ _ _ _ _ _ s due cells (subst (λ (k : Crewed). IsRowFor job k past cells) is row) none)
+    (row_left s due (subst (λ (k : Crewed). IsRowFor job k past cells) is row) none)
 
 pub sum_less : (xs ys : List ℕ) (b : ℕ) → length xs ≡ length ys →
     ((a : ℕ) → get_or xs a 0 ≤ get_or ys a 0) → get_or xs b 0 < get_or ys b 0 → sum xs < sum ys

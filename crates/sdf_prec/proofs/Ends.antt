@@ -75,10 +75,10 @@ all_stand r n cost width homed past now ended started whose until homes w s some
     go (cases_lt f.number (started f.actor))
   where
     through : (a : ℕ) → a < r.actors → ended a ≡ started a
-    through = none_at_work r n cost width past now ended started whose until floor none
+    through = none_at_work floor none
 
     busy : (j : ℕ) → now < until j → ⊥
-    busy = none_busy r n cost width past now ended started whose until floor none
+    busy = none_busy floor none
 
     go : (f.number < started f.actor) ⊎ (started f.actor ≤ f.number) → Occurs past f
     go (inl l) = (floor.occurs f of.0).0 l

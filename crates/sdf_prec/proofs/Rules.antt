@@ -62,20 +62,20 @@ module _ (r : Rates) (n cost : ℕ → ℕ) (level : Firing → ℕ) (width : �
     (ended started whose until : ℕ → ℕ) (w : IsFloor r n cost width past t ended started whose until)
     (s : IsSound r) where
   idle_to : (j : ℕ) → until j ≤ t → IsBusy cost past t j → ⊥
-  idle_to j h b = let l = busy_to r n cost width past t ended started whose until w j b in omega arith
+  idle_to j h b = let l = busy_to w j b in omega arith
 
   idle_of : (j : ℕ) → (IsBusy cost past t j → ⊥) → until j ≤ t
   idle_of j h = go (cases_lt t (until j))
     where
       go : (t < until j) ⊎ (until j ≤ t) → until j ≤ t
-      go (inl l) = absurd (h (busy_of r n cost width past t ended started whose until w j l))
+      go (inl l) = absurd (h (busy_of w j l))
       go (inr l) = l
 
   queue_at : (queue : List Firing) → IsQueue level (IsNextReady r n ended started) queue →
       IsQueue level (IsReadyAt r n cost past t) queue
   queue_at queue = queue_alike level (IsNextReady r n ended started) (IsReadyAt r n cost past t) queue
-      (ready_to r n cost width past t ended started whose until w s)
-      (ready_of r n cost width past t ended started whose until w s)
+      (ready_to w s)
+      (ready_of w s)
 
   -- a ready firing where no column is left: the row is empty
   pub free_empty : ((f : Firing) → IsNextReady r n ended started f → (j : ℕ) → j < width → t < until j) →
@@ -91,9 +91,9 @@ module _ (r : Rates) (n cost : ℕ → ℕ) (level : Firing → ℕ) (width : �
               let known = row.idle.each q l in
               let here : slice_get row.queue q ≡ Some f =
               sym (row.filled.filled q l) ∙ (ap (λ c. get_or cells c None) column ∙ e) in
-              let ready = ready_of r n cost width past t ended started whose until w s (firing row.queue q)
+              let ready = ready_of w s (firing row.queue q)
               (row.ready.each q (slice_get_within row.queue q f here)) in
-              known.1 (busy_of r n cost width past t ended started whose until w (get_or row.columns q 0)
+              known.1 (busy_of w (get_or row.columns q 0)
               (stuck (firing row.queue q) ready (get_or row.columns q 0) known.0))
 
   pub homed_empty : (homes : ℕ → Option ℕ) → ((a j : ℕ) → a < r.actors → (homes a ≡ Some j) ↔ IsSettled past a j) →
@@ -108,7 +108,7 @@ module _ (r : Rates) (n cost : ℕ → ℕ) (level : Firing → ℕ) (width : �
           at (p, l, is) = go (stuck (firing row.queue p) ready)
             where
               ready : IsNextReady r n ended started (firing row.queue p)
-              ready = ready_of r n cost width past t ended started whose until w s (firing row.queue p)
+              ready = ready_of w s (firing row.queue p)
                   (row.ready.each p l)
 
               pl : IsPlaced r.actors width (λ a. n a * cost a) (λ j. IsBusy cost past t j → ⊥) row.homes
@@ -121,7 +121,7 @@ module _ (r : Rates) (n cost : ℕ → ℕ) (level : Firing → ℕ) (width : �
 
               go : ((k : ℕ) × IsTrue true × (homes (firing row.queue p).actor ≡ Some k) × (t < until k))
                   ⊎ ((j : ℕ) → j < width → t < until j) → ⊥
-              go (inr all) = place.is_free.0 (busy_of r n cost width past t ended started whose until w j
+              go (inr all) = place.is_free.0 (busy_of w j
                   (all j place.known))
               go (inl (k, _, home, busy)) = found place.chosen
                 where
@@ -136,7 +136,7 @@ module _ (r : Rates) (n cost : ℕ → ℕ) (level : Firing → ℕ) (width : �
                       ⊎ ((pl.home (firing row.queue p).actor ≡ None)
                       × IsLeast width (λ m. (IsBusy cost past t m → ⊥) × IsLeft row.queue cells p m)
                       (load r.actors (λ a. n a * cost a) pl.home) j) → ⊥
-                  found (inl g) = place.is_free.0 (busy_of r n cost width past t ended started whose until w j
+                  found (inl g) = place.is_free.0 (busy_of w j
                       (subst (λ j. t < until j) (same_Some k j (sym then_home ∙ g)) busy))
                   found (inr (none, _)) = none-some k (sym none ∙ then_home)
 

@@ -28,7 +28,7 @@ loop-next-smaller c =
     let v = c.loop-next.invariant in
     let its = ap (λ (g : Shape). g.actors) v.graph in
     let few : sum c.loop-next.crew.counts.fired ≤ sum c.args.job.now.firings.now =
-    few_ended _ _ _ _ _ _ _ _ _ _ v.done.2.floor c.next_end.ensures.crew.fired_all
+    few_ended _ _ v.done.2.floor c.next_end.ensures.crew.fired_all
     (c.requires.job.firings_all ∙ sym its) in
     let more : sum c.loop-next.crew.counts.fired < sum c.turn.new.self.counts.fired = c.in_ok-turn.ensures.more in
     omega arith
