@@ -31,51 +31,40 @@ nothing_stands (None ∷ cells) e zero f is = none-some f is
 nothing_stands (None ∷ cells) e (suc j) f is = nothing_stands cells e j f is
 nothing_stands (Some g ∷ cells) e j f is = let l : suc (length (firings cells)) ≡ 0 = ap length e in omega arith
 
-module _ (r : Rates) (n cost : ℕ → ℕ) (level : Firing → ℕ) (width : ℕ) (past : List Timed) (now : ℕ)
-    (ended started whose : ℕ → ℕ) (u : List ℕ) (s : IsSound r) (dear : (a : ℕ) → a < r.actors → 1 ≤ cost a)
-    (queue : List Firing) (q : IsQueue level (IsNextReady r n ended started) queue) (cells : List (Option Firing)) where
-  pub row_free : (homes : ℕ → Option ℕ) → IsDue r n cost level width false past now ended started whose
-      (λ j. get_or u j 0) homes → (next : ℕ) → IsFilling u now width queue next cells →
+module _ {r : Rates} {n cost : ℕ → ℕ} {level : Firing → ℕ} {width : ℕ} {past : List Timed} {now : ℕ}
+    {ended started whose : ℕ → ℕ} (u : List ℕ) (s : IsSound r) (dear : (a : ℕ) → a < r.actors → 1 ≤ cost a)
+    {queue : List Firing} (q : IsQueue level (IsNextReady r n ended started) queue) {cells : List (Option Firing)} where
+  pub row_free : {homes : ℕ → Option ℕ} → IsDue r n cost level width false past now ended started whose
+      (λ j. get_or u j 0) homes → {next : ℕ} → IsFilling u now width queue next cells →
       IsRowAt r n cost level width false past now ended started whose (λ j. get_or u j 0) homes cells
-  row_free homes d next fill = record {
+  row_free d fill = record {
     floor = d.floor;
     wide = fill.wide;
-    by_rule = free_row r n cost level width past now ended started whose (λ j. get_or u j 0) d.floor s queue q cells u
-        (λ j _. get_or u j 0) next fill;
-    each = filled_each r n cost level width past now ended started whose (λ j. get_or u j 0) d.floor s queue q cells u
-        (λ j _. get_or u j 0) next fill;
-    apart = filled_apart r n cost level width past now ended started whose (λ j. get_or u j 0) d.floor s queue q cells u
-        (λ j _. get_or u j 0) next fill;
+    by_rule = free_row level d.floor s q fill (λ j _. get_or u j 0);
+    each = filled_each level d.floor s q fill (λ j _. get_or u j 0);
+    apart = filled_apart level d.floor s q fill (λ j _. get_or u j 0);
     homes_then = λ never. absurd (false≢true never);
-    stuck = λ started' whose' until' b f h. inr (free_stuck r n cost level width past now ended started whose
-        (λ j. get_or u j 0) d.floor s queue q cells started' whose' until' dear
-        (filled_each r n cost level width past now ended started whose (λ j. get_or u j 0) d.floor s queue q cells u
-        (λ j _. get_or u j 0) next fill) b u (λ j _. get_or u j 0) next fill f h);
+    stuck = λ started' whose' until' b f h. inr (free_stuck level d.floor s q u dear
+        (filled_each level d.floor s q fill (λ j _. get_or u j 0)) b (λ j _. get_or u j 0) fill f h);
   }
 
-  pub row_homed : (homes homes' : List (Option ℕ)) →
+  pub row_homed : (homes : List (Option ℕ)) {homes' : List (Option ℕ)} →
       IsDue r n cost level width true past now ended started whose (λ j. get_or u j 0) (λ a. get_or homes a None) →
-      (weight : ℕ → ℕ) → weight ≡ (λ a. n a * cost a) → length u ≡ width →
+      {weight : ℕ → ℕ} → weight ≡ (λ a. n a * cost a) → length u ≡ width →
       IsPlacing r.actors width weight (λ j. get_or u j 0 ≤ now) (λ a. get_or homes a None) queue (length queue) cells
       homes' → AreWaiting u now queue (length queue) cells homes' →
       IsRowAt r n cost level width true past now ended started whose (λ j. get_or u j 0)
       (λ a. get_or homes' a None) cells
-  row_homed homes homes' d weight weight_is wide placed waiting = record {
+  row_homed homes {homes' = homes'} d weight_is wide placed waiting = record {
     floor = d.floor;
     wide = placed.wide;
-    by_rule = homed_row r n cost level width past now ended started whose (λ j. get_or u j 0) d.floor s queue q cells
-        weight weight_is u (λ j _. get_or u j 0) homes homes' (d.homes_are refl) placed;
-    each = placed_each r n cost level width past now ended started whose (λ j. get_or u j 0) d.floor s queue q cells
-        weight weight_is u (λ j _. get_or u j 0) homes homes' (d.homes_are refl) placed;
-    apart = placed_apart r n cost level width past now ended started whose (λ j. get_or u j 0) d.floor s queue q cells
-        weight weight_is u (λ j _. get_or u j 0) homes homes' (d.homes_are refl) placed;
-    homes_then = λ _. homes_then r n cost level width past now ended started whose (λ j. get_or u j 0) d.floor s queue q
-        cells weight weight_is u (λ j _. get_or u j 0) homes homes' (d.homes_are refl) placed;
-    stuck = λ started' whose' until' b. homed_stuck r n cost level width past now ended started whose
-        (λ j. get_or u j 0) d.floor s queue q cells started' whose' until' dear
-        (placed_each r n cost level width past now ended started whose (λ j. get_or u j 0) d.floor s queue q cells
-        weight weight_is u (λ j _. get_or u j 0) homes homes' (d.homes_are refl) placed) b u (λ j _. get_or u j 0)
-        homes' wide waiting;
+    by_rule = homed_row level d.floor s q u homes weight_is (λ j _. get_or u j 0) (d.homes_are refl) placed;
+    each = placed_each level d.floor s q u homes weight_is (λ j _. get_or u j 0) (d.homes_are refl) placed;
+    apart = placed_apart level d.floor s q u homes weight_is (λ j _. get_or u j 0) (d.homes_are refl) placed;
+    homes_then = λ _. homes_then level d.floor s q u homes weight_is (λ j _. get_or u j 0) (d.homes_are refl) placed;
+    stuck = λ started' whose' until' b. homed_stuck level d.floor s q u dear
+        (placed_each level d.floor s q u homes weight_is (λ j _. get_or u j 0) (d.homes_are refl) placed) b
+        (λ j _. get_or u j 0) homes' wide waiting;
   }
 
 module _ {r : Rates} {n cost : ℕ → ℕ} {level : Firing → ℕ} {width : ℕ} {homed : Bool} {past : List Timed} {now : ℕ}

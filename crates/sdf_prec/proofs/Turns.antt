@@ -60,9 +60,9 @@ module _ {r : Rates} {n cost : ℕ → ℕ} {width : ℕ} (s : IsSound r) where
       IsStuck r n ended started until homes width t homed →
       (cells : List (Option Firing)) → hu_rule r n cost level width homed past t cells → firings cells ≡ []
   stuck_empty level true past t ended started whose until homes w homes_are stuck cells row =
-      homed_empty r n cost level width past t ended started whose until w s homes (homes_are refl) stuck cells row
+      homed_empty level w s homes (homes_are refl) stuck cells row
   stuck_empty level false past t ended started whose until homes w homes_are stuck cells row =
-      free_empty r n cost level width past t ended started whose until w s (λ f h. go f (stuck f h)) cells row
+      free_empty level w s (λ f h. go f (stuck f h)) cells row
     where
       go : (f : Firing) → ((k : ℕ) × IsTrue false × (homes f.actor ≡ Some k) × (t < until k))
           ⊎ ((j : ℕ) → j < width → t < until j) → (j : ℕ) → j < width → t < until j

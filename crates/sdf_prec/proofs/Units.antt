@@ -152,9 +152,7 @@ free_plain r n cost level width rows unit are = record {
     each : (i : ℕ) → i < length rows → IsFreePlain r n level width (cells_of rows) i
     each i l = (
       rule.queue,
-      queue_alike level (IsReadyAt r n cost (take i rows) (timed rows i).start)
-          (IsReadyFor r n (cells_of rows) i) rule.queue
-          (ready_plain r n cost level width (IsFreeRow r n cost level width) rows unit are known i l)
+      queue_alike (ready_plain r n cost level width (IsFreeRow r n cost level width) rows unit are known i l)
           (plain_ready r n cost level width (IsFreeRow r n cost level width) rows unit are known i l) rule.ready,
       stands,
     )
@@ -195,9 +193,7 @@ homed_plain r n cost level width rows unit are = record {
     each i l = (
       rule.queue,
       rule.homes,
-      queue_alike level (IsReadyAt r n cost (take i rows) (timed rows i).start)
-          (IsReadyFor r n (cells_of rows) i) rule.queue
-          (ready_plain r n cost level width (IsHomedRow r n cost level width) rows unit are known i l)
+      queue_alike (ready_plain r n cost level width (IsHomedRow r n cost level width) rows unit are known i l)
           (plain_ready r n cost level width (IsHomedRow r n cost level width) rows unit are known i l) rule.ready,
       λ a j k. (
         λ e. (settled a j).0 ((rule.homes_are a j k).0 e),

@@ -63,7 +63,7 @@ invariant_of-self c =
       marks_all = k.marks_all;
       inside = λ a j is. let l = k.inside a j is in omega (arith, u_len);
       early = k.early;
-      soon = soon_then begun (λ j f h. job_cheap _ _ _ _ _ job f.actor
+      soon = soon_then begun (λ j f h. job_cheap job f.actor
           (row.each j f h).0.known) k.soon;
     })
 
