@@ -31,66 +31,54 @@ nothing_stands (None ∷ cells) e zero f is = none-some f is
 nothing_stands (None ∷ cells) e (suc j) f is = nothing_stands cells e j f is
 nothing_stands (Some g ∷ cells) e j f is = let l : suc (length (firings cells)) ≡ 0 = ap length e in omega arith
 
-module _ (r : Rates) (n cost : ℕ → ℕ) (level : Firing → ℕ) (width : ℕ) (past : List Timed) (now : ℕ)
-    (ended started whose : ℕ → ℕ) (u : List ℕ) (s : IsSound r) (dear : (a : ℕ) → a < r.actors → 1 ≤ cost a)
-    (queue : List Firing) (q : IsQueue level (IsNextReady r n ended started) queue) (cells : List (Option Firing)) where
-  pub row_free : (homes : ℕ → Option ℕ) → IsDue r n cost level width false past now ended started whose
-      (λ j. get_or u j 0) homes → (next : ℕ) → IsFilling u now width queue next cells →
+module _ {r : Rates} {n cost : ℕ → ℕ} {level : Firing → ℕ} {width : ℕ} {past : List Timed} {now : ℕ}
+    {ended started whose : ℕ → ℕ} (u : List ℕ) (s : IsSound r) (dear : (a : ℕ) → a < r.actors → 1 ≤ cost a)
+    {queue : List Firing} (q : IsQueue level (IsNextReady r n ended started) queue) {cells : List (Option Firing)} where
+  pub row_free : {homes : ℕ → Option ℕ} → IsDue r n cost level width false past now ended started whose
+      (λ j. get_or u j 0) homes → {next : ℕ} → IsFilling u now width queue next cells →
       IsRowAt r n cost level width false past now ended started whose (λ j. get_or u j 0) homes cells
-  row_free homes d next fill = record {
+  row_free d fill = record {
     floor = d.floor;
     wide = fill.wide;
-    by_rule = free_row r n cost level width past now ended started whose (λ j. get_or u j 0) d.floor s queue q cells u
-        (λ j _. get_or u j 0) next fill;
-    each = filled_each r n cost level width past now ended started whose (λ j. get_or u j 0) d.floor s queue q cells u
-        (λ j _. get_or u j 0) next fill;
-    apart = filled_apart r n cost level width past now ended started whose (λ j. get_or u j 0) d.floor s queue q cells u
-        (λ j _. get_or u j 0) next fill;
+    by_rule = free_row level d.floor s q fill (λ j _. get_or u j 0);
+    each = filled_each level d.floor s q fill (λ j _. get_or u j 0);
+    apart = filled_apart level d.floor s q fill (λ j _. get_or u j 0);
     homes_then = λ never. absurd (false≢true never);
-    stuck = λ started' whose' until' b f h. inr (free_stuck r n cost level width past now ended started whose
-        (λ j. get_or u j 0) d.floor s queue q cells started' whose' until' dear
-        (filled_each r n cost level width past now ended started whose (λ j. get_or u j 0) d.floor s queue q cells u
-        (λ j _. get_or u j 0) next fill) b u (λ j _. get_or u j 0) next fill f h);
+    stuck = λ started' whose' until' b f h. inr (free_stuck level d.floor s q u dear
+        (filled_each level d.floor s q fill (λ j _. get_or u j 0)) b (λ j _. get_or u j 0) fill f h);
   }
 
-  pub row_homed : (homes homes' : List (Option ℕ)) →
+  pub row_homed : (homes : List (Option ℕ)) {homes' : List (Option ℕ)} →
       IsDue r n cost level width true past now ended started whose (λ j. get_or u j 0) (λ a. get_or homes a None) →
-      (weight : ℕ → ℕ) → weight ≡ (λ a. n a * cost a) → length u ≡ width →
+      {weight : ℕ → ℕ} → weight ≡ (λ a. n a * cost a) → length u ≡ width →
       IsPlacing r.actors width weight (λ j. get_or u j 0 ≤ now) (λ a. get_or homes a None) queue (length queue) cells
       homes' → AreWaiting u now queue (length queue) cells homes' →
       IsRowAt r n cost level width true past now ended started whose (λ j. get_or u j 0)
       (λ a. get_or homes' a None) cells
-  row_homed homes homes' d weight weight_is wide placed waiting = record {
+  row_homed homes {homes' = homes'} d weight_is wide placed waiting = record {
     floor = d.floor;
     wide = placed.wide;
-    by_rule = homed_row r n cost level width past now ended started whose (λ j. get_or u j 0) d.floor s queue q cells
-        weight weight_is u (λ j _. get_or u j 0) homes homes' (d.homes_are refl) placed;
-    each = placed_each r n cost level width past now ended started whose (λ j. get_or u j 0) d.floor s queue q cells
-        weight weight_is u (λ j _. get_or u j 0) homes homes' (d.homes_are refl) placed;
-    apart = placed_apart r n cost level width past now ended started whose (λ j. get_or u j 0) d.floor s queue q cells
-        weight weight_is u (λ j _. get_or u j 0) homes homes' (d.homes_are refl) placed;
-    homes_then = λ _. homes_then r n cost level width past now ended started whose (λ j. get_or u j 0) d.floor s queue q
-        cells weight weight_is u (λ j _. get_or u j 0) homes homes' (d.homes_are refl) placed;
-    stuck = λ started' whose' until' b. homed_stuck r n cost level width past now ended started whose
-        (λ j. get_or u j 0) d.floor s queue q cells started' whose' until' dear
-        (placed_each r n cost level width past now ended started whose (λ j. get_or u j 0) d.floor s queue q cells
-        weight weight_is u (λ j _. get_or u j 0) homes homes' (d.homes_are refl) placed) b u (λ j _. get_or u j 0)
-        homes' wide waiting;
+    by_rule = homed_row level d.floor s q u homes weight_is (λ j _. get_or u j 0) (d.homes_are refl) placed;
+    each = placed_each level d.floor s q u homes weight_is (λ j _. get_or u j 0) (d.homes_are refl) placed;
+    apart = placed_apart level d.floor s q u homes weight_is (λ j _. get_or u j 0) (d.homes_are refl) placed;
+    homes_then = λ _. homes_then level d.floor s q u homes weight_is (λ j _. get_or u j 0) (d.homes_are refl) placed;
+    stuck = λ started' whose' until' b. homed_stuck level d.floor s q u dear
+        (placed_each level d.floor s q u homes weight_is (λ j _. get_or u j 0) (d.homes_are refl) placed) b
+        (λ j _. get_or u j 0) homes' wide waiting;
   }
 
-module _ (r : Rates) (n cost : ℕ → ℕ) (level : Firing → ℕ) (width : ℕ) (homed : Bool) (past : List Timed) (now : ℕ)
-    (ended started whose until : ℕ → ℕ) (homes homes' : ℕ → Option ℕ) (s : IsSound r)
-    (d : IsDue r n cost level width homed past now ended started whose until homes) (cells : List (Option Firing))
+module _ {r : Rates} {n cost : ℕ → ℕ} {level : Firing → ℕ} {width : ℕ} {homed : Bool} {past : List Timed} {now : ℕ}
+    {ended started whose until : ℕ → ℕ} {homes homes' : ℕ → Option ℕ} {cells : List (Option Firing)} (s : IsSound r)
+    (d : IsDue r n cost level width homed past now ended started whose until homes)
     (row : IsRowAt r n cost level width homed past now ended started whose until homes' cells) where
   -- a row with a firing is added
   pub row_added : (dear : (a : ℕ) → a < r.actors → 1 ≤ cost a) → (firings cells ≡ [] → ⊥) →
-      (started' whose' until' : ℕ → ℕ) → AreStarted cost now (length cells) cells started whose until
+      {started' whose' until' : ℕ → ℕ} → AreStarted cost now (length cells) cells started whose until
       started' whose' until' →
       IsDone r n cost level width homed (past ++ record { start = now; cells = cells } ∷ []) now ended started'
       whose' until' homes'
-  row_added dear some started' whose' until' b =
-      done_row r n cost level width s homed past now ended started whose until homes d started' whose' until' homes'
-      cells row.by_rule row.wide some dear row.each row.apart b
+  row_added dear some {started' = started'} {whose' = whose'} {until' = until'} b =
+      done_row s d homes' cells row.by_rule row.wide some dear row.each row.apart b
       (λ h. row.homes_then h (past ++ record { start = now; cells = cells } ∷ [])
       (settled_more past (record { start = now; cells = cells })))
       (row.stuck started' whose' until' b)
@@ -98,8 +86,7 @@ module _ (r : Rates) (n cost : ℕ → ℕ) (level : Firing → ℕ) (width : �
   -- an empty one is not
   pub row_left : firings cells ≡ [] → IsDone r n cost level width homed past now ended started whose until homes'
   row_left none =
-      done_none r n cost level width s homed past now ended started whose until homes d started whose until homes' cells
-      row.by_rule none
+      done_none s d homes' cells row.by_rule none
       (λ h. row.homes_then h past (λ a j. (λ x. inl x, back a j)))
       (row.stuck started whose until (starting_none cost now (length cells) cells started whose until
       (λ j f l e. nothing_stands cells none j f e)))
@@ -147,8 +134,8 @@ row_started job old placed new past cells s dear due is row some then columns be
         (λ j. get_or new.until j 0) (λ a. get_or k.homes a None)
 
     added : P (record old { homes = placed.homes }) (length old.until)
-    added = row_added _ _ _ _ _ _ _ _ _ _ _ _ _ _ s due cells
-        (subst (λ (k : Crewed). IsRowFor job k past cells) is row) dear some _ _ _
+    added = row_added s due
+        (subst (λ (k : Crewed). IsRowFor job k past cells) is row) dear some
         (subst (λ (k : Crewed). AreStarted (λ a. get_or job.costs.now a 0) k.time (length cells) cells
         (λ a. get_or k.started a 0) (λ a. get_or k.whose a 0) (λ j. get_or k.until j 0)
         (λ a. get_or new.started a 0) (λ a. get_or new.whose a 0) (λ j. get_or new.until j 0)) is begun)
@@ -165,7 +152,7 @@ pub row_skipped : (job : Job) (old new : Crewed) (past : List Timed) (cells : Li
     IsRowFor job new past cells → firings cells ≡ [] → IsDoneBy job new past
 row_skipped job old new past cells s due is row none =
     subst (λ (k : Crewed). IsDoneBy job k past) (sym is)
-    (row_left _ _ _ _ _ _ _ _ _ _ _ _ _ _ s due cells (subst (λ (k : Crewed). IsRowFor job k past cells) is row) none)
+    (row_left s due (subst (λ (k : Crewed). IsRowFor job k past cells) is row) none)
 
 pub sum_less : (xs ys : List ℕ) (b : ℕ) → length xs ≡ length ys →
     ((a : ℕ) → get_or xs a 0 ≤ get_or ys a 0) → get_or xs b 0 < get_or ys b 0 → sum xs < sum ys

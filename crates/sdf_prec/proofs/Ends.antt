@@ -65,32 +65,31 @@ some_ready r n ended started w s pass all a l left = go (some_is_next ended w a 
           },
         )
 
--- so where none can start none is left
-pub all_stand : (r : Rates) (n cost : ℕ → ℕ) (width : ℕ) (homed : Bool) (past : List Timed) (now : ℕ)
-    (ended started whose until : ℕ → ℕ) (homes : ℕ → Option ℕ) (w : List ℕ) → IsSound r → 0 < width → IsPass r n w →
-    IsFloor r n cost width past now ended started whose until →
-    IsStuck r n ended started until homes width now homed →
-    ((j : ℕ) → j < width → until j ≤ now) → (f : Firing) → IsOfBlock r n f → Occurs past f
-all_stand r n cost width homed past now ended started whose until homes w s some_column pass floor stuck none f of =
-    go (cases_lt f.number (started f.actor))
-  where
-    through : (a : ℕ) → a < r.actors → ended a ≡ started a
-    through = none_at_work r n cost width past now ended started whose until floor none
+module _ {r : Rates} {n cost : ℕ → ℕ} {width : ℕ} {past : List Timed} {now : ℕ} {ended started whose until : ℕ → ℕ}
+    (floor : IsFloor r n cost width past now ended started whose until) where
+  -- so where none can start none is left
+  pub all_stand : (homed : Bool) (homes : ℕ → Option ℕ) (w : List ℕ) → IsSound r → 0 < width → IsPass r n w →
+      IsStuck r n ended started until homes width now homed → ((j : ℕ) → j < width → until j ≤ now) →
+      (f : Firing) → IsOfBlock r n f → Occurs past f
+  all_stand homed homes w s some_column pass stuck none f of = go (cases_lt f.number (started f.actor))
+    where
+      through : (a : ℕ) → a < r.actors → ended a ≡ started a
+      through = none_at_work floor none
 
-    busy : (j : ℕ) → now < until j → ⊥
-    busy = none_busy r n cost width past now ended started whose until floor none
+      busy : (j : ℕ) → now < until j → ⊥
+      busy = none_busy floor none
 
-    go : (f.number < started f.actor) ⊎ (started f.actor ≤ f.number) → Occurs past f
-    go (inl l) = (floor.occurs f of.0).0 l
-    go (inr h) = at (some_ready r n ended started w s pass through f.actor of.0 (omega (arith, of.1)))
-      where
-        at : (g : Firing) × IsNextReady r n ended started g → Occurs past f
-        at (g, ready) = none_left (stuck g ready)
-          where
-            none_left : ((k : ℕ) × IsTrue homed × (homes g.actor ≡ Some k) × (now < until k))
-                ⊎ ((j : ℕ) → j < width → now < until j) → Occurs past f
-            none_left (inl (k, _, _, b)) = absurd (busy k b)
-            none_left (inr all) = absurd (busy 0 (all 0 some_column))
+      go : (f.number < started f.actor) ⊎ (started f.actor ≤ f.number) → Occurs past f
+      go (inl l) = (floor.occurs f of.0).0 l
+      go (inr h) = at (some_ready r n ended started w s pass through f.actor of.0 (omega (arith, of.1)))
+        where
+          at : (g : Firing) × IsNextReady r n ended started g → Occurs past f
+          at (g, ready) = none_left (stuck g ready)
+            where
+              none_left : ((k : ℕ) × IsTrue homed × (homes g.actor ≡ Some k) × (now < until k))
+                  ⊎ ((j : ℕ) → j < width → now < until j) → Occurs past f
+              none_left (inl (k, _, _, b)) = absurd (busy k b)
+              none_left (inr all) = absurd (busy 0 (all 0 some_column))
 
 -- a row without its time
 pub row_of : (past : List Timed) (i : ℕ) → row (cells_of past) i ≡ (timed past i).cells
@@ -203,54 +202,54 @@ row_ready r n cost level width false past t cells rule j f e = go (rule.filled.o
         subst (IsReadyAt r n cost past t) (get_or_from_slice_get rule.queue p f no_firing here)
         (rule.ready.each p (slice_get_within rule.queue p f here))
 
--- the rows are a valid table
-pub rows_valid : (r : Rates) (n cost : ℕ → ℕ) (level : Firing → ℕ) (width : ℕ) (homed : Bool) (past : List Timed)
-    (now : ℕ) (ended started whose until : ℕ → ℕ) → IsFloor r n cost width past now ended started whose until →
-    AreTimed width (hu_rule r n cost level width homed) past → ((f : Firing) → IsOfBlock r n f → Occurs past f) →
-    IsValid r n (cells_of past)
-rows_valid r n cost level width homed past now ended started whose until floor rows all = record {
-  known = λ p l. known (firing (order (cells_of past)) p)
-      (occurs_all past (firing (order (cells_of past)) p) (p, l, refl));
-  all = λ f of. order_all past f (all f of);
-  once = subst (λ rs. (p m : ℕ) → p < length (order rs) → m < length (order rs) →
-      firing (order rs) p ≡ firing (order rs) m → p ≡ m) (whole past)
-      (distinct_front (length (cells_of past)) (omega arith));
-  earlier = λ i l f g st waits. earlier i (omega (arith, rows_length past)) f g (at_of past i f st) waits;
-}
-  where
-    known : (f : Firing) → Occurs past f → IsOfBlock r n f
-    known f (i, j, at) =
-        let k = (floor.known i j f at).0 in
-        let low = (floor.occurs f k).1 (i, j, at) in
-        (k, omega (arith, floor.within f.actor k))
+module _ {r : Rates} {n cost : ℕ → ℕ} {width : ℕ} {past : List Timed} {now : ℕ} {ended started whose until : ℕ → ℕ}
+    (floor : IsFloor r n cost width past now ended started whose until) where
+  -- the rows are a valid table
+  pub rows_valid : (level : Firing → ℕ) (homed : Bool) → AreTimed width (hu_rule r n cost level width homed) past →
+      ((f : Firing) → IsOfBlock r n f → Occurs past f) → IsValid r n (cells_of past)
+  rows_valid level homed rows all = record {
+    known = λ p l. known (firing (order (cells_of past)) p)
+        (occurs_all past (firing (order (cells_of past)) p) (p, l, refl));
+    all = λ f of. order_all past f (all f of);
+    once = subst (λ rs. (p m : ℕ) → p < length (order rs) → m < length (order rs) →
+        firing (order rs) p ≡ firing (order rs) m → p ≡ m) (whole past)
+        (distinct_front (length (cells_of past)) (omega arith));
+    earlier = λ i l f g st waits. earlier i (omega (arith, rows_length past)) f g (at_of past i f st) waits;
+  }
+    where
+      known : (f : Firing) → Occurs past f → IsOfBlock r n f
+      known f (i, j, at) =
+          let k = (floor.known i j f at).0 in
+          let low = (floor.occurs f k).1 (i, j, at) in
+          (k, omega (arith, floor.within f.actor k))
 
-    earlier : (i : ℕ) → i < length past → (f g : Firing) → (j : ℕ) × StandsAt past i j f → WaitsFor r f g →
-        Stands (order (take i (cells_of past))) g
-    earlier i l f g (j, at) waits =
-        let ready = row_ready r n cost level width homed (take i past) (timed past i).start (timed past i).cells
-        (rows i l).by_rule j f at in
-        let ended = ready.waits g waits in
-        let m : ended.0 < i = go ended.0 (row_known (take i past) ended.0 ended.1 g ended.2) in
-        order_of past i ended.0 ended.1 g m (sym (ap (λ (x : Timed). get_or x.cells ended.1 None)
-        (get_or-take i past ended.0 no_row m)) ∙ ended.2)
-      where
-        go : (m : ℕ) → m < length (take i past) → m < i
-        go m h = omega (arith, length-take i past)
+      earlier : (i : ℕ) → i < length past → (f g : Firing) → (j : ℕ) × StandsAt past i j f → WaitsFor r f g →
+          Stands (order (take i (cells_of past))) g
+      earlier i l f g (j, at) waits =
+          let ready = row_ready r n cost level width homed (take i past) (timed past i).start (timed past i).cells
+          (rows i l).by_rule j f at in
+          let ended = ready.waits g waits in
+          let m : ended.0 < i = go ended.0 (row_known (take i past) ended.0 ended.1 g ended.2) in
+          order_of past i ended.0 ended.1 g m (sym (ap (λ (x : Timed). get_or x.cells ended.1 None)
+          (get_or-take i past ended.0 no_row m)) ∙ ended.2)
+        where
+          go : (m : ℕ) → m < length (take i past) → m < i
+          go m h = omega (arith, length-take i past)
 
-    distinct_front : (m : ℕ) → m ≤ length (cells_of past) → Distinct (order (take m (cells_of past)))
-    distinct_front zero h = λ p q l. absurd (omega arith)
-    distinct_front (suc m) h = subst Distinct (sym
-        (let e : order (take (m + 1) (cells_of past)) ≡
-        order (take m (cells_of past)) ++ firings (row (cells_of past) m) =
-        row_order (cells_of past) m (omega arith) in rw add-one at e))
-        (distinct_append (order (take m (cells_of past))) (firings (row (cells_of past) m))
-        (distinct_front m (omega arith))
-        (distinct_row (row (cells_of past) m) (λ j k f e g.
-        (floor.once m j m k f (ap (λ (cs : List (Option Firing)). get_or cs j None) (sym (row_of past m)) ∙ e)
-        (ap (λ (cs : List (Option Firing)). get_or cs k None) (sym (row_of past m)) ∙ g)).1))
-        (λ f st here.
-        let before = occurs_of past m f st in
-        let at = at_of past m f here in
-        let same = (floor.once before.0 before.1 m at.0 f before.3 at.1).0 in
-        let low = before.2 in
-        omega arith))
+      distinct_front : (m : ℕ) → m ≤ length (cells_of past) → Distinct (order (take m (cells_of past)))
+      distinct_front zero h = λ p q l. absurd (omega arith)
+      distinct_front (suc m) h = subst Distinct (sym
+          (let e : order (take (m + 1) (cells_of past)) ≡
+          order (take m (cells_of past)) ++ firings (row (cells_of past) m) =
+          row_order (cells_of past) m (omega arith) in rw add-one at e))
+          (distinct_append (order (take m (cells_of past))) (firings (row (cells_of past) m))
+          (distinct_front m (omega arith))
+          (distinct_row (row (cells_of past) m) (λ j k f e g.
+          (floor.once m j m k f (ap (λ (cs : List (Option Firing)). get_or cs j None) (sym (row_of past m)) ∙ e)
+          (ap (λ (cs : List (Option Firing)). get_or cs k None) (sym (row_of past m)) ∙ g)).1))
+          (λ f st here.
+          let before = occurs_of past m f st in
+          let at = at_of past m f here in
+          let same = (floor.once before.0 before.1 m at.0 f before.3 at.1).0 in
+          let low = before.2 in
+          omega arith))

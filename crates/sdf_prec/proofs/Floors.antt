@@ -28,7 +28,16 @@ column_known cells j f e = go (cases_lt j (length cells))
     go (inl l) = l
     go (inr h) = absurd (none-some f (sym (get_or_past cells j None h) ∙ e))
 
-module _ (r : Rates) (n cost : ℕ → ℕ) (width : ℕ) (past : List Timed) (t : ℕ) (ended started whose until : ℕ → ℕ)
+-- A step from time `now` to `next`: no busy processor ends its firing before `next`. `ended` and `ended'` count each
+-- actor's ended firings at the two times.
+pub record IsNextTime (width now next : ℕ) (ended ended' whose until : ℕ → ℕ) : Type 0 where
+  pub later : now < next
+  pub least : (j : ℕ) → j < width → now < until j → next ≤ until j
+  pub through : (j : ℕ) → j < width → until j ≡ next → ended' (whose j) ≡ ended (whose j) + 1
+  pub same : (a : ℕ) → ((j : ℕ) → j < width → until j ≡ next → whose j ≡ a → ⊥) → ended' a ≡ ended a
+  pub rises : (a : ℕ) → ended a ≤ ended' a
+
+module _ {r : Rates} {n cost : ℕ → ℕ} {width : ℕ} {past : List Timed} {t : ℕ} {ended started whose until : ℕ → ℕ}
     (w : IsFloor r n cost width past t ended started whose until) where
   pub behind : (a : ℕ) → a < r.actors → ended a ≤ started a
   behind a l = go (w.through a l)
@@ -239,11 +248,9 @@ module _ (r : Rates) (n cost : ℕ → ℕ) (width : ℕ) (past : List Timed) (t
           absurd (omega (arith, busy j (w.known i j f at).1 (omega arith)))
 
   -- and where some are
-  module _ (next : ℕ) (ended' : ℕ → ℕ) (later : t < next)
-      (least : (j : ℕ) → j < width → t < until j → next ≤ until j)
-      (through : (j : ℕ) → j < width → until j ≡ next → ended' (whose j) ≡ ended (whose j) + 1)
-      (same : (a : ℕ) → ((j : ℕ) → j < width → until j ≡ next → whose j ≡ a → ⊥) → ended' a ≡ ended a)
-      (rises : (a : ℕ) → ended a ≤ ended' a) where
+  module _ {next : ℕ} {ended' : ℕ → ℕ} (turn : IsNextTime width t next ended ended' whose until) where
+    open turn use {later, least, through, same, rises}
+
     -- the firings that end then
     now_ended : (i j : ℕ) (f : Firing) → StandsAt past i j f → t < end_at cost past i f → end_at cost past i f ≤ next →
         ended' f.actor ≡ ended f.actor + 1
@@ -260,10 +267,10 @@ module _ (r : Rates) (n cost : ℕ → ℕ) (width : ℕ) (past : List Timed) (t
       where
         none : (m : ℕ) → m < width → until m ≡ next → whose m ≡ f.actor → ⊥
         none m l is its =
-            let x = work_at m (omega arith) in
-            let late' : t < end_at cost past x.0 x.1 = omega (arith, x.3) in
+            let x = work_at m (omega (arith, later)) in
+            let late' : t < end_at cost past x.0 x.1 = omega (arith, later, x.3) in
             let actor : x.1.actor ≡ f.actor = sym (w.at_work x.0 m x.1 x.2 late').0 ∙ its in
-            let one = one_at_work x.0 m i j x.1 f x.2 at late' (omega arith) actor in
+            let one = one_at_work x.0 m i j x.1 f x.2 at late' (omega (arith, later)) actor in
             omega (arith, one.2, x.3)
 
     pub through_then : (a : ℕ) → a < r.actors →
@@ -276,8 +283,8 @@ module _ (r : Rates) (n cost : ℕ → ℕ) (width : ℕ) (past : List Timed) (t
           where
             none : (m : ℕ) → m < width → until m ≡ next → whose m ≡ a → ⊥
             none m k is its =
-                let x = work_at m (omega arith) in
-                let late : t < end_at cost past x.0 x.1 = omega (arith, x.3) in
+                let x = work_at m (omega (arith, later)) in
+                let late : t < end_at cost past x.0 x.1 = omega (arith, later, x.3) in
                 let actor : x.1.actor ≡ a = sym (w.at_work x.0 m x.1 x.2 late).0 ∙ its in
                 let last = subst (λ a. ended a + 1 ≡ started a) actor (at_last x.0 m x.1 x.2 late).1 in
                 omega arith
@@ -295,7 +302,7 @@ module _ (r : Rates) (n cost : ℕ → ℕ) (width : ℕ) (past : List Timed) (t
         IsFloor r n cost width past next ended' started whose until
     floor_later on' = record {
       occurs = w.occurs;
-      known = λ i j f at. let k = w.known i j f at in (k.0, k.1, omega (arith, k.2));
+      known = λ i j f at. let k = w.known i j f at in (k.0, k.1, omega (arith, k.2, later));
       within = w.within;
       once = w.once;
       ended_is = λ i j f at. (
@@ -304,7 +311,7 @@ module _ (r : Rates) (n cost : ℕ → ℕ) (width : ℕ) (past : List Timed) (t
       );
       through = λ a l. now (through_then a l);
       on = on';
-      at_work = λ i j f at late. w.at_work i j f at (omega arith);
+      at_work = λ i j f at late. w.at_work i j f at (omega (arith, later));
       until_above = w.until_above;
       until_at = w.until_at;
     }
@@ -322,7 +329,7 @@ module _ (r : Rates) (n cost : ℕ → ℕ) (width : ℕ) (past : List Timed) (t
         ended_from i j f at (inl h) l = absurd (omega (
           arith,
           not_yet i j f at h,
-          (at_last i j f at (omega arith)).0,
+          (at_last i j f at (omega (arith, later))).0,
         ))
 
         now : {a : ℕ} → (ended' a ≡ started a) ⊎ ((ended' a ≡ ended a) × (ended a + 1 ≡ started a)) →

@@ -8,7 +8,7 @@ use Rattle.sdf_prec.specs.Numbers.{Numbered}
 use Rattle.sdf_prec.specs.Crew.{IsJob}
 use Rattle.sdf_prec.proofs.Shifts.{within_sum}
 
-module _ (actors : ℕ) (firings : List ℕ) (levels : Numbered) (costs weights : List ℕ)
+module _ {actors : ℕ} {firings : List ℕ} {levels : Numbered} {costs weights : List ℕ}
     (job : IsJob actors firings levels costs weights) where
   pub job_dear : (a : ℕ) → a < actors → 1 ≤ get_or costs a 0
   job_dear a l = (job.costs_are.each a l).0

@@ -68,8 +68,8 @@ module _ (past : List Timed) (x : Timed) where
       go (inr (inl l)) = inl (l, sym (ap (λ (y : Timed). get_or y.cells j None) (row_old i l)) ∙ at)
       go (inr (inr l)) = let k = row_known (past ++ x ∷ []) i j f at in absurd (omega (arith, length_push past x))
 
-module _ (r : Rates) (n cost : ℕ → ℕ) (width : ℕ) (past : List Timed) (now : ℕ)
-    (ended started whose until started' whose' until' : ℕ → ℕ) (cells : List (Option Firing))
+module _ {r : Rates} {n cost : ℕ → ℕ} {width : ℕ} {past : List Timed} {now : ℕ}
+    {ended started whose until started' whose' until' : ℕ → ℕ} {cells : List (Option Firing)}
     (w : IsFloor r n cost width past now ended started whose until) (dear : (a : ℕ) → a < r.actors → 1 ≤ cost a)
     (each : (j : ℕ) (f : Firing) → get_or cells j None ≡ Some f →
     IsNextReady r n ended started f × (j < width) × (until j ≤ now))

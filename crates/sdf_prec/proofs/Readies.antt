@@ -12,8 +12,8 @@ use Rattle.sdf_prec.proofs.Floors.{column_known}
 use Rattle.sdf_prec.proofs.Pushes.{actor_in}
 
 -- the firings of a row have started
-module _ (r : Rates) (n cost : ℕ → ℕ) (now : ℕ) (cells : List (Option Firing)) (ended : ℕ → ℕ)
-    (started whose until whose' until' : ℕ → ℕ) (starts : List ℕ)
+module _ {r : Rates} {n cost : ℕ → ℕ} {now : ℕ} {cells : List (Option Firing)} {ended : ℕ → ℕ}
+    {started whose until whose' until' : ℕ → ℕ} (starts : List ℕ)
     (begun : AreStarted cost now (length cells) cells started whose until (λ a. get_or starts a 0) whose' until')
     (each : (j : ℕ) (f : Firing) → get_or cells j None ≡ Some f → IsNextReady r n ended started f) where
   pub still_ready : (f : Firing) → IsNextReady r n ended (λ a. get_or starts a 0) f →
@@ -52,7 +52,7 @@ module _ (r : Rates) (n cost : ℕ → ℕ) (now : ℕ) (cells : List (Option Fi
       }
 
 -- firings have ended
-module _ (r : Rates) (n : ℕ → ℕ) (now i : ℕ) (started whose until : ℕ → ℕ) (old new : List ℕ)
+module _ {r : Rates} {n : ℕ → ℕ} {now i : ℕ} {started whose until : ℕ → ℕ} {old new : List ℕ}
     (ended : AreEnded now i whose until old new) (rises : (a : ℕ) → get_or old a 0 ≤ get_or new a 0)
     (busy : (j : ℕ) → until j ≡ now → get_or old (whose j) 0 + 1 ≡ started (whose j)) where
   pub ready_on : IsSound r → (f : Firing) → IsNextReady r n (λ a. get_or old a 0) started f →

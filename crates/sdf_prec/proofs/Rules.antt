@@ -23,59 +23,57 @@ nothing [] none = refl
 nothing (None ∷ cells) none = nothing cells (λ j f e. none (suc j) f e)
 nothing (Some g ∷ cells) none = absurd (none zero g refl)
 
-pub queue_alike : (level : Firing → ℕ) (P Q : Firing → Type 0) (q : List Firing) → ((f : Firing) → P f → Q f) →
+pub queue_alike : {level : Firing → ℕ} {P Q : Firing → Type 0} {q : List Firing} → ((f : Firing) → P f → Q f) →
     ((f : Firing) → Q f → P f) → IsQueue level P q → IsQueue level Q q
-queue_alike level P Q q to from s = record {
+queue_alike {q = q} to from s = record {
   each = λ p l. to (firing q p) (s.each p l);
   all = λ f h. s.all f (from f h);
   sorted = s.sorted;
 }
 
-lists_alike : (P Q : ℕ → Type 0) (n : ℕ) (xs : List ℕ) → ((j : ℕ) → P j → Q j) → ((j : ℕ) → Q j → P j) →
+lists_alike : {P Q : ℕ → Type 0} {n : ℕ} {xs : List ℕ} → ((j : ℕ) → P j → Q j) → ((j : ℕ) → Q j → P j) →
     ListsExactly P n xs → ListsExactly Q n xs
-lists_alike P Q n xs to from s = record {
+lists_alike {xs = xs} to from s = record {
   rising = s.rising;
   each = λ i l. let e = s.each i l in (e.0, to (get_or xs i 0) e.1);
   all = λ x l h. s.all x l (from x h);
 }
 
 -- each firing stands once in a queue
-pub queue_once : (level : Firing → ℕ) (P : Firing → Type 0) (q : List Firing) → IsQueue level P q → (p m : ℕ) → p < m →
+pub queue_once : {level : Firing → ℕ} {P : Firing → Type 0} {q : List Firing} → IsQueue level P q → (p m : ℕ) → p < m →
     m < length q → firing q p ≡ firing q m → ⊥
-queue_once level P q s p m h l e = go (firing q p) (firing q m) e (s.sorted p m h l)
+queue_once {level = level} {q = q} s p m h l e = go (firing q p) (firing q m) e (s.sorted p m h l)
   where
     go : (f g : Firing) → f ≡ g → IsTriedBefore level f g → ⊥
     go f g e (inl less) = let same = ap level e in omega arith
     go f g e (inr (_, inl less)) = let same = ap (λ (f : Firing). f.actor) e in omega arith
     go f g e (inr (_, inr (_, less))) = let same = ap (λ (f : Firing). f.number) e in omega arith
 
-pub queue_place : (level : Firing → ℕ) (P : Firing → Type 0) (q : List Firing) → IsQueue level P q → (p m : ℕ) →
+pub queue_place : {level : Firing → ℕ} {P : Firing → Type 0} {q : List Firing} → IsQueue level P q → (p m : ℕ) →
     p < length q → m < length q → firing q p ≡ firing q m → p ≡ m
-queue_place level P q s p m k l e = go (cases_order p m)
+queue_place s p m k l e = go (cases_order p m)
   where
     go : (p ≡ m) ⊎ ((p < m) ⊎ (m < p)) → p ≡ m
     go (inl same) = same
-    go (inr (inl h)) = absurd (queue_once level P q s p m h l e)
-    go (inr (inr h)) = absurd (queue_once level P q s m p h k (sym e))
+    go (inr (inl h)) = absurd (queue_once s p m h l e)
+    go (inr (inr h)) = absurd (queue_once s m p h k (sym e))
 
-module _ (r : Rates) (n cost : ℕ → ℕ) (level : Firing → ℕ) (width : ℕ) (past : List Timed) (t : ℕ)
-    (ended started whose until : ℕ → ℕ) (w : IsFloor r n cost width past t ended started whose until)
+module _ {r : Rates} {n cost : ℕ → ℕ} (level : Firing → ℕ) {width : ℕ} {past : List Timed} {t : ℕ}
+    {ended started whose until : ℕ → ℕ} (w : IsFloor r n cost width past t ended started whose until)
     (s : IsSound r) where
   idle_to : (j : ℕ) → until j ≤ t → IsBusy cost past t j → ⊥
-  idle_to j h b = let l = busy_to r n cost width past t ended started whose until w j b in omega arith
+  idle_to j h b = let l = busy_to w j b in omega arith
 
   idle_of : (j : ℕ) → (IsBusy cost past t j → ⊥) → until j ≤ t
   idle_of j h = go (cases_lt t (until j))
     where
       go : (t < until j) ⊎ (until j ≤ t) → until j ≤ t
-      go (inl l) = absurd (h (busy_of r n cost width past t ended started whose until w j l))
+      go (inl l) = absurd (h (busy_of w j l))
       go (inr l) = l
 
-  queue_at : (queue : List Firing) → IsQueue level (IsNextReady r n ended started) queue →
+  queue_at : {queue : List Firing} → IsQueue level (IsNextReady r n ended started) queue →
       IsQueue level (IsReadyAt r n cost past t) queue
-  queue_at queue = queue_alike level (IsNextReady r n ended started) (IsReadyAt r n cost past t) queue
-      (ready_to r n cost width past t ended started whose until w s)
-      (ready_of r n cost width past t ended started whose until w s)
+  queue_at q = queue_alike (ready_to w s) (ready_of w s) q
 
   -- a ready firing where no column is left: the row is empty
   pub free_empty : ((f : Firing) → IsNextReady r n ended started f → (j : ℕ) → j < width → t < until j) →
@@ -91,9 +89,9 @@ module _ (r : Rates) (n cost : ℕ → ℕ) (level : Firing → ℕ) (width : �
               let known = row.idle.each q l in
               let here : slice_get row.queue q ≡ Some f =
               sym (row.filled.filled q l) ∙ (ap (λ c. get_or cells c None) column ∙ e) in
-              let ready = ready_of r n cost width past t ended started whose until w s (firing row.queue q)
+              let ready = ready_of w s (firing row.queue q)
               (row.ready.each q (slice_get_within row.queue q f here)) in
-              known.1 (busy_of r n cost width past t ended started whose until w (get_or row.columns q 0)
+              known.1 (busy_of w (get_or row.columns q 0)
               (stuck (firing row.queue q) ready (get_or row.columns q 0) known.0))
 
   pub homed_empty : (homes : ℕ → Option ℕ) → ((a j : ℕ) → a < r.actors → (homes a ≡ Some j) ↔ IsSettled past a j) →
@@ -108,7 +106,7 @@ module _ (r : Rates) (n cost : ℕ → ℕ) (level : Firing → ℕ) (width : �
           at (p, l, is) = go (stuck (firing row.queue p) ready)
             where
               ready : IsNextReady r n ended started (firing row.queue p)
-              ready = ready_of r n cost width past t ended started whose until w s (firing row.queue p)
+              ready = ready_of w s (firing row.queue p)
                   (row.ready.each p l)
 
               pl : IsPlaced r.actors width (λ a. n a * cost a) (λ j. IsBusy cost past t j → ⊥) row.homes
@@ -121,7 +119,7 @@ module _ (r : Rates) (n cost : ℕ → ℕ) (level : Firing → ℕ) (width : �
 
               go : ((k : ℕ) × IsTrue true × (homes (firing row.queue p).actor ≡ Some k) × (t < until k))
                   ⊎ ((j : ℕ) → j < width → t < until j) → ⊥
-              go (inr all) = place.is_free.0 (busy_of r n cost width past t ended started whose until w j
+              go (inr all) = place.is_free.0 (busy_of w j
                   (all j place.known))
               go (inl (k, _, home, busy)) = found place.chosen
                 where
@@ -136,20 +134,19 @@ module _ (r : Rates) (n cost : ℕ → ℕ) (level : Firing → ℕ) (width : �
                       ⊎ ((pl.home (firing row.queue p).actor ≡ None)
                       × IsLeast width (λ m. (IsBusy cost past t m → ⊥) × IsLeft row.queue cells p m)
                       (load r.actors (λ a. n a * cost a) pl.home) j) → ⊥
-                  found (inl g) = place.is_free.0 (busy_of r n cost width past t ended started whose until w j
+                  found (inl g) = place.is_free.0 (busy_of w j
                       (subst (λ j. t < until j) (same_Some k j (sym then_home ∙ g)) busy))
                   found (inr (none, _)) = none-some k (sym none ∙ then_home)
 
-  module _ (queue : List Firing) (q : IsQueue level (IsNextReady r n ended started) queue)
-      (cells : List (Option Firing)) where
+  module _ {queue : List Firing} (q : IsQueue level (IsNextReady r n ended started) queue) where
     -- ready firings of one actor are one firing
     same_ready : (f g : Firing) → IsNextReady r n ended started f → IsNextReady r n ended started g →
         f.actor ≡ g.actor → f ≡ g
     same_ready f g h k e = let number : f.number ≡ g.number = h.next ∙ (ap started e ∙ sym k.next) in
         (λ i. record { actor = e i; number = number i })
 
-    module _ (u : List ℕ) (u_is : (j : ℕ) → get_or u j 0 ≡ until j) (next : ℕ)
-        (fill : IsFilling u t width queue next cells) where
+    module _ {cells : List (Option Firing)} {u : List ℕ} {next : ℕ} (fill : IsFilling u t width queue next cells)
+        (u_is : (j : ℕ) → get_or u j 0 ≡ until j) where
       -- where a firing of a filled row stands in the queue
       from : (j : ℕ) (f : Firing) → get_or cells j None ≡ Some f →
           (p : ℕ) × (p < length fill.columns) × (get_or fill.columns p 0 ≡ j) × (p < length queue)
@@ -180,22 +177,22 @@ module _ (r : Rates) (n cost : ℕ → ℕ) (level : Firing → ℕ) (width : �
           let x = from j f e in
           let y = from m g e' in
           let same : f ≡ g = same_ready f g (filled_each j f e).0 (filled_each m g e').0 is in
-          let p = queue_place level (IsNextReady r n ended started) queue q x.0 y.0 x.3 y.3 (x.4 ∙ (same ∙ sym y.4)) in
+          let p = queue_place q x.0 y.0 x.3 y.3 (x.4 ∙ (same ∙ sym y.4)) in
           sym x.2 ∙ (ap (λ p. get_or fill.columns p 0) p ∙ y.2)
 
       pub free_row : IsFreeRow r n cost level width past t cells
       free_row = record {
         queue = queue;
         columns = fill.columns;
-        ready = queue_at queue q;
-        idle = lists_alike (λ j. get_or u j 0 ≤ t) (λ j. IsBusy cost past t j → ⊥) width fill.columns
-            (λ j h. idle_to j (subst (λ y. y ≤ t) (u_is j) h))
+        ready = queue_at q;
+        idle = lists_alike (λ j h. idle_to j (subst (λ y. y ≤ t) (u_is j) h))
             (λ j h. subst (λ y. y ≤ t) (sym (u_is j)) (idle_of j h)) fill.idle;
         filled = fill.filled;
       }
 
-    module _ (weight : ℕ → ℕ) (weight_is : weight ≡ (λ a. n a * cost a)) (u : List ℕ)
-        (u_is : (j : ℕ) → get_or u j 0 ≡ until j) (homes : List (Option ℕ)) (homes' : List (Option ℕ))
+    module _ {cells : List (Option Firing)} {weight : ℕ → ℕ} (u : List ℕ) (homes : List (Option ℕ))
+        {homes' : List (Option ℕ)} (weight_is : weight ≡ (λ a. n a * cost a))
+        (u_is : (j : ℕ) → get_or u j 0 ≡ until j)
         (homes_are : (a j : ℕ) → a < r.actors → (get_or homes a None ≡ Some j) ↔ IsSettled past a j)
         (placed : IsPlacing r.actors width weight (λ j. get_or u j 0 ≤ t) (λ a. get_or homes a None) queue
         (length queue) cells homes') where
@@ -230,7 +227,7 @@ module _ (r : Rates) (n cost : ℕ → ℕ) (level : Firing → ℕ) (width : �
       homed_row = record {
         queue = queue;
         homes = λ a. get_or homes a None;
-        ready = queue_at queue q;
+        ready = queue_at q;
         homes_are = homes_are;
         placed = subst (λ v. ArePlaced r.actors width v (λ j. IsBusy cost past t j → ⊥) (λ a. get_or homes a None) queue
             cells) weight_is
@@ -259,10 +256,11 @@ module _ (r : Rates) (n cost : ℕ → ℕ) (level : Firing → ℕ) (width : �
               inr (y.0, y.1, e ∙ ap Some (sym y.2), ap (λ (f : Firing). f.actor) y.2 ∙ is)
 
     -- after the row no ready firing can start
-    module _ (started' whose' until' : ℕ → ℕ) (dear : (a : ℕ) → a < r.actors → 1 ≤ cost a)
+    module _ {cells : List (Option Firing)} {started' whose' until' : ℕ → ℕ} (u : List ℕ)
+        (dear : (a : ℕ) → a < r.actors → 1 ≤ cost a)
         (each : (j : ℕ) (f : Firing) → get_or cells j None ≡ Some f →
         IsNextReady r n ended started f × (j < width) × (until j ≤ t))
-        (b : AreStarted cost t (length cells) cells started whose until started' whose' until') (u : List ℕ)
+        (b : AreStarted cost t (length cells) cells started whose until started' whose' until')
         (u_is : (j : ℕ) → get_or u j 0 ≡ until j) where
       -- an actor of the row has a firing that has not ended
       not_in : (f : Firing) → IsNextReady r n ended started' f → (j : ℕ) (g : Firing) → get_or cells j None ≡ Some g →
@@ -308,9 +306,9 @@ module _ (r : Rates) (n cost : ℕ → ℕ) (level : Firing → ℕ) (width : �
           go (inl l) = l
           go (inr l) = absurd (closed (open_after j l))
 
-      pub free_stuck : (next : ℕ) → IsFilling u t width queue next cells → (f : Firing) →
+      pub free_stuck : {next : ℕ} → IsFilling u t width queue next cells → (f : Firing) →
           IsNextReady r n ended started' f → (j : ℕ) → j < width → t < until' j
-      free_stuck next fill f h j l = taken j closed
+      free_stuck fill f h j l = taken j closed
         where
           stands : Stands queue f
           stands = was_ready f h

@@ -12,7 +12,7 @@ use Rattle.sdf_prec.specs.Tables.{firings}
 use Rattle.sdf_prec.specs.TimedRows.{Timed, timed, StandsAt, IsSettled, IsLater, Rule, IsNextRow, AreTimed}
 use Rattle.sdf_prec.specs.TimedRows.{hu_rule}
 use Rattle.sdf_prec.specs.Floor.{IsNextReady, IsFloor, AreStarted, IsStuck, IsDue, IsDone}
-use Rattle.sdf_prec.proofs.Floors.{row_known, work_at, floor_before, floor_later, through_then}
+use Rattle.sdf_prec.proofs.Floors.{IsNextTime, row_known, work_at, floor_before, floor_later, through_then}
 use Rattle.sdf_prec.proofs.Pushes.{row_old, row_new, at_old, at_new, at_cases, floor_more}
 use Rattle.sdf_prec.proofs.Rules.{free_empty, homed_empty}
 
@@ -52,29 +52,30 @@ settled_more past x a j = (
     back (inl (i, f, at, is)) = (i, f, at_old past x i j f at, is)
     back (inr (f, e, is)) = (length past, f, at_new past x j f e, is)
 
-module _ (r : Rates) (n cost : ℕ → ℕ) (level : Firing → ℕ) (width : ℕ) (s : IsSound r) where
+module _ {r : Rates} {n cost : ℕ → ℕ} {width : ℕ} (s : IsSound r) where
   -- where no ready firing can start, the rule's row is empty
-  pub stuck_empty : (homed : Bool) (past : List Timed) (t : ℕ) (ended started whose until : ℕ → ℕ)
+  pub stuck_empty : (level : Firing → ℕ) (homed : Bool) (past : List Timed) (t : ℕ) (ended started whose until : ℕ → ℕ)
       (homes : ℕ → Option ℕ) → IsFloor r n cost width past t ended started whose until →
       (IsTrue homed → (a j : ℕ) → a < r.actors → (homes a ≡ Some j) ↔ IsSettled past a j) →
       IsStuck r n ended started until homes width t homed →
       (cells : List (Option Firing)) → hu_rule r n cost level width homed past t cells → firings cells ≡ []
-  stuck_empty true past t ended started whose until homes w homes_are stuck cells row =
-      homed_empty r n cost level width past t ended started whose until w s homes (homes_are refl) stuck cells row
-  stuck_empty false past t ended started whose until homes w homes_are stuck cells row =
-      free_empty r n cost level width past t ended started whose until w s (λ f h. go f (stuck f h)) cells row
+  stuck_empty level true past t ended started whose until homes w homes_are stuck cells row =
+      homed_empty level w s homes (homes_are refl) stuck cells row
+  stuck_empty level false past t ended started whose until homes w homes_are stuck cells row =
+      free_empty level w s (λ f h. go f (stuck f h)) cells row
     where
       go : (f : Firing) → ((k : ℕ) × IsTrue false × (homes f.actor ≡ Some k) × (t < until k))
           ⊎ ((j : ℕ) → j < width → t < until j) → (j : ℕ) → j < width → t < until j
       go f (inl x) = absurd (false≢true x.1)
       go f (inr all) = all
 
-  module _ (homed : Bool) (past : List Timed) (now : ℕ) (ended started whose until : ℕ → ℕ) (homes : ℕ → Option ℕ)
-      (d : IsDue r n cost level width homed past now ended started whose until homes)
-      (started' whose' until' : ℕ → ℕ) (homes' : ℕ → Option ℕ) (cells : List (Option Firing))
+  module _ {level : Firing → ℕ} {homed : Bool} {past : List Timed} {now : ℕ} {ended started whose until : ℕ → ℕ}
+      {homes : ℕ → Option ℕ} (d : IsDue r n cost level width homed past now ended started whose until homes)
+      (homes' : ℕ → Option ℕ) (cells : List (Option Firing))
       (by_rule : hu_rule r n cost level width homed past now cells) where
     -- a row with a firing
-    pub done_row : length cells ≡ width → (firings cells ≡ [] → ⊥) → (dear : (a : ℕ) → a < r.actors → 1 ≤ cost a) →
+    pub done_row : {started' whose' until' : ℕ → ℕ} → length cells ≡ width → (firings cells ≡ [] → ⊥) →
+        ((a : ℕ) → a < r.actors → 1 ≤ cost a) →
         ((j : ℕ) (f : Firing) → get_or cells j None ≡ Some f →
         IsNextReady r n ended started f × (j < width) × (until j ≤ now)) →
         ((j m : ℕ) (f g : Firing) → get_or cells j None ≡ Some f → get_or cells m None ≡ Some g →
@@ -86,8 +87,7 @@ module _ (r : Rates) (n cost : ℕ → ℕ) (level : Firing → ℕ) (width : �
         IsDone r n cost level width homed (past ++ record { start = now; cells = cells } ∷ []) now ended started'
         whose' until' homes'
     done_row wide some dear each apart begun homes_are stuck = record {
-      floor = floor_more r n cost width past now ended started whose until started' whose' until' cells d.floor dear
-          each apart begun;
+      floor = floor_more d.floor dear each apart begun;
       rows = timed_more width (hu_rule r n cost level width homed) past (record { start = now; cells = cells })
           d.rows (record {
             wide = wide;
@@ -136,26 +136,26 @@ module _ (r : Rates) (n cost : ℕ → ℕ) (level : Firing → ℕ) (width : �
         gap : (t : ℕ) → IsLater past t → (t ≡ now) ⊎ (t ≡ now → ⊥) → t ≤ now → (cells' : List (Option Firing)) →
             length cells' ≡ width → hu_rule r n cost level width homed past t cells' → firings cells' ≡ []
         gap t later (inr ne) low cells' wide row = d.gap t later (omega arith) cells' wide row
-        gap t later (inl e) low cells' wide row = stuck_empty homed past now ended started whose until homes' d.floor
-            homes_are stuck cells' (subst (λ t. hu_rule r n cost level width homed past t cells') e row)
+        gap t later (inl e) low cells' wide row = stuck_empty level homed past now ended started whose until homes'
+            d.floor homes_are stuck cells' (subst (λ t. hu_rule r n cost level width homed past t cells') e row)
 
   -- on to the next time at which a column is through
-  module _ (homed : Bool) (past : List Timed) (now : ℕ) (ended started whose until : ℕ → ℕ) (homes : ℕ → Option ℕ)
+  module _ {level : Firing → ℕ} {homed : Bool} {past : List Timed} {now : ℕ} {ended started whose until : ℕ → ℕ}
+      {homes : ℕ → Option ℕ}
       (d : IsDone r n cost level width homed past now ended started whose until homes)
-      (next : ℕ) (ended' : ℕ → ℕ) (further : now < next) (some : (j : ℕ) × (j < width) × (until j ≡ next))
-      (least : (j : ℕ) → j < width → now < until j → next ≤ until j)
-      (through : (j : ℕ) → j < width → until j ≡ next → ended' (whose j) ≡ ended (whose j) + 1)
-      (same : (a : ℕ) → ((j : ℕ) → j < width → until j ≡ next → whose j ≡ a → ⊥) → ended' a ≡ ended a)
-      (rises : (a : ℕ) → ended a ≤ ended' a) where
+      {next : ℕ} {ended' : ℕ → ℕ} (turn : IsNextTime width now next ended ended' whose until)
+      (some : (j : ℕ) × (j < width) × (until j ≡ next)) where
+    open turn use {least, same, rises}
+
     -- a column that is busy stays so
     busy_until : (j : ℕ) → now < until j → next ≤ until j
     busy_until j h =
-        let x = work_at r n cost width past now ended started whose until d.floor j h in
+        let x = work_at d.floor j h in
         least j (d.floor.known x.0 j x.1 x.2).1 h
 
     -- between the two times nothing ends
     floor_between : (t : ℕ) → now ≤ t → t < next → IsFloor r n cost width past t ended started whose until
-    floor_between t low high = floor_before r n cost width past now ended started whose until d.floor t low
+    floor_between t low high = floor_before d.floor t low
         (λ j l h. omega (arith, busy_until j h))
 
     stuck_between : (t : ℕ) → t < next → IsStuck r n ended started until homes width t homed
@@ -169,8 +169,7 @@ module _ (r : Rates) (n cost : ℕ → ℕ) (level : Firing → ℕ) (width : �
 
     -- an actor that is still at work was so before
     on_then : (a : ℕ) → a < r.actors → ended' a < started a → IsEnabled r ended' a
-    on_then a l h = go (through_then r n cost width past now ended started whose until d.floor next ended' further
-        least through same rises a l)
+    on_then a l h = go (through_then d.floor turn a l)
       where
         go : (ended' a ≡ started a) ⊎ ((ended' a ≡ ended a) × (ended a + 1 ≡ started a)) → IsEnabled r ended' a
         go (inl e) = absurd (omega arith)
@@ -178,10 +177,9 @@ module _ (r : Rates) (n cost : ℕ → ℕ) (level : Firing → ℕ) (width : �
 
     pub due_next : IsDue r n cost level width homed past next ended' started whose until homes
     due_next = record {
-      floor = floor_later r n cost width past now ended started whose until d.floor next ended' further least through
-          same rises on_then;
+      floor = floor_later d.floor turn on_then;
       rows = d.rows;
-      later = λ i l. let h = d.starts i l in omega arith;
+      later = λ i l. omega (arith, d.starts i l, turn.later);
       gap = λ t later high cells wide row. gap t later high (cases_lt now t) cells wide row;
       begins = λ e. absurd (begins e);
       homes_are = d.homes_are;
@@ -190,13 +188,13 @@ module _ (r : Rates) (n cost : ℕ → ℕ) (level : Firing → ℕ) (width : �
         gap : (t : ℕ) → IsLater past t → t < next → (now < t) ⊎ (t ≤ now) → (cells : List (Option Firing)) →
             length cells ≡ width → hu_rule r n cost level width homed past t cells → firings cells ≡ []
         gap t later high (inr low) cells wide row = d.gap t later low cells wide row
-        gap t later high (inl low) cells wide row = stuck_empty homed past t ended started whose until homes
+        gap t later high (inl low) cells wide row = stuck_empty level homed past t ended started whose until homes
             (floor_between t (omega arith) high) d.homes_are (stuck_between t high) cells row
 
         -- the firing that ends then stands in some row
         begins : past ≡ [] → ⊥
         begins e =
-            let x = work_at r n cost width past now ended started whose until d.floor some.0 (omega (arith, some.2)) in
+            let x = work_at d.floor some.0 (omega (arith, some.2, turn.later)) in
             let k = row_known past x.0 some.0 x.1 x.2 in
             let z = ap length e in
             omega arith

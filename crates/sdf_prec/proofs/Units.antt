@@ -60,7 +60,7 @@ module _ (past : List Timed) (i : ℕ) where
   front_of : (m j : ℕ) (f : Firing) → m < i → StandsAt past m j f → StandsAt (take i past) m j f
   front_of m j f low at = ap (λ (x : Timed). get_or x.cells j None) (get_or-take i past m no_row low) ∙ at
 
-module _ (r : Rates) (n cost : ℕ → ℕ) (level : Firing → ℕ) (width : ℕ) (rule : Rule) (rows : List Timed)
+module _ {r : Rates} {n cost : ℕ → ℕ} {width : ℕ} {rule : Rule} {rows : List Timed}
     (unit : (a : ℕ) → a < r.actors → cost a ≡ 1) (are : AreTimedRows r n width rule rows)
     (known : (i j : ℕ) (f : Firing) → StandsAt rows i j f → f.actor < r.actors) (i : ℕ) (here : i < length rows) where
   abbrev t : ℕ
@@ -137,8 +137,8 @@ module _ (r : Rates) (n cost : ℕ → ℕ) (level : Firing → ℕ) (width : �
 
 pub free_plain : UnitFreeRowsArePlain
 free_plain r n cost level width rows unit are = record {
-  wide = λ i l. wide_plain r n cost level width (IsFreeRow r n cost level width) rows unit are known i (within i l);
-  some = λ i l. some_plain r n cost level width (IsFreeRow r n cost level width) rows unit are known i (within i l);
+  wide = λ i l. wide_plain unit are known i (within i l);
+  some = λ i l. some_plain unit are known i (within i l);
   each = λ i l. each i (within i l);
   all = λ f of. order_all rows f (are.all f of);
 }
@@ -152,10 +152,8 @@ free_plain r n cost level width rows unit are = record {
     each : (i : ℕ) → i < length rows → IsFreePlain r n level width (cells_of rows) i
     each i l = (
       rule.queue,
-      queue_alike level (IsReadyAt r n cost (take i rows) (timed rows i).start)
-          (IsReadyFor r n (cells_of rows) i) rule.queue
-          (ready_plain r n cost level width (IsFreeRow r n cost level width) rows unit are known i l)
-          (plain_ready r n cost level width (IsFreeRow r n cost level width) rows unit are known i l) rule.ready,
+      queue_alike (ready_plain unit are known i l)
+          (plain_ready unit are known i l) rule.ready,
       stands,
     )
       where
@@ -165,15 +163,14 @@ free_plain r n cost level width rows unit are = record {
         stands : (j : ℕ) → j < width → cell (cells_of rows) i j ≡ slice_get rule.queue j
         stands j k =
             let c = all_columns width rule.columns rule.idle.rising
-            (λ x h. rule.idle.all x h (idle r n cost level width (IsFreeRow r n cost level width) rows unit are
-            known i l x)) (suc j) j (omega arith) k in
+            (λ x h. rule.idle.all x h (idle unit are known i l x)) (suc j) j (omega arith) k in
             ap (λ (cs : List (Option Firing)). get_or cs j None) (row_of rows i)
             ∙ (ap (λ q. get_or (timed rows i).cells q None) (sym c.1) ∙ rule.filled.filled j c.0)
 
 pub homed_plain : UnitHomedRowsArePlain
 homed_plain r n cost level width rows unit are = record {
-  wide = λ i l. wide_plain r n cost level width (IsHomedRow r n cost level width) rows unit are known i (within i l);
-  some = λ i l. some_plain r n cost level width (IsHomedRow r n cost level width) rows unit are known i (within i l);
+  wide = λ i l. wide_plain unit are known i (within i l);
+  some = λ i l. some_plain unit are known i (within i l);
   each = λ i l. each i (within i l);
   all = λ f of. order_all rows f (are.all f of);
 }
@@ -195,10 +192,8 @@ homed_plain r n cost level width rows unit are = record {
     each i l = (
       rule.queue,
       rule.homes,
-      queue_alike level (IsReadyAt r n cost (take i rows) (timed rows i).start)
-          (IsReadyFor r n (cells_of rows) i) rule.queue
-          (ready_plain r n cost level width (IsHomedRow r n cost level width) rows unit are known i l)
-          (plain_ready r n cost level width (IsHomedRow r n cost level width) rows unit are known i l) rule.ready,
+      queue_alike (ready_plain unit are known i l)
+          (plain_ready unit are known i l) rule.ready,
       λ a j k. (
         λ e. (settled a j).0 ((rule.homes_are a j k).0 e),
         λ h. (rule.homes_are a j k).1 ((settled a j).1 h),
@@ -212,7 +207,7 @@ homed_plain r n cost level width rows unit are = record {
 
         settled : (a j : ℕ) → IsSettled (take i rows) a j ↔
             ((m : ℕ) × (f : Firing) × (m < i) × (cell (cells_of rows) m j ≡ Some f) × (f.actor ≡ a))
-        settled = settled_plain r n cost level width (IsHomedRow r n cost level width) rows unit are known i l
+        settled = settled_plain unit are known i l
 
         placed : (p : ℕ) → IsPlaced r.actors width (λ a. n a * cost a)
             (λ j. IsBusy cost (take i rows) (timed rows i).start j → ⊥) rule.homes rule.queue (timed rows i).cells p →
@@ -221,8 +216,7 @@ homed_plain r n cost level width rows unit are = record {
             let free = placed_idle r.actors width (λ a. n a * cost a)
             (λ j. IsBusy cost (take i rows) (timed rows i).start j → ⊥) (λ _. Unit {0}) rule.homes rule.queue
             (timed rows i).cells p
-            (λ j h. tt) (λ j h. idle r n cost level width (IsHomedRow r n cost level width) rows unit are
-            known i l j) pl in
+            (λ j h. tt) (λ j h. idle unit are known i l j) pl in
             record {
               home = free.home;
               home_is = free.home_is;

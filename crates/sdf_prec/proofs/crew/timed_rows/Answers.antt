@@ -28,7 +28,7 @@ loop-next-smaller c =
     let v = c.loop-next.invariant in
     let its = ap (λ (g : Shape). g.actors) v.graph in
     let few : sum c.loop-next.crew.counts.fired ≤ sum c.args.job.now.firings.now =
-    few_ended _ _ _ _ _ _ _ _ _ _ v.done.2.floor c.next_end.ensures.crew.fired_all
+    few_ended _ _ v.done.2.floor c.next_end.ensures.crew.fired_all
     (c.requires.job.firings_all ∙ sym its) in
     let more : sum c.loop-next.crew.counts.fired < sum c.turn.new.self.counts.fired = c.in_ok-turn.ensures.more in
     omega arith
@@ -54,9 +54,7 @@ returns-clause-rows c =
       v.done.1,
       record {
         rows_are = done.rows;
-        all = all_stand
-            _ _ _ _ _ _ _ _ _ _ _ _ c.requires.pass.0 sound c.requires.width
-            c.requires.pass.1 done.floor done.stuck
+        all = all_stand done.floor _ _ c.requires.pass.0 sound c.requires.width c.requires.pass.1 done.stuck
             (λ j l. c.in_default.ensures.next j (omega (arith, l, v.columns)));
       },
     )
@@ -67,12 +65,11 @@ returns-clause-valid c =
     let k = c.in_default.ensures.crew in
     let done = rw (v.graph, v.columns) at v.done.2 in
     let sound = rw v.graph at k.sound in
-    let all = all_stand
-    _ _ _ _ _ _ _ _ _ _ _ _ c.requires.pass.0 sound c.requires.width c.requires.pass.1
-    done.floor done.stuck (λ j l. c.in_default.ensures.next j (omega (arith, l, v.columns))) in
+    let all = all_stand done.floor _ _ c.requires.pass.0 sound c.requires.width c.requires.pass.1 done.stuck
+    (λ j l. c.in_default.ensures.next j (omega (arith, l, v.columns))) in
     let r = rates c.args.graph.now in
     subst (IsValid r (λ a. get_or c.args.job.now.firings.now a 0)) v.done.1
-    (rows_valid _ _ _ (number c.args.job.now.levels.now) _ c.args.job.now.homed _ _ _ _ _ _ done.floor done.rows all)
+    (rows_valid done.floor (number c.args.job.now.levels.now) c.args.job.now.homed done.rows all)
 
 pub add_row-requires-clause-due : goal.add_row-requires-clause-due
 add_row-requires-clause-due c =

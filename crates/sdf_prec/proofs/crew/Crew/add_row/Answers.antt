@@ -42,7 +42,7 @@ returns-in_ok-push-clause-done c =
       past ++ next ∷ [],
       pushed,
       row_started c.args.job.now c.renew_queue.new.self c.next_cells.new.self c.start.new.self past
-          cells sound (job_dear _ _ _ _ _ job) due c.next_cells.ensures.others row
+          cells sound (job_dear job) due c.next_cells.ensures.others row
           (λ none. absurd (omega (
             arith,
             c.has_firing.ensures.0 c.if-has_firing.true,

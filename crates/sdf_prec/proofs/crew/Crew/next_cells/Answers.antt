@@ -13,7 +13,7 @@ use Rattle.sdf_prec.proofs.crew.Crew.next_cells.Goals as goal
 pub place-requires-clause-once : goal.place-requires-clause-once
 place-requires-clause-once c =
     let q = subst (λ (x : Crewed). IsQueued c.args.job.now x) (sym c.self.view_is) c.requires.queue in
-    rw c.deref.ensures.value (queue_once _ _ _ q)
+    rw c.deref.ensures.value (queue_once q)
 
 pub returns-in_ok-place-clause-row : goal.returns-in_ok-place-clause-row
 returns-in_ok-place-clause-row c =
@@ -47,10 +47,9 @@ returns-in_ok-place-clause-row c =
     rw is (λ past due. let d = subst (λ (x : Crewed). IsDueTo job x past) (sym c.self.view_is) due in
     subst (λ (h : Bool). IsRowAt r n cost level width h past i.time ended started whose until
     (λ a. get_or new a None) cells) (sym c.if-job.true)
-    (row_homed r n cost level width past i.time ended started whose i.until.items k.sound
-    (job_dear _ _ _ _ _ its) queue q cells i.homes.items new
+    (row_homed i.until.items k.sound (job_dear its) q i.homes.items
     (subst (λ (h : Bool). IsDue r n cost level width h past i.time ended started whose until
-    (λ a. get_or i.homes.items a None)) c.if-job.true d) weight weight_is refl placed waiting))
+    (λ a. get_or i.homes.items a None)) c.if-job.true d) weight_is refl placed waiting))
 
 pub returns-in_ok-fill-clause-row : goal.returns-in_ok-fill-clause-row
 returns-in_ok-fill-clause-row c =
@@ -66,7 +65,6 @@ returns-in_ok-fill-clause-row c =
     let whose : ℕ → ℕ = λ j. get_or i.whose.items j 0 in
     let until : ℕ → ℕ = λ a. get_or i.until.items a 0 in
     let width : ℕ = length i.until.items in
-    let queue = i.queue.items in
     let cells = c.fill.new.cells.items in
     let q = subst (λ (x : Crewed). IsQueued job x) (sym c.self.view_is) c.requires.queue in
     let fill = rw (c.deref-else-job.ensures.value, c.deref-else-job-2.ensures.value) at c.in_ok-fill.ensures in
@@ -75,7 +73,6 @@ returns-in_ok-fill-clause-row c =
     subst (λ (x : Crewed). IsRowFor job x past cells) c.self.view_is
     (subst (λ (h : Bool). IsRowAt r n cost level width h past i.time ended started whose until
     (λ a. get_or i.homes.items a None) cells) (sym c.if-job.false)
-    (row_free r n cost level width past i.time ended started whose i.until.items k.sound
-    (job_dear _ _ _ _ _ its) queue q cells (λ a. get_or i.homes.items a None)
+    (row_free i.until.items k.sound (job_dear its) q
     (subst (λ (h : Bool). IsDue r n cost level width h past i.time ended started whose until
-    (λ a. get_or i.homes.items a None)) c.if-job.false d) fill.0 fill.1)))
+    (λ a. get_or i.homes.items a None)) c.if-job.false d) fill.1)))

@@ -22,7 +22,7 @@ start-requires-clause-early c =
       arith,
       k.early,
       job.few,
-      few_ended _ _ _ _ _ _ _ _ _ _ row.floor k.fired_all job.firings_all,
+      few_ended _ _ row.floor k.fired_all job.firings_all,
     )
 
 pub start-requires-clause-known : goal.start-requires-clause-known
@@ -63,7 +63,7 @@ invariant_of-self c =
       marks_all = k.marks_all;
       inside = λ a j is. let l = k.inside a j is in omega (arith, u_len);
       early = k.early;
-      soon = soon_then _ _ _ _ _ _ _ _ _ begun (λ j f h. job_cheap _ _ _ _ _ job f.actor
+      soon = soon_then begun (λ j f h. job_cheap job f.actor
           (row.each j f h).0.known) k.soon;
     })
 
@@ -84,8 +84,8 @@ returns-clause-queue c =
     (λ j f h. (row.each j f h).0) in
     let left = queue_left (number job.levels.now) (IsNextReady r n ended old)
     (IsNextReady r n ended (λ a. get_or c.start.new.started a 0)) i.queue.items q (is_next c.start.new.started)
-    (still_ready r n _ i.time c.args.cells.now ended old _ _ _ _ c.start.new.started begun each)
-    (ready_then r n _ i.time c.args.cells.now ended old _ _ _ _ c.start.new.started begun each) in
+    (still_ready _ begun each)
+    (ready_then _ begun each) in
     let s = c.start.new.started in
     let s_len : length s ≡ length i.started.items = c.start.ensures.actors ∙ ap length c.deref_mut.ensures.value in
     let st = take_at s (drop (length s) i.started.items) i.started.len (s_len ∙ sym i.started.ok.0) in
