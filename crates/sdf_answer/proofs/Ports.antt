@@ -40,7 +40,8 @@ pub same_x : {T : Type 0} (qs : List (Held T)) (d : ℕ) (x : Held T) → d < le
     samples qs d ≡ (get_or qs d x).samples
 same_x {T} qs d x l = ap (λ (y : Held T). y.samples) (get_or_default qs d nothing x l)
 
--- the ports of a node, the queues before any of them has its turn, and the queues when port i has it
+-- a loop over a node's ports when it comes to port i: the channels of the ports, the sizes of all channels, the queues
+-- before the loop and now
 pub record Turn (T : Type 0) : Type 0 where
   pub ports : List ℕ
   pub sizes : List ℕ
