@@ -13,7 +13,7 @@ use Rattle.sdf_answer.proofs.Feeds.{run_in_all}
 pub begun_runs_go_on : {A B S T : Type 0} (s : Steps A S T) (r : Steps B S T) → BegunRunsGoOn s r
 begun_runs_go_on s r n m p more later on rest last has begins given after = record {
   given = (begun_nets_ask s r n rest m p.repetitions more later begins).0 given;
-  count = after.count ∙ as_many_lists s r n rest m begins Outputs;
+  count = after.count ∙ as_many_lists begins Outputs;
   runs = λ few first all made joined has_first full before all_are joined_are as_many.
       run_in_all s r n m p few more first later all made on joined rest last has has_first full before begins after
       all_are joined_are as_many;

@@ -60,7 +60,7 @@ period_samples-asked xs q =
     ap (λ b. b * get_or q (first_on Inputs xs) 0) block
     ∙ ap (λ f. (get_or (map (lists_of Inputs) xs) f (None, 0)).1 * get_or q f 0) (sym (first_of Inputs xs))
 
-module _ {A B S T : Type 0} (s : Steps A S T) (r : Steps B S T) (n : Netlist A T) (rest : Rest T S) (m : Netlist B T)
+module _ {A B S T : Type 0} {s : Steps A S T} {r : Steps B S T} {n : Netlist A T} {rest : Rest T S} {m : Netlist B T}
     (begins : BeginsWith s r n rest m) (l : Lists) where
   same_lists_of : map (lists_of l) m.nodes ≡ map (lists_of l) n.nodes
   same_lists_of =
@@ -80,9 +80,9 @@ module _ {A B S T : Type 0} (s : Steps A S T) (r : Steps B S T) (n : Netlist A T
 
 pub begun_nets_ask : {A B S T : Type 0} (s : Steps A S T) (r : Steps B S T) → BegunNetsAsk s r
 begun_nets_ask s r n rest m q periods inputs begins =
-    let count = as_many_lists s r n rest m begins Inputs in
+    let count = as_many_lists begins Inputs in
     let samples : period_samples m.nodes Inputs q ≡ period_samples n.nodes Inputs q =
-    period_samples-asked m.nodes q ∙ (ap (λ v. asked v q) (same_lists_of s r n rest m begins Inputs)
+    period_samples-asked m.nodes q ∙ (ap (λ v. asked v q) (same_lists_of begins Inputs)
     ∙ sym (period_samples-asked n.nodes q)) in
     let one : AreInputs (list_count Inputs m.nodes) (periods * period_samples m.nodes Inputs q) inputs ≡
     AreInputs (list_count Inputs n.nodes) (periods * period_samples n.nodes Inputs q) inputs =

@@ -8,7 +8,7 @@ use Rattle.std.proofs.lemmas.List.{take_all, drop-take, take-take, drop-drop, ta
 use Rattle.std.proofs.lemmas.List.Edits.{between_more}
 use Rattle.std.proofs.lemmas.Slice.{between_is}
 use Rattle.sdf_node.specs.Many.{nth_block, joined}
-use Rattle.sdf_answer.specs.Parts.{part_at, part_of, KeepsOthers}
+use Rattle.sdf_answer.specs.Parts.{part_at, part_of, AreCopied, KeepsOthers}
 use Rattle.sdf_answer.specs.declared.parts.Stride.{Stride}
 
 -- a part copied as far as its next item
@@ -70,25 +70,23 @@ pub row_inside : (width many n : ℕ) → n ≡ width * many → (i : ℕ) → i
 row_inside width many n all i l = let p = parts_apart width width i many l (omega arith) in omega arith
 
 -- a part more is copied
-module _ {T : Type 0} (from before ys zs : List T) (s t : Stride) (width i : ℕ) (apart : width ≤ t.step)
-    (kept : take (part_at t i) zs ≡ take (part_at t i) ys)
-    (behind : drop (part_at t i + width) zs ≡ drop (part_at t i + width) ys) where
-  pub parts_next : part_of t width zs i ≡ part_of s width from i →
-      ((j : ℕ) → j < i → part_of t width ys j ≡ part_of s width from j) → (j : ℕ) → j < i + 1 →
-      part_of t width zs j ≡ part_of s width from j
-  parts_next new old j l = go (cases_lt j i)
-    where
-      go : (j < i) ⊎ (i ≤ j) → part_of t width zs j ≡ part_of s width from j
-      go (inl less) =
-          let p = parts_apart t.step width j i less apart in
-          kept_beside ys zs (part_at t i) (part_at t i + width) (part_at t j) (part_at t j + width) kept behind
-          (inl (omega arith)) ∙ old j less
-      go (inr last) = let e : j ≡ i = omega arith in
-          ap (part_of t width zs) e ∙ (new ∙ ap (part_of s width from) (sym e))
-
-  pub others_next : KeepsOthers t width i before ys → KeepsOthers t width (i + 1) before zs
-  others_next others a b clear = kept_beside ys zs (part_at t i) (part_at t i + width) a b kept behind
-      (clear i (omega arith)) ∙ others a b (λ j l. clear j (omega arith))
+pub copied_more : {T : Type 0} {from before ys zs : List T} {s t : Stride} {width i : ℕ} → width ≤ t.step →
+    take (part_at t i) zs ≡ take (part_at t i) ys → drop (part_at t i + width) zs ≡ drop (part_at t i + width) ys →
+    part_of t width zs i ≡ part_of s width from i → AreCopied s t width i from before ys →
+    AreCopied s t width (i + 1) from before zs
+copied_more {T} {from} {before} {ys} {zs} {s} {t} {width} {i} apart kept behind new old = record {
+  copied = λ j l. go j (cases_lt j i) l;
+  others = λ a b clear. kept_beside ys zs (part_at t i) (part_at t i + width) a b kept behind
+      (clear i (omega arith)) ∙ old.others a b (λ j l. clear j (omega arith));
+}
+  where
+    go : (j : ℕ) → (j < i) ⊎ (i ≤ j) → j < i + 1 → part_of t width zs j ≡ part_of s width from j
+    go j (inl less) l =
+        let p = parts_apart t.step width j i less apart in
+        kept_beside ys zs (part_at t i) (part_at t i + width) (part_at t j) (part_at t j + width) kept behind
+        (inl (omega arith)) ∙ old.copied j less
+    go j (inr last) l = let e : j ≡ i = omega arith in
+        ap (part_of t width zs) e ∙ (new ∙ ap (part_of s width from) (sym e))
 
 -- where a block ends
 block_end : (size i : ℕ) → size * (i + 1) ≡ size * i + size

@@ -9,9 +9,9 @@ use Rattle.sdf_actor.specs.Rests.{state_left}
 use Rattle.sdf_actor.specs.Steps.{Steps}
 use Rattle.sdf_actor.specs.Histories.{Wiring, Answers, IsHistory, IsWired, taken_before}
 use Rattle.sdf_actor.specs.Nets.{Netlist, node, wiring, answers, to_port}
-use Rattle.sdf_actor.specs.Laws.{NetsAreWired}
 use Rattle.sdf_actor.specs.Sides.{period_samples}
 use Rattle.sdf_actor.specs.declared.sides.Lists.TheVariants.{Inputs}
+use Rattle.sdf_actor.proofs.Theorems.{nets_are_wired}
 use Rattle.sdf_answer.specs.Answer.{HasInputs, periods_of}
 use Rattle.sdf_answer.specs.Feeds.{SinksMakeRuns, NothingRuns}
 use Rattle.sdf_answer.specs.Laws.{HistoriesBegin, SinksTakeAll, SinksMakeOutputs, NothingMakesNothing}
@@ -43,20 +43,20 @@ history_along f wired x k m V same r = record {
   steps = λ a i l h. r.steps a i l (let e : k a ≡ m a = same a l in omega arith);
 }
 
-module _ {A S T : Type 0} (s : Steps A S T) (wired : NetsAreWired s) where
+module _ {A S T : Type 0} (s : Steps A S T) where
   pub histories_begin : HistoriesBegin s
   histories_begin n inputs k good none =
-      history_along (wiring s n) (wired n good) (answers s n inputs) (times []) k (wiring s n).starts
-      (λ a l. sym (none a l)) (begun_history (wiring s n) (wired n good) (answers s n inputs))
+      history_along (wiring s n) (nets_are_wired s n good) (answers s n inputs) (times []) k (wiring s n).starts
+      (λ a l. sym (none a l)) (begun_history (wiring s n) (nets_are_wired s n good) (answers s n inputs))
 
   pub sinks_take_all : SinksTakeAll s
-  sinks_take_all n V k a ext block good is = joined_taken s n (wired n good) V a (to_port n a 0)
+  sinks_take_all n V k a ext block good is = joined_taken s n (nets_are_wired s n good) V a (to_port n a 0)
       (into_sink s n a ext block is) (k a)
 
   pub sinks_make_outputs : SinksMakeOutputs s
   sinks_make_outputs n inputs q periods k V outputs good r same count lists_are = record {
     history = V;
-    is = history_along (wiring s n) (wired n good) (answers s n inputs) k (periods_of q periods) V same r;
+    is = history_along (wiring s n) (nets_are_wired s n good) (answers s n inputs) k (periods_of q periods) V same r;
     count = count;
     each = λ a e block l is.
         lists_are a e block l is ∙
@@ -67,7 +67,7 @@ module _ {A S T : Type 0} (s : Steps A S T) (wired : NetsAreWired s) where
   pub sinks_make_runs : SinksMakeRuns s
   sinks_make_runs n inputs q periods k V outputs rest good r same count lists_are left = record {
     history = V;
-    is = history_along (wiring s n) (wired n good) (answers s n inputs) k (periods_of q periods) V same r;
+    is = history_along (wiring s n) (nets_are_wired s n good) (answers s n inputs) k (periods_of q periods) V same r;
     count = count;
     each = λ a e block l is.
         lists_are a e block l is ∙
@@ -79,7 +79,7 @@ module _ {A S T : Type 0} (s : Steps A S T) (wired : NetsAreWired s) where
           (λ i. state_left s (node n a) (taken_before (wiring s n) V a i)) (same a l);
       channels = left.channels;
       held = λ c l. left.held c l ∙ ap (λ i. drop ((wiring s n).rates.consumed c i) (V c))
-          (same ((wiring s n).rates.target c) ((wired n good).sound.target_in c l));
+          (same ((wiring s n).rates.target c) ((nets_are_wired s n good).sound.target_in c l));
     };
   }
 

@@ -1,6 +1,6 @@
 -- A port more, at which many firings take or put.
 use Rattle.std.proofs.Common.{◌≡◌, ℕ, zero, suc, ◌+◌, ◌-◌, ◌*◌, ◌≤◌, ◌<◌, List, [], ◌++◌, length, get_or, set}
-use Rattle.std.proofs.Common.{take, drop, slice_range, refl, sym, ap, ◌∙◌, subst, arith, add-one}
+use Rattle.std.proofs.Common.{slice_index, take, drop, slice_range, refl, sym, ap, ◌∙◌, subst, arith, add-one}
 use Rattle.std.specs.List.{flat_map}
 use Rattle.std.proofs.Math.Nat.{suc-mul, mul-le-mul_right}
 use Rattle.std.proofs.Math.Seq.{take-add}
@@ -10,8 +10,8 @@ use Rattle.sdf_actor.specs.Histories.{spread}
 use Rattle.sdf_node.proofs.Theorems.{blocks_join}
 use Rattle.sdf_node.specs.Many.{nth_block, joined}
 use Rattle.sdf_answer.specs.Held.{Held}
-use Rattle.sdf_answer.specs.Blocks.{samples, ArePorts}
-use Rattle.sdf_answer.proofs.Ports.{put_part, spread_here, spread_on, later_none}
+use Rattle.sdf_answer.specs.Blocks.{samples}
+use Rattle.sdf_answer.proofs.Ports.{Turn, put_part, spread_here, spread_on, later_none}
 
 pub same_joined : {T : Type 0} (f g : ℕ → List T) (many : ℕ) → ((i : ℕ) → i < many → f i ≡ g i) →
     joined f many ≡ joined g many
@@ -93,37 +93,39 @@ blocks_whole f size times at xs long past each =
     (λ i l. sym (take_all at (nth_block size xs i) (omega (arith, are.0 i l))) ∙ each i l)
 
 -- many firings' parts are put at a port more: what is still to be put of the blocks f
-module _ (ports sizes : List ℕ) (channels : ℕ) (are : ArePorts ports sizes channels) {T : Type 0} (size : ℕ → ℕ)
-    (was now : List (Held T)) (i : ℕ) (l : i < length ports) (x q : Held T) (long : length now ≡ channels)
-    (f : ℕ → List T) (times at : ℕ) where
+module _ {T : Type 0} (t : Turn T) (x q : Held T) (f : ℕ → List T) (times at : ℕ) where
+  open t use {ports, was, now, i}
+
+  abbrev size : ℕ → ℕ
+  size = slice_index t.sizes
+
+  abbrev d : ℕ
+  d = get_or ports i 0
+
   abbrev still : List ℕ → ℕ → ℕ → List T
   still ds a c = joined (λ j. spread size ds (drop a (f j)) c) times
 
-  step : (c j : ℕ) → spread size (drop (i + 1) ports) (drop (size (get_or ports i 0)) (drop at (f j))) c ≡
-      spread size (drop (i + 1) ports) (drop (at + size (get_or ports i 0)) (f j)) c
-  step c j = ap (λ ys. spread size (drop (i + 1) ports) ys c) (drop-drop (size (get_or ports i 0)) at (f j))
+  step : (c j : ℕ) → spread size (drop (i + 1) ports) (drop (size d) (drop at (f j))) c ≡
+      spread size (drop (i + 1) ports) (drop (at + size d) (f j)) c
+  step c j = ap (λ ys. spread size (drop (i + 1) ports) ys c) (drop-drop (size d) at (f j))
 
-  pub puts_more : q.samples ≡ (get_or now (get_or ports i 0) x).samples
-      ++ joined (λ j. take (size (get_or ports i 0)) (drop at (f j))) times →
+  pub puts_more : q.samples ≡ (get_or now d x).samples ++ joined (λ j. take (size d) (drop at (f j))) times →
       (all : ℕ → List T) →
-      ((c : ℕ) → c < channels → samples now c ++ still (drop i ports) at c ≡ samples was c ++ all c) →
-      (c : ℕ) → c < channels → samples (set now (get_or ports i 0) q) c
-      ++ still (drop (i + 1) ports) (at + size (get_or ports i 0)) c ≡ samples was c ++ all c
+      ((c : ℕ) → c < length was → samples now c ++ still (drop i ports) at c ≡ samples was c ++ all c) →
+      (c : ℕ) → c < length was →
+      samples (set now d q) c ++ still (drop (i + 1) ports) (at + size d) c ≡ samples was c ++ all c
   puts_more moved all before c k =
-      put_part ports sizes channels are size was now i l x q long
-      (joined (λ j. take (size (get_or ports i 0)) (drop at (f j))) times) moved
-      (still (drop i ports) at c) (still (drop (i + 1) ports) (at + size (get_or ports i 0)) c) c
+      put_part t x q (joined (λ j. take (size d) (drop at (f j))) times) moved
+      (still (drop i ports) at c) (still (drop (i + 1) ports) (at + size d) c) c
       (λ e. (
-        same_joined (λ j. spread size (drop i ports) (drop at (f j)) c)
-            (λ j. take (size (get_or ports i 0)) (drop at (f j))) times
-            (λ j m. spread_here ports sizes channels are size was now i l x q long c e (drop at (f j))),
-        joined_none (λ j. spread size (drop (i + 1) ports) (drop (at + size (get_or ports i 0)) (f j)) c) times
-            (λ j. later_none ports sizes channels are size was now i l x q long c e
-            (drop (at + size (get_or ports i 0)) (f j))),
+        same_joined (λ j. spread size (drop i ports) (drop at (f j)) c) (λ j. take (size d) (drop at (f j))) times
+            (λ j m. spread_here t c e (drop at (f j))),
+        joined_none (λ j. spread size (drop (i + 1) ports) (drop (at + size d) (f j)) c) times
+            (λ j. later_none t c e (drop (at + size d) (f j))),
       ))
       (λ ne. same_joined (λ j. spread size (drop i ports) (drop at (f j)) c)
-      (λ j. spread size (drop (i + 1) ports) (drop (at + size (get_or ports i 0)) (f j)) c) times
-      (λ j m. spread_on ports sizes channels are size was now i l x q long c ne (drop at (f j)) ∙ step c j))
+      (λ j. spread size (drop (i + 1) ports) (drop (at + size d) (f j)) c) times
+      (λ j m. spread_on t c ne (drop at (f j)) ∙ step c j))
       ∙ before c k
 
 -- the row that is gathered from blocks

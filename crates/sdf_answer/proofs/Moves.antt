@@ -162,7 +162,8 @@ module _ {A S T : Type 0} (s : Steps A S T) where
               omega (arith, size, then)
 
       -- all of it has come
-      come : (c : ℕ) → c < length n.wires → (wiring s n).rates.consumed c (m ((wiring s n).rates.target c)) ≤ length (V c)
+      come : (c : ℕ) → c < length n.wires → (wiring s n).rates.consumed c
+          (m ((wiring s n).rates.target c)) ≤ length (V c)
       come c l = go (cases_eq a ((wiring s n).rates.target c))
         where
           go : (a ≡ (wiring s n).rates.target c) ⊎ (a ≡ (wiring s n).rates.target c → ⊥) →
@@ -183,7 +184,8 @@ module _ {A S T : Type 0} (s : Steps A S T) where
           ++ spread (λ d. get_or puts d 0) ((wiring s n).outs a) now c ≡
           drop ((wiring s n).rates.consumed c (m ((wiring s n).rates.target c))) (W c)
       left c l =
-          let more : List T = spread (λ d. (wiring s n).rates.produced d (k a + 1) - (wiring s n).rates.produced d (k a))
+          let more : List T = spread (λ d. (wiring s n).rates.produced d (k a + 1)
+          - (wiring s n).rates.produced d (k a))
           ((wiring s n).outs a) now c in
           let many : ℕ = at_ports ((wiring s n).ins a) (get_or takes c 0) c in
           ap (λ ys. drop many (queue c) ++ ys) (dealt c) ∙
@@ -199,14 +201,16 @@ module _ {A S T : Type 0} (s : Steps A S T) where
       took_own =
           let count : m a ≡ suc (k a) = omega arith in
           ap (taken_before (wiring s n) W a) count ∙
-          sym (taken_stays s n V W a (suc (k a)) good known (λ c l e. subst (λ i. (wiring s n).rates.consumed c i ≤ length (V c))
+          sym (taken_stays s n V W a (suc (k a)) good known
+          (λ c l e. subst (λ i. (wiring s n).rates.consumed c i ≤ length (V c))
           (ap m e ∙ count) (come c l)) (λ c l. kept c))
 
       took_other : (b : ℕ) → b < length n.nodes → (a ≡ b → ⊥) →
           taken_before (wiring s n) W b (m b) ≡ taken_before (wiring s n) V b (k b)
       took_other b in_range ne =
           ap (taken_before (wiring s n) W b) (others b ne) ∙
-          sym (taken_stays s n V W b (k b) good in_range (λ c l e. subst (λ i. (wiring s n).rates.consumed c i ≤ length (V c))
+          sym (taken_stays s n V W b (k b) good in_range
+          (λ c l e. subst (λ i. (wiring s n).rates.consumed c i ≤ length (V c))
           (ap m e ∙ others b ne) (come c l)) (λ c l. kept c))
 
       takes_ahead : (b : ℕ) → b < length n.nodes → (a ≡ b → ⊥) → IsEnabled (wiring s n).rates k b →

@@ -8,12 +8,12 @@ use Rattle.sdf_actor.specs.declared.sides.Side.{Side}
 use Rattle.sdf_actor.specs.declared.sides.Side.TheVariants.{Input, Output}
 use Rattle.sdf_actor.specs.Steps.{Steps}
 use Rattle.sdf_actor.specs.Nets.{Netlist, node, wire, to_port, from_port, cycle_of, consumed_at, produced_at, IsNet}
-use Rattle.sdf_actor.specs.Laws.{NetsAreWired, PortsHaveChannels}
 use Rattle.sdf_actor.specs.Sides.{ports_of, channel_at, channels_at}
+use Rattle.sdf_actor.proofs.Theorems.{nets_are_wired, ports_have_channels}
 use Rattle.sdf_answer.specs.Sizes.{Rows, AreSizes, AreRows, IsPlan, at_phase, phase_of, rows_on, sizes}
 
-module _ {A S T : Type 0} (s : Steps A S T) (wired : NetsAreWired s) (ports : PortsHaveChannels s) (n : Netlist A T)
-    (good : IsNet s n) (z : Rows) (are : AreSizes s n z) (a : ℕ) (known : a < length n.nodes) where
+module _ {A S T : Type 0} {s : Steps A S T} {n : Netlist A T} {z : Rows} (good : IsNet s n) (are : AreSizes s n z)
+    (a : ℕ) (known : a < length n.nodes) where
   -- the firings of the first cycle are at the phases of their numbers
   turn : (j : ℕ) → j < cycle_of s (node n a) → phase_of s (node n a) j ≡ j
   turn j h = mod-eq_of_lt h
@@ -28,15 +28,15 @@ module _ {A S T : Type 0} (s : Steps A S T) (wired : NetsAreWired s) (ports : Po
   -- each channel at a port has a size
   pub sized : (side : Side) (j p : ℕ) → j < cycle_of s (node n a) → p < length (channels_at s n side a) →
       get_or (channels_at s n side a) p 0 < length (at_phase (rows_on side z) j)
-  sized Input j p h l = omega (arith, (plan j h).takes_all, ((wired n good).ins_are a p known l).0)
-  sized Output j p h l = omega (arith, (plan j h).puts_all, ((wired n good).outs_are a p known l).0)
+  sized Input j p h l = omega (arith, (plan j h).takes_all, ((nets_are_wired s n good).ins_are a p known l).0)
+  sized Output j p h l = omega (arith, (plan j h).puts_all, ((nets_are_wired s n good).outs_are a p known l).0)
 
   -- which is what the port's firings move
   moves : (side : Side) (k p : ℕ) → p < ports_of s side (node n a) →
       get_or (at_phase (rows_on side z) (phase_of s (node n a) k)) (channel_at n side a p) 0 ≡
       sizes s side (node n a) k p
   moves Input k p h =
-      let is = (ports n a p good known).0 h in
+      let is = (ports_have_channels s n a p good known).0 h in
       let c : ℕ = to_port n a p in
       let all = (are.plan a k known).taken c (good.to_all a p known h) is.0 in
       let after : consumed_at s (node n (wire n c).to.0) (wire n c).to.1 (k + 1) ≡ consumed_at s (node n a) p (k + 1) =
@@ -45,7 +45,7 @@ module _ {A S T : Type 0} (s : Steps A S T) (wired : NetsAreWired s) (ports : Po
       λ j. consumed_at s (node n (is.0 j)) (is.1 j) k in
       omega (arith, all, after, before)
   moves Output k p h =
-      let is = (ports n a p good known).1 h in
+      let is = (ports_have_channels s n a p good known).1 h in
       let c : ℕ = from_port n a p in
       let all = (are.plan a k known).put c (good.from_all a p known h) is.0 in
       let after : produced_at s (node n (wire n c).from.0) (wire n c).from.1 (k + 1) ≡

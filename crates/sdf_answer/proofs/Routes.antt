@@ -76,7 +76,8 @@ module _ {A S T : Type 0} {s : Steps A S T} {n : Netlist A T} (good : IsNet s n)
       let hi : i < inputs_of s (node n a) = omega (arith, long a) in
       let hj : j < inputs_of s (node n a) = omega (arith, long a) in
       let same : to_port n a i ≡ to_port n a j = sym (at_port a i 0 hi) ∙ (e ∙ at_port a j 0 hj) in
-      sym ((ports_have_channels s n a i good l).0 hi).1 ∙ (ap (λ c. (wire n c).to.1) same ∙ ((ports_have_channels s n a j good l).0 hj).1)
+      sym ((ports_have_channels s n a i good l).0 hi).1
+      ∙ (ap (λ c. (wire n c).to.1) same ∙ ((ports_have_channels s n a j good l).0 hj).1)
 
   -- a channel that leads to a node is at one of its ports
   pub ins_all : (a c : ℕ) → a < length n.nodes → c < length n.wires → (wire n c).to.0 ≡ a →
@@ -103,7 +104,8 @@ module _ {A S T : Type 0} {s : Steps A S T} {n : Netlist A T} (good : IsNet s n)
       go (inr ne) =
           at_none ((wiring s n).ins a) many c
           (λ i h e. let hi : i < inputs_of s (node n a) = omega (arith, long a) in
-          ne (subst (λ c. (wire n c).to.0 ≡ a) (sym (at_port a i 0 hi) ∙ e) ((ports_have_channels s n a i good known).0 hi).0)) ∙
+          ne (subst (λ c. (wire n c).to.0 ≡ a) (sym (at_port a i 0 hi) ∙ e)
+          ((ports_have_channels s n a i good known).0 hi).0)) ∙
           ap (λ t. cond t many 0) (sym (ne_eqb (wire n c).to.0 a ne))
 
   module _ {a i : ℕ} {takes puts : List ℕ} (l : a < length n.nodes) (plan : IsPlan s n a i takes puts) where

@@ -13,15 +13,15 @@ use Rattle.sdf_actor.specs.declared.node.Node.TheVariants.{Source, Sink}
 use Rattle.sdf_actor.specs.declared.sides.Lists.{Lists}
 use Rattle.sdf_actor.specs.declared.sides.Lists.TheVariants.{Inputs, Outputs}
 use Rattle.sdf_actor.specs.Graphs.{graph_of}
-use Rattle.sdf_actor.specs.Laws.{PortsHaveChannels}
 use Rattle.sdf_actor.specs.Nets.{Netlist, node, wire, wiring, from_port, to_port, inputs_of, outputs_of, IsNet}
 use Rattle.sdf_actor.specs.Nets.{produced_at, consumed_at}
 use Rattle.sdf_actor.specs.Sides.{list_of, block_of, first_on, period_samples}
 use Rattle.sdf_actor.specs.Steps.{Steps}
+use Rattle.sdf_actor.proofs.Theorems.{ports_have_channels}
 use Rattle.sdf_answer.specs.Periods.{AreBlocksSmall}
 
 module _ {A S T : Type 0} (s : Steps A S T) (n : Netlist A T) (net : IsNet s n) (shape : IsShape (graph_of s n))
-    (alike : IsAlike (rates (graph_of s n)) (wiring s n).rates) (ports : PortsHaveChannels s) where
+    (alike : IsAlike (rates (graph_of s n)) (wiring s n).rates) where
   -- the first firing at a channel's ends moves no more than the greatest rate
   put_small : (c : ℕ) → c < length n.wires → (wiring s n).rates.produced c 1 ≤ MOST_RATE
   put_small c l =
@@ -46,7 +46,7 @@ module _ {A S T : Type 0} (s : Steps A S T) (n : Netlist A T) (net : IsNet s n) 
       go Inputs (Source ext block) is on =
           let port : 0 < outputs_of s (node n a) = subst (λ x. 0 < outputs_of s x) (sym is) (omega arith) in
           let c : ℕ = from_port n a 0 in
-          let from : (wire n c).from.0 ≡ a = ((ports n a 0 net known).1 port).0 in
+          let from : (wire n c).from.0 ≡ a = ((ports_have_channels s n a 0 net known).1 port).0 in
           let moved : (wiring s n).rates.produced c 1 ≡ block * 1 =
           ap (λ b. produced_at s (node n b) (wire n c).from.1 1) from
           ∙ ap (λ x. produced_at s x (wire n c).from.1 1) is in
@@ -54,7 +54,7 @@ module _ {A S T : Type 0} (s : Steps A S T) (n : Netlist A T) (net : IsNet s n) 
       go Outputs (Sink ext block) is on =
           let port : 0 < inputs_of s (node n a) = subst (λ x. 0 < inputs_of s x) (sym is) (omega arith) in
           let c : ℕ = to_port n a 0 in
-          let to : (wire n c).to.0 ≡ a = ((ports n a 0 net known).0 port).0 in
+          let to : (wire n c).to.0 ≡ a = ((ports_have_channels s n a 0 net known).0 port).0 in
           let moved : (wiring s n).rates.consumed c 1 ≡ block * 1 =
           ap (λ b. consumed_at s (node n b) (wire n c).to.1 1) to
           ∙ ap (λ x. consumed_at s x (wire n c).to.1 1) is in

@@ -8,7 +8,6 @@ use Rattle.sdf_actor.specs.Laws.{HistoryExists, HistoryGrowsByFiring}
 use Rattle.sdf_actor.specs.NetFaults.{IsAccepted}
 use Rattle.sdf_actor.specs.Nets.{Netlist, wiring, IsNet}
 use Rattle.sdf_actor.specs.Steps.{Steps}
-use Rattle.sdf_actor.proofs.Theorems.{nets_are_wired, ports_have_channels}
 use Rattle.sdf_answer.specs.Feeds.{FeedsGoOn, BegunNetsAsk, BegunNetsMake, SinksMakeRuns, NothingRuns}
 use Rattle.sdf_answer.specs.Feeds.{PeriodsMayLeave, BegunRunsGoOn, BegunRunsFail}
 use Rattle.sdf_answer.specs.Laws.{RunsGoOn, NetsCanRun, HistoriesBegin, SinksTakeAll, SinksMakeOutputs}
@@ -41,7 +40,7 @@ nets_have_periods s n net shape alike accepted p period = record {
 
 pub blocks_are_small : {A S T : Type 0} (s : Steps A S T) (n : Netlist A T) → IsNet s n → IsShape (graph_of s n) →
     IsAlike (rates (graph_of s n)) (wiring s n).rates → AreBlocksSmall s n
-blocks_are_small s n net shape alike = blocks_small s n net shape alike (ports_have_channels s)
+blocks_are_small = blocks_small
 
 pub nets_can_run : {A S T : Type 0} (s : Steps A S T) → NetsCanRun s
 nets_can_run = can_run
@@ -56,7 +55,7 @@ pub begun_nets_ask : {A B S T : Type 0} (s : Steps A S T) (r : Steps B S T) → 
 begun_nets_ask = ask
 
 pub begun_nets_make : {A B S T : Type 0} (s : Steps A S T) (r : Steps B S T) → BegunNetsMake s r
-begun_nets_make s r n rest m begins = as_many_lists s r n rest m begins Outputs
+begun_nets_make s r n rest m begins = as_many_lists begins Outputs
 
 pub periods_may_leave : {A S T : Type 0} (s : Steps A S T) → PeriodsMayLeave s
 periods_may_leave = may_leave
@@ -68,22 +67,22 @@ pub begun_runs_fail : {A B S T : Type 0} (s : Steps A S T) (r : Steps B S T) →
 begun_runs_fail = fail
 
 pub histories_begin : {A S T : Type 0} (s : Steps A S T) → HistoriesBegin s
-histories_begin s = begin s (nets_are_wired s)
+histories_begin = begin
 
 pub sinks_take_all : {A S T : Type 0} (s : Steps A S T) → SinksTakeAll s
-sinks_take_all s = take_all s (nets_are_wired s)
+sinks_take_all = take_all
 
 pub sinks_make_outputs : {A S T : Type 0} (s : Steps A S T) → SinksMakeOutputs s
-sinks_make_outputs s = make_outputs s (nets_are_wired s)
+sinks_make_outputs = make_outputs
 
 pub nothing_makes_nothing : {A S T : Type 0} (s : Steps A S T) → NothingMakesNothing s
-nothing_makes_nothing s = makes_nothing s (nets_are_wired s)
+nothing_makes_nothing = makes_nothing
 
 pub sinks_make_runs : {A S T : Type 0} (s : Steps A S T) → SinksMakeRuns s
-sinks_make_runs s = make_runs s (nets_are_wired s)
+sinks_make_runs = make_runs
 
 pub nothing_runs : {A S T : Type 0} (s : Steps A S T) → NothingRuns s
-nothing_runs s = none_runs s (nets_are_wired s)
+nothing_runs = none_runs
 
 pub nodes_take_theirs : {A S T : Type 0} (s : Steps A S T) → NodesTakeTheirs s
 nodes_take_theirs = take_theirs

@@ -9,13 +9,13 @@ use Rattle.sdf_node.specs.Many.{nth_block, joined}
 use Rattle.sdf_answer.specs.Held.{Held}
 use Rattle.sdf_answer.specs.Blocks.{samples, room, at_ports, front_at, dealt, ArePorts}
 use Rattle.sdf_answer.specs.TwoPorts.{ArePairs}
-use Rattle.sdf_answer.proofs.Ports.{taken_more, rooms_more}
+use Rattle.sdf_answer.proofs.Ports.{Turn, taken_more, rooms_more}
 use Rattle.sdf_answer.proofs.ManyPorts.{front_more, row_block, row_put, joined_none, puts_more}
 
 differ : (m n : ℕ) → m ≡ 0 → n ≡ 1 → m ≡ n → ⊥
 differ m n zero one e = omega arith
 
-module _ (ports sizes : List ℕ) (channels : ℕ) (are : ArePorts ports sizes channels) (pair : ArePairs ports sizes) where
+module _ {ports sizes : List ℕ} (pair : ArePairs ports sizes) where
   abbrev first : ℕ
   first = get_or ports 0 0
 
@@ -27,9 +27,6 @@ module _ (ports sizes : List ℕ) (channels : ℕ) (are : ArePorts ports sizes c
 
   is_second : 1 < length ports
   is_second = omega (arith, pair.two)
-
-  apart : first ≡ second → ⊥
-  apart e = differ 0 1 refl refl (are.once 0 1 is_first is_second e)
 
   pub pair_size : sum_by (slice_index sizes) ports ≡ 2
   pair_size =
@@ -47,7 +44,29 @@ module _ (ports sizes : List ℕ) (channels : ℕ) (are : ArePorts ports sizes c
   both : take 2 ports ≡ ports
   both = take_all 2 ports (omega (arith, pair.two))
 
-  module _ {T : Type 0} (was : List (Held T)) (long : length was ≡ channels) where
+  module _ {T : Type 0} (was : List (Held T)) (are : ArePorts ports sizes (length was)) where
+    apart : first ≡ second → ⊥
+    apart e = differ 0 1 refl refl (are.once 0 1 is_first is_second e)
+
+    abbrev turn : (n : ℕ) → n < length ports → (now : List (Held T)) → length now ≡ length was → Turn T
+    turn n l now long = record {
+      ports = ports;
+      sizes = sizes;
+      was = was;
+      are = are;
+      now = now;
+      long = long;
+      i = n;
+      known = l;
+    }
+
+    -- each has its turn
+    abbrev one_turn : Turn T
+    one_turn = turn 0 is_first was refl
+
+    abbrev other_turn : Held T → Turn T
+    other_turn p = turn 1 is_second (set was first p) (length-set was first p)
+
     -- the block of a firing
     pub pair_front : (times i : ℕ) (xs ys : List T) → i < times → xs ≡ take times (samples was first) →
         ys ≡ take times (samples was second) →
@@ -73,21 +92,16 @@ module _ (ports sizes : List ℕ) (channels : ℕ) (are : ArePorts ports sizes c
     -- samples of both are taken
     pub pair_taken : (size : ℕ → ℕ) (x y p q : Held T) → p.samples ≡ drop (size first) (get_or was first x).samples →
         q.samples ≡ drop (size second) (get_or (set was first p) second y).samples →
-        (c : ℕ) → c < channels → samples (set (set was first p) second q) c ≡
+        (c : ℕ) → c < length was → samples (set (set was first p) second q) c ≡
         drop (at_ports ports (size c) c) (samples was c)
     pair_taken size x y p q one two c k =
-        taken_more ports sizes channels are size was (set was first p) 1 is_second y q
-        (length-set was first p ∙ long) two
-        (taken_more ports sizes channels are size was was 0 is_first x p long one (λ c k. refl)) c k
+        taken_more (other_turn p) size y q two (taken_more one_turn size x p one (λ c k. refl)) c k
         ∙ ap (λ ps. drop (at_ports ps (size c) c) (samples was c)) both
 
     pub pair_rooms : (x y p q : Held T) → p.room ≡ (get_or was first x).room →
         q.room ≡ (get_or (set was first p) second y).room →
-        (c : ℕ) → c < channels → room (set (set was first p) second q) c ≡ room was c
-    pair_rooms x y p q one two =
-        rooms_more ports sizes channels are (λ _. 0) was (set was first p) 1 is_second y q
-        (length-set was first p ∙ long) two
-        (rooms_more ports sizes channels are (λ _. 0) was was 0 is_first x p long one (λ c k. refl))
+        (c : ℕ) → c < length was → room (set (set was first p) second q) c ≡ room was c
+    pair_rooms x y p q one two = rooms_more (other_turn p) y q two (rooms_more one_turn x p one (λ c k. refl))
 
     -- the second queue is lifted while both are put on
     pub lifted : (e p q : Held T) →
@@ -106,7 +120,7 @@ module _ (ports sizes : List ℕ) (channels : ℕ) (are : ArePorts ports sizes c
     pub pair_put : (block : List T) (times : ℕ) (x y p q : Held T) →
         p.samples ≡ (get_or was first x).samples ++ joined (λ j. slice_range (nth_block 2 block j) 0 1) times →
         q.samples ≡ (get_or was second y).samples ++ joined (λ j. slice_range (nth_block 2 block j) 1 2) times →
-        (c : ℕ) → c < channels → samples (set (set was first p) second q) c ≡
+        (c : ℕ) → c < length was → samples (set (set was first p) second q) c ≡
         samples was c ++ dealt sizes ports 2 block c times
     pair_put block times x y p q one two c k =
         let size = λ (d : ℕ). get_or sizes d 0 in
@@ -121,9 +135,8 @@ module _ (ports sizes : List ℕ) (channels : ℕ) (are : ArePorts ports sizes c
         (sym (other_second p y)) ∙ ap (λ ys. (get_or now second y).samples ++ ys) (row_put block 1 1 2 times
         ∙ (ap (λ w. joined (λ j. take w (drop 1 (f j))) times) wider
         ∙ ap (λ w. joined (λ j. take (size second) (drop (0 + w) (f j))) times) wide))) in
-        let on = puts_more ports sizes channels are size was was 0 is_first x p long f times 0 left put (λ c k. refl) in
-        let done = puts_more ports sizes channels are size was now 1 is_second y q (length-set was first p ∙ long) f
-        times (0 + size first) right put on c k in
+        let on = puts_more one_turn x p f times 0 left put (λ c k. refl) in
+        let done = puts_more (other_turn p) y q f times (0 + size first) right put on c k in
         let none = joined_none (λ j. spread size (drop 2 ports) (drop (0 + size first + size second) (f j)) c) times
         (λ j. ap (λ ds. spread size ds (drop (0 + size first + size second) (f j)) c)
         (drop_all 2 ports (omega (arith, pair.two)))) in

@@ -1,4 +1,4 @@
-use Rattle.std.proofs.Common.{slice_index, ◌≡◌, ℕ, ◌++◌, length, take, get_or, arith, refl, sym, ap, ◌∙◌}
+use Rattle.std.proofs.Common.{◌≡◌, ℕ, ◌++◌, length, take, get_or, arith, sym, ap, ◌∙◌}
 use Rattle.std.proofs.lemmas.List.{length-take-le}
 use Rattle.std.proofs.lemmas.List.Sums.{sum_by-drop_more}
 use Rattle.sdf_answer.specs.Blocks.{samples, front}
@@ -7,15 +7,12 @@ use Rattle.sdf_answer.proofs.blocks.read_fronts.Goals as goal
 
 pub oldest-requires : goal.oldest-requires
 oldest-requires g c =
-    let ports = c.args.ports.now.channels.now in
-    let ls = c.args.queues.now in
     let i = c.loop-c.c-index in
-    let x = same_x ports c.args.ports.now.sizes.now (length ls) c.requires.ports
-    (slice_index c.args.ports.now.sizes.now) ls ls i
-    c.loop-c-test.true
-    c.index-queues-c.result c.index-queues-c.result refl in
+    let l = c.loop-c-test.true in
+    let x = same_x c.args.queues.now (get_or c.args.ports.now.channels.now i 0) c.index-queues-c.result
+    (c.requires.ports.known i l) in
     let e = ap (λ q. q.samples) c.index-queues-c.is in
-    omega (arith, c.requires.held i c.loop-c-test.true, ap length (x ∙ sym e))
+    omega (arith, c.requires.held i l, ap length (x ∙ sym e))
 
 pub loop-c-preserved : goal.loop-c-preserved
 loop-c-preserved g c =
@@ -25,9 +22,7 @@ loop-c-preserved g c =
     let i = c.loop-c.c-index in
     let l = c.loop-c-test.true in
     let size : ℕ = get_or sizes (get_or ports i 0) 0 in
-    let x = same_x ports sizes (length ls) c.requires.ports (slice_index c.args.ports.now.sizes.now) ls ls i l
-    c.index-queues-c.result
-    c.index-queues-c.result refl in
+    let x = same_x ls (get_or ports i 0) c.index-queues-c.result (c.requires.ports.known i l) in
     let e = ap (λ q. q.samples) c.index-queues-c.is in
     let read = c.oldest.ensures ∙ ap (take size) (e ∙ sym x) in
     let long : length c.oldest.result.now ≡ size =

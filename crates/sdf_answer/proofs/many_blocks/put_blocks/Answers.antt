@@ -1,17 +1,16 @@
-use Rattle.std.proofs.Common.{◌≡◌, ℕ, ◌*◌, ◌++◌, length, take, drop, get_or, slice_index, arith, ap, sym, ◌∙◌}
+use Rattle.std.proofs.Common.{◌≡◌, ℕ, ◌*◌, ◌++◌, take, drop, get_or, slice_index, arith, ap, sym, ◌∙◌}
 use Rattle.std.proofs.lemmas.List.{append-nil, drop_all}
 use Rattle.std.proofs.lemmas.List.Sums.{sum_by-drop_more}
 use Rattle.sdf_actor.specs.Histories.{spread}
 use Rattle.sdf_answer.specs.Blocks.{samples, dealt}
-use Rattle.sdf_answer.proofs.Ports.{untouched_more, rooms_more}
+use Rattle.sdf_answer.proofs.Ports.{Turn, untouched_more, rooms_more}
 use Rattle.sdf_answer.proofs.ManyPorts.{puts_more, row_put, joined_none}
 use Rattle.sdf_answer.proofs.TwoPorts.{pair_size}
 use Rattle.sdf_answer.proofs.many_blocks.put_blocks.Goals as goal
 
 pub put_on_pairs-requires-clause-length : goal.put_on_pairs-requires-clause-length
 put_on_pairs-requires-clause-length g c =
-    let two = pair_size c.args.ports.now.channels.now c.args.ports.now.sizes.now (length c.args.queues.now)
-    c.requires.ports (c.are_pairs.ensures c.if-are_pairs.true) in
+    let two = pair_size (c.are_pairs.ensures c.if-are_pairs.true) in
     let turn : c.args.times * 2 ≡ 2 * c.args.times = omega arith in
     c.requires.length ∙ (ap (λ n. c.args.times * n) (c.requires.size ∙ two) ∙ turn)
 
@@ -19,34 +18,36 @@ pub returns-then-are_pairs-clause-queues : goal.returns-then-are_pairs-clause-qu
 returns-then-are_pairs-clause-queues g c = λ d k.
     let ports = c.args.ports.now.channels.now in
     let sizes = c.args.ports.now.sizes.now in
-    let two = pair_size ports sizes (length c.args.queues.now) c.requires.ports
-    (c.are_pairs.ensures c.if-are_pairs.true) in
+    let two = pair_size (c.are_pairs.ensures c.if-are_pairs.true) in
     c.put_on_pairs.ensures.queues d k ∙ ap (λ n. samples c.args.queues.now d
     ++ dealt sizes ports n c.args.block.now d c.args.times) (sym (c.requires.size ∙ two))
 
 pub loop-c-preserved : goal.loop-c-preserved
 loop-c-preserved g c =
-    let ports = c.args.ports.now.channels.now in
-    let sizes = c.args.ports.now.sizes.now in
-    let was = c.args.queues.now in
-    let i = c.loop-c.c-index in
-    let l = c.loop-c-test.true in
-    let width : ℕ = slice_index sizes (get_or ports i 0) in
+    let turn : Turn _ = record {
+      ports = c.args.ports.now.channels.now;
+      sizes = c.args.ports.now.sizes.now;
+      was = c.args.queues.now;
+      are = c.requires.ports;
+      now = c.loop-c.queues;
+      long = c.loop-c.auto.queues;
+      i = c.loop-c.c-index;
+      known = c.loop-c-test.true;
+    } in
+    let x = c.index-queues-c.result in
+    let q = c.put_row.new.self in
+    let d : ℕ = get_or turn.ports turn.i 0 in
     let inv = c.loop-c.invariant in
     record {
-      at = omega (arith, sum_by-drop_more (slice_index sizes) ports i 0 l, inv.at);
-      untouched = untouched_more ports sizes (length was) c.requires.ports (slice_index sizes) was c.loop-c.queues i l
-          c.index-queues-c.result c.put_row.new.self c.loop-c.auto.queues inv.untouched;
-      queues = puts_more ports sizes (length was) c.requires.ports (slice_index sizes) was c.loop-c.queues i l
-          c.index-queues-c.result c.put_row.new.self c.loop-c.auto.queues
-          (λ j. take c.args.size (drop (j * c.args.size) c.args.block.now)) c.args.times c.loop-c.at
+      at = omega (arith, sum_by-drop_more (slice_index turn.sizes) turn.ports turn.i 0 turn.known, inv.at);
+      untouched = untouched_more turn q inv.untouched;
+      queues = puts_more turn x q (λ j. take c.args.size (drop (j * c.args.size) c.args.block.now))
+          c.args.times c.loop-c.at
           (ap (λ q. q.samples) c.put_row.ensures
-          ∙ ap (λ ys. (get_or c.loop-c.queues (get_or ports i 0) c.index-queues-c.result).samples ++ ys)
-          (row_put c.args.block.now c.loop-c.at width c.args.size c.args.times))
-          (λ e. dealt sizes ports c.args.size c.args.block.now e c.args.times) inv.queues;
-      rooms = rooms_more ports sizes (length was) c.requires.ports (slice_index sizes) was c.loop-c.queues i l
-          c.index-queues-c.result c.put_row.new.self c.loop-c.auto.queues
-          (ap (λ q. q.room) c.put_row.ensures) inv.rooms;
+          ∙ ap (λ ys. (get_or turn.now d x).samples ++ ys)
+          (row_put c.args.block.now c.loop-c.at (slice_index turn.sizes d) c.args.size c.args.times))
+          (λ e. dealt turn.sizes turn.ports c.args.size c.args.block.now e c.args.times) inv.queues;
+      rooms = rooms_more turn x q (ap (λ q. q.room) c.put_row.ensures) inv.rooms;
     }
 
 pub returns-clause-queues : goal.returns-clause-queues

@@ -1,56 +1,65 @@
-use Rattle.std.proofs.Common.{◌≡◌, ℕ, ◌+◌, ◌*◌, length, take, drop, get_or, slice_index, arith, ap, ◌∙◌}
+use Rattle.std.proofs.Common.{◌≡◌, ℕ, ◌+◌, ◌*◌, take, drop, get_or, slice_index, arith, ap, ◌∙◌}
 use Rattle.std.specs.List.{sum_by}
 use Rattle.std.proofs.lemmas.List.{drop_all, take_all}
 use Rattle.std.proofs.lemmas.List.Sums.{sum_by-drop_more}
 use Rattle.sdf_answer.specs.Blocks.{samples, front_at}
 use Rattle.sdf_node.specs.Many.{nth_block}
-use Rattle.sdf_answer.proofs.Ports.{whole, holds, rooms_more, taken_more}
+use Rattle.sdf_answer.proofs.Ports.{Turn, whole, holds, rooms_more, taken_more}
 use Rattle.sdf_answer.proofs.ManyPorts.{front_more, blocks_whole}
 use Rattle.sdf_answer.proofs.TwoPorts.{pair_size}
 use Rattle.sdf_answer.proofs.many_blocks.take_blocks.Goals as goal
 
 pub take_pairs-requires-clause-length : goal.take_pairs-requires-clause-length
 take_pairs-requires-clause-length g c =
-    let two = pair_size c.args.ports.now.channels.now c.args.ports.now.sizes.now (length c.args.queues.now)
-    c.requires.ports (c.are_pairs.ensures c.if-are_pairs.true) in
+    let two = pair_size (c.are_pairs.ensures c.if-are_pairs.true) in
     let turn : c.args.times * 2 ≡ 2 * c.args.times = omega arith in
     c.requires.length ∙ (ap (λ n. c.args.times * n) (c.requires.size ∙ two) ∙ turn)
 
 pub take_row-requires-clause-held : goal.take_row-requires-clause-held
 take_row-requires-clause-held g c =
-    holds c.args.ports.now.channels.now c.args.ports.now.sizes.now (length c.args.queues.now) c.requires.ports
-    (λ d. c.args.times * slice_index c.args.ports.now.sizes.now d) c.args.queues.now
-    c.loop-c.queues c.loop-c.c-index c.loop-c-test.true c.index-queues-c.result c.index-queues-c.result
-    c.loop-c.auto.queues c.requires.held c.loop-c.invariant.queues
+    let turn : Turn _ = record {
+      ports = c.args.ports.now.channels.now;
+      sizes = c.args.ports.now.sizes.now;
+      was = c.args.queues.now;
+      are = c.requires.ports;
+      now = c.loop-c.queues;
+      long = c.loop-c.auto.queues;
+      i = c.loop-c.c-index;
+      known = c.loop-c-test.true;
+    } in
+    holds turn (λ d. c.args.times * slice_index turn.sizes d) c.index-queues-c.result c.requires.held
+    c.loop-c.invariant.queues
 
 pub loop-c-preserved : goal.loop-c-preserved
 loop-c-preserved g c =
-    let ports = c.args.ports.now.channels.now in
-    let sizes = c.args.ports.now.sizes.now in
-    let was = c.args.queues.now in
-    let i = c.loop-c.c-index in
-    let l = c.loop-c-test.true in
-    let d : ℕ = get_or ports i 0 in
-    let size = λ (e : ℕ). c.args.times * slice_index sizes e in
+    let turn : Turn _ = record {
+      ports = c.args.ports.now.channels.now;
+      sizes = c.args.ports.now.sizes.now;
+      was = c.args.queues.now;
+      are = c.requires.ports;
+      now = c.loop-c.queues;
+      long = c.loop-c.auto.queues;
+      i = c.loop-c.c-index;
+      known = c.loop-c-test.true;
+    } in
+    let d : ℕ = get_or turn.ports turn.i 0 in
+    let width = slice_index turn.sizes in
+    let size = λ (e : ℕ). c.args.times * width e in
+    let x = c.index-queues-c.result in
+    let q = c.take_row.new.queue in
     let inv = c.loop-c.invariant in
-    let old = whole ports sizes (length was) c.requires.ports size was c.loop-c.queues i l c.index-queues-c.result
-    c.take_row.new.queue c.loop-c.auto.queues inv.queues in
+    let old = whole turn size x inv.queues in
     record {
-      at = omega (arith, sum_by-drop_more (slice_index sizes) ports i 0 l, inv.at);
+      at = omega (arith, sum_by-drop_more width turn.ports turn.i 0 turn.known, inv.at);
       blocks = λ j m. front_more
-          (λ e. take (slice_index sizes e) (drop (j * slice_index sizes e) (samples was e))) ports i
+          (λ e. take (width e) (drop (j * width e) (samples turn.was e))) turn.ports turn.i
           (take c.loop-c.at (nth_block c.args.size c.loop-c.blocks j))
-          (take (c.loop-c.at + slice_index sizes d) (nth_block c.args.size c.take_row.new.blocks j))
-          (take (slice_index sizes d) (drop (j * slice_index sizes d)
-          (get_or c.loop-c.queues d c.index-queues-c.result).samples)) l (inv.blocks j m)
-          (ap (λ xs. take (slice_index sizes d) (drop (j * slice_index sizes d) xs)) old)
+          (take (c.loop-c.at + width d) (nth_block c.args.size c.take_row.new.blocks j))
+          (take (width d) (drop (j * width d) (get_or turn.now d x).samples)) turn.known (inv.blocks j m)
+          (ap (λ xs. take (width d) (drop (j * width d) xs)) old)
           (c.take_row.ensures.blocks j m);
-      queues = taken_more ports sizes (length was) c.requires.ports size was c.loop-c.queues i l
-          c.index-queues-c.result c.take_row.new.queue c.loop-c.auto.queues
-          (ap (λ q. q.samples) c.take_row.ensures.queue) inv.queues;
-      rooms = rooms_more ports sizes (length was) c.requires.ports size was c.loop-c.queues i l
-          c.index-queues-c.result c.take_row.new.queue c.loop-c.auto.queues
-          (ap (λ q. q.room) c.take_row.ensures.queue) inv.rooms;
+      queues = taken_more turn size x q (ap (λ q. q.samples) c.take_row.ensures.queue) inv.queues;
+      rooms = rooms_more turn x q (ap (λ q. q.room) c.take_row.ensures.queue) inv.rooms;
     }
 
 pub returns-clause-blocks : goal.returns-clause-blocks

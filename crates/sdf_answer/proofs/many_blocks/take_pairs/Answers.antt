@@ -1,4 +1,4 @@
-use Rattle.std.proofs.Common.{◌≡◌, ℕ, ◌*◌, ◌++◌, length, take, drop, get_or, set, slice_index, refl, sym, ap, ◌∙◌}
+use Rattle.std.proofs.Common.{◌≡◌, ℕ, ◌*◌, ◌++◌, take, drop, get_or, set, slice_index, sym, ap, ◌∙◌}
 use Rattle.std.proofs.Common.{arith}
 use Rattle.sdf_answer.specs.Blocks.{front_at}
 use Rattle.sdf_node.specs.Many.{nth_block}
@@ -13,16 +13,16 @@ returns-clause-blocks g c =
     let sizes = c.args.ports.now.sizes.now in
     let was = c.args.queues.now in
     let times = c.args.times in
-    let size = slice_index sizes in
+    let pairs = c.requires.pairs in
     let left = c.oldest.ensures ∙ ap (take times) (ap (λ q. q.samples) c.index-queues-first.is
-    ∙ sym (same_x ports sizes (length was) c.requires.ports size was was 0 (omega (arith, c.requires.pairs.two))
-    c.index-queues-first.result c.index-queues-first.result refl)) in
+    ∙ sym (same_x was (get_or ports 0 0) c.index-queues-first.result
+    (c.requires.ports.known 0 (omega (arith, pairs.two))))) in
     let right = c.oldest-2.ensures ∙ ap (take times) (ap (λ q. q.samples) c.index-queues-second.is
-    ∙ sym (same_x ports sizes (length was) c.requires.ports size was was 1 (omega (arith, c.requires.pairs.two))
-    c.index-queues-second.result c.index-queues-second.result refl)) in
+    ∙ sym (same_x was (get_or ports 1 0) c.index-queues-second.result
+    (c.requires.ports.known 1 (omega (arith, pairs.two))))) in
     c.weave.ensures ∙ same_joined (λ i. nth_block 1 c.oldest.result.now i ++ nth_block 1 c.oldest-2.result.now i)
     (front_at sizes ports was) times
-    (λ i l. pair_front ports sizes (length was) c.requires.ports c.requires.pairs was refl times i c.oldest.result.now
+    (λ i l. pair_front pairs was c.requires.ports times i c.oldest.result.now
     c.oldest-2.result.now l left right)
 
 -- each gives a sample for each firing
@@ -35,8 +35,8 @@ returns-clause-queues g c =
     let sizes = c.args.ports.now.sizes.now in
     let was = c.args.queues.now in
     let one = c.requires.pairs.one in
-    pair_taken ports sizes (length was) c.requires.ports c.requires.pairs was refl
-    (λ d. c.args.times * slice_index sizes d) c.index-queues-first-2.result c.index-queues-second-2.result
+    pair_taken c.requires.pairs was c.requires.ports (λ d. c.args.times * slice_index sizes d)
+    c.index-queues-first-2.result c.index-queues-second-2.result
     c.release.new.self c.release-2.new.self
     (ap (λ q. q.samples) c.release.ensures ∙ ap (λ n. drop n (get_or was (get_or ports 0 0)
     c.index-queues-first-2.result).samples) (all_of c.args.times (slice_index sizes (get_or ports 0 0))
@@ -47,7 +47,6 @@ returns-clause-queues g c =
 
 pub returns-clause-rooms : goal.returns-clause-rooms
 returns-clause-rooms g c =
-    let was = c.args.queues.now in
-    pair_rooms c.args.ports.now.channels.now c.args.ports.now.sizes.now (length was) c.requires.ports c.requires.pairs
-    was refl c.index-queues-first-2.result c.index-queues-second-2.result c.release.new.self c.release-2.new.self
+    pair_rooms c.requires.pairs c.args.queues.now c.requires.ports c.index-queues-first-2.result
+    c.index-queues-second-2.result c.release.new.self c.release-2.new.self
     (ap (λ q. q.room) c.release.ensures) (ap (λ q. q.room) c.release-2.ensures)

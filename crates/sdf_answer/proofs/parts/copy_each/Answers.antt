@@ -1,7 +1,7 @@
-use Rattle.std.proofs.Common.{◌≡◌, ◌+◌, ◌*◌, ℕ, subst, arith, slice_set}
+use Rattle.std.proofs.Common.{◌≡◌, ◌+◌, ◌*◌, ℕ, subst, arith}
 use Rattle.std.proofs.lemmas.List.{take-set-le, drop-set-lt}
 use Rattle.sdf_answer.specs.Parts.{AreCopied}
-use Rattle.sdf_answer.proofs.Gathers.{one_copied, parts_next, others_next}
+use Rattle.sdf_answer.proofs.Gathers.{one_copied, copied_more}
 use Rattle.sdf_answer.proofs.parts.copy_each.Goals as goal
 
 pub loop-i-preserved : goal.loop-i-preserved
@@ -10,18 +10,12 @@ loop-i-preserved g c =
     let at : ℕ = c.args.into.first + c.args.into.step * i in
     let start : ℕ = c.args.out.first + c.args.out.step * i in
     let v = c.index-from-out.result in
-    let was = c.loop-i.invariant in
     let there = c.requires.from_holds i c.loop-i-test.true in
     let here = c.requires.to_holds i c.loop-i-test.true in
     let before = take-set-le at c.loop-i.to at v (omega arith) in
     let behind = drop-set-lt (at + 1) c.loop-i.to at v (omega arith) in
     let new = one_copied c.args.from.now c.loop-i.to start at v (omega arith) (omega arith) c.index-from-out.is in
-    record {
-      copied = parts_next c.args.from.now c.args.to.now c.loop-i.to (slice_set c.loop-i.to at v) c.args.out c.args.into
-          1 i c.requires.apart before behind new was.copied;
-      others = others_next c.args.from.now c.args.to.now c.loop-i.to (slice_set c.loop-i.to at v) c.args.out c.args.into
-          1 i c.requires.apart before behind was.others;
-    }
+    copied_more c.requires.apart before behind new c.loop-i.invariant
 
 pub returns : goal.returns
 returns g c =

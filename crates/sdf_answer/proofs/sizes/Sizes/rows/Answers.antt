@@ -3,7 +3,6 @@ use Rattle.std.proofs.lemmas.List.{get_or_append_left, get_or_push, length-map, 
 use Rattle.sdf_actor.specs.Nets.{node, cycle_of}
 use Rattle.sdf_actor.specs.Sides.{channels_at}
 use Rattle.sdf_actor.specs.Wires.{lists}
-use Rattle.sdf_actor.proofs.Theorems.{nets_are_wired, ports_have_channels}
 use Rattle.sdf_answer.specs.Sizes.{at_phase, rows_on}
 use Rattle.sdf_answer.proofs.PortRows.{phase_known, sized, are_rows}
 use Rattle.sdf_answer.proofs.Readings.{vec_long}
@@ -11,9 +10,8 @@ use Rattle.sdf_answer.proofs.sizes.Sizes.rows.Goals as goal
 
 pub on-requires : goal.on-requires
 on-requires g c =
-    phase_known g.A.Actor.steps (nets_are_wired g.A.Actor.steps) (ports_have_channels g.A.Actor.steps) c.args.net.now
-    c.net_facts.ensures.net c.args.self.now c.requires.sizes c.args.a c.requires.known
-    c.args.side c.loop-phase.phase (omega (
+    phase_known c.net_facts.ensures.net c.requires.sizes c.args.a c.requires.known c.args.side
+    c.loop-phase.phase (omega (
       arith,
       c.loop-phase-test.true,
       c.cycle-phase-end.ensures,
@@ -28,9 +26,7 @@ at_channels-requires g c =
     length (at_phase (rows_on c.args.side c.args.self.now) c.loop-phase.phase))
     (sym c.channels_of-channels.ensures)
     (λ p l.
-    sized g.A.Actor.steps (nets_are_wired g.A.Actor.steps) (ports_have_channels g.A.Actor.steps) c.args.net.now
-    c.net_facts.ensures.net c.args.self.now c.requires.sizes c.args.a c.requires.known
-    c.args.side c.loop-phase.phase p (omega (
+    sized c.net_facts.ensures.net c.requires.sizes c.args.a c.requires.known c.args.side c.loop-phase.phase p (omega (
       arith,
       c.loop-phase-test.true,
       c.cycle-phase-end.ensures,
@@ -66,8 +62,7 @@ returns g c =
     (let e : c.loop-phase.phase ≡ c.cycle-phase-end.result =
     omega (arith, c.loop-phase-test.false, c.loop-phase.auto.phase-end) in e) ∙
     (c.cycle-phase-end.ensures ∙ ap (cycle_of g.A.Actor.steps) c.node.ensures) in
-    are_rows g.A.Actor.steps (nets_are_wired g.A.Actor.steps) (ports_have_channels g.A.Actor.steps) c.args.net.now
-    c.net_facts.ensures.net c.args.self.now c.requires.sizes c.args.a c.requires.known
-    c.args.side (lists c.loop-phase.rows.items) (length-map c.loop-phase.rows.items (λ v. v.items)
+    are_rows c.net_facts.ensures.net c.requires.sizes c.args.a c.requires.known c.args.side
+    (lists c.loop-phase.rows.items) (length-map c.loop-phase.rows.items (λ v. v.items)
     ∙ (vec_long c.loop-phase.rows ∙ (c.loop-phase.invariant.len ∙ cycle)))
     (λ j h. c.loop-phase.invariant.each j (omega (arith, cycle, h)))
