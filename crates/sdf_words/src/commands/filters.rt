@@ -129,9 +129,9 @@ is down.",
         name: "resample",
         help: "Writes a design that converts between two rates",
         more: "Writes a design that converts between two rates: its graph file and a coefficient file for each stage.
-The stages are the cheapest of at most three, by products a second. Frequencies up to ten elevenths of half
-the lower rate pass, and what would be folded onto them is stopped. A line on standard error says what the
-taps of each stage do.",
+The stages are the cheapest of at most three, by products a second; extreme ratios need more. Frequencies
+up to ten elevenths of half the lower rate pass, and what would be folded onto them is stopped. A line on
+standard error says what the taps of each stage do.",
         schedules: false,
         arguments: &[FROM, TO, FOLDER, CHANNELS, ATTENUATION],
         examples: "Examples:
