@@ -90,7 +90,7 @@ test:
 mutants:
 	scripts/mutants $(if $(ALL),--all) $(CRATE)
 
-# Which crates have changed by more than ten commits since their wrong bodies were last tried.
+# Which crates have changed, other than in comments, since their wrong bodies were last tried.
 tried:
 	scripts/tried
 
