@@ -92,9 +92,10 @@ class Folder:
 
 
 def run(words, kind=None, at=0, how="error", one=False, window=None, sound=None, printed=subprocess.PIPE,
-        told=subprocess.PIPE, seconds=SECONDS):
+        told=subprocess.PIPE, seconds=SECONDS, awaited=0):
     """Runs a program with a call refused. `printed` and `told` may be other ends for its standard output and error.
-    Where a file is named as the sound, it is standard input, and what is printed is OUT."""
+    Where a file is named as the sound, it is standard input, and what is printed is OUT. A started thread waits until
+    `awaited` of them are at work at the same time, three seconds at most."""
     folder = Folder.here()
     counts = folder / "counts"
     output = folder / "out.wav"
@@ -105,6 +106,8 @@ def run(words, kind=None, at=0, how="error", one=False, window=None, sound=None,
         setting["HOSTILE_KIND"] = kind
     if one:
         setting["HOSTILE_BYTES"] = "one"
+    if awaited:
+        setting["HOSTILE_TOGETHER"] = str(awaited)
     if window:
         setting["HOSTILE_WINDOW"] = window
     with open(folder / sound if sound else os.devnull, "rb") as given:

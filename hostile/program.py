@@ -164,8 +164,8 @@ link = [{ from = "in", to = "by32" }, { from = "by32", to = "again" }, { from = 
 FRAMES = 10000
 
 
-def widened(more):
-    return run([SDFW, "run", "widened.toml", "frames.wav", "out.wav", *more])
+def widened(more, awaited=0):
+    return run([SDFW, "run", "widened.toml", "frames.wav", "out.wav", *more], awaited=awaited)
 
 
 def makes_all(more):
@@ -177,7 +177,7 @@ def makes_all(more):
 
 def at_once(workers):
     """Whether `workers` parts are at work at the same time, all in threads that were started."""
-    together = widened(["--parallel", str(workers)]).together()
+    together = widened(["--parallel", str(workers)], awaited=workers).together()
     return True if together == workers else f"{together} threads at work at the same time"
 
 

@@ -10,6 +10,7 @@
  * HOSTILE_HOW=WORD        how a read or write is refused: error (EIO), interrupt (EINTR) or zero (it moves nothing)
  * HOSTILE_BYTES=one       each read or write moves one byte at most
  * HOSTILE_WINDOW=WORD     counts and refuses only from a write to standard output that begins with WORD to the next one
+ * HOSTILE_TOGETHER=N      a started thread waits until N of them are at work at once, three seconds at most
  */
 #define _GNU_SOURCE
 #include <dlfcn.h>
@@ -45,6 +46,7 @@ static uint64_t refused_at;
 static int all_refused;
 static int refused_errno;
 static int one_byte;
+static uint64_t awaited;
 static const char *window;
 static _Atomic int open_window = 1;
 static uintptr_t program_begin = UINTPTR_MAX, program_end;
@@ -119,6 +121,7 @@ __attribute__((constructor)) static void begin(void) {
     all_refused = is_word("HOSTILE_AT", "all");
     refused_errno = is_word("HOSTILE_HOW", "interrupt") ? EINTR : is_word("HOSTILE_HOW", "zero") ? 0 : EIO;
     one_byte = is_word("HOSTILE_BYTES", "one");
+    if (getenv("HOSTILE_TOGETHER")) awaited = strtoull(getenv("HOSTILE_TOGETHER"), NULL, 10);
     window = getenv("HOSTILE_WINDOW");
     if (window) open_window = 0;
     dl_iterate_phdr(note_program, NULL);
@@ -188,6 +191,9 @@ struct started { void *(*work)(void *); void *given; };
 static _Atomic uint64_t at_work;
 static _Atomic uint64_t begun;
 
+/* How many milliseconds a started thread waits for others. */
+enum { PATIENCE = 3000 };
+
 /* The work of a thread, between two counts of those that are at work. */
 static void *counted_work(void *started) {
     struct started own = *(struct started *)started;
@@ -195,6 +201,7 @@ static void *counted_work(void *started) {
     uint64_t now = atomic_fetch_add(&at_work, 1) + 1;
     uint64_t most = atomic_load(&counts->together);
     while (now > most && !atomic_compare_exchange_weak(&counts->together, &most, now)) {}
+    for (int turn = 0; turn < PATIENCE && atomic_load(&counts->together) < awaited; turn++) usleep(1000);
     void *made = own.work(own.given);
     atomic_fetch_sub(&at_work, 1);
     atomic_fetch_sub(&begun, 1);
