@@ -130,7 +130,7 @@ impl Weights {
         best
     }
 
-    /// Returns the first stage of the cheapest split, or the stage of the least factor if there is no split.
+    /// Returns the first stage of the cheapest split, or the stage of the least factor if no split fits.
     fn next(self, rate: f64, left: Ratio) -> Option<Stage> {
         let best = self.three(rate, left);
         if best.cost < f64::INFINITY {

@@ -30,7 +30,7 @@ pub struct Measures {
     pub held: u64,
 }
 
-/// The values of a schedule, or the number of the fault if there is no schedule.
+/// The values of a schedule, or the number of the fault that refuses it.
 #[derive(Clone, Copy)]
 pub enum Outcome {
     Made(Measures),
@@ -237,7 +237,7 @@ fn push_made(
     push_cells(alloc, text, entries, measures)
 }
 
-/// Adds `word`, which says that there is no schedule, in the first column, and then the `number` of the fault.
+/// Adds a refused schedule: `word` in the first column, and then the `number` of the fault.
 #[tactic(auto, unfolding(crate::specs::Columns::refused_text))]
 fn push_refused(text: &mut String, word: &str, number: u32) -> Result<(), AllocError>
     ensures { OnOk result (string_bytes text.new ≡ string_bytes text.old ++ refused_text word.now number) }

@@ -52,6 +52,20 @@ pub record Turn (T : Type 0) : Type 0 where
   pub i : ℕ
   pub known : i < length ports
 
+-- the turn of port i, from what a loop's goals know of it
+abbrev pub turn_at : {T : Type 0} {ports sizes : List ℕ} (was now : List (Held T)) (i : ℕ) →
+    ArePorts ports sizes (length was) → length now ≡ length was → i < length ports → Turn T
+turn_at {T} {ports} {sizes} was now i are long known = record {
+  ports = ports;
+  sizes = sizes;
+  was = was;
+  are = are;
+  now = now;
+  long = long;
+  i = i;
+  known = known;
+}
+
 module _ {T : Type 0} (t : Turn T) where
   open t use {ports, was, now, are, i}
 

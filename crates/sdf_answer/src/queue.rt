@@ -52,8 +52,8 @@ pub fn lengthen<T: Copy>(list: &mut Vec<T>, len: usize, filler: T)
 }
 
 /// Makes room for `more` samples behind the part of `list` from `start` to `end`, and returns where that part then
-/// begins and ends. The part moves to the front if there is no room behind it. An empty part begins at the front again,
-/// so that a queue that is emptied often uses little of its buffer.
+/// begins and ends. The part moves to the front if the room behind it is too small. An empty part also begins at the
+/// front, so that a queue that is emptied often uses little of its buffer.
 fn place_for<T: Copy>(list: &mut Vec<T>, start: usize, end: usize, more: usize) -> (usize, usize)
     requires rise { start ≤ end }
     requires within { end ≤ vec_len list.old }

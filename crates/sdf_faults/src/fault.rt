@@ -72,7 +72,7 @@ pub enum Fault {
     BlockingFactor,
     #[error("12 WorkerCount")]
     WorkerCount,
-    /// The reason why there is no table: 13 `BlockTooLong` or 19 `BadHome`.
+    /// The fault of a table that is refused: 13 `BlockTooLong` or 19 `BadHome`.
     #[error(transparent)]
     Table(PrecFault),
     /// Input lists that are too short. The program never makes them.

@@ -6,7 +6,7 @@ ghost use Rattle.sdf_filters.specs.Lowpass.{tested};
 use std::alloc::AllocError;
 use thiserror::Error;
 
-/// The reason why there is no filter, or no conversion between two rates. Its text says what to change.
+/// The reason why a filter, or a conversion between two rates, can't be made. Its text says what to change.
 #[derive(Debug, Clone, Copy, PartialEq, Eq, Error)]
 pub enum FilterFault {
     /// An allocation was refused.

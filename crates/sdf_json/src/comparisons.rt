@@ -28,7 +28,7 @@ fn put_measures(members: &mut Members, alloc: Global, measures: Measures) -> Res
     put_number(members, alloc, "samples", measures.held)
 }
 
-/// Adds the compared values of a schedule, or the number of the fault if there is no schedule.
+/// Adds the compared values of a schedule, or the number of the fault that refuses it.
 fn put_outcome(members: &mut Members, alloc: Global, outcome: Outcome) -> Result<(), AllocError>
     ensures { OnOk result (members_view members.new.entries ≡
         with (members_view members.old.entries) (outcome_of outcome)) }

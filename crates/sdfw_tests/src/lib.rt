@@ -26,7 +26,6 @@ mod made;
 #[cfg(test)]
 mod meetings;
 #[cfg(test)]
-#[cfg(test)]
 mod pieces;
 #[cfg(test)]
 mod plans;

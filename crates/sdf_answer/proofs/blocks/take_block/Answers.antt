@@ -2,35 +2,19 @@ use Rattle.std.proofs.Common.{slice_index, ℕ, ◌++◌, take, get_or, arith, a
 use Rattle.std.proofs.lemmas.List.Sums.{sum_by-drop_more}
 use Rattle.std.specs.List.{flat_map}
 use Rattle.sdf_answer.specs.Blocks.{samples}
-use Rattle.sdf_answer.proofs.Ports.{Turn, whole, holds, rooms_more, taken_more, block_more}
+use Rattle.sdf_answer.proofs.Ports.{turn_at, whole, holds, rooms_more, taken_more, block_more}
 use Rattle.sdf_answer.proofs.blocks.take_block.Goals as goal
 
 pub take-requires-clause-held : goal.take-requires-clause-held
 take-requires-clause-held g c =
-    let turn : Turn _ = record {
-      ports = c.args.ports.now.channels.now;
-      sizes = c.args.ports.now.sizes.now;
-      was = c.args.queues.now;
-      are = c.requires.ports;
-      now = c.loop-c.queues;
-      long = c.loop-c.auto.queues;
-      i = c.loop-c.c-index;
-      known = c.loop-c-test.true;
-    } in
+    let turn = turn_at c.args.queues.now c.loop-c.queues c.loop-c.c-index c.requires.ports c.loop-c.auto.queues
+    c.loop-c-test.true in
     holds turn (slice_index turn.sizes) c.index-queues-c.result c.requires.held c.loop-c.invariant.queues
 
 pub loop-c-preserved : goal.loop-c-preserved
 loop-c-preserved g c =
-    let turn : Turn _ = record {
-      ports = c.args.ports.now.channels.now;
-      sizes = c.args.ports.now.sizes.now;
-      was = c.args.queues.now;
-      are = c.requires.ports;
-      now = c.loop-c.queues;
-      long = c.loop-c.auto.queues;
-      i = c.loop-c.c-index;
-      known = c.loop-c-test.true;
-    } in
+    let turn = turn_at c.args.queues.now c.loop-c.queues c.loop-c.c-index c.requires.ports c.loop-c.auto.queues
+    c.loop-c-test.true in
     let d : ℕ = get_or turn.ports turn.i 0 in
     let size = slice_index turn.sizes in
     let x = c.index-queues-c.result in

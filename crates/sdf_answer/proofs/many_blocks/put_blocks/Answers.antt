@@ -3,7 +3,7 @@ use Rattle.std.proofs.lemmas.List.{append-nil, drop_all}
 use Rattle.std.proofs.lemmas.List.Sums.{sum_by-drop_more}
 use Rattle.sdf_actor.specs.Histories.{spread}
 use Rattle.sdf_answer.specs.Blocks.{samples, dealt}
-use Rattle.sdf_answer.proofs.Ports.{Turn, untouched_more, rooms_more}
+use Rattle.sdf_answer.proofs.Ports.{turn_at, untouched_more, rooms_more}
 use Rattle.sdf_answer.proofs.ManyPorts.{puts_more, row_put, joined_none}
 use Rattle.sdf_answer.proofs.TwoPorts.{pair_size}
 use Rattle.sdf_answer.proofs.many_blocks.put_blocks.Goals as goal
@@ -24,16 +24,8 @@ returns-then-are_pairs-clause-queues g c = λ d k.
 
 pub loop-c-preserved : goal.loop-c-preserved
 loop-c-preserved g c =
-    let turn : Turn _ = record {
-      ports = c.args.ports.now.channels.now;
-      sizes = c.args.ports.now.sizes.now;
-      was = c.args.queues.now;
-      are = c.requires.ports;
-      now = c.loop-c.queues;
-      long = c.loop-c.auto.queues;
-      i = c.loop-c.c-index;
-      known = c.loop-c-test.true;
-    } in
+    let turn = turn_at c.args.queues.now c.loop-c.queues c.loop-c.c-index c.requires.ports c.loop-c.auto.queues
+    c.loop-c-test.true in
     let x = c.index-queues-c.result in
     let q = c.put_row.new.self in
     let d : ℕ = get_or turn.ports turn.i 0 in

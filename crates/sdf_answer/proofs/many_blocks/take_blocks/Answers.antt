@@ -4,7 +4,7 @@ use Rattle.std.proofs.lemmas.List.{drop_all, take_all}
 use Rattle.std.proofs.lemmas.List.Sums.{sum_by-drop_more}
 use Rattle.sdf_answer.specs.Blocks.{samples, front_at}
 use Rattle.sdf_node.specs.Many.{nth_block}
-use Rattle.sdf_answer.proofs.Ports.{Turn, whole, holds, rooms_more, taken_more}
+use Rattle.sdf_answer.proofs.Ports.{turn_at, whole, holds, rooms_more, taken_more}
 use Rattle.sdf_answer.proofs.ManyPorts.{front_more, blocks_whole}
 use Rattle.sdf_answer.proofs.TwoPorts.{pair_size}
 use Rattle.sdf_answer.proofs.many_blocks.take_blocks.Goals as goal
@@ -17,31 +17,15 @@ take_pairs-requires-clause-length g c =
 
 pub take_row-requires-clause-held : goal.take_row-requires-clause-held
 take_row-requires-clause-held g c =
-    let turn : Turn _ = record {
-      ports = c.args.ports.now.channels.now;
-      sizes = c.args.ports.now.sizes.now;
-      was = c.args.queues.now;
-      are = c.requires.ports;
-      now = c.loop-c.queues;
-      long = c.loop-c.auto.queues;
-      i = c.loop-c.c-index;
-      known = c.loop-c-test.true;
-    } in
+    let turn = turn_at c.args.queues.now c.loop-c.queues c.loop-c.c-index c.requires.ports c.loop-c.auto.queues
+    c.loop-c-test.true in
     holds turn (λ d. c.args.times * slice_index turn.sizes d) c.index-queues-c.result c.requires.held
     c.loop-c.invariant.queues
 
 pub loop-c-preserved : goal.loop-c-preserved
 loop-c-preserved g c =
-    let turn : Turn _ = record {
-      ports = c.args.ports.now.channels.now;
-      sizes = c.args.ports.now.sizes.now;
-      was = c.args.queues.now;
-      are = c.requires.ports;
-      now = c.loop-c.queues;
-      long = c.loop-c.auto.queues;
-      i = c.loop-c.c-index;
-      known = c.loop-c-test.true;
-    } in
+    let turn = turn_at c.args.queues.now c.loop-c.queues c.loop-c.c-index c.requires.ports c.loop-c.auto.queues
+    c.loop-c-test.true in
     let d : ℕ = get_or turn.ports turn.i 0 in
     let width = slice_index turn.sizes in
     let size = λ (e : ℕ). c.args.times * width e in
