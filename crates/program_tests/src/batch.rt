@@ -182,11 +182,18 @@ fn what_batches_tell(rt: HostRuntime) -> Result<(), Fail> {
 }
 
 /// Lines that would write over a file while it is read, and their reports.
-const ITSELF: &[crate::files::Row] = &[(
-    "a file that would be written over",
-    "run @/graph.toml --into @ @/in.wav",
-    "2 error: …/in.wav is the same file as IN\n",
-)];
+const ITSELF: &[crate::files::Row] = &[
+    (
+        "a file that would be written over",
+        "run @/graph.toml --into @ @/in.wav",
+        "2 error: …/in.wav is the same file as IN\n",
+    ),
+    (
+        "a graph file in the place of a part",
+        "run @/out/in.wav.part --into @/out @/in.wav",
+        "2 error: …/out/in.wav.part is the same file as GRAPH\n",
+    ),
+];
 
 /// Tests the files that a batch leaves. Refuses a half-written file, an old one that is gone, and a part that stays.
 #[test]
@@ -205,7 +212,9 @@ fn files_in_a_folder(rt: HostRuntime) -> Result<(), Fail> {
     if fs::metadata(&rt, part.as_str()).is_ok() {
         return Err(Fail::new(format_args!("a part of cut.wav is left")));
     }
+    put(&rt, &into, "in.wav.part", PLAIN.as_bytes())?;
     are_told(&Disk { rt: &rt }, &rt, &above, ITSELF)?;
+    has_bytes(&rt, &into, "in.wav.part", PLAIN.as_bytes(), line)?;
     has_bytes(&rt, &above, "in.wav", SOUND, line)
 }
 

@@ -302,7 +302,7 @@ fn lasting_text(alloc: Global, design: &Design) -> Result<String, AllocError> {
     if told.is_empty() {
         return String::from_str(alloc, "one thread: the design keeps samples for too long\n");
     }
-    format!(in alloc; "one thread: the loop {told} keeps its samples for ever\n")
+    format!(in alloc; "one thread: the loop {told} may keep its samples for ever\n")
 }
 
 /// Returns why a parallel run uses one thread, if that is known before it begins.

@@ -1,4 +1,4 @@
--- A loop of links through which a design keeps its samples for ever.
+-- A loop of links through which a design may keep its samples for ever.
 use Rattle.std.specs.Prelude.{◌≡◌, ℕ, ◌<◌, List, [], ◌∷◌, ◌++◌, length, codes, Bool, true, false, slice_index_or}
 use Rattle.std.specs.Prelude.{Option, None, MatchOption, reverse}
 use Rattle.std.specs.List.{flat_map}

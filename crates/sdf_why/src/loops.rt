@@ -1,4 +1,4 @@
-//! A loop of links through which a design keeps its samples for ever.
+//! A loop of links through which a design may keep its samples for ever.
 
 ghost use Rattle.std.specs.Prelude.{◌≡◌, ◌<◌, ◌++◌, ◌↔◌, ℕ, true, false, [], length, slice_index, slice_index_or};
 ghost use Rattle.std.specs.Prelude.{None, IfOk, OnOk, MatchOption, string_bytes, List};
