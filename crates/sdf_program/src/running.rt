@@ -106,8 +106,9 @@ fn parts_text(alloc: Global, planned: Planned<'_>, frames: u64) -> Result<String
     if parts < 2 {
         return String::from_str(alloc, "one thread: the sound is shorter than two parts\n");
     }
+    let s = if periods == 1 { "" } else { "s" };
     format!(in alloc;
-        "{parts} workers, each on its own part of the sound after {periods} periods ({samples} samples) of warm-up\n"
+        "{parts} workers, each on its own part of the sound after {periods} period{s} ({samples} samples) of warm-up\n"
     )
 }
 
