@@ -27,7 +27,11 @@ use std::time::Clock;
 /// Returns the run of a batch from the file `input` to the file `output`.
 fn running_of<'a>(batching: Batching<'a>, input: &'a str, output: &'a str) -> Running<'a>
     ensures design { result.loaded ≡ batching.entry.loaded }
+    ensures input { result.asked.input ≡ input.entry }
+    ensures output { result.asked.output ≡ output.entry }
+    ensures options { result.asked.options ≡ batching.entry.asked.now.options }
     ensures crew { result.asked.parallel ≡ batching.entry.asked.now.parallel }
+    ensures size { result.asked.open_ended ≡ batching.entry.asked.now.open_ended }
 {
     let Batch {
         options,

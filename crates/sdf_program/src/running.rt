@@ -1,9 +1,10 @@
 //! The command that runs a design on a WAV file.
 
-ghost use Rattle.std.specs.Prelude.{◌≤◌, IfOk, IfSome};
+ghost use Rattle.std.specs.Prelude.{◌≡◌, ◌≤◌, ℕ, IfOk, IfSome};
 ghost use Rattle.sdf_limits.specs.declared.TheConstants.{MOST_WORKERS};
 ghost use Rattle.sdf_plan.specs.Plans.{Suits};
 ghost use Rattle.sdf_words.specs.Limits.{IsCrew};
+ghost use Rattle.sdf_words.specs.declared.asked.Crew.TheVariants as crews;
 
 use sdf_faults::Fault;
 use sdf_file::Design;
@@ -287,6 +288,7 @@ pub(crate) fn workers_of<T: Threads>(threads: &T, crew: Crew) -> usize
     requires { IsCrew crew }
     ensures some { 1 ≤ result }
     ensures few { result ≤ MOST_WORKERS }
+    ensures asked { (workers : ℕ) → crew ≡ crews.Workers workers → result ≡ workers }
 {
     match crew {
         Crew::Workers(workers) => workers,
