@@ -3,7 +3,8 @@
 ghost use Rattle.std.specs.Prelude.{◌≡◌, ◌++◌, IfOk, OnOk, string_bytes};
 ghost use Rattle.sdf_kinds.specs.Rows.{key_view, keys_view};
 ghost use Rattle.sdf_kinds.specs.Listing.{integers, from_least, absent_text, width_text, values_text, limits_text};
-ghost use Rattle.sdf_kinds.specs.Listing.{lead_text, default_text, key_text, keys_text, since_text, line_of, kinds_text};
+ghost use Rattle.sdf_kinds.specs.Listing.{lead_text, default_text, key_text, keys_text, since_text, line_of};
+ghost use Rattle.sdf_kinds.specs.Listing.{kinds_text};
 
 use crate::row::{Form, KeyForm, Kind, Width, kinds, row_of, shared_keys};
 use std::alloc::{AllocError, Global};
