@@ -170,7 +170,8 @@ module _ (g : Shape) where
         go (Some c) same = (c, same, told (Some c) same)
 
     -- what waits is kept
-    kept_waits : (kept : List Bool) (a c : ℕ) → AreFed g kept halts → short_at halts a ≡ Some c → is_marked kept a ≡ true
+    kept_waits : (kept : List Bool) (a c : ℕ) → AreFed g kept halts → short_at halts a ≡ Some c →
+        is_marked kept a ≡ true
     kept_waits kept a c fed waits = go (is_marked kept a) refl
       where
         go : (b : Bool) → is_marked kept a ≡ b → is_marked kept a ≡ true

@@ -1,6 +1,6 @@
 -- The diagnostic for a coefficient file: the length of its list, or the first value that does not fit.
-use Rattle.std.specs.Prelude.{ℕ, ◌&&◌, not, Bool, false, List, [], ◌++◌, codes, decimal, Option, Some, None, find}
-use Rattle.std.specs.Prelude.{option_and_then, is_some, nat_le, bytes_eq, if◌then◌else◌}
+use Rattle.std.specs.Prelude.{ℕ, ◌&&◌, not, Bool, false, List, [], ◌++◌, codes, decimal, Option, find}
+use Rattle.std.specs.Prelude.{option_and_then, nat_le, bytes_eq, if◌then◌else◌}
 use Rattle.std.specs.Option.{option_map_or}
 use Rattle.std.specs.List.{range_with_len}
 use Rattle.toml.specs.Data.{Data, Items, get, at, as_integer, as_array}

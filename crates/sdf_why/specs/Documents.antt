@@ -57,7 +57,8 @@ beside_is key d =
 
 -- the row of a kind in the table of kinds
 unfoldable pub row_is : List ℕ → List ℕ
-row_is word = lines_of (λ (keys : List KeyRow). codes "  " ++ word ++ codes ": " ++ keys_text keys ++ end) (keys_of word)
+row_is word =
+    lines_of (λ (keys : List KeyRow). codes "  " ++ word ++ codes ": " ++ keys_text keys ++ end) (keys_of word)
 
 unfoldable pub keys_are : List ℕ → Data → List ℕ
 keys_are key d = beside_is key d ++ lines_of row_is (text_at (codes "kind") d)
