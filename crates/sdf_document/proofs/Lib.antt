@@ -5,4 +5,5 @@ mod Tables
 mod FirstSeen
 mod Keys
 mod Within
+mod Equal
 pub mod Theorems

@@ -3,6 +3,7 @@ pub mod Tables
 pub mod Values
 pub mod Names
 pub mod Lists
+pub mod Equal
 pub mod Kinds
 pub mod Actors
 pub mod Links

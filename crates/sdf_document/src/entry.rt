@@ -19,7 +19,7 @@ pub struct ActorEntry {
 }
 
 /// A kind with its values, each within its limits.
-#[derive(Debug, Drop)]
+#[derive(Debug, Drop, PartialEq, Eq)]
 pub enum KindEntry {
     Input {
         channel: u32,
@@ -93,8 +93,27 @@ impl Model for ListEntry {
     ghost view = { λ l. record { file = option_map string_bytes l.file; values = l.values.items } };
 }
 
+impl PartialEq for ListEntry {
+    ghost use Rattle.sdf_document.specs.Equal.{list_eq, list_partial_equivalence};
+
+    ghost eq = { list_eq };
+
+    ghost laws = { list_partial_equivalence };
+
+    #[tactic(auto, unfolding(crate::specs::Equal::list_eq))]
+    fn eq(&self, other: &ListEntry) -> bool {
+        self.file == other.file && self.values == other.values
+    }
+}
+
+impl Eq for ListEntry {
+    ghost use Rattle.sdf_document.specs.Equal.{list_equivalence};
+
+    ghost laws = { list_equivalence };
+}
+
 /// A link between two ends, each an actor and a port, and its initial samples.
-#[derive(Debug, Drop)]
+#[derive(Debug, Drop, PartialEq, Eq)]
 pub struct LinkEntry {
     pub from: (usize, usize),
     pub to: (usize, usize),

@@ -1,112 +1,19 @@
 //! Comparison of two documents that may differ in their costs.
 
-ghost use Rattle.std.specs.Prelude.{◌≡◌, ◌↔◌, IsTrue, map, option_map, string_bytes};
+ghost use Rattle.std.specs.Prelude.{◌≡◌, ◌↔◌, IsTrue, map};
 ghost use Rattle.sdf_document.specs.Actors.{actor_view, ActorValue};
 ghost use Rattle.sdf_document.specs.Links.{link_view};
 ghost use Rattle.sdf_document.specs.Document.{document_view};
 ghost use Rattle.sdf_profile.specs.Written.{IsCosted, AreCosted, IsCostedDocument};
 
-use sdf_document::{ActorEntry, Document, KindEntry, LinkEntry, ListEntry};
-
-/// Returns whether two optional names are equal.
-fn same_name(one: &Option<String>, other: &Option<String>) -> bool
-    ensures { IsTrue result ↔ option_map string_bytes one.now ≡ option_map string_bytes other.now }
-{
-    match (one, other) {
-        (Some(one), Some(other)) => one.as_str() == other.as_str(),
-        (None, None) => true,
-        _ => false,
-    }
-}
-
-/// Returns whether two lists of numbers are equal.
-fn same_numbers(one: &[i32], other: &[i32]) -> bool
-    ensures { IsTrue result ↔ one.now ≡ other.now }
-{
-    one == other
-}
-
-/// Returns whether two list entries are equal.
-fn same_list(one: &ListEntry, other: &ListEntry) -> bool
-    ensures { IsTrue result ↔ one.now ≡ other.now }
-{
-    same_name(&one.file, &other.file) && same_numbers(&one.values, &other.values)
-}
+use sdf_document::{ActorEntry, Document, KindEntry, LinkEntry};
 
 /// Returns whether two kinds, with their values, are equal.
+#[tactic(auto, using(sdf_document::proofs::Theorems::kinds_decide))]
 fn same_kind(one: &KindEntry, other: &KindEntry) -> bool
     ensures { IsTrue result ↔ one.now ≡ other.now }
 {
-    match (one, other) {
-        (
-            KindEntry::Input {
-                channel: a,
-                block: b,
-            },
-            KindEntry::Input {
-                channel: c,
-                block: d,
-            },
-        )
-        | (
-            KindEntry::Output {
-                channel: a,
-                block: b,
-            },
-            KindEntry::Output {
-                channel: c,
-                block: d,
-            },
-        )
-        | (KindEntry::Deal { ways: a, run: b }, KindEntry::Deal { ways: c, run: d })
-        | (KindEntry::Gather { ways: a, run: b }, KindEntry::Gather { ways: c, run: d }) => {
-            a == c && b == d
-        }
-        (KindEntry::Decimate { factor: a }, KindEntry::Decimate { factor: c })
-        | (KindEntry::Interpolate { factor: a }, KindEntry::Interpolate { factor: c })
-        | (KindEntry::Add { ways: a }, KindEntry::Add { ways: c })
-        | (KindEntry::Fork { ways: a }, KindEntry::Fork { ways: c })
-        | (KindEntry::Delay { length: a }, KindEntry::Delay { length: c }) => a == c,
-        (KindEntry::Gain { gain: a, shift: b }, KindEntry::Gain { gain: c, shift: d }) => {
-            a == c && b == d
-        }
-        (
-            KindEntry::Clip {
-                least: a,
-                greatest: b,
-            },
-            KindEntry::Clip {
-                least: c,
-                greatest: d,
-            },
-        ) => { a == c && b == d }
-        (KindEntry::Offset { value: a }, KindEntry::Offset { value: c }) => a == c,
-        (
-            KindEntry::Table {
-                offset: a,
-                values: b,
-            },
-            KindEntry::Table {
-                offset: c,
-                values: d,
-            },
-        ) => { a == c && same_list(b, d) }
-        (
-            KindEntry::Fir {
-                up: a,
-                down: b,
-                shift: c,
-                taps: d,
-            },
-            KindEntry::Fir {
-                up: e,
-                down: f,
-                shift: g,
-                taps: h,
-            },
-        ) => a == e && b == f && c == g && same_list(d, h),
-        _ => false,
-    }
+    one == other
 }
 
 /// Returns whether `new` is the actor `old` with `cost`.
@@ -136,10 +43,11 @@ fn same_actors(old: &[ActorEntry], new: &[ActorEntry], costs: &[u32]) -> bool
 }
 
 /// Returns whether two links are equal.
+#[tactic(auto, using(sdf_document::proofs::Theorems::links_decide))]
 fn same_link(one: &LinkEntry, other: &LinkEntry) -> bool
     ensures { IsTrue result ↔ link_view one.now ≡ link_view other.now }
 {
-    one.from == other.from && one.to == other.to && same_numbers(&one.initial, &other.initial)
+    one == other
 }
 
 /// Returns whether two lists of links are equal.
