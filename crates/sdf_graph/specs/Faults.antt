@@ -6,6 +6,7 @@ use Rattle.sdf_limits.specs.declared.TheConstants.{MOST_ACTORS, MOST_LINKS, MOST
 use Rattle.sdf_limits.specs.declared.TheConstants.{MOST_PERIOD}
 use Rattle.sdf_graph.specs.Rates.{Shape, Edge, IsReached, cycle_among, rates}
 use Rattle.sdf_graph.specs.Periods.{IsPeriodVector}
+use Rattle.sdf_graph.specs.Shares.{IsEvenAt}
 use Rattle.sdf_graph.specs.Meetings.{IsMeeting}
 use Rattle.sdf_graph.specs.declared.meeting.Meeting.{Meeting}
 use Rattle.sdf_graph.specs.declared.fault.GraphFault.{GraphFault}
@@ -89,11 +90,13 @@ IsFirstFault g OutOfMemory = Unit {0}
 IsFirstFault g (NotConnected a) = (numbers_fault g ≡ None) × IsLowestUnreached g a
 IsFirstFault g fault = numbers_fault g ≡ Some fault
 
--- the graph has no repetition vector, and in m, the balance of channel c, the samples put and taken differ
+-- the graph has no repetition vector, and in m, the balance of channel c, the samples put and taken differ; c is the
+-- lowest channel that the relative rates of m do not balance
 pub record IsInconsistent (g : Shape) (c : ℕ) (m : Meeting) : Type 0 where
   pub none : (p : List ℕ) → IsPeriodVector (rates g) p → ⊥
   pub meets : IsMeeting g c m
   pub differs : m.puts ≢ m.takes
+  pub lowest : (d : ℕ) → d < c → IsEvenAt g meets.parts d
 
 -- why there is no repetition vector: each fault is true of the graph
 abbrev pub IsPeriodFault : Shape → GraphFault → Type 0

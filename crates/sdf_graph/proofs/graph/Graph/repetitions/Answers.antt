@@ -21,9 +21,11 @@ returns-in-Some c =
     let sums : c.deref.result.now ≡ map totals c.args.self.now.channels =
     c.deref.ensures.value ∙ (c.self.invariant.sums ∙ ap (λ (s : Shape). map totals s.channels) c.self.view_is) in
     let uneven = subst (λ (xs : List Totals). (c.in-Some.channel < length xs)
-    × (IsEven c.in_ok-parts.parts.items (get_or xs c.in-Some.channel no_totals) → ⊥)) sums
+    × (IsEven c.in_ok-parts.parts.items (get_or xs c.in-Some.channel no_totals) → ⊥)
+    × ((d : ℕ) → d < c.in-Some.channel → IsEven c.in_ok-parts.parts.items (get_or xs d no_totals))) sums
     (subst (λ (ps : List Ratio). (c.in-Some.channel < length c.deref.result.now)
-    × (IsEven ps (get_or c.deref.result.now c.in-Some.channel no_totals) → ⊥)) c.deref-2.ensures.value
+    × (IsEven ps (get_or c.deref.result.now c.in-Some.channel no_totals) → ⊥)
+    × ((d : ℕ) → d < c.in-Some.channel → IsEven ps (get_or c.deref.result.now d no_totals))) c.deref-2.ensures.value
     c.in-Some.ensures) in
     let within : c.in-Some.channel < length c.args.self.now.channels =
     omega (arith, uneven.0, length-map c.args.self.now.channels totals) in
@@ -34,9 +36,13 @@ returns-in-Some c =
       none = λ p period. odd (must_even c.args.self.now c.in_ok-parts.parts.items walk
           (cycles_in c.args.self.now shape p) (in_cycles c.args.self.now shape p period) shape c.in-Some.channel
           within);
-      meets = c.meeting_at-meeting.ensures.meeting;
+      meets = c.meeting_at-meeting.ensures.meeting.0;
       differs = λ same. odd (subst (λ (ps : List Ratio). IsEvenAt c.args.self.now ps c.in-Some.channel)
           c.deref-in-Some.ensures.value (c.meeting_at-meeting.ensures.even same));
+      lowest = λ d l. subst (λ (ps : List Ratio). IsEvenAt c.args.self.now ps d)
+          (sym (c.meeting_at-meeting.ensures.meeting.1 ∙ c.deref-in-Some.ensures.value))
+          (subst (IsEven c.in_ok-parts.parts.items)
+          (totals_read c.args.self.now.channels d (omega (arith, l, within))) (uneven.2 d l));
     }
 
 pub returns-in_default-common : goal.returns-in_default-common
