@@ -1,4 +1,4 @@
-use Rattle.std.proofs.Common.{arith, ◌≡◌, ◌<◌, ◌≤◌, ℕ, List, get_or, length, sum, map, sym, ap, ◌∙◌, subst}
+use Rattle.std.proofs.Common.{arith, inr, ◌≡◌, ◌<◌, ◌≤◌, ℕ, List, get_or, length, sum, map, sym, ap, ◌∙◌, subst}
 use Rattle.std.proofs.lemmas.Result.{MatchResult-weaker}
 use Rattle.sdf_graph.specs.declared.channel.Totals.{Totals}
 use Rattle.sdf_graph.specs.declared.repetitions.Ratio.{Ratio}
@@ -49,9 +49,22 @@ pub returns-in_default-common : goal.returns-in_default-common
 returns-in_default-common c =
     let walk = c.in_ok-parts.ensures in
     let shape = subst IsShape c.self.view_is c.self.invariant.shape in
-    none_long c.args.self.now shape (no_common c.args.self.now shape c.in_ok-parts.parts.items walk
-    (subst (λ (ps : List Ratio). (n : ℕ) → 0 < n → ((a : ℕ) → a < length ps → Divides (ratio ps a).den n) → 65536 < n)
-    c.deref-3.ensures.value (c.in_default-common.ensures)))
+    let sums : c.deref.result.now ≡ map totals c.args.self.now.channels =
+    c.deref.ensures.value ∙ (c.self.invariant.sums ∙ ap (λ (s : Shape). map totals s.channels) c.self.view_is) in
+    let evens = subst (λ (xs : List Totals). (i : ℕ) → i < length xs →
+    IsEven c.in_ok-parts.parts.items (get_or xs i no_totals)) sums
+    (subst (λ (ps : List Ratio). (i : ℕ) → i < length c.deref.result.now →
+    IsEven ps (get_or c.deref.result.now i no_totals)) c.deref-2.ensures.value (c.in_default.ensures)) in
+    record {
+      long = none_long c.args.self.now shape (no_common c.args.self.now shape c.in_ok-parts.parts.items walk
+          (subst (λ (ps : List Ratio). (n : ℕ) → 0 < n → ((a : ℕ) → a < length ps → Divides (ratio ps a).den n) →
+          65536 < n) c.deref-3.ensures.value (c.in_default-common.ensures)));
+      why = inr (record {
+        parts = c.in_ok-parts.parts.items;
+        shares = walk;
+        even = each_totals (IsEven c.in_ok-parts.parts.items) c.args.self.now.channels evens;
+      });
+    }
 
 pub uneven-requires-clause-from_in : goal.uneven-requires-clause-from_in
 uneven-requires-clause-from_in c =
