@@ -1,5 +1,5 @@
 -- What meets at a channel, at shares of the actors.
-use Rattle.std.proofs.Common.{◌≡◌, ℕ, ◌*◌, ◌≤◌, ◌<◌, List, length, sym, ap, ◌∙◌, subst, arith}
+use Rattle.std.proofs.Common.{◌≡◌, ℕ, ◌*◌, ◌≤◌, ◌<◌, List, length, sym, ap, ◌∙◌, subst, arith, refl}
 use Rattle.std.proofs.Math.Nat.{mul-le-mul}
 use Rattle.sdf_limits.specs.declared.TheConstants.{MOST_PERIOD}
 use Rattle.sdf_graph.specs.Rates.{Shape, IsShape, channel, cycle}
@@ -23,23 +23,27 @@ pub meets : (g : Shape) → IsShape g → (parts : List Ratio) → AreShares g p
     IsReduced ((ratio parts t.from).num * (ratio parts t.to).den) ((ratio parts t.to).num * (ratio parts t.from).den)
     turns.num turns.den →
     (m : Meeting) → m.source ≡ turns.num * cycle g t.from → m.target ≡ turns.den * cycle g t.to →
-    m.puts ≡ turns.num * t.put → m.takes ≡ turns.den * t.take → IsMeeting g c m
-meets g shape parts shares c known t e turns red m source target puts takes = record {
-  shape = shape;
-  known = known;
-  parts = parts;
-  shares = shares;
-  source_turns = turns.num;
-  target_turns = turns.den;
-  fewest = subst (λ (t : Totals). IsReduced ((ratio parts t.from).num * (ratio parts t.to).den)
-      ((ratio parts t.to).num * (ratio parts t.from).den) turns.num turns.den) e red;
-  source = fired;
-  target = answered;
-  puts = puts ∙ (ap (λ (t : Totals). turns.num * t.put) e
-      ∙ sym (whole_cycles _ (channel g c).put (shape.put c known) turns.num m.source fired));
-  takes = takes ∙ (ap (λ (t : Totals). turns.den * t.take) e
-      ∙ sym (whole_cycles _ (channel g c).take (shape.take c known) turns.den m.target answered));
-}
+    m.puts ≡ turns.num * t.put → m.takes ≡ turns.den * t.take →
+    (is : IsMeeting g c m) × (is.parts ≡ parts)
+meets g shape parts shares c known t e turns red m source target puts takes = (
+  record {
+    shape = shape;
+    known = known;
+    parts = parts;
+    shares = shares;
+    source_turns = turns.num;
+    target_turns = turns.den;
+    fewest = subst (λ (t : Totals). IsReduced ((ratio parts t.from).num * (ratio parts t.to).den)
+        ((ratio parts t.to).num * (ratio parts t.from).den) turns.num turns.den) e red;
+    source = fired;
+    target = answered;
+    puts = puts ∙ (ap (λ (t : Totals). turns.num * t.put) e
+        ∙ sym (whole_cycles _ (channel g c).put (shape.put c known) turns.num m.source fired));
+    takes = takes ∙ (ap (λ (t : Totals). turns.den * t.take) e
+        ∙ sym (whole_cycles _ (channel g c).take (shape.take c known) turns.den m.target answered));
+  },
+  refl,
+)
   where
     fired : m.source ≡ turns.num * cycle g (channel g c).from
     fired = source ∙ ap (λ (t : Totals). turns.num * cycle g t.from) e

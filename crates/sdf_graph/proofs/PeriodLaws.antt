@@ -1,7 +1,7 @@
 -- Whole cycles and their firings: the period vectors of a graph are the vectors that balance what cycles move, by the
 -- lengths of the cycles.
 use Rattle.std.proofs.Common.{◌≡◌, ℕ, ◌*◌, ◌/◌, ◌≤◌, ◌<◌, Bool, List, length, get_or, map, sum, sym, ap, ◌∙◌, subst}
-use Rattle.std.proofs.Common.{inl, inr}
+use Rattle.std.proofs.Common.{inl, inr, set}
 use Rattle.std.proofs.Common.{◌⊎◌, arith, zero-add}
 use Rattle.std.specs.List.{range_with_len}
 use Rattle.std.proofs.Math.Nat.{mul-div_cancel, mul-le-mul_left}
@@ -10,12 +10,12 @@ use Rattle.std.proofs.lemmas.List.FromFn.{length-map-range_with_len, get_or-map-
 use Rattle.std.proofs.lemmas.Bool.{cases_lt}
 use Rattle.sdf_graph.specs.Rates.{Shape, IsShape, rates, channel, cycle}
 use Rattle.sdf_graph.specs.Periods.{IsPeriodVector, IsLeastPeriod, IsMultiple}
-use Rattle.sdf_graph.specs.Faults.{IsPeriodFault}
+use Rattle.sdf_graph.specs.Faults.{IsPeriodFault, IsTooLong}
 use Rattle.sdf_graph.specs.declared.fault.GraphFault.{GraphFault}
 use Rattle.sdf_graph.specs.declared.fault.GraphFault.TheVariants.{OutOfMemory, PeriodTooLong}
 use Rattle.sdf_graph.specs.declared.repetitions.Ratio.{Ratio}
 use Rattle.sdf_graph.specs.Shares.{IsCycleVector, AreShares, IsCommon, IsEven, IsScaleFault, ratio, firings, turns}
-use Rattle.sdf_graph.specs.Shares.{totals, IsShare}
+use Rattle.sdf_graph.specs.Shares.{totals, IsShare, IsWalk, IsEvenAt}
 use Rattle.sdf_graph.specs.Marks.{IsBorder}
 use Rattle.sdf_limits.specs.declared.TheConstants.{MOST_PERIOD}
 use Rattle.sdf_graph.proofs.Marks.{border_in}
@@ -168,12 +168,28 @@ module _ (g : Shape) (shape : IsShape g) where
     -- no period where the least is over the limit
     pub fault_of : (e : GraphFault) → IsScaleFault cycles parts m e → IsPeriodFault g e
     fault_of OutOfMemory f = tt
-    fault_of PeriodTooLong f = λ p period. omega (arith, least_period.least p period, f)
+    fault_of PeriodTooLong f = record {
+      long = λ p period. omega (arith, least_period.least p period, f);
+      why = inr (record { parts = parts; shares = walk; even = evens });
+    }
     fault_of _ f = absurd f
 
 -- no period where the share of the actor beyond a border is too great
-pub share_long : (g : Shape) → IsShape g → (marked : List Bool) (c a : ℕ) → IsBorder g.channels marked c a →
-    (f : Ratio) → IsShare g a f → (MOST_PERIOD < f.num) ⊎ (MOST_PERIOD < f.den) →
-    (p : List ℕ) → IsPeriodVector (rates g) p → MOST_PERIOD < sum p
-share_long g shape marked c a border f share far =
-    none_long g shape (too_long g a f (border_in g shape marked c a border) shape.some share far)
+pub share_long : (g : Shape) → IsShape g → (parts : List Ratio) (marked : List Bool) → IsWalk g parts marked →
+    (c a : ℕ) → IsBorder g.channels marked c a → (f : Ratio) → IsShare g a f → IsEvenAt g (set parts a f) c →
+    (MOST_PERIOD < f.num) ⊎ (MOST_PERIOD < f.den) → IsTooLong g
+share_long g shape parts marked walk c a border f share even far = record {
+  long = none_long g shape (too_long g a f (border_in g shape marked c a border) shape.some share far);
+  why = inl (record {
+    parts = parts;
+    marked = marked;
+    walk = walk;
+    over = c;
+    actor = a;
+    border = border;
+    rate = f;
+    share = share;
+    even = even;
+    far = far;
+  });
+}

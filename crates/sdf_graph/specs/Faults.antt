@@ -1,11 +1,14 @@
 -- The faults of a graph, in the order of their tests: the first one that holds is returned. And why a graph has no
 -- repetition vector.
 use Rattle.std.specs.Prelude.{◌≡◌, ◌≢◌, ℕ, ◌+◌, ◌<◌, ◌==◌, ◌&&◌, ◌||◌, Bool, true, List, [], ◌∷◌, length, sum, nat_le}
-use Rattle.std.specs.Prelude.{nat_lt, Option, Some, None, if◌then◌else◌}
+use Rattle.std.specs.Prelude.{nat_lt, Option, Some, None, if◌then◌else◌, set, ◌⊎◌}
 use Rattle.sdf_limits.specs.declared.TheConstants.{MOST_ACTORS, MOST_LINKS, MOST_RATE, MOST_CYCLE, MOST_INITIAL}
 use Rattle.sdf_limits.specs.declared.TheConstants.{MOST_PERIOD}
 use Rattle.sdf_graph.specs.Rates.{Shape, Edge, IsReached, cycle_among, rates}
 use Rattle.sdf_graph.specs.Periods.{IsPeriodVector}
+use Rattle.sdf_graph.specs.Marks.{IsBorder}
+use Rattle.sdf_graph.specs.Shares.{IsEvenAt, IsShare, IsWalk, AreShares}
+use Rattle.sdf_graph.specs.declared.repetitions.Ratio.{Ratio}
 use Rattle.sdf_graph.specs.Meetings.{IsMeeting}
 use Rattle.sdf_graph.specs.declared.meeting.Meeting.{Meeting}
 use Rattle.sdf_graph.specs.declared.fault.GraphFault.{GraphFault}
@@ -89,15 +92,42 @@ IsFirstFault g OutOfMemory = Unit {0}
 IsFirstFault g (NotConnected a) = (numbers_fault g ≡ None) × IsLowestUnreached g a
 IsFirstFault g fault = numbers_fault g ≡ Some fault
 
--- the graph has no repetition vector, and in m, the balance of channel c, the samples put and taken differ
+-- the graph has no repetition vector, and in m, the balance of channel c, the samples put and taken differ; c is the
+-- lowest channel that the relative rates of m do not balance
 pub record IsInconsistent (g : Shape) (c : ℕ) (m : Meeting) : Type 0 where
   pub none : (p : List ℕ) → IsPeriodVector (rates g) p → ⊥
   pub meets : IsMeeting g c m
   pub differs : m.puts ≢ m.takes
+  pub lowest : (d : ℕ) → d < c → IsEvenAt g meets.parts d
+
+-- a walk over balanced channels from actor 0 comes by one more, `over`, to an actor whose relative rate is over the
+-- limit
+pub record IsFar (g : Shape) : Type 0 where
+  pub parts : List Ratio
+  pub marked : List Bool
+  pub walk : IsWalk g parts marked
+  pub over : ℕ
+  pub actor : ℕ
+  pub border : IsBorder g.channels marked over actor
+  pub rate : Ratio
+  pub share : IsShare g actor rate
+  pub even : IsEvenAt g (set parts actor rate) over
+  pub far : (MOST_PERIOD < rate.num) ⊎ (MOST_PERIOD < rate.den)
+
+-- relative rates of all actors balance all channels
+pub record IsConsistent (g : Shape) : Type 0 where
+  pub parts : List Ratio
+  pub shares : AreShares g parts
+  pub even : (c : ℕ) → c < length g.channels → IsEvenAt g parts c
+
+-- each repetition vector is too long, and all channels are balanced, or those of a walk to a far actor
+pub record IsTooLong (g : Shape) : Type 0 where
+  pub long : (p : List ℕ) → IsPeriodVector (rates g) p → MOST_PERIOD < sum p
+  pub why : IsFar g ⊎ IsConsistent g
 
 -- why there is no repetition vector: each fault is true of the graph
 abbrev pub IsPeriodFault : Shape → GraphFault → Type 0
 IsPeriodFault g OutOfMemory = Unit {0}
 IsPeriodFault g (Inconsistent c m) = IsInconsistent g c m
-IsPeriodFault g PeriodTooLong = (p : List ℕ) → IsPeriodVector (rates g) p → MOST_PERIOD < sum p
+IsPeriodFault g PeriodTooLong = IsTooLong g
 IsPeriodFault g _ = ⊥

@@ -34,7 +34,7 @@ fn turns_of(from: Ratio, to: Ratio) -> Ratio
 pub(crate) fn meeting_at(graph: &Graph, parts: &[Ratio], channel: usize) -> Meeting
     requires known { channel < length graph.now.channels }
     requires shares { AreShares graph.now parts.now }
-    ensures meeting { IsMeeting graph.now channel result }
+    ensures meeting { (m : IsMeeting graph.now channel result) × (m.parts ≡ parts.now) }
     ensures even { result.puts ≡ result.takes → IsEvenAt graph.now parts.now channel }
 {
     let totals = graph.totals_at(channel);

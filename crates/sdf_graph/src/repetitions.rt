@@ -69,7 +69,8 @@ fn uneven(channels: &[Totals], parts: &[Ratio]) -> Option<usize>
         (slice_index_or channels.now c no_totals).take ≤ MOST_RATE * MOST_CYCLE }
     ensures { MatchOption result
         ((c : ℕ) → c < length channels.now → IsEven parts.now (slice_index_or channels.now c no_totals))
-        (λ c. (c < length channels.now) × (IsEven parts.now (slice_index_or channels.now c no_totals) → ⊥)) }
+        (λ c. (c < length channels.now) × (IsEven parts.now (slice_index_or channels.now c no_totals) → ⊥)
+        × ((d : ℕ) → d < c → IsEven parts.now (slice_index_or channels.now d no_totals))) }
 {
     for (i, channel) in channels.iter().enumerate() {
         let from = parts[channel.from];

@@ -197,10 +197,10 @@ times_small w (suc i) a h = rw add-one at (go (times_small w i a (omega arith)) 
 -- one row more
 pub by_homes_more : (homes : List (Option ℕ)) (m : ℕ) (w : List ℕ) (i home : ℕ) (rows : List (List (Option Firing)))
     (new : List (Option Firing)) → i < length w →
-    AreByHomes homes m (take i w) rows → get_or homes (get_or w i 0) None ≡ Some home →
+    AreByHomes homes m (take i w) rows → get_or homes (get_or w i 0) None ≡ Some home → home < m →
     new ≡ set (replicate m None) home (Some (firing_at w i)) →
     AreByHomes homes m (take (i + 1) w) (rows ++ new ∷ [])
-by_homes_more homes m w i home rows new l by at is = record {
+by_homes_more homes m w i home rows new l by at inside is = record {
   all = omega (
     arith,
     length-append rows (new ∷ []),
@@ -208,9 +208,17 @@ by_homes_more homes m w i home rows new l by at is = record {
     length-take-le i w (omega arith),
     length-take-le (i + 1) w (omega arith),
   );
+  homed = λ p h. its_home p (omega (arith, h, length-take-le (i + 1) w (omega arith))) (cases_lt p i);
   each = λ p j h e. one p j (omega (arith, h, length-take-le (i + 1) w (omega arith))) e (cases_lt p i);
 }
   where
+    its_home : (p : ℕ) → p < i + 1 → (p < i) ⊎ (i ≤ p) → HasHome homes m (get_or (take (i + 1) w) p 0)
+    its_home p h (inl low) = subst (HasHome homes m) (get_or-take i w p 0 low ∙ sym (get_or-take (i + 1) w p 0 h))
+        (by.homed p (omega (arith, length-take-le i w (omega arith))))
+    its_home p h (inr high) =
+        let this : i ≡ p = omega arith in
+        subst (HasHome homes m) (ap (λ q. get_or w q 0) this ∙ sym (get_or-take (i + 1) w p 0 h)) (home, at, inside)
+
     count : length rows ≡ i
     count = by.all ∙ length-take-le i w (omega arith)
 

@@ -25,9 +25,10 @@ pub record IsBadHome (homes : List (Option ℕ)) (m actors a : ℕ) : Type 0 whe
 abbrev pub firing_at : List ℕ → ℕ → Firing
 firing_at w p = record { actor = slice_index w p; number = times (take p w) (slice_index w p) }
 
--- row by row the firings of a sequence, each alone in its actor's home among m columns
+-- row by row the firings of a sequence, each alone in its actor's home among m columns; no actor without a home fires
 pub record AreByHomes (homes : List (Option ℕ)) (m : ℕ) (w : List ℕ) (rows : List (List (Option Firing))) : Type 0 where
   pub all : length rows ≡ length w
+  pub homed : (p : ℕ) → p < length w → HasHome homes m (slice_index w p)
   pub each : (p j : ℕ) → p < length w → slice_index_or homes (slice_index w p) None ≡ Some j →
       row rows p ≡ slice_set (replicate m None) j (Some (firing_at w p))
 

@@ -22,8 +22,13 @@ returns-then-part-gt-MOST_PERIOD c =
     let marked = c.loop-channel.marked in
     let border = subst (λ (chs : List Edge). IsBorder chs marked c.in-Some.channel c.in-Some.actor)
     (c.deref.ensures.value ∙ ap (λ (s : Shape). s.channels) c.graph.view_is) c.in-Some.ensures in
-    share_long c.args.graph.now (subst IsShape c.graph.view_is c.graph.invariant.shape) marked c.in-Some.channel
-    c.in-Some.actor border c.beyond-part.result (c.beyond-part.ensures.share c.in-Some.actor border)
+    let walk = subst (λ (s : Shape). IsWalk s c.loop-channel.parts.items marked) c.graph.view_is
+    c.loop-channel.invariant in
+    let even = subst (λ (ps : List Ratio). IsEvenAt c.args.graph.now (set ps c.in-Some.actor c.beyond-part.result)
+    c.in-Some.channel) c.deref-in-Some.ensures.value (c.beyond-part.ensures.even c.in-Some.actor border) in
+    share_long c.args.graph.now (subst IsShape c.graph.view_is c.graph.invariant.shape) c.loop-channel.parts.items
+    marked walk c.in-Some.channel c.in-Some.actor border c.beyond-part.result
+    (c.beyond-part.ensures.share c.in-Some.actor border) even
     (elim c.then-part-gt-MOST_PERIOD.branch [
       | then-part-gt-MOST_PERIOD-via-then-part-gt-MOST_PERIOD w ↦ inl
           w.if-part-gt-MOST_PERIOD.true

@@ -92,7 +92,7 @@ loop-actor-preserved c =
           c.loop-actor.invariant.each c.loop-actor.invariant.done (ap (λ k. k + 1) read);
       rows = rw c.in_ok-push.ensures.rows
           (by_homes_more c.args.homes.now c.args.m w i home.0 c.loop-actor.rows.rows
-          c.deref.result.now c.loop-actor-test.true c.loop-actor.invariant.rows home.1 is);
+          c.deref.result.now c.loop-actor-test.true c.loop-actor.invariant.rows home.1 home.2 is);
       wide = c.push.ensures.width ∙ c.loop-actor.invariant.wide;
       empty = ap (λ cells. set (set cells c.home_of-home.result
           (Some (record { actor = a; number = number }))) c.home_of-home.result None) c.loop-actor.invariant.empty

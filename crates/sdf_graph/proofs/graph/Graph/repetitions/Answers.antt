@@ -1,4 +1,4 @@
-use Rattle.std.proofs.Common.{arith, ◌≡◌, ◌<◌, ◌≤◌, ℕ, List, get_or, length, sum, map, sym, ap, ◌∙◌, subst}
+use Rattle.std.proofs.Common.{arith, inr, ◌≡◌, ◌<◌, ◌≤◌, ℕ, List, get_or, length, sum, map, sym, ap, ◌∙◌, subst}
 use Rattle.std.proofs.lemmas.Result.{MatchResult-weaker}
 use Rattle.sdf_graph.specs.declared.channel.Totals.{Totals}
 use Rattle.sdf_graph.specs.declared.repetitions.Ratio.{Ratio}
@@ -21,9 +21,11 @@ returns-in-Some c =
     let sums : c.deref.result.now ≡ map totals c.args.self.now.channels =
     c.deref.ensures.value ∙ (c.self.invariant.sums ∙ ap (λ (s : Shape). map totals s.channels) c.self.view_is) in
     let uneven = subst (λ (xs : List Totals). (c.in-Some.channel < length xs)
-    × (IsEven c.in_ok-parts.parts.items (get_or xs c.in-Some.channel no_totals) → ⊥)) sums
+    × (IsEven c.in_ok-parts.parts.items (get_or xs c.in-Some.channel no_totals) → ⊥)
+    × ((d : ℕ) → d < c.in-Some.channel → IsEven c.in_ok-parts.parts.items (get_or xs d no_totals))) sums
     (subst (λ (ps : List Ratio). (c.in-Some.channel < length c.deref.result.now)
-    × (IsEven ps (get_or c.deref.result.now c.in-Some.channel no_totals) → ⊥)) c.deref-2.ensures.value
+    × (IsEven ps (get_or c.deref.result.now c.in-Some.channel no_totals) → ⊥)
+    × ((d : ℕ) → d < c.in-Some.channel → IsEven ps (get_or c.deref.result.now d no_totals))) c.deref-2.ensures.value
     c.in-Some.ensures) in
     let within : c.in-Some.channel < length c.args.self.now.channels =
     omega (arith, uneven.0, length-map c.args.self.now.channels totals) in
@@ -34,18 +36,35 @@ returns-in-Some c =
       none = λ p period. odd (must_even c.args.self.now c.in_ok-parts.parts.items walk
           (cycles_in c.args.self.now shape p) (in_cycles c.args.self.now shape p period) shape c.in-Some.channel
           within);
-      meets = c.meeting_at-meeting.ensures.meeting;
+      meets = c.meeting_at-meeting.ensures.meeting.0;
       differs = λ same. odd (subst (λ (ps : List Ratio). IsEvenAt c.args.self.now ps c.in-Some.channel)
           c.deref-in-Some.ensures.value (c.meeting_at-meeting.ensures.even same));
+      lowest = λ d l. subst (λ (ps : List Ratio). IsEvenAt c.args.self.now ps d)
+          (sym (c.meeting_at-meeting.ensures.meeting.1 ∙ c.deref-in-Some.ensures.value))
+          (subst (IsEven c.in_ok-parts.parts.items)
+          (totals_read c.args.self.now.channels d (omega (arith, l, within))) (uneven.2 d l));
     }
 
 pub returns-in_default-common : goal.returns-in_default-common
 returns-in_default-common c =
     let walk = c.in_ok-parts.ensures in
     let shape = subst IsShape c.self.view_is c.self.invariant.shape in
-    none_long c.args.self.now shape (no_common c.args.self.now shape c.in_ok-parts.parts.items walk
-    (subst (λ (ps : List Ratio). (n : ℕ) → 0 < n → ((a : ℕ) → a < length ps → Divides (ratio ps a).den n) → 65536 < n)
-    c.deref-3.ensures.value (c.in_default-common.ensures)))
+    let sums : c.deref.result.now ≡ map totals c.args.self.now.channels =
+    c.deref.ensures.value ∙ (c.self.invariant.sums ∙ ap (λ (s : Shape). map totals s.channels) c.self.view_is) in
+    let evens = subst (λ (xs : List Totals). (i : ℕ) → i < length xs →
+    IsEven c.in_ok-parts.parts.items (get_or xs i no_totals)) sums
+    (subst (λ (ps : List Ratio). (i : ℕ) → i < length c.deref.result.now →
+    IsEven ps (get_or c.deref.result.now i no_totals)) c.deref-2.ensures.value (c.in_default.ensures)) in
+    record {
+      long = none_long c.args.self.now shape (no_common c.args.self.now shape c.in_ok-parts.parts.items walk
+          (subst (λ (ps : List Ratio). (n : ℕ) → 0 < n → ((a : ℕ) → a < length ps → Divides (ratio ps a).den n) →
+          65536 < n) c.deref-3.ensures.value (c.in_default-common.ensures)));
+      why = inr (record {
+        parts = c.in_ok-parts.parts.items;
+        shares = walk;
+        even = each_totals (IsEven c.in_ok-parts.parts.items) c.args.self.now.channels evens;
+      });
+    }
 
 pub uneven-requires-clause-from_in : goal.uneven-requires-clause-from_in
 uneven-requires-clause-from_in c =
