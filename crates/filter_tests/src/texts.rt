@@ -98,7 +98,17 @@ const PRINTED: &[(Band, u32, &str)] = &[
             stop: 3000,
         },
         1,
-        "what passes begins at 1200 Hz and ends at 1200: take its begin lower, or its end higher",
+        "what passes begins at 1200 Hz and ends at 1200: take `--low-pass` lower, or `--pass` higher",
+    ),
+    (
+        Band::Middle {
+            low_stop: 0,
+            low_pass: 0,
+            pass: 2000,
+            stop: 3000,
+        },
+        1,
+        "`--low-stop` is 0, `--low-pass` is 0: give a band-pass both, the first lower",
     ),
     (
         Band::Low {
@@ -262,7 +272,7 @@ const TEXTS: &[(FilterFault, &str)] = &[
     (FilterFault::NoRate, "a rate is 0: take both from 1 on"),
     (
         FilterFault::FactorTooLarge { factor: 67 },
-        "the ratio of the rates has the factor 67, and none of it is from 2 to 64: take another rate",
+        "the ratio of the rates has the factor 67, which has no divisor from 2 to 64: take another rate",
     ),
 ];
 

@@ -2,18 +2,9 @@
 
 use byteorder::{ByteOrder, LittleEndian};
 use sdf_files::input::InputTrace;
-use sdf_wav::FormatFault;
+use sdf_wav::{EXTENSIBLE_TAG, FormatFault, MOST_DATA_BYTES, UNKNOWN_SIZE};
 use sdf_why::{Header, device_text};
 use std::alloc::{AllocError, Global};
-
-/// The format tag of an extensible format, which has its real tag later in a longer chunk.
-const EXTENSIBLE: u32 = 0xFFFE;
-
-/// The data size in a WAV file whose writer never filled it in.
-const UNKNOWN: u32 = 0xFFFF_FFFF;
-
-/// The most bytes of samples in a WAV file that is written.
-const MOST_WRITTEN: u32 = 4_294_967_259;
 
 /// The first bytes of a WAV file.
 #[derive(Clone, Copy)]
@@ -88,9 +79,11 @@ impl<'a> Front<'a> {
 
     /// Returns the format tag of the samples. An extensible format has it later in its chunk.
     fn tag(self) -> Option<u32> {
-        match self.in_format(0)? {
-            EXTENSIBLE => self.in_format(24),
-            tag => Some(tag),
+        let tag = self.in_format(0)?;
+        if tag == u32::from(EXTENSIBLE_TAG) {
+            self.in_format(24)
+        } else {
+            Some(tag)
         }
     }
 }
@@ -206,7 +199,7 @@ const STREAMED: u32 = 0x7FFF_F000;
 /// Returns the text for a WAV file that ends too early.
 fn end_text(alloc: Global, front: Front<'_>, bytes: u64) -> Result<String, AllocError> {
     match front.data() {
-        Some(Chunk { at, size }) if size != UNKNOWN => {
+        Some(Chunk { at, size }) if size != UNKNOWN_SIZE => {
             let whole = (at as u64).saturating_add(u64::from(size));
             let hint = if size < STREAMED {
                 ""
@@ -225,7 +218,7 @@ fn frames_text(alloc: Global, front: Front<'_>, bytes: u64) -> Result<String, Al
         return Ok(String::new(alloc));
     };
     let samples = match data.size {
-        UNKNOWN => bytes.saturating_sub(data.at as u64),
+        UNKNOWN_SIZE => bytes.saturating_sub(data.at as u64),
         size => u64::from(size),
     };
     let frame = channels.saturating_mul(2);
@@ -235,9 +228,9 @@ fn frames_text(alloc: Global, front: Front<'_>, bytes: u64) -> Result<String, Al
 /// Returns the text for a WAV file that is too long, has too many chunks, or whose output would be too long.
 fn length_text(alloc: Global, front: Front<'_>, bytes: u64) -> Result<String, AllocError> {
     match front.data() {
-        Some(Chunk { size, .. }) if size != UNKNOWN => {
+        Some(Chunk { size, .. }) if size != UNKNOWN_SIZE => {
             format!(in alloc;
-                "has {size} bytes of samples, and an output has at most {MOST_WRITTEN}"
+                "has {size} bytes of samples, and an output has at most {MOST_DATA_BYTES}"
             )
         }
         Some(_) => format!(in alloc; "has at least {bytes} bytes"),

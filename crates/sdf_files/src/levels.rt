@@ -3,17 +3,15 @@
 ghost use Rattle.std.specs.Prelude.{◌≤◌, ◌<◌, length};
 
 use crate::lanes::{Lane, Lanes, SIDE};
+use sdf_wav::{HEADER_BYTES, MOST_CHANNELS};
 use std::alloc::{AllocError, Global};
 use std::num::saturating_f64_to_u64;
-
-/// The bytes of a canonical WAV header.
-const HEADER: usize = 44;
 
 /// The most bytes of samples that are counted in one batch.
 const PIECE: usize = 65_536;
 
-/// The most channels of a sound.
-const MOST_CHANNELS: usize = 8;
+/// The most outputs of a sound: its channels.
+const MOST_OUTPUTS: usize = MOST_CHANNELS as usize;
 
 /// The levels of an output.
 #[derive(Clone, Copy)]
@@ -68,37 +66,37 @@ pub(crate) struct Passed {
 /// The header of a sound, as far as it is written, and the levels of its outputs.
 #[derive(Clone, Copy)]
 pub struct Levels {
-    header: [u8; HEADER],
+    header: [u8; HEADER_BYTES],
     written: usize,
     /// The first byte of a sample whose second byte is not written yet.
     low: Option<u8>,
     /// The output of the next sample.
     next: usize,
-    outputs: [Level; MOST_CHANNELS],
+    outputs: [Level; MOST_OUTPUTS],
 }
 
 impl Levels {
     /// Returns the levels before anything is written.
     pub(crate) fn new() -> Levels {
         Levels {
-            header: [0; HEADER],
+            header: [0; HEADER_BYTES],
             written: 0,
             low: None,
             next: 0,
-            outputs: [Level::NONE; MOST_CHANNELS],
+            outputs: [Level::NONE; MOST_OUTPUTS],
         }
     }
 
     /// Returns the number of outputs in the header.
     fn channels(&self) -> usize
-        ensures { result ≤ 8 }
+        ensures { result ≤ MOST_OUTPUTS }
     {
-        usize::from(self.header[22]).min(MOST_CHANNELS)
+        usize::from(self.header[22]).min(MOST_OUTPUTS)
     }
 
     /// Checks whether the header is written whole.
     fn is_open(&self) -> bool {
-        self.written >= HEADER
+        self.written >= HEADER_BYTES
     }
 
     /// Counts a sample of the next output.
@@ -163,7 +161,7 @@ impl Levels {
 
     /// Takes `bytes` that were written: the rest of the header and of a sample byte by byte, then whole blocks.
     pub(crate) fn note(&mut self, bytes: &[u8]) {
-        let begun = HEADER.saturating_sub(self.written) + usize::from(self.low.is_some());
+        let begun = HEADER_BYTES.saturating_sub(self.written) + usize::from(self.low.is_some());
         let (front, samples) = bytes.split_at(begun.min(bytes.len()));
         self.note_each(front);
         for piece in samples.chunks(PIECE) {

@@ -14,7 +14,7 @@ use Rattle.sdf_filters.specs.declared.fault.FilterFault.TheVariants.{OutOfMemory
 use Rattle.sdf_filters.specs.declared.fault.FilterFault.TheVariants.{PassNotBelowStop, StopOverHalf, TooManyTaps}
 use Rattle.sdf_filters.specs.declared.fault.FilterFault.TheVariants.{TapTooLarge, NoRate, FactorTooLarge, Channels}
 use Rattle.sdf_filters.specs.declared.fault.FilterFault.TheVariants.{StopNotBelowPass, PassOverHalf, NothingPasses}
-use Rattle.sdf_filters.specs.declared.fault.FilterFault.TheVariants.{UpOfHighpass, RateTooLarge}
+use Rattle.sdf_filters.specs.declared.fault.FilterFault.TheVariants.{UpOfHighpass, RateTooLarge, LowStopNotBelowLowPass}
 
 ups-push : (stages : List Stage) (s : Stage) → ups (stages ++ s ∷ []) ≡ ups stages * s.up
 ups-push [] s = omega arith
@@ -176,6 +176,7 @@ fault_of_all up down up_left down_left stages split (TooManyTaps n) h = absurd h
 fault_of_all up down up_left down_left stages split (TapTooLarge n) h = absurd h
 fault_of_all up down up_left down_left stages split NoRate h = absurd h
 fault_of_all up down up_left down_left stages split (StopNotBelowPass m n) h = absurd h
+fault_of_all up down up_left down_left stages split (LowStopNotBelowLowPass m n) h = absurd h
 fault_of_all up down up_left down_left stages split (PassOverHalf m n) h = absurd h
 fault_of_all up down up_left down_left stages split (NothingPasses m n) h = absurd h
 fault_of_all up down up_left down_left stages split (UpOfHighpass n) h = absurd h
@@ -197,6 +198,7 @@ fault_of_rates from to up down from_some to_some lowest (TooManyTaps n) h = absu
 fault_of_rates from to up down from_some to_some lowest (TapTooLarge n) h = absurd h
 fault_of_rates from to up down from_some to_some lowest NoRate h = absurd h
 fault_of_rates from to up down from_some to_some lowest (StopNotBelowPass m n) h = absurd h
+fault_of_rates from to up down from_some to_some lowest (LowStopNotBelowLowPass m n) h = absurd h
 fault_of_rates from to up down from_some to_some lowest (PassOverHalf m n) h = absurd h
 fault_of_rates from to up down from_some to_some lowest (NothingPasses m n) h = absurd h
 fault_of_rates from to up down from_some to_some lowest (UpOfHighpass n) h = absurd h

@@ -4,7 +4,7 @@ use Rattle.std.specs.Result.{result_and}
 use Rattle.sdf_limits.specs.declared.TheConstants.{MOST_TAPS}
 use Rattle.sdf_filters.specs.declared.fault.FilterFault.{FilterFault}
 use Rattle.sdf_filters.specs.declared.fault.FilterFault.TheVariants.{StopNotBelowPass, PassOverHalf, NothingPasses}
-use Rattle.sdf_filters.specs.declared.fault.FilterFault.TheVariants.{UpOfHighpass}
+use Rattle.sdf_filters.specs.declared.fault.FilterFault.TheVariants.{LowStopNotBelowLowPass, UpOfHighpass}
 use Rattle.sdf_filters.specs.declared.wanted.Band.{Band}
 use Rattle.sdf_filters.specs.declared.wanted.Band.TheVariants.{Low, High, Middle}
 use Rattle.sdf_filters.specs.declared.wanted.Wanted.{Wanted}
@@ -51,7 +51,7 @@ high_tests w stop pass =
 -- the tests of a band-pass in addition to its low-passes': the first fault, if there is one
 abbrev pub middle_tests : ℕ → ℕ → ℕ → Result (Unit {0}) FilterFault
 middle_tests low_stop low_pass pass =
-    tested (nat_lt low_stop low_pass) (StopNotBelowPass low_stop low_pass)
+    tested (nat_lt low_stop low_pass) (LowStopNotBelowLowPass low_stop low_pass)
     (tested (nat_lt low_pass pass) (NothingPasses low_pass pass) (Ok tt))
 
 -- the tests of the low-pass between these frequencies: the first fault, if there is one

@@ -1,6 +1,6 @@
 //! The design that converts between two rates, as texts.
 
-ghost use Rattle.std.specs.Prelude.{◌≡◌, ◌+◌, ◌*◌, ◌/◌, ◌<◌, ◌++◌, ◌∷◌, [], IfOk, OnOk, MatchResult, slice_get};
+ghost use Rattle.std.specs.Prelude.{◌≡◌, ◌+◌, ◌*◌, ◌/◌, ◌<◌, ◌++◌, IfOk, MatchResult, slice_get};
 ghost use Rattle.std.specs.Prelude.{string_bytes, codes, length};
 ghost use Rattle.sdf_filters.specs.Graphs.{stage_name};
 ghost use Rattle.sdf_filters.specs.Converters.{passed, stage_wanted, rate_at, IsStageFile, AreStageFiles};
@@ -33,7 +33,7 @@ pub struct ConverterTexts {
 }
 
 /// Tests the number of channels.
-fn test_channels(channels: u32) -> Result<(), FilterFault>
+fn check_channels(channels: u32) -> Result<(), FilterFault>
     ensures { result ≡ channels_test channels }
 {
     test(
@@ -99,14 +99,6 @@ fn stage_file(alloc: Global, number: usize, wanted: Wanted) -> Result<StageFile,
     })
 }
 
-/// Adds a file.
-fn add_file(files: &mut Vec<StageFile>, file: StageFile) -> Result<(), AllocError>
-    ensures { OnOk result (files.new.items ≡ files.old.items ++ file ∷ []) }
-{
-    files.push(file)?;
-    Ok(())
-}
-
 /// Returns the coefficient files of `stages`, the first of which takes the rate `from`.
 fn stage_files(
     alloc: Global,
@@ -124,7 +116,7 @@ fn stage_files(
         let stage = stages[place];
         let wanted = stage_wanted(rate, pass, attenuation, stage)?;
         let file = stage_file(alloc, place + 1, wanted)?;
-        add_file(&mut files, file)?;
+        files.push(file)?;
         rate = wanted.rate / stage.down;
     }
     Ok(files)
@@ -146,7 +138,7 @@ pub fn converter_texts(
         (λ texts. IsConverter from to channels attenuation (string_bytes texts.graph) texts.files.items)
         (IsConverterFault from to channels attenuation) }
 {
-    test_channels(channels)?;
+    check_channels(channels)?;
     let stages = stages(alloc, from, to, attenuation)?;
     let files = stage_files(alloc, from, passed(from, to), attenuation, &stages)?;
     let graph = graph_text(alloc, from, to, channels, &stages)?;

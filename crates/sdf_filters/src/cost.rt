@@ -78,6 +78,17 @@ impl Weights {
         Best { cost, place }
     }
 
+    /// Returns the stage of the ratio `left` at `place` with its cost, if that is below `most`.
+    fn cheaper(self, rate: f64, left: Ratio, place: u32, most: f64) -> Option<(Stage, f64)> {
+        let stage = left.part(place)?;
+        let cost = self.stage(rate, stage.up, stage.down);
+        if cost < most {
+            Some((stage, cost))
+        } else {
+            None
+        }
+    }
+
     /// Returns the cheapest split of the ratio `left` into at most `stages` stages. It does not split the rest after a
     /// stage that alone costs too much.
     fn best(self, rate: f64, left: Ratio, stages: u32) -> Best {
@@ -91,15 +102,12 @@ impl Weights {
             }
             let start = row * MOST_FACTOR;
             for place in start..start + MOST_FACTOR {
-                if let Some(stage) = left.part(place) {
-                    let own = self.stage(rate, stage.up, stage.down);
-                    if own < best.cost {
-                        let put = rate * f64::from(stage.up) / f64::from(stage.down);
-                        let rest = self.best(put, left.after(stage), stages - 1);
-                        let cost = own + rest.cost;
-                        if cost < best.cost {
-                            best = Best { cost, place };
-                        }
+                if let Some((stage, own)) = self.cheaper(rate, left, place, best.cost) {
+                    let put = rate * f64::from(stage.up) / f64::from(stage.down);
+                    let rest = self.best(put, left.after(stage), stages - 1);
+                    let cost = own + rest.cost;
+                    if cost < best.cost {
+                        best = Best { cost, place };
                     }
                 }
             }

@@ -1,8 +1,7 @@
 //! High-passes and band-passes, as differences of taps.
 
 ghost use Rattle.std.specs.Prelude.{◌≡◌, ◌<◌, ◌≤◌, ◌/◌, ◌^◌, ◌-ℤ◌, pos, length, replicate, slice_set, unsigned_abs};
-ghost use Rattle.std.specs.Prelude.{FitsSigned, IfOk, OnOk, MatchResult};
-ghost use Rattle.std.specs.Prelude.{◌++◌, ◌∷◌, []};
+ghost use Rattle.std.specs.Prelude.{FitsSigned, IfOk, MatchResult};
 ghost use Rattle.std.specs.Int.{w16};
 ghost use Rattle.sdf_filters.specs.Lowpass.{IsTapFault};
 ghost use Rattle.sdf_filters.specs.Differences.{IsDifference, AreDifferences};
@@ -22,17 +21,9 @@ pub(crate) fn differences(
     let mut left = Vec::new(alloc);
     for place in 0..from.len() {
         let tap = difference(from[place], taps[place])?;
-        add_tap(&mut left, tap)?;
+        left.push(tap)?;
     }
     Ok(left)
-}
-
-/// Adds a tap.
-fn add_tap(taps: &mut Vec<i32>, tap: i32) -> Result<(), AllocError>
-    ensures { OnOk result (taps.new.items ≡ taps.old.items ++ tap ∷ []) }
-{
-    taps.push(tap)?;
-    Ok(())
 }
 
 /// Returns the difference of two taps if it fits in 16 bits.
@@ -40,10 +31,7 @@ fn difference(from: i32, tap: i32) -> Result<i32, FilterFault>
     ensures { MatchResult result (IsDifference from tap) IsTapFault }
 {
     let left = i64::from(from) - i64::from(tap);
-    if left > 32_767 {
-        return Err(too_large(left));
-    }
-    if left < -32_768 {
+    if left > 32_767 || left < -32_768 {
         return Err(too_large(left));
     }
     Ok(left as i32)

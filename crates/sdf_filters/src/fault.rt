@@ -3,7 +3,7 @@
 ghost use Rattle.std.specs.Prelude.{◌≡◌, Ok};
 ghost use Rattle.sdf_filters.specs.Lowpass.{tested};
 
-use std::alloc::AllocError;
+use std::alloc::{AllocError, AllocFailed};
 use thiserror::Error;
 
 /// The reason why a filter, or a conversion between two rates, can't be made. Its text says what to change.
@@ -33,14 +33,17 @@ pub enum FilterFault {
     /// A tap of this size has more than 16 bits.
     #[error("a tap of size {size} has over 16 bits: take a smaller `shift`, or what passes and what is stopped lower")]
     TapTooLarge { size: u32 },
-    /// The stopped frequencies do not end below the passed ones.
+    /// The stopped frequencies of a high-pass do not end below the passed ones.
     #[error("what is stopped ends at {stop} Hz, what passes begins at {pass}: take `stop` lower, or `pass` higher")]
     StopNotBelowPass { stop: u32, pass: u32 },
+    /// The stopped frequencies below a band-pass do not end below the passed ones.
+    #[error("`--low-stop` is {low_stop}, `--low-pass` is {low_pass}: give a band-pass both, the first lower")]
+    LowStopNotBelowLowPass { low_stop: u32, low_pass: u32 },
     /// The passed frequencies begin above half the rate.
     #[error("what passes begins at {pass} Hz, over half the rate of {rate}: take it lower, or a higher rate")]
     PassOverHalf { pass: u32, rate: u32 },
     /// The passed frequencies do not begin below their end.
-    #[error("what passes begins at {low_pass} Hz and ends at {pass}: take its begin lower, or its end higher")]
+    #[error("what passes begins at {low_pass} Hz and ends at {pass}: take `--low-pass` lower, or `--pass` higher")]
     NothingPasses { low_pass: u32, pass: u32 },
     /// A high-pass has no phases, but its `up` is not 1.
     #[error("a high-pass with `up` {up}: take 1")]
@@ -55,7 +58,7 @@ pub enum FilterFault {
     #[error("a rate is 0: take both from 1 on")]
     NoRate,
     /// The rest of the ratio of the rates has no factor from 2 to 64.
-    #[error("the ratio of the rates has the factor {factor}, and none of it is from 2 to 64: take another rate")]
+    #[error("the ratio of the rates has the factor {factor}, which has no divisor from 2 to 64: take another rate")]
     FactorTooLarge { factor: u32 },
 }
 
@@ -65,6 +68,16 @@ impl From<AllocError> for FilterFault {
     ghost from_gives = { λ _ e. e ≡ OutOfMemory };
 
     fn from(_: AllocError) -> FilterFault {
+        FilterFault::OutOfMemory
+    }
+}
+
+impl<T: Drop> From<AllocFailed<T>> for FilterFault {
+    ghost use Rattle.sdf_filters.specs.declared.fault.FilterFault.TheVariants.{OutOfMemory};
+
+    ghost from_gives = { λ _ e. e ≡ OutOfMemory };
+
+    fn from(_: AllocFailed<T>) -> FilterFault {
         FilterFault::OutOfMemory
     }
 }

@@ -7,12 +7,12 @@ ghost use Rattle.sdf_filters.specs.Wanted.{low, high_tests, middle_tests, AreLow
 ghost use Rattle.sdf_filters.specs.Wanted.{AreTaps, IsFault};
 
 use crate::fault::{FilterFault, test};
-use crate::lowpass::{Lowpass, test_few, whole_phases};
+use crate::lowpass::{Lowpass, check_few, whole_phases};
 use crate::wanted::{Band, Wanted};
 use std::alloc::Global;
 
 /// Tests what a high-pass needs in addition to its low-pass.
-fn test_high(wanted: Wanted, stop: u32, pass: u32) -> Result<(), FilterFault>
+fn check_high(wanted: Wanted, stop: u32, pass: u32) -> Result<(), FilterFault>
     ensures { result ≡ high_tests wanted stop pass }
 {
     let Wanted { rate, up, .. } = wanted;
@@ -25,15 +25,12 @@ fn test_high(wanted: Wanted, stop: u32, pass: u32) -> Result<(), FilterFault>
 }
 
 /// Tests what a band-pass needs in addition to its low-passes.
-fn test_middle(low_stop: u32, low_pass: u32, pass: u32) -> Result<(), FilterFault>
+fn check_middle(low_stop: u32, low_pass: u32, pass: u32) -> Result<(), FilterFault>
     ensures { result ≡ middle_tests low_stop low_pass pass }
 {
     test(
         low_stop < low_pass,
-        FilterFault::StopNotBelowPass {
-            stop: low_stop,
-            pass: low_pass,
-        },
+        FilterFault::LowStopNotBelowLowPass { low_stop, low_pass },
     )?;
     test(
         low_pass < pass,
@@ -62,8 +59,7 @@ fn more_taps(alloc: Global, filter: &Lowpass, count: usize) -> Result<Vec<i32>, 
         (λ fault. IsCountFault fault ⊎ IsTapFault fault) }
 {
     let more = whole_phases(count + 1, filter.up() as usize)?;
-    let taps = filter.taps(alloc, more)?;
-    Ok(taps)
+    filter.taps(alloc, more)
 }
 
 /// Returns the taps of a low-pass. If one of them has over 16 bits, it tries one more tap in each phase.
@@ -89,7 +85,7 @@ fn odd(count: usize) -> Result<usize, FilterFault>
     ensures few { MatchResult result (λ n. n ≤ MOST_TAPS) IsCountFault }
 {
     let odd = if count % 2 == 1 { count } else { count + 1 };
-    test_few(odd)?;
+    check_few(odd)?;
     Ok(odd)
 }
 
@@ -101,8 +97,7 @@ fn high_taps(alloc: Global, filter: &Lowpass) -> Result<Vec<i32>, FilterFault>
         (λ fault. IsCountFault fault ⊎ IsTapFault fault) }
 {
     let count = odd(filter.count()?)?;
-    let taps = filter.highpass(alloc, count)?;
-    Ok(taps)
+    filter.highpass(alloc, count)
 }
 
 /// Returns the taps of the band-pass that passes what `wide` passes and `narrow` does not. The steeper low-pass
@@ -113,11 +108,8 @@ fn middle_taps(alloc: Global, wide: &Lowpass, narrow: &Lowpass) -> Result<Vec<i3
     ensures { MatchResult result (λ taps. AreMiddleTaps wide.now narrow.now taps.items)
         (λ fault. IsCountFault fault ⊎ IsTapFault fault) }
 {
-    let many = wide.count()?;
-    let more = narrow.count()?;
-    let count = if many < more { more } else { many };
-    let taps = wide.bandpass(alloc, narrow, count)?;
-    Ok(taps)
+    let count = wide.count()?.max(narrow.count()?);
+    wide.bandpass(alloc, narrow, count)
 }
 
 /// Returns the taps of a filter: whole numbers of 16 bits. The taps of each phase sum to `2^shift` if a constant
@@ -134,7 +126,7 @@ pub fn taps_of(alloc: Global, wanted: Wanted) -> Result<Vec<i32>, FilterFault>
             low_taps(alloc, &filter)
         }
         Band::High { stop, pass } => {
-            test_high(wanted, stop, pass)?;
+            check_high(wanted, stop, pass)?;
             let filter = low(wanted, stop, pass)?;
             high_taps(alloc, &filter)
         }
@@ -144,7 +136,7 @@ pub fn taps_of(alloc: Global, wanted: Wanted) -> Result<Vec<i32>, FilterFault>
             pass,
             stop,
         } => {
-            test_middle(low_stop, low_pass, pass)?;
+            check_middle(low_stop, low_pass, pass)?;
             let wide = low(wanted, pass, stop)?;
             let narrow = low(wanted, low_stop, low_pass)?;
             middle_taps(alloc, &wide, &narrow)

@@ -8,7 +8,7 @@ ghost use Rattle.sdf_filters.specs.Differences.{AreHighpassTaps, AreBandpassTaps
 
 use crate::differences::{differences, impulse};
 use crate::fault::{FilterFault, test};
-use crate::phases::test_16_bits;
+use crate::phases::check_16_bits;
 use crate::settling::settle;
 use crate::sinc::{Sinc, kaiser_length, real_taps, rounded_taps};
 use sdf_limits::{MOST_FACTOR, MOST_SHIFT, MOST_TAPS};
@@ -108,14 +108,14 @@ impl Lowpass {
     {
         let reals = real_taps(alloc, self.sinc(count), count)?;
         let mut taps = rounded_taps(alloc, &reals)?;
-        test_16_bits(&taps)?;
+        check_16_bits(&taps)?;
         settle(
             &mut taps,
             &reals,
             self.up as usize,
             i64::from(height(self.shift)),
         )?;
-        test_16_bits(&taps)?;
+        check_16_bits(&taps)?;
         Ok(taps)
     }
 
@@ -129,8 +129,7 @@ impl Lowpass {
     {
         let low = self.taps(alloc, count)?;
         let impulse = impulse(alloc, count, height(self.shift))?;
-        let taps = differences(alloc, &impulse, &low)?;
-        Ok(taps)
+        differences(alloc, &impulse, &low)
     }
 
     /// Returns the taps of the band-pass that passes what this one passes and `narrow` does not: this one's taps minus
@@ -150,8 +149,7 @@ impl Lowpass {
     {
         let wide = self.taps(alloc, count)?;
         let narrow = narrow.taps(alloc, count)?;
-        let taps = differences(alloc, &wide, &narrow)?;
-        Ok(taps)
+        differences(alloc, &wide, &narrow)
     }
 
     /// Returns the sinc whose values are the taps before they are rounded.
@@ -189,14 +187,14 @@ pub(crate) fn whole_phases(count: usize, up: usize) -> Result<usize, FilterFault
     ensures { MatchResult result (IsCount up) IsCountFault }
 {
     let least = count.max(1);
-    test_few(least)?;
-    let whole = (least + up - 1) / up * up;
-    test_few(whole)?;
+    check_few(least)?;
+    let whole = least.next_multiple_of(up);
+    check_few(whole)?;
     Ok(whole)
 }
 
 /// Tests whether a filter may have `taps` taps.
-pub(crate) fn test_few(taps: usize) -> Result<(), FilterFault>
+pub(crate) fn check_few(taps: usize) -> Result<(), FilterFault>
     ensures { MatchResult result (λ _. taps ≤ MOST_TAPS) IsCountFault }
 {
     if taps > MOST_TAPS {

@@ -47,7 +47,7 @@ fn has_16_bits(tap: i32) -> bool
 }
 
 /// Returns the fault of the first tap of over 16 bits, if there is one.
-pub(crate) fn test_16_bits(taps: &[i32]) -> Result<(), FilterFault>
+pub(crate) fn check_16_bits(taps: &[i32]) -> Result<(), FilterFault>
     ensures { MatchResult result (λ _. Have16Bits taps.now) IsTapFault }
 {
     for &tap in taps {

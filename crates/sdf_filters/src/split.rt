@@ -1,6 +1,6 @@
 //! The stages of a conversion between two rates.
 
-ghost use Rattle.std.specs.Prelude.{◌≡◌, ◌<◌, ◌≤◌, ◌+◌, ◌%◌, ◌++◌, ◌∷◌, [], OnOk, MatchOption, MatchResult};
+ghost use Rattle.std.specs.Prelude.{◌≡◌, ◌<◌, ◌≤◌, ◌+◌, ◌%◌, MatchOption, MatchResult};
 ghost use Rattle.sdf_filters.specs.Stages.{IsPart, IsSplitOf, IsSplit, IsPartFault, IsSplitFault, HasNoFactor};
 ghost use Rattle.sdf_filters.specs.Stages.{IsLeastFactor};
 
@@ -9,7 +9,7 @@ use crate::fault::FilterFault;
 use crate::ratio::{Ratio, lowest};
 use crate::stage::Stage;
 use sdf_limits::MOST_FACTOR;
-use std::alloc::{AllocError, Global};
+use std::alloc::Global;
 
 /// Returns the stages of a conversion between two rates, in order. Their product is exactly the ratio of the rates.
 ///
@@ -24,15 +24,11 @@ pub fn stages(
 ) -> Result<Vec<Stage>, FilterFault>
     ensures { MatchResult result (λ stages. IsSplit from to stages.items) (IsSplitFault from to) }
 {
-    if from == 0 {
-        return Err(FilterFault::NoRate);
-    }
-    if to == 0 {
+    if from == 0 || to == 0 {
         return Err(FilterFault::NoRate);
     }
     let weights = Weights::new(f64::from(from), f64::from(to), f64::from(attenuation));
-    let stages = split(alloc, lowest(from, to), weights, f64::from(from))?;
-    Ok(stages)
+    split(alloc, lowest(from, to), weights, f64::from(from))
 }
 
 /// Returns the stages of `ratio`, from the rate `from` on.
@@ -53,19 +49,11 @@ fn split(
     let mut rate = from;
     'parts: while left.sum() > 2 {
         let stage = next_stage(left, weights, rate)?;
-        add_stage(&mut stages, stage)?;
+        stages.push(stage)?;
         left = left.after(stage);
         rate = rate * f64::from(stage.up) / f64::from(stage.down);
     }
     Ok(stages)
-}
-
-/// Adds a stage.
-fn add_stage(stages: &mut Vec<Stage>, stage: Stage) -> Result<(), AllocError>
-    ensures { OnOk result (stages.new.items ≡ stages.old.items ++ stage ∷ []) }
-{
-    stages.push(stage)?;
-    Ok(())
 }
 
 /// Returns the next stage of the ratio `left`.

@@ -27,6 +27,7 @@ impl Model for Clip {
 }
 
 impl Clip {
+    /// Makes a clipper. Both limits have 16 bits, though samples have 32, and they may be equal.
     pub fn new(least: i32, greatest: i32) -> Result<Clip, KitFault>
         ensures { result ≡ limits_of least greatest }
     {

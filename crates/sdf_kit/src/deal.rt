@@ -28,6 +28,7 @@ impl Model for Deal {
 }
 
 impl Deal {
+    /// Makes a dealer of 2 to 16 ways and runs of 1 to 64 samples.
     pub fn new(ways: usize, run: u32) -> Result<Deal, KitFault>
         ensures { result ≡ turns_of kinds.Deal ways run }
     {

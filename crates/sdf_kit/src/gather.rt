@@ -28,6 +28,7 @@ impl Model for Gather {
 }
 
 impl Gather {
+    /// Makes a gatherer of 2 to 16 ways and runs of 1 to 64 samples.
     pub fn new(ways: usize, run: u32) -> Result<Gather, KitFault>
         ensures { result ≡ turns_of kinds.Gather ways run }
     {

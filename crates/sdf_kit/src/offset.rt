@@ -27,6 +27,7 @@ impl Model for Offset {
 }
 
 impl Offset {
+    /// Makes an offset of 16 bits, though samples have 32.
     pub fn new(value: i32) -> Result<Offset, KitFault>
         ensures { result ≡ value_of value }
     {

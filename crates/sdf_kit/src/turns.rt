@@ -29,6 +29,7 @@ impl Model for Turns {
 }
 
 impl Turns {
+    /// Makes turns of `run` samples, 1 to 64, for 2 to 16 ways. A fault names `kind`, the actor that takes the turns.
     pub fn new(kind: Kind, ways: usize, run: u32) -> Result<Turns, KitFault>
         ensures { result ≡ turns_of kind ways run }
     {

@@ -14,7 +14,7 @@ ghost use Rattle.sdf_process.specs.Output.{IsExchange, IsExtent};
 use sdf_actor::Net;
 use sdf_faults::Fault;
 use sdf_kit::Kit;
-use sdf_wav::{FormatFault, MOST_CHANNELS, Wav};
+use sdf_wav::{FormatFault, MOST_BYTES_A_SECOND, MOST_CHANNELS, MOST_DATA_BYTES, Wav};
 
 /// The channels and samples that a net moves in a period.
 #[derive(Clone, Copy)]
@@ -88,7 +88,7 @@ impl Exchange {
         requires { IsExchange self }
         ensures { result ≡ nat_lt 4294967259 (2 * (periods * self.made * self.outputs)) }
     {
-        periods > 2_147_483_629 / (self.made * self.outputs)
+        periods > MOST_DATA_BYTES as usize / 2 / (self.made * self.outputs)
     }
 
     /// Returns the rate and the length of the output, or the reason why there can't be one.
@@ -106,7 +106,7 @@ impl Exchange {
             return Err(Fault::RateNotWhole);
         }
         let rate = made / taken;
-        if rate * (2 * self.outputs as u64) > 4_294_967_295 {
+        if rate * (2 * self.outputs as u64) > MOST_BYTES_A_SECOND {
             return Err(Fault::Wav(FormatFault::RateTooLarge));
         }
         let periods = self.periods(announced.frames);

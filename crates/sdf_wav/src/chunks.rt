@@ -8,7 +8,7 @@ ghost use Rattle.sdf_wav.specs.Steps.{Reads, riff_at, header_at, front_at, skip_
 ghost use Rattle.sdf_wav.specs.Steps.{pcm_at, format_at, passed_at, is_some, step_at, last_at, data_at, open_at};
 ghost use Rattle.sdf_wav.specs.PiecesIn.{IsWithin};
 
-use crate::content::UNKNOWN;
+use crate::content::UNKNOWN_SIZE;
 use crate::device::Reader;
 use crate::fault::{FormatFault, ReadFault};
 use crate::format::Format;
@@ -241,7 +241,7 @@ pub(crate) fn open_data<R: Reader>(reader: &mut R) -> Result<DataStart, ReadFaul
 {
     read_riff(reader)?;
     let start = find_data(reader)?;
-    if start.size != UNKNOWN && start.size % u32::from(2 * start.format.channels) != 0 {
+    if start.size != UNKNOWN_SIZE && start.size % u32::from(2 * start.format.channels) != 0 {
         return Err(ReadFault::Format(FormatFault::PartialFrame));
     }
     Ok(start)

@@ -66,12 +66,12 @@ fn read_samples<R: Reader>(alloc: Global, reader: &mut R, limit: u64) -> Result<
 }
 
 /// The data size of a file whose writer never filled it in. The data then goes to the end of the input.
-pub(crate) const UNKNOWN: u32 = 0xFFFF_FFFF;
+pub const UNKNOWN_SIZE: u32 = 0xFFFF_FFFF;
 
-/// Maximum bytes of data whose size was never filled in.
-const MAX_BYTES: u64 = 4_294_967_294;
+/// The most bytes of data whose size was never filled in.
+const MOST_BYTES: u64 = 4_294_967_294;
 
-/// One sample more than `MAX_BYTES`.
+/// One sample more than `MOST_BYTES`.
 const LIMIT: u64 = 4_294_967_296;
 
 /// Reads at most `asked` bytes of data that goes to the end of the input. `gone` bytes of it were read before.
@@ -96,7 +96,7 @@ pub(crate) fn read_open<R: Reader>(
     ensures fault { IfErr (widened result) IsReadingFault }
 {
     let content = read_samples(alloc, reader, asked.min(LIMIT - gone))?;
-    if gone + content.bytes > MAX_BYTES {
+    if gone + content.bytes > MOST_BYTES {
         return Err(ReadFault::Format(FormatFault::TooLong));
     }
     if content.bytes % u64::from(2 * channels) != 0 {

@@ -13,7 +13,7 @@ ghost use Rattle.sdf_wav.specs.PiecesIn.{RefusesToOpen, AnswersBy, known_frames,
 ghost use Rattle.sdf_wav.specs.Steps.{Reads};
 
 use crate::chunks::open_data;
-use crate::content::{UNKNOWN, read_open, read_sized};
+use crate::content::{UNKNOWN_SIZE, read_open, read_sized};
 use crate::device::Reader;
 use crate::fault::{ReadFault, WavFault};
 use crate::format::Format;
@@ -111,7 +111,7 @@ impl ContentIn {
     pub fn frames(&self) -> Option<usize>
         ensures { result ≡ known_frames self.now }
     {
-        if self.size == UNKNOWN {
+        if self.size == UNKNOWN_SIZE {
             return None;
         }
         Some((self.size / u32::from(2 * self.format.channels)) as usize)
@@ -144,7 +144,7 @@ impl ContentIn {
     {
         let samples = (frames as u64).saturating_mul(u64::from(self.format.channels));
         let asked = 2 * samples.min(MOST_SAMPLES);
-        if self.size == UNKNOWN {
+        if self.size == UNKNOWN_SIZE {
             return read_open(alloc, reader, self.format.channels, self.gone, asked);
         }
         let left = u64::from(self.size) - self.gone;

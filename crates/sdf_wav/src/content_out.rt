@@ -9,7 +9,7 @@ use crate::device::Writer;
 use crate::fault::{FormatFault, WavFault};
 use crate::moving::put_all;
 use crate::wav::MOST_CHANNELS;
-use crate::writing::{MAX_BYTES_A_SECOND, MAX_DATA, header, put_samples};
+use crate::writing::{MOST_BYTES_A_SECOND, MOST_DATA_BYTES, header, put_samples};
 use std::marker::Model;
 
 /// What is still to be written of a file after its header, and whether its writer failed. It holds no writer: each call
@@ -56,11 +56,11 @@ impl ContentOut {
         if rate == 0 {
             return Err(WavFault::Format(FormatFault::RateZero));
         }
-        if rate.saturating_mul(2 * u64::from(channels)) > MAX_BYTES_A_SECOND {
+        if rate.saturating_mul(2 * u64::from(channels)) > MOST_BYTES_A_SECOND {
             return Err(WavFault::Format(FormatFault::RateTooLarge));
         }
         let samples = frames.saturating_mul(u64::from(channels));
-        if samples > MAX_DATA / 2 {
+        if samples > MOST_DATA_BYTES / 2 {
             return Err(WavFault::Format(FormatFault::TooLong));
         }
         let header = header(rate as u32, channels, (2 * samples) as u32);

@@ -25,14 +25,16 @@ mod wav_in;
 mod wav_out;
 mod writing;
 
+pub use content::UNKNOWN_SIZE;
 pub use content_in::ContentIn;
 pub use content_out::ContentOut;
 pub use device::{DeviceFault, Reader, Writer};
 pub use fault::{FormatFault, WavFault};
 pub use from_read::FromRead;
+pub use parts::EXTENSIBLE_TAG;
 pub use reading::read_wav;
 pub use to_write::ToWrite;
 pub use wav::{MOST_CHANNELS, Wav};
 pub use wav_in::WavIn;
 pub use wav_out::WavOut;
-pub use writing::write_wav;
+pub use writing::{HEADER_BYTES, MOST_BYTES_A_SECOND, MOST_DATA_BYTES, write_wav};

@@ -34,7 +34,8 @@ pub(crate) struct DataStart {
     pub(crate) size: u32,
 }
 
-const EXTENSIBLE: u16 = 0xFFFE;
+/// The tag of an extensible format, whose real tag is later, in a longer chunk.
+pub const EXTENSIBLE_TAG: u16 = 0xFFFE;
 
 const PCM: u16 = 1;
 
@@ -124,15 +125,9 @@ fn is_pcm16(fields: Fields, content: &[u8]) -> bool
     requires { fields.tag ≡ 0xFFFE → 40 ≤ length content.now }
     ensures { result ≡ is_pcm16 fields content.now }
 {
-    if fields.bits != 16 {
-        false
-    } else if fields.tag == PCM {
-        true
-    } else if fields.tag == EXTENSIBLE {
-        &content[24..40] == PCM_GUID.as_slice()
-    } else {
-        false
-    }
+    fields.bits == 16
+        && (fields.tag == PCM
+            || fields.tag == EXTENSIBLE_TAG && &content[24..40] == PCM_GUID.as_slice())
 }
 
 /// Returns the format in `content`: the content of a format chunk, or its first 40 bytes.
@@ -144,7 +139,7 @@ pub(crate) fn format_of(content: &[u8]) -> Result<Format, FormatFault>
     ensures fault { IfErr result IsInputFault }
 {
     let fields = fields_of(content);
-    if fields.tag == EXTENSIBLE && content.len() < 40 {
+    if fields.tag == EXTENSIBLE_TAG && content.len() < 40 {
         return Err(FormatFault::ShortFormat);
     }
     if !is_pcm16(fields, content) {

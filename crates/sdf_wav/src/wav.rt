@@ -8,7 +8,7 @@ use crate::fault::{FormatFault, WavFault};
 use crate::format::Format;
 use std::marker::Model;
 
-/// Maximum number of channels of a sound. The minimum is 1.
+/// The most channels of a sound. It has at least one.
 pub const MOST_CHANNELS: u16 = 8;
 
 /// A sound: at least one frame a second, 1 to 8 channels, and whole frames of one sample for each channel.

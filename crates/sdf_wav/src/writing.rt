@@ -33,10 +33,19 @@ fn bytes_of_u32(n: u32) -> [u8; 4]
     bytes
 }
 
+/// The bytes of a canonical file before its data.
+pub const HEADER_BYTES: usize = 44;
+
+/// The most bytes a second that a header can state.
+pub const MOST_BYTES_A_SECOND: u64 = 4_294_967_295;
+
+/// The most bytes of data that a header can state. Its RIFF size is 36 bytes more.
+pub const MOST_DATA_BYTES: u64 = 4_294_967_259;
+
 /// Returns the 44 bytes before `size` bytes of data.
 #[tactic(auto, unfolding(crate::specs::Canonical::header))]
-pub(crate) fn header(rate: u32, channels: u16, size: u32) -> [u8; 44]
-    requires size { size ≤ 4294967259 }
+pub(crate) fn header(rate: u32, channels: u16, size: u32) -> [u8; HEADER_BYTES]
+    requires size { size ≤ MOST_DATA_BYTES }
     requires rate { rate * (2 * channels) < 2 ^ 32 }
     requires channels { channels ≤ MOST_CHANNELS }
     ensures { result ≡ header rate channels size }
@@ -76,12 +85,6 @@ pub(crate) fn put_samples<W: Writer>(writer: &mut W, samples: &[i16]) -> Result<
     }
     Ok(())
 }
-
-/// Maximum bytes a second that the header can state.
-pub(crate) const MAX_BYTES_A_SECOND: u64 = 4_294_967_295;
-
-/// Maximum bytes of data that the header can state. Its RIFF size is 36 bytes more.
-pub(crate) const MAX_DATA: u64 = 4_294_967_259;
 
 /// Writes a whole content in one piece.
 fn put_content<W: Writer>(

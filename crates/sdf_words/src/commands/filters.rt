@@ -1,6 +1,8 @@
 //! The commands that make filters and converters: their arguments and help texts.
 
 use super::{Argument, Given, Row, Values};
+use sdf_filters::MOST_ATTENUATION;
+use sdf_limits::{MOST_CHANNEL, MOST_FACTOR, MOST_SHIFT};
 
 const SHAPE: Argument = Argument {
     name: "SHAPE",
@@ -55,7 +57,11 @@ const ATTENUATION: Argument = Argument {
     help: "Of what is stopped, in dB, at most 200",
     more: "How far what is stopped is to be down, in dB, at most 200. Taps of 16 bits limit it: what a filter
 reaches is printed with it",
-    given: Given::Choice("DB", Values::Unsigned(0, 200), Some("96")),
+    given: Given::Choice(
+        "DB",
+        Values::Unsigned(0, MOST_ATTENUATION as u64),
+        Some("96"),
+    ),
 };
 
 const UP: Argument = Argument {
@@ -63,14 +69,14 @@ const UP: Argument = Argument {
     help: "The actor's key `up`, 1 to 64",
     more: "The actor's key `up`, 1 to 64: how many phases the taps have. Those of each phase sum to 2^shift,
 so a constant stays what it is; those of a high-pass and a band-pass sum to 0",
-    given: Given::Choice("U", Values::Unsigned(1, 64), Some("1")),
+    given: Given::Choice("U", Values::Unsigned(1, MOST_FACTOR as u64), Some("1")),
 };
 
 const SHIFT: Argument = Argument {
     name: "shift",
     help: "The actor's key `shift`, at most 15",
     more: "The actor's key `shift`, at most 15",
-    given: Given::Choice("S", Values::Unsigned(0, 15), Some("15")),
+    given: Given::Choice("S", Values::Unsigned(0, MOST_SHIFT as u64), Some("15")),
 };
 
 const FROM: Argument = Argument {
@@ -99,7 +105,7 @@ const CHANNELS: Argument = Argument {
     name: "channels",
     help: "Channels, 1 to 8",
     more: "Channels, 1 to 8: each has the same stages",
-    given: Given::Choice("N", Values::Unsigned(1, 8), Some("1")),
+    given: Given::Choice("N", Values::Unsigned(1, MOST_CHANNEL as u64 + 1), Some("1")),
 };
 
 pub(super) const ROWS: &[Row] = &[

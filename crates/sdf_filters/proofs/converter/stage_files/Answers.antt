@@ -13,11 +13,11 @@ loop-place-init c =
 pub loop-place-preserved : goal.loop-place-preserved
 loop-place-preserved c =
     file_added c.args.from c.args.pass c.args.attenuation c.args.stages.now c.loop-place.files.items
-    c.add_file.new.files.items c.loop-place.place c.loop-place.rate c.index-stages-place.result c.in_ok-wanted.wanted
+    c.push.new.self.items c.loop-place.place c.loop-place.rate c.index-stages-place.result c.in_ok-wanted.wanted
     c.in_ok-file.file c.loop-place.invariant.0 c.loop-place.invariant.1.0 c.loop-place.invariant.1.1
     (slice_get_read c.args.stages.now (length c.args.stages.now) c.loop-place.place c.index-stages-place.result refl
     (search rules) c.index-stages-place.is)
-    c.in_ok-wanted.ensures c.in_ok-file.ensures c.in_ok-add_file.ensures
+    c.in_ok-wanted.ensures c.in_ok-file.ensures c.in_ok-push.ensures.items
 
 pub returns-in_err-wanted : goal.returns-in_err-wanted
 returns-in_err-wanted c =
@@ -40,9 +40,9 @@ returns-in_err-file c =
     (filter_fails c.loop-place.rate c.args.pass c.args.attenuation c.index-stages-place.result c.in_ok-wanted.wanted
     c.in_err-file.field-0.0 c.in_ok-wanted.ensures (omega arith) c.in_err-file.ensures))
 
-pub returns-in_err-add_file : goal.returns-in_err-add_file
-returns-in_err-add_file c =
-    let p = err_from_is_err_and c.from_residual-in_err-add_file.result c.from_residual-in_err-add_file.ensures.1 in
+pub returns-in_err-push : goal.returns-in_err-push
+returns-in_err-push c =
+    let p = err_from_is_err_and c.from_residual-in_err-push.result c.from_residual-in_err-push.ensures.1 in
     rw (p.1, p.2) (stage_fails c.args.from c.args.pass c.args.attenuation c.args.stages.now c.loop-place.files.items
     c.loop-place.place c.loop-place.rate c.index-stages-place.result OutOfMemory
     c.loop-place.invariant.1.0 c.loop-place.invariant.1.1

@@ -4,10 +4,10 @@ use Rattle.sdf_filters.proofs.differences.differences.Goals as goal
 
 pub loop-place-preserved : goal.loop-place-preserved
 loop-place-preserved c =
-    difference_step c.args.from.now c.args.taps.now c.loop-place.left.items c.add_tap.new.taps.items
+    difference_step c.args.from.now c.args.taps.now c.loop-place.left.items c.push.new.self.items
     c.loop-place.place _ _
     c.in_ok-tap.tap _ c.loop-place.invariant.0 (search rules) (search rules) (search rules) c.in_ok-tap.ensures
-    c.in_ok-add_tap.ensures c.loop-place.invariant.1
+    c.in_ok-push.ensures.items c.loop-place.invariant.1
 
 pub returns : goal.returns
 returns c =

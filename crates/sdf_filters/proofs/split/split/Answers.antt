@@ -13,7 +13,7 @@ parts-init c =
 
 pub parts-preserved : goal.parts-preserved
 parts-preserved c =
-    rw (c.in_ok-add_stage.ensures, c.after-left.ensures.up, c.after-left.ensures.down)
+    rw (c.in_ok-push.ensures.items, c.after-left.ensures.up, c.after-left.ensures.down)
     (one_more c.args.ratio.up c.args.ratio.down c.parts.left.up c.parts.left.down c.parts.stages.items
     c.in_ok-stage.stage c.parts.invariant c.in_ok-stage.ensures)
 
