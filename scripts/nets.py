@@ -126,7 +126,7 @@ class Net:
         return gather
 
     def looped(self, end):
-        """A loop, which keeps samples for ever."""
+        """A loop, which may keep samples for ever."""
         self.loops += 1
         add = self.put("add", ways=2)
         self.link(end, f"{add}:0")

@@ -123,7 +123,7 @@ const ROWS: &[Row] = &[
         "4 44 true sdfw: 43 Truncated\n",
     ),
     (
-        "in parallel, what keeps its samples for ever",
+        "in parallel, what may keep its samples for ever",
         65_536,
         "run lasting.toml - - --parallel 2",
         "4 44 true sdfw: 43 Truncated\n",

@@ -10,7 +10,7 @@ use std::num::saturating_f64_to_u64;
 /// The most bytes of samples that are counted in one batch.
 const PIECE: usize = 65_536;
 
-/// The most outputs of a sound: its channels.
+/// `MOST_CHANNELS` as a length.
 const MOST_OUTPUTS: usize = MOST_CHANNELS as usize;
 
 /// The levels of an output.

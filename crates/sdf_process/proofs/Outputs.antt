@@ -63,7 +63,8 @@ module _ (d : DesignValue) (net : IsNet kit_steps d.net) (shape : IsShape (graph
         let both = periods_repeat (rates (graph_of kit_steps d.net)) (λ a. get_or p.repetitions a 0) p.order b
         (graphs_are_sound (graph_of kit_steps d.net) shape)
         (graphs_have_periods (graph_of kit_steps d.net) p.repetitions shape is.least.is) is.pass in (
-          alike_sequences (rates (graph_of kit_steps d.net)) (wiring kit_steps d.net).rates (repeated b p.order) alike both.0,
+          alike_sequences (rates (graph_of kit_steps d.net)) (wiring kit_steps d.net).rates (repeated b p.order) alike
+              both.0,
           λ a l. sym (both.1 a l),
         )
 

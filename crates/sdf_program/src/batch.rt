@@ -1,6 +1,6 @@
 //! The command that runs a design on several WAV files.
 
-ghost use Rattle.std.specs.Prelude.{◌≡◌, ◌≤◌, IfSome};
+ghost use Rattle.std.specs.Prelude.{◌≡◌, ◌≤◌, IfSome, false};
 ghost use Rattle.sdf_plan.specs.Plans.{Suits};
 ghost use Rattle.sdf_words.specs.Limits.{IsCrew};
 
@@ -26,12 +26,15 @@ use std::time::Clock;
 
 /// Returns the run of a batch from the file `input` to the file `output`.
 fn running_of<'a>(batching: Batching<'a>, input: &'a str, output: &'a str) -> Running<'a>
+    ensures graph { result.graph ≡ batching.entry.graph }
     ensures design { result.loaded ≡ batching.entry.loaded }
     ensures input { result.asked.input ≡ input.entry }
     ensures output { result.asked.output ≡ output.entry }
     ensures options { result.asked.options ≡ batching.entry.asked.now.options }
     ensures crew { result.asked.parallel ≡ batching.entry.asked.now.parallel }
     ensures size { result.asked.open_ended ≡ batching.entry.asked.now.open_ended }
+    ensures said { result.is_said ≡ batching.entry.is_said }
+    ensures shown { result.is_shown ≡ false }
 {
     let Batch {
         options,
@@ -61,7 +64,7 @@ struct Course<'a> {
     prepared: &'a Prepared,
 }
 
-/// Returns the canonical paths of the files that a batch reads, other than those that don't exist.
+/// Returns the canonical paths of the sounds that a batch reads, of those that exist.
 fn paths_read<S: Storage>(
     alloc: Global,
     storage: &S,
@@ -86,7 +89,7 @@ fn keep_read(alloc: Global, word: &str, read: &[PathBuf], out: &str) -> Result<(
     Ok(())
 }
 
-/// Errs if the output at `path` is a file that the batch reads, one of `read` among them, and names the output.
+/// Errs if `path` leads to one of `read`, to the graph file or to a coefficient file, and names `path`.
 fn keep_inputs_from<S: Storage>(
     alloc: Global,
     storage: &S,

@@ -3,7 +3,7 @@
 //! It depends on `sdf_document`, whose faults it explains, and on the table of `sdf_kinds`. `sdf_file` reads a design
 //! again, and its net needs `sdf_actor`, `sdf_graph` and `sdf_kit`. `sdf_options` makes a text printable, and
 //! `sdf_similar` finds names that are like a word. Begin at `told`. `document`, `net`, `cycle`, `block` and `sound`
-//! have the lines of each fault, `loops` a loop that keeps samples. `limits` has the limits of a key, `coefficients`
+//! have the lines of each fault, `loops` a loop that may keep samples. `limits` has the limits of a key, `coefficients`
 //! the lines of a coefficient file, and `near` what may have been meant. `more` has what the tables of a net do not
 //! show. It needs the graph that `channels` makes, and `ports` for the ports of its actors. The definitions are in
 //! `specs/Told.antt`, `specs/Documents.antt`, `specs/Coefficients.antt`, `specs/Near.antt`, `specs/Nets.antt`,
