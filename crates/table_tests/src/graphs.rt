@@ -6,7 +6,7 @@ ghost use Rattle.sdf_sched.specs.Period.{IsPeriodOf};
 ghost use Rattle.sdf_prec.specs.Costs.{AreCosts};
 
 use sdf_graph::Graph;
-use sdf_prec::Costs;
+use sdf_prec::{Costs, PrecFault};
 use sdf_sched::class_s::class_s;
 use sdf_sched::{Period, Round};
 use std::alloc::Global;
@@ -50,4 +50,12 @@ pub(crate) fn costs_of(alloc: Global, graph: &Graph, costs: &[u32]) -> Result<Co
     ensures { IfOk result (AreCosts graph.now.actors) }
 {
     Ok(Costs::new(graph, Vec::from_slice(alloc, costs)?)?)
+}
+
+/// Returns the text of the fault, or nothing if there is none.
+pub(crate) fn fault_of<T: Drop>(alloc: Global, made: Result<T, PrecFault>) -> Result<String, Fail> {
+    match made {
+        Ok(_) => Ok(String::new(alloc)),
+        Err(fault) => Ok(fault.to_string(alloc)?),
+    }
 }

@@ -3,8 +3,9 @@
 ghost use Rattle.std.specs.Prelude.{IfOk};
 ghost use Rattle.sdf_graph.specs.Rates.{rates};
 ghost use Rattle.sdf_prec.specs.Tables.{IsExact};
+ghost use Rattle.sdf_times.specs.Times.{IsBlockTable};
 
-use crate::graphs::{BLOCKS, FORK, LONGER_FORK, costs_of, period_of};
+use crate::graphs::{BLOCKS, FORK, LONGER_FORK, costs_of, fault_of, period_of};
 use sdf_graph::Graph;
 use sdf_prec::hu::hu;
 use sdf_prec::{Costs, Table, Team};
@@ -22,8 +23,10 @@ pub(crate) fn table(
     homed: bool,
     costs: &[u32],
 ) -> Result<Table, Fail>
-    ensures { IfOk result (IsExact (rates graph.now)) }
+    ensures exact { IfOk result (IsExact (rates graph.now)) }
+    ensures table { IfOk result (IsBlockTable (rates graph.now) m) }
 {
+    graph.channels();
     let costs = costs_of(alloc, graph, costs)?;
     let period = period_of(alloc, graph)?;
     let team = Team { workers: m, homed };
@@ -62,10 +65,7 @@ fn refusal(alloc: Global, graph: &Graph, m: usize) -> Result<String, Fail> {
         workers: m,
         homed: true,
     };
-    match hu(alloc, graph, &period, 1, team, &costs) {
-        Ok(_) => Ok(String::new(alloc)),
-        Err(fault) => Ok(fault.to_string(alloc)?),
-    }
+    fault_of(alloc, hu(alloc, graph, &period, 1, team, &costs))
 }
 
 /// Rows with the number of actors, the channels, the number of periods, whether each actor keeps to one worker, the

@@ -4,7 +4,7 @@
 ghost use Rattle.std.specs.Prelude.{◌≡◌};
 ghost use Rattle.sdf_prec.specs.Blocks.{block};
 
-use crate::graphs::{BLOCKS, FORK, LONGER_FORK, costs_of, period_of};
+use crate::graphs::{BLOCKS, FORK, LONGER_FORK, costs_of, fault_of, period_of};
 use sdf_graph::Graph;
 use sdf_prec::levels::levels;
 use sdf_prec::{Costs, Firing, Levels, needed};
@@ -41,6 +41,17 @@ fn levels_of(alloc: Global, graph: &Graph, costs: &[u32], number: u32) -> Result
     let period = period_of(alloc, graph)?;
     let of = levels(alloc, graph, &period, 1, &costs)?;
     numbered(alloc, &of, period.repetitions(), number)
+}
+
+/// Calls `levels_of` for the graph of `actors` actors with the channels `rows`.
+fn told(
+    alloc: Global,
+    actors: usize,
+    rows: &[Row],
+    costs: &[u32],
+    number: u32,
+) -> Result<String, Fail> {
+    levels_of(alloc, &graph(alloc, actors, rows)?, costs, number)
 }
 
 /// Rows with the number of actors, the channels, the costs, the number of the firings, and their levels.
@@ -86,6 +97,11 @@ fn needs(alloc: Global, graph: &Graph, numbers: &[u32]) -> Result<String, Fail> 
     Ok(format!(in alloc; "{needs:?}")?)
 }
 
+/// Calls `needs` for the graph of two actors with `channel`.
+fn needs_of(alloc: Global, channel: Row, numbers: &[u32]) -> Result<String, Fail> {
+    needs(alloc, &graph(alloc, 2, &[channel])?, numbers)
+}
+
 /// A channel between two actors, firings of the second, and how many firings of the first each of them waits for.
 const NEEDS: &[(Row, &[u32], &str)] = &[
     ((0, &[2], &[3], 1, 0), &[0, 1], "[2, 3]"),
@@ -98,14 +114,10 @@ const NEEDS: &[(Row, &[u32], &str)] = &[
 fn levels_of_firings(rt: HostRuntime) -> Result<(), Fail> {
     let alloc = rt.alloc();
     for (actors, channels, costs, number, wanted) in LEVELS {
-        let graph = graph(alloc, *actors, channels)?;
-        says(levels_of(alloc, &graph, costs, *number), wanted)?;
+        says(told(alloc, *actors, channels, costs, *number), wanted)?;
     }
     for (channel, numbers, wanted) in NEEDS {
-        says(
-            needs(alloc, &graph(alloc, 2, &[*channel])?, numbers),
-            wanted,
-        )?;
+        says(needs_of(alloc, *channel, numbers), wanted)?;
     }
     Ok(())
 }
@@ -114,18 +126,12 @@ fn levels_of_firings(rt: HostRuntime) -> Result<(), Fail> {
 fn refusal(alloc: Global, graph: &Graph, j: u32) -> Result<String, Fail> {
     let costs = Costs::unit(alloc, graph)?;
     let period = period_of(alloc, graph)?;
-    match levels(alloc, graph, &period, j, &costs) {
-        Ok(_) => Ok(String::new(alloc)),
-        Err(fault) => Ok(fault.to_string(alloc)?),
-    }
+    fault_of(alloc, levels(alloc, graph, &period, j, &costs))
 }
 
 /// Returns the fault of `costs`, or nothing if there is none.
 fn costs_refusal(alloc: Global, graph: &Graph, costs: &[u32]) -> Result<String, Fail> {
-    match Costs::new(graph, Vec::from_slice(alloc, costs)?) {
-        Ok(_) => Ok(String::new(alloc)),
-        Err(fault) => Ok(fault.to_string(alloc)?),
-    }
+    fault_of(alloc, Costs::new(graph, Vec::from_slice(alloc, costs)?))
 }
 
 /// Checks the faults of too many periods, and of costs that are too few, 0 or too many.
@@ -144,16 +150,18 @@ fn has_limits(alloc: Global, short: &Graph) -> Result<(), Fail> {
 /// a block.
 const LONG: &[(&[u32], &[u32])] = &[(&[128], &[255]), (&[255], &[256])];
 
+/// Returns the fault of two periods of a graph of three actors, of which the first two put `first` and `second`.
+fn refusal_of_long(alloc: Global, first: &[u32], second: &[u32]) -> Result<String, Fail> {
+    let long: [Row; 2] = [(0, first, &[1], 1, 0), (1, second, &[1], 2, 0)];
+    refusal(alloc, &graph(alloc, 3, &long)?, 2)
+}
+
 #[test]
 fn limits_of_levels(rt: HostRuntime) -> Result<(), Fail> {
     let alloc = rt.alloc();
     has_limits(alloc, &graph(alloc, 2, BLOCKS)?)?;
     for (first, second) in LONG {
-        let long: [Row; 2] = [(0, first, &[1], 1, 0), (1, second, &[1], 2, 0)];
-        says(
-            refusal(alloc, &graph(alloc, 3, &long)?, 2),
-            "13 BlockTooLong",
-        )?;
+        says(refusal_of_long(alloc, first, second), "13 BlockTooLong")?;
     }
     Ok(())
 }

@@ -169,7 +169,7 @@ fn weights(alloc: Global, graph: &Graph) -> Result<Vec<u64>, AllocError>
     vec![in alloc; 1u64; graph.actors()]
 }
 
-/// Returns the total load of 16 workers by `table`, at unit costs.
+/// Returns the number of firings in `table` and the total load of its 16 workers, at unit costs.
 fn done_by(alloc: Global, graph: &Graph, table: &Table) -> Result<String, Fail>
     requires { IsBlockTable (rates graph.now) 16 table.now }
 {
@@ -179,7 +179,7 @@ fn done_by(alloc: Global, graph: &Graph, table: &Table) -> Result<String, Fail>
     for worker in 0..16 {
         all = all.saturating_add(times.load(worker));
     }
-    Ok(format!(in alloc; "{all}")?)
+    Ok(format!(in alloc; "{} {all}", table.order().len())?)
 }
 
 /// Returns the number of firings and the total load of a block of `j` periods spread over 16 workers, or the text of
@@ -188,10 +188,7 @@ fn spread_out(alloc: Global, graph: &Graph, j: u32) -> Result<String, Fail> {
     let period = period_of(alloc, graph)?;
     let weights = weights(alloc, graph)?;
     match Table::spread(alloc, graph, &period, j, 16, &weights) {
-        Ok(table) => {
-            let done = done_by(alloc, graph, &table)?;
-            Ok(format!(in alloc; "{} {done}", table.order().len())?)
-        }
+        Ok(table) => done_by(alloc, graph, &table),
         Err(fault) => Ok(fault.to_string(alloc)?),
     }
 }

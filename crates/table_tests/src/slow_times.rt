@@ -8,9 +8,9 @@ ghost use Rattle.sdf_prec.specs.Costs.{AreCosts};
 ghost use Rattle.sdf_times.specs.Times.{IsBlockTable, IsInTable, HasStart};
 
 use crate::graphs::{BLOCKS, LONGER_FORK, costs_of, period_of};
+use crate::hu_rows::table;
 use sdf_graph::{Channel, Graph};
-use sdf_prec::hu::hu;
-use sdf_prec::{Costs, Firing, Table, Team};
+use sdf_prec::{Costs, Firing, Table};
 use sdf_times::{Times, bound, span, work};
 use std::alloc::{AllocError, Global};
 use std::test::Fail;
@@ -174,10 +174,7 @@ fn by_model(alloc: Global, graph: &Graph, table: &Table, costs: &[u32]) -> Resul
     settle(graph, costs, &mut free, false);
     let span = last(costs, free.as_slice());
     let work = load(costs, free.as_slice(), None);
-    numbers.push(span)?;
-    numbers.push(work)?;
-    numbers.push(least(span, work, 2))?;
-    Ok(format!(in alloc; "{numbers:?}")?)
+    Ok(format!(in alloc; "{numbers:?} {span} {work} {}", least(span, work, 2))?)
 }
 
 /// Adds the starts of a row's firings.
@@ -219,30 +216,38 @@ pub(crate) fn by_times(
     Ok(numbers)
 }
 
-/// Returns the numbers by the model and by `sdf_times`, for Hu's table of one period in two columns.
-fn both(alloc: Global, graph: &Graph, costs: &[u32]) -> Result<(String, String), Fail> {
+/// Returns the span, the work and the bound of one period in two columns.
+fn least_of(alloc: Global, graph: &Graph, costs: &Costs) -> Result<String, Fail>
+    requires { AreCosts graph.now.actors costs.now }
+{
     graph.channels();
     let period = period_of(alloc, graph)?;
-    let priced = costs_of(alloc, graph, costs)?;
-    let team = Team {
-        workers: 2,
-        homed: false,
-    };
-    let table = hu(alloc, graph, &period, 1, team, &priced)?;
-    let model = by_model(alloc, graph, &table, costs)?;
-    let mut numbers = by_times(alloc, graph, &table, &priced)?;
-    let span = span(alloc, graph, &period, 1, &priced)?;
-    let work = work(period.repetitions(), 1, &priced);
-    numbers.push(span)?;
-    numbers.push(work)?;
-    numbers.push(bound(span, work, 2))?;
-    Ok((model, format!(in alloc; "{numbers:?}")?))
+    let span = span(alloc, graph, &period, 1, costs)?;
+    let work = work(period.repetitions(), 1, costs);
+    Ok(format!(in alloc; "{span} {work} {}", bound(span, work, 2))?)
 }
 
-/// Checks that the model and `sdf_times` give the same numbers.
+/// Returns the numbers by `sdf_times`: the starts, the makespan and the loads of `table`, then the span, the work and
+/// the bound of its period.
+pub(crate) fn figures(
+    alloc: Global,
+    graph: &Graph,
+    table: &Table,
+    costs: &[u32],
+) -> Result<String, Fail>
+    requires { IsBlockTable (rates graph.now) 2 table.now }
+{
+    let costs = costs_of(alloc, graph, costs)?;
+    let numbers = by_times(alloc, graph, table, &costs)?;
+    let least = least_of(alloc, graph, &costs)?;
+    Ok(format!(in alloc; "{numbers:?} {least}")?)
+}
+
+/// Checks that the model and `sdf_times` give the same numbers for Hu's table of one period in two columns.
 fn is_the_same(alloc: Global, name: &str, graph: &Graph, costs: &[u32]) -> Result<(), Fail> {
-    let (model, times) = both(alloc, graph, costs)?;
-    row_says(name, Ok(times), model.as_str())
+    let table = table(alloc, graph, 1, 2, false, costs)?;
+    let model = by_model(alloc, graph, &table, costs)?;
+    row_says(name, figures(alloc, graph, &table, costs), model.as_str())
 }
 
 /// Graphs by name: the number of actors, the channels, and the costs of the firings.

@@ -1,11 +1,16 @@
 //! Worked times, counted by hand: a fork of two ways with three rows of costs, a table that was made for other costs,
 //! and bounds.
 
+ghost use Rattle.std.specs.Prelude.{IfOk};
+ghost use Rattle.sdf_graph.specs.Rates.{rates};
+ghost use Rattle.sdf_times.specs.Times.{IsBlockTable};
+
 use crate::graphs::{BLOCKS, LONGER_FORK, costs_of, period_of};
-use crate::slow_times::by_times;
-use sdf_prec::hu::hu;
-use sdf_prec::{Firing, Table, Team};
-use sdf_times::{bound, span, work};
+use crate::hu_rows::table;
+use crate::slow_times::{by_times, figures};
+use sdf_graph::Graph;
+use sdf_prec::{Firing, Table};
+use sdf_times::bound;
 use std::alloc::{AllocError, Global};
 use std::test::Fail;
 use test_actors::graphs::graph;
@@ -15,19 +20,8 @@ use test_texts::says;
 /// of both columns, the span, the work and the bound.
 fn of_a_fork(alloc: Global, costs: &[u32]) -> Result<String, Fail> {
     let graph = graph(alloc, 7, LONGER_FORK)?;
-    graph.channels();
-    let period = period_of(alloc, &graph)?;
-    let costs = costs_of(alloc, &graph, costs)?;
-    let team = Team {
-        workers: 2,
-        homed: true,
-    };
-    let table = hu(alloc, &graph, &period, 1, team, &costs)?;
-    let numbers = by_times(alloc, &graph, &table, &costs)?;
-    let span = span(alloc, &graph, &period, 1, &costs)?;
-    let work = work(period.repetitions(), 1, &costs);
-    let bound = bound(span, work, 2);
-    Ok(format!(in alloc; "{numbers:?} {span} {work} {bound}")?)
+    let table = table(alloc, &graph, 1, 2, true, costs)?;
+    figures(alloc, &graph, &table, costs)
 }
 
 /// The cost of each actor, and the figures.
@@ -79,11 +73,8 @@ fn cells(alloc: Global, row: &[(usize, u32)]) -> Result<Vec<Option<Firing>>, All
     Ok(cells)
 }
 
-/// Returns the times of a table with given rows. Firings don't start by the number of their row: the sink's second one
-/// waits for its first, which costs 10.
-fn of_other_rows(alloc: Global) -> Result<String, Fail> {
-    let graph = graph(alloc, 2, BLOCKS)?;
-    let period = period_of(alloc, &graph)?;
+/// Returns the rows of a table of `BLOCKS` in which one worker has the source and the other has the sink.
+fn other_rows(alloc: Global) -> Result<Vec<Vec<Option<Firing>>>, AllocError> {
     let mut rows = Vec::new(alloc);
     for row in [
         [(0, 0), (9, 0)],
@@ -93,7 +84,24 @@ fn of_other_rows(alloc: Global) -> Result<String, Fail> {
     ] {
         rows.push(cells(alloc, &row)?)?;
     }
-    let table = Table::accept(alloc, &graph, period.repetitions(), 1, 2, rows)?;
+    Ok(rows)
+}
+
+/// Returns the table of one period of `graph` with these rows.
+fn other_table(alloc: Global, graph: &Graph) -> Result<Table, Fail>
+    ensures table { IfOk result (IsBlockTable (rates graph.now) 2) }
+{
+    let period = period_of(alloc, graph)?;
+    let rows = other_rows(alloc)?;
+    let table = Table::accept(alloc, graph, period.repetitions(), 1, 2, rows)?;
+    Ok(table)
+}
+
+/// Returns the times of a table with given rows. Firings don't start by the number of their row: the sink's second one
+/// waits for its first, which costs 10.
+fn of_other_rows(alloc: Global) -> Result<String, Fail> {
+    let graph = graph(alloc, 2, BLOCKS)?;
+    let table = other_table(alloc, &graph)?;
     let costs = costs_of(alloc, &graph, &[1, 10])?;
     let numbers = by_times(alloc, &graph, &table, &costs)?;
     Ok(format!(in alloc; "{numbers:?}")?)
