@@ -12,7 +12,7 @@ _sdfw() {
     schedule:--workers) :; return ;;
     schedule:--policy) mapfile -t COMPREPLY < <(compgen -W "round lean runs" -- "$word"); return ;;
     schedule:--placement) mapfile -t COMPREPLY < <(compgen -W "hu homed file spread" -- "$word"); return ;;
-    run:--into) :; return ;;
+    run:--into) compopt -o filenames; mapfile -t COMPREPLY < <(compgen -d -- "$word"); return ;;
     run:--blocking) :; return ;;
     run:--workers) :; return ;;
     run:--policy) mapfile -t COMPREPLY < <(compgen -W "round lean runs" -- "$word"); return ;;
@@ -28,7 +28,7 @@ _sdfw() {
     draw:--workers) :; return ;;
     draw:--policy) mapfile -t COMPREPLY < <(compgen -W "round lean runs" -- "$word"); return ;;
     draw:--placement) mapfile -t COMPREPLY < <(compgen -W "hu homed file spread" -- "$word"); return ;;
-    profile:--write) :; return ;;
+    profile:--write) compopt -o filenames; mapfile -t COMPREPLY < <(compgen -f -- "$word"); return ;;
     fir:--rate) :; return ;;
     fir:--pass) :; return ;;
     fir:--stop) :; return ;;

@@ -27,7 +27,7 @@ complete -c sdfw -n '__fish_seen_subcommand_from schedule' -l no-why -d 'Says no
 complete -c sdfw -n '__fish_seen_subcommand_from schedule' -l json -d 'Answers in JSON, also of a fault'
 complete -c sdfw -n '__fish_seen_subcommand_from schedule' -l help -d 'Print help (see more with \'--help\')'
 complete -c sdfw -n '__fish_seen_subcommand_from schedule' -F
-complete -c sdfw -n '__fish_seen_subcommand_from run' -l into -x -d 'The folder to write into, each file by its name'
+complete -c sdfw -n '__fish_seen_subcommand_from run' -l into -x -a '(__fish_complete_directories)' -d 'The folder to write into, each file by its name'
 complete -c sdfw -n '__fish_seen_subcommand_from run' -l blocking -x -d 'Periods in a block, 1 to 64'
 complete -c sdfw -n '__fish_seen_subcommand_from run' -l workers -x -d 'Workers, 1 to 16'
 complete -c sdfw -n '__fish_seen_subcommand_from run' -l policy -x -a 'round lean runs' -d 'Which actor fires next'
@@ -59,7 +59,7 @@ complete -c sdfw -n '__fish_seen_subcommand_from draw' -l why -d 'Says more of a
 complete -c sdfw -n '__fish_seen_subcommand_from draw' -l no-why -d 'Says no more at a terminal than to a pipe or a log'
 complete -c sdfw -n '__fish_seen_subcommand_from draw' -l help -d 'Print help (see more with \'--help\')'
 complete -c sdfw -n '__fish_seen_subcommand_from draw' -F
-complete -c sdfw -n '__fish_seen_subcommand_from profile' -l write -x -d 'Writes the graph file with the measured costs, - for standard output'
+complete -c sdfw -n '__fish_seen_subcommand_from profile' -l write -r -F -d 'Writes the graph file with the measured costs, - for standard output'
 complete -c sdfw -n '__fish_seen_subcommand_from profile' -l why -d 'Says more of a fault: names, values and limits'
 complete -c sdfw -n '__fish_seen_subcommand_from profile' -l no-why -d 'Says no more at a terminal than to a pipe or a log'
 complete -c sdfw -n '__fish_seen_subcommand_from profile' -l help -d 'Print help (see more with \'--help\')'

@@ -21,6 +21,8 @@ mod plain_splits;
 #[cfg(test)]
 mod plain_taps;
 #[cfg(test)]
+mod rounds;
+#[cfg(test)]
 mod stages;
 #[cfg(test)]
 mod tap_rows;

@@ -13,7 +13,6 @@ use sdf_actor::Net;
 use sdf_answer::BlockTable;
 use sdf_kit::Kit;
 use sdf_rings::Rings;
-use sdf_rings::prepare::prepare;
 use sdf_run::NoGate;
 use std::io;
 
@@ -26,9 +25,9 @@ fn finish(mut rings: Rings<'_, Kit>) -> Option<Vec<Vec<i32>>> {
                 rings.work_one(seat, 0, &NoGate);
             }
         }
-        rings.meet();
+        rings.meet().ok()?;
     }
-    rings.meet();
+    rings.meet().ok()?;
     if rings.left() > 0 {
         return None;
     }
@@ -52,7 +51,7 @@ pub(crate) fn finish_twice<R: AllocGlobal + Print>(
 {
     let inputs = inputs_of(rt.alloc(), net, BLOCKS.saturating_mul(table.factor))?;
     for turn in TURNS {
-        let rings = prepare(rt.alloc(), net, table, BLOCKS, &inputs)?;
+        let rings = Rings::prepare(rt.alloc(), net, table, BLOCKS, &inputs)?;
         println!(rt; "{turn}")?;
         show_lists(rt, finish(rings))?;
     }

@@ -173,11 +173,18 @@ fn what_batches_tell(rt: HostRuntime) -> Result<(), Fail> {
 }
 
 /// Lines that would write over a file while it is read, and their reports.
-const ITSELF: &[crate::files::Row] = &[(
-    "a file that would be written over",
-    "run @/graph.toml --into @ @/in.wav",
-    "2 error: …/in.wav is the same file as IN\n",
-)];
+const ITSELF: &[crate::files::Row] = &[
+    (
+        "a file that would be written over",
+        "run @/graph.toml --into @ @/in.wav",
+        "2 error: …/in.wav is the same file as IN\n",
+    ),
+    (
+        "a graph file in the place of a part",
+        "run @/out/in.wav.part --into @/out @/in.wav",
+        "2 error: …/out/in.wav.part is the same file as GRAPH\n",
+    ),
+];
 
 /// Makes the folder `into` anew, with an output of an earlier run.
 fn put_old(rt: &HostRuntime, into: &str) -> Result<(), Fail> {
@@ -207,7 +214,9 @@ fn leaves<T: Threads + AllocGlobal + Clock + Clone + Drop + Sync>(
     has_bytes(rt, into, "in.wav", HALVES, line)?;
     has_bytes(rt, into, "cut.wav", b"old", line)?;
     has_no_part(rt, into)?;
+    put(rt, into, "in.wav.part", PLAIN.as_bytes())?;
     are_told(&Disk { rt }, threads, above, ITSELF)?;
+    has_bytes(rt, into, "in.wav.part", PLAIN.as_bytes(), line)?;
     has_bytes(rt, above, "in.wav", SOUND, line)
 }
 

@@ -41,7 +41,7 @@ const PARALLEL: &[Row] = &[
     (
         "lasting parallel 4 why",
         "run lasting.toml in.wav out.wav --parallel 4 --why",
-        "0\n--\none thread: the loop add -> fork -> none keeps its samples for ever\n\
+        "0\n--\none thread: the loop add -> fork -> none may keep its samples for ever\n\
          output 0: 2 frames, peak -76.3 dB, 0 samples at full scale\n--\n<5 -5>",
     ),
     (

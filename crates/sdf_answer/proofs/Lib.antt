@@ -18,5 +18,4 @@ mod BegunLists
 mod Begun
 mod ByTurns
 mod TwoPorts
-mod GraphTheorems
 pub mod Theorems

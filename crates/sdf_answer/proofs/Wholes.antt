@@ -6,6 +6,8 @@ use Rattle.std.proofs.lemmas.List.Sums.{get_or-le-sum_by}
 use Rattle.std.proofs.lemmas.List.{length-map}
 use Rattle.sdf_graph.specs.Rates.{Rates, rates, IsSound}
 use Rattle.sdf_graph.specs.Sequences.{IsPass, IsPeriod, repeated}
+use Rattle.sdf_graph.proofs.Theorems.{graphs_are_sound, graphs_have_periods, periods_repeat, alike_sequences}
+use Rattle.sdf_graph.proofs.Theorems.{one_least_period}
 use Rattle.sdf_sched.specs.Period.{Schedule}
 use Rattle.sdf_actor.specs.declared.node.Node.{Node}
 use Rattle.sdf_actor.specs.declared.node.Node.TheVariants.{Source, Sink, Inner}
@@ -20,7 +22,6 @@ use Rattle.sdf_answer.specs.Answer.{HasInputs, periods_of}
 use Rattle.sdf_answer.specs.Feeds.{PeriodsMayLeave}
 use Rattle.sdf_answer.specs.Laws.{NetsCanRun}
 use Rattle.sdf_answer.specs.Periods.{HasPeriod, IsPaced}
-use Rattle.sdf_answer.proofs.GraphTheorems.{graph_laws}
 
 -- what begins anew after each period comes to as much in each
 linear : (f : ℕ → ℕ) (q : ℕ) → f 0 ≡ 0 → ((i : ℕ) → f (i + q) ≡ f i + f q) → (b : ℕ) → f (b * q) ≡ b * f q
@@ -52,16 +53,16 @@ module _ {A S T : Type 0} {s : Steps A S T} {n : Netlist A T} {p : Schedule} (ha
   net = (wiring s n).rates
 
   sound : IsSound graph
-  sound = graph_laws.sound (graph_of s n) has.shape
+  sound = graphs_are_sound (graph_of s n) has.shape
 
   period : IsPeriod graph (λ a. get_or q a 0)
-  period = graph_laws.periods (graph_of s n) q has.shape has.period.least.is
+  period = graphs_have_periods (graph_of s n) q has.shape has.period.least.is
 
   -- any number of periods can be fired from the start
   pub passes : (b : ℕ) → (w : List ℕ) × IsPass net (periods_of q b) w
   passes b =
-      let all = graph_laws.repeat graph (λ a. get_or q a 0) p.order b sound period has.period.pass in
-      (repeated b p.order, (graph_laws.alike graph net (repeated b p.order) has.alike all.0, all.1))
+      let all = periods_repeat graph (λ a. get_or q a 0) p.order b sound period has.period.pass in
+      (repeated b p.order, (alike_sequences graph net (repeated b p.order) has.alike all.0, all.1))
 
   -- what each period puts and takes on a channel
   module _ (c : ℕ) (l : c < length n.wires) where
@@ -108,7 +109,7 @@ module _ {A S T : Type 0} {s : Steps A S T} {n : Netlist A T} {p : Schedule} (ha
 
   pub accepted : IsAccepted s n q
   accepted = subst (IsAccepted s n)
-      (graph_laws.one graph has.accepted.0 q has.accepted.1.period has.period.least) has.accepted.1
+      (one_least_period graph has.accepted.0 q has.accepted.1.period has.period.least) has.accepted.1
 
   module _ (periods : ℕ) where
     -- a source reads as many samples as all do

@@ -7,7 +7,6 @@ pub mod Parts
 pub mod Sizes
 pub mod Periods
 pub mod Moves
-pub mod GraphLaws
 pub mod Laws
 pub mod Feeds
 pub mod TwoPorts

@@ -8,7 +8,7 @@ ghost use Rattle.sdf_answer.specs.Blocks.{nothing};
 
 use crate::queue::Queue;
 use sdf_actor::{Actor, Net};
-use sdf_graph::Channel;
+use sdf_graph::{Channel, moved_by};
 use std::alloc::{AllocError, Global};
 
 /// Returns how many samples the source of `channel` puts on it in `periods` periods of `firings` firings each.
@@ -20,21 +20,7 @@ pub fn put_in(channel: &Channel, firings: u32, periods: u32) -> usize
     ensures value { result ≡ periods * sum_to (rate_at channel.now.put) firings }
     ensures few { result ≤ 4398046511104 }
 {
-    periods as usize * put_by(channel, firings)
-}
-
-/// Returns how many samples the first `firings` firings of its source put on `channel`.
-fn put_by(channel: &Channel, firings: u32) -> usize
-    requires some { 0 < length channel.now.put }
-    requires small { (i : ℕ) → slice_index channel.now.put i ≤ 1024 }
-    ensures value { result ≡ sum_to (rate_at channel.now.put) firings }
-    ensures few { result ≤ 1024 * firings }
-{
-    let mut total = 0;
-    for i in 0..firings {
-        total += channel.puts(i) as usize;
-    }
-    total
+    periods as usize * moved_by(&channel.put, u64::from(firings)) as usize
 }
 
 /// Makes the queue of `channel`, in the buffer of `spares[channel]` if there is one. That spare is left with no room.

@@ -18,7 +18,7 @@ pub(crate) enum Files<'a> {
 }
 
 /// Returns the bytes of the first of `files` that is called `name`.
-pub(crate) fn file_named<'a>(name: &str, files: &'a [(String, Vec<u8>)]) -> Option<&'a [u8]>
+pub fn file_named<'a>(name: &str, files: &'a [(String, Vec<u8>)]) -> Option<&'a [u8]>
     ensures { option_map (λ s. s.now) result ≡ file_named name.now (files_view files.now) }
 {
     for file in files {

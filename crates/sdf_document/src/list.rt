@@ -18,13 +18,13 @@ use toml::{Table, Value};
 
 /// The greatest length of a list, and the width of its numbers.
 #[derive(Clone, Copy)]
-pub(crate) struct Limits {
-    pub(crate) most: usize,
-    pub(crate) width: Width,
+pub struct Limits {
+    pub most: usize,
+    pub width: Width,
 }
 
 /// Returns `number` if it fits `width`.
-fn fitting(width: Width, number: i64) -> Option<i32>
+pub fn fitting(width: Width, number: i64) -> Option<i32>
     ensures { result ≡ (if fits width number then Some number else None) }
 {
     match width {

@@ -5,7 +5,7 @@ use Rattle.std.specs.List.{flat_map}
 use Rattle.sdf_actor.specs.Nets.{node}
 use Rattle.sdf_file.specs.Designs.{DesignValue}
 use Rattle.sdf_analyze.specs.Texts.{lines_to}
-use Rattle.sdf_draw.specs.declared.boxes.TheConstants.{POINT, CUT, LETTERS}
+use Rattle.sdf_draw.specs.declared.boxes.TheConstants.{POINT, CUT, FITTING}
 use Rattle.sdf_draw.specs.declared.ports.Shape.{Shape}
 use Rattle.sdf_draw.specs.declared.ports.Shape.TheVariants.{Source, Sink, Filter, Plain}
 use Rattle.sdf_draw.specs.declared.layout.TheConstants.{WIDTH}
@@ -62,10 +62,10 @@ abbrev pub line_text : List ℕ → Place → ℕ → List ℕ
 line_text word p y =
     word ++ number_text (codes " x='") (left_of p + WIDTH / 2) ++ number_text (codes "' y='") y
 
--- a name of more bytes than fit is compressed
+-- a name of more characters than fit is compressed
 abbrev pub pressed_text : ℕ → List ℕ
-pressed_text letters =
-    if nat_lt LETTERS letters then number_text (codes "' lengthAdjust='spacingAndGlyphs' textLength='") (WIDTH - 36)
+pressed_text characters =
+    if nat_lt FITTING characters then number_text (codes "' lengthAdjust='spacingAndGlyphs' textLength='") (WIDTH - 36)
     else []
 
 -- a name in the middle of its box

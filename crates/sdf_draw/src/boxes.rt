@@ -20,8 +20,8 @@ const POINT: u64 = 14;
 /// The size of the cut at each corner of a filter.
 const CUT: u64 = 9;
 
-/// The bytes of the longest name that is drawn at its natural width. A longer name is compressed.
-const LETTERS: usize = 16;
+/// The characters of the longest name that is drawn at its natural width. A longer name is compressed.
+const FITTING: usize = 16;
 
 fn push_point(text: &mut String, x: u64, y: u64) -> Result<(), AllocError>
     ensures { OnOk result (string_bytes text.new ≡ string_bytes text.old ++ point_text (x, y)) }
@@ -121,11 +121,11 @@ fn push_line(text: &mut String, word: &str, place: Place, y: u64) -> Result<(), 
     push_number(text, "' y='", y)
 }
 
-/// Adds the attributes that compress a name of `letters` bytes, if it has more than fit.
-fn push_pressed(text: &mut String, letters: usize) -> Result<(), AllocError>
-    ensures { OnOk result (string_bytes text.new ≡ string_bytes text.old ++ pressed_text letters) }
+/// Adds the attributes that compress a name of `characters` characters, if it has more than fit.
+fn push_pressed(text: &mut String, characters: usize) -> Result<(), AllocError>
+    ensures { OnOk result (string_bytes text.new ≡ string_bytes text.old ++ pressed_text characters) }
 {
-    if letters > LETTERS {
+    if characters > FITTING {
         push_number(
             text,
             "' lengthAdjust='spacingAndGlyphs' textLength='",

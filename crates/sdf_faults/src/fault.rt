@@ -221,6 +221,18 @@ pub fn status(fault: &Fault) -> u8
     }
 }
 
+/// Returns the parser's text of a mistake on the command line. The usage is left out if only a value is wrong, because
+/// it does not help then.
+fn mistake_text(alloc: Global, mistake: &clap::Error) -> Result<String, AllocError> {
+    let whole = format!(in alloc; "{mistake}")?;
+    match whole.as_str().rsplit_once("\n\nUsage: ") {
+        Some((error, _)) if mistake.kind() == ErrorKind::InvalidValue => {
+            format!(in alloc; "{error}\n")
+        }
+        _ => Ok(whole),
+    }
+}
+
 /// Returns the text of `fault` for standard error: one line, and for a deadlock one more line for each actor. For a
 /// mistake on the command line, it has the parser's own text.
 ///
@@ -229,8 +241,9 @@ pub fn fault_text(alloc: Global, fault: &Fault) -> Result<String, AllocError>
     ensures { IfOk result (λ text. IsFaultText fault.now (string_bytes text)) }
 {
     match fault {
-        // Printed as they are: the names of actors, and the parser's own texts.
-        Fault::Deadlock(_) | Fault::Words(_) => format!(in alloc; "sdfw: {fault}\n"),
+        Fault::Words(WordFault::Usage(mistake)) => mistake_text(alloc, mistake),
+        // The names of actors are printed as they are.
+        Fault::Deadlock(_) => format!(in alloc; "sdfw: {fault}\n"),
         _ => {
             let said = format!(in alloc; "{fault}")?;
             let line = printable(alloc, said.as_str())?;

@@ -41,7 +41,7 @@ pub struct Paths<'a> {
 }
 
 /// Returns the usage error for an output, called `word`, that is the same file as the input `what`.
-fn same_file(alloc: Global, word: &str, what: &str) -> Fault {
+pub fn same_file(alloc: Global, word: &str, what: &str) -> Fault {
     match format!(in alloc; "{word} is the same file as {what}") {
         Ok(text) => Fault::from(mistake(alloc, text.as_str())),
         Err(_) => Fault::OutOfMemory,

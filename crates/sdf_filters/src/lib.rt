@@ -7,7 +7,7 @@
 //! `order` of taps. `split` splits a conversion into stages. `converter` makes their design for `sdfw resample`, with
 //! the graph file from `graph`. `sinc`, `cost` and `measure` compute with floats, and no clause says anything of their
 //! values. The definitions are in `specs/Wanted.antt`, `specs/Phases.antt` (the sums of phases), `specs/Stages.antt`
-//! and `specs/Converters.antt`. `rounds` has the one test that calls a private function.
+//! and `specs/Converters.antt`.
 #![tactic(auto)]
 
 mod coefficients;
@@ -22,8 +22,6 @@ mod measure;
 mod order;
 mod phases;
 mod ratio;
-#[cfg(test)]
-mod rounds;
 mod settling;
 mod sinc;
 mod split;
@@ -37,6 +35,7 @@ pub use fault::FilterFault;
 pub use filter::taps_of;
 pub use lowpass::{Lowpass, MOST_ATTENUATION};
 pub use measure::Measured;
+pub use settling::settle;
 pub use split::stages;
 pub use stage::Stage;
 pub use texts::{FilterTexts, filter_texts};

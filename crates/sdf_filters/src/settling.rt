@@ -175,12 +175,7 @@ fn settle_outer(taps: &mut [i32], reals: &[f64], up: usize, total: i64) -> Resul
 
 /// Moves taps until each phase sums to `total`. They are made symmetric first. They stay so unless the phase around the
 /// middle has an even number of taps and `total` is odd.
-pub(crate) fn settle(
-    taps: &mut [i32],
-    reals: &[f64],
-    up: usize,
-    total: i64,
-) -> Result<(), FilterFault>
+pub fn settle(taps: &mut [i32], reals: &[f64], up: usize, total: i64) -> Result<(), FilterFault>
     requires same { length reals.now ≡ length taps.old }
     requires up { 0 < up }
     requires whole { length taps.old % up ≡ 0 }

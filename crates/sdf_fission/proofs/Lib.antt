@@ -1,6 +1,5 @@
 mod Pieces
 mod Counting
-mod Cyclic
 mod Late
 mod Forgetting
 mod Running

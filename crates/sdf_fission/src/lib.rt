@@ -3,10 +3,9 @@
 //! It depends on `sdf_answer`, `sdf_kit`, `sdf_actor`, `sdf_graph`, `sdf_sched` and `sdf_limits`. Begin with
 //! `specs/Warm.antt`. It defines what an actor remembers. It also defines from which firing an actor of a net started
 //! late does what it does in a run from the start. Then read `laws`, `memory` (what actors remember) and `warm_up` (the
-//! periods that a net needs, or why it has none). `warm_up` uses `sums` (what the first firings of an actor move).
+//! periods that a net needs, or why it has none).
 #![tactic(auto)]
 
 pub mod laws;
 pub mod memory;
-mod sums;
 pub mod warm_up;

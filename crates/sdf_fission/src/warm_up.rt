@@ -10,9 +10,8 @@ ghost use Rattle.sdf_fission.specs.WarmUps.{WarmsIn, AreFirings, AreMemories, Is
 ghost use Rattle.sdf_fission.specs.WarmUps.{AreFar, NoneIsLate, IsMove, IsPass, IsEnd, AreWithin, IsLasting};
 
 use crate::memory::Forgetful;
-use crate::sums::moved_by;
 use sdf_actor::{Net, Node};
-use sdf_graph::{Channel, Graph};
+use sdf_graph::{Channel, Graph, moved_by};
 use std::alloc::{AllocError, Global};
 
 /// The greatest number of firings of an actor that is considered. A longer warm-up would take more time than it saves.
@@ -61,7 +60,11 @@ fn cold_samples(channel: &Channel, memory: &[u32], since: &[u32]) -> u64
     requires since { AreFirings (length since.now) since.now }
     ensures { result ≡ cold channel.now (slice_index memory.now) (slice_index since.now) }
 {
-    channel.initial as u64 + moved_by(&channel.put, since[channel.from] + memory[channel.from])
+    channel.initial as u64
+        + moved_by(
+            &channel.put,
+            u64::from(since[channel.from] + memory[channel.from]),
+        )
 }
 
 /// Finds by bisection the first firing before which at least `amount` samples are moved, if it is at most
@@ -77,13 +80,13 @@ fn first_past(rates: &[u32], amount: u64) -> Option<u32>
     let mut high = MAX_FIRINGS;
     while low < high {
         let middle = (low + high) / 2;
-        if moved_by(rates, middle) < amount {
+        if moved_by(rates, u64::from(middle)) < amount {
             low = middle + 1;
         } else {
             high = middle;
         }
     }
-    if moved_by(rates, low) < amount {
+    if moved_by(rates, u64::from(low)) < amount {
         None
     } else {
         Some(low)

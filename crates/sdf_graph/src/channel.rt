@@ -1,8 +1,8 @@
 //! Channels, and the limits of their numbers.
 
-ghost use Rattle.std.specs.Prelude.{◌≡◌, ℕ, ◌≤◌, ◌<◌, length, slice_index, sum, nat_lt, IfOk, map};
+ghost use Rattle.std.specs.Prelude.{◌≡◌, ℕ, ◌*◌, ◌^◌, ◌≤◌, ◌<◌, length, slice_index, sum, nat_lt, IfOk, map};
 ghost use Rattle.sdf_graph.specs.Faults.{channel_fault, channels_fault, are_small, are_rates, is_cycle};
-ghost use Rattle.sdf_graph.specs.Rates.{IsCycle, cycle_among, rate_at};
+ghost use Rattle.sdf_graph.specs.Rates.{IsCycle, cycle_among, rate_at, sum_to};
 ghost use Rattle.sdf_graph.specs.Shares.{totals};
 ghost use Rattle.sdf_graph.specs.Adjacency.{actor_at};
 ghost use Rattle.sdf_graph.specs.Moved.{moves};
@@ -138,6 +138,41 @@ fn rate_at(rates: &[u32], i: u32) -> u32
         return rates[0];
     }
     rates[i as usize % rates.len()]
+}
+
+/// Returns how many samples the first `firings` firings of one cycle move.
+fn moved_in_cycle(rates: &[u32], firings: usize) -> u64
+    requires small { (i : ℕ) → slice_index rates.now i ≤ MOST_RATE }
+    requires within { firings ≤ length rates.now }
+    requires few { firings < 2 ^ 33 }
+    ensures value { result ≡ sum_to (rate_at rates.now) firings }
+    ensures small { result ≤ MOST_RATE * firings }
+{
+    let mut moved = 0;
+    for i in 0..firings {
+        moved += u64::from(rates[i]);
+    }
+    moved
+}
+
+/// Returns how many samples the first `firings` firings of an actor move, given the rates of its cycle.
+pub fn moved_by(rates: &[u32], firings: u64) -> u64
+    requires some { 0 < length rates.now }
+    requires small { (i : ℕ) → slice_index rates.now i ≤ MOST_RATE }
+    requires few { firings < 2 ^ 33 }
+    ensures value { result ≡ sum_to (rate_at rates.now) firings }
+    ensures small { result ≤ MOST_RATE * firings }
+{
+    // A constant rate needs no division.
+    if rates.len() == 1 {
+        return firings * u64::from(rates[0]);
+    }
+    let length = rates.len() as u64;
+    if firings < length {
+        return moved_in_cycle(rates, firings as usize);
+    }
+    let whole = moved_in_cycle(rates, rates.len());
+    firings / length * whole + moved_in_cycle(rates, (firings % length) as usize)
 }
 
 /// Returns the sum of the rates of a cycle.

@@ -18,43 +18,58 @@ end = 10 ∷ []
 
 -- the range from one number to another
 abbrev pub between : ℕ → ℕ → List ℕ
-between least most = codes " " ++ decimal least ++ codes ".." ++ decimal most
+between least most = decimal least ++ codes ".." ++ decimal most
 
 -- the range between numbers of either sign; all numbers of 32 bits have their own words
 unfoldable pub integers : ℤ → ℤ → List ℕ
 integers least most = if int_eq least (negsuc 2147483647) && int_eq most (pos 2147483647)
-    then codes " of 32 bits" else codes " " ++ signed_decimal least ++ codes ".." ++ signed_decimal most
+    then codes "of 32 bits" else signed_decimal least ++ codes ".." ++ signed_decimal most
 
 -- the range from the value of the key `least` to another number
 unfoldable pub from_least : ℤ → List ℕ
-from_least most = codes " least.." ++ signed_decimal most
-
--- the default in parentheses, if there is one
-unfoldable pub absent_text : Option ℤ → List ℕ
-absent_text None = []
-absent_text (Some z) = codes " (" ++ signed_decimal z ++ codes ")"
+from_least most = codes "least.." ++ signed_decimal most
 
 -- the range of the values of a list
 abbrev pub width_text : Width → List ℕ
 width_text Bits16 = codes "of -32768..32767"
 width_text Bits32 = codes "of 32 bits"
 
--- the limit of a list's length, in an array or in a file, and the range of its values
+-- the limit of a list's length, and the range of its values
 abbrev pub values_text : ℕ → Width → List ℕ
-values_text most width = codes " or file: 1.." ++ decimal most ++ codes " values " ++ width_text width
+values_text most width = codes "1.." ++ decimal most ++ codes " values " ++ width_text width
 
--- what follows the name of a key; its default is in parentheses
-abbrev pub form_text : Form → List ℕ
-form_text (Natural least most None) = between least most
-form_text (Natural least most (Some absent)) = between least most ++ codes " (" ++ decimal absent ++ codes ")"
-form_text (Optional least most) = between least most ++ codes " or absent"
-form_text (Integer least most absent) = integers least most ++ absent_text absent
-form_text (FromLeast least most absent) = from_least most ++ absent_text absent
-form_text (ListForm most width) = values_text most width
+-- the limits of a value
+abbrev pub limits_text : Form → List ℕ
+limits_text (Natural least most absent) = between least most
+limits_text (Optional least most) = between least most ++ codes " or absent"
+limits_text (Integer least most absent) = integers least most
+limits_text (FromLeast least most absent) = from_least most
+limits_text (ListForm most width) = values_text most width
 
--- a key
+-- what is between a key's name and its limits: `file` may stand in place of a list
+abbrev pub lead_text : Form → List ℕ
+lead_text (Natural least most absent) = codes " "
+lead_text (Optional least most) = codes " "
+lead_text (Integer least most absent) = codes " "
+lead_text (FromLeast least most absent) = codes " "
+lead_text (ListForm most width) = codes " or file: "
+
+-- the default in parentheses, if there is one
+unfoldable pub absent_text : Option ℤ → List ℕ
+absent_text None = []
+absent_text (Some z) = codes " (" ++ signed_decimal z ++ codes ")"
+
+abbrev pub default_text : Form → List ℕ
+default_text (Natural least most None) = []
+default_text (Natural least most (Some absent)) = codes " (" ++ decimal absent ++ codes ")"
+default_text (Optional least most) = []
+default_text (Integer least most absent) = absent_text absent
+default_text (FromLeast least most absent) = absent_text absent
+default_text (ListForm most width) = []
+
+-- a key, with its limits and its default
 abbrev pub key_text : KeyRow → List ℕ
-key_text k = k.name ++ form_text k.form
+key_text k = k.name ++ lead_text k.form ++ limits_text k.form ++ default_text k.form
 
 -- keys, in their order
 abbrev pub keys_text : List KeyRow → List ℕ

@@ -1,8 +1,8 @@
 //! The table of the kinds of actors. It has a row for each kind, with the kind's word, its keys and their limits.
 //!
-//! `kinds` returns all kinds, `row_of` the row of one kind, and `kinds_text` the table as a text. The reader of graph
-//! files and the kit use it. It depends on `sdf_limits`. Begin at `row`. The definitions are in `specs/Keys.antt`,
-//! `specs/Rows.antt` and `specs/Listing.antt`.
+//! `kinds` returns all kinds, `row_of` the row of one kind, and `kinds_text` the table as a text; `keys_text` and
+//! `limits_text` return parts of it. The reader of graph files, the kit and the diagnostics use it. It depends on
+//! `sdf_limits`. Begin at `row`. The definitions are in `specs/Keys.antt`, `specs/Rows.antt` and `specs/Listing.antt`.
 #![tactic(auto)]
 
 mod key;
@@ -10,5 +10,5 @@ mod listing;
 mod row;
 
 pub use key::Key;
-pub use listing::kinds_text;
+pub use listing::{keys_text, kinds_text, limits_text};
 pub use row::{Form, KeyForm, Kind, Row, Width, kinds, row_of, shared_keys};

@@ -2,21 +2,22 @@
 
 ghost use Rattle.std.specs.Prelude.{◌≡◌, ◌++◌, IfOk, OnOk, string_bytes};
 ghost use Rattle.sdf_kinds.specs.Rows.{key_view, keys_view};
-ghost use Rattle.sdf_kinds.specs.Listing.{integers, from_least, absent_text, width_text, values_text, form_text};
-ghost use Rattle.sdf_kinds.specs.Listing.{key_text, keys_text, since_text, line_of, kinds_text};
+ghost use Rattle.sdf_kinds.specs.Listing.{integers, from_least, absent_text, width_text, values_text, limits_text};
+ghost use Rattle.sdf_kinds.specs.Listing.{lead_text, default_text, key_text, keys_text, since_text, line_of};
+ghost use Rattle.sdf_kinds.specs.Listing.{kinds_text};
 
 use crate::row::{Form, KeyForm, Kind, Width, kinds, row_of, shared_keys};
 use std::alloc::{AllocError, Global};
 
-/// Appends the range from `least` to `most`, or ` of 32 bits` for all values of an `i32`.
+/// Appends the range from `least` to `most`, or `of 32 bits` for all values of an `i32`.
 #[tactic(auto, unfolding(crate::specs::Listing::integers))]
 fn push_integers(text: &mut String, least: i32, most: i32) -> Result<(), AllocError>
     ensures { OnOk result (string_bytes text.new ≡ string_bytes text.old ++ integers least most) }
 {
     if least == i32::MIN && most == i32::MAX {
-        text.push_str(" of 32 bits")
+        text.push_str("of 32 bits")
     } else {
-        write!(text, " {least}..{most}")
+        write!(text, "{least}..{most}")
     }
 }
 
@@ -25,7 +26,49 @@ fn push_integers(text: &mut String, least: i32, most: i32) -> Result<(), AllocEr
 fn push_to(text: &mut String, most: i32) -> Result<(), AllocError>
     ensures { OnOk result (string_bytes text.new ≡ string_bytes text.old ++ from_least most) }
 {
-    write!(text, " least..{most}")
+    write!(text, "least..{most}")
+}
+
+/// Returns the range of a list's values, in words.
+fn width_text(width: Width) -> &'static str
+    ensures { result.now ≡ width_text width }
+{
+    match width {
+        Width::Bits16 => "of -32768..32767",
+        Width::Bits32 => "of 32 bits",
+    }
+}
+
+/// Appends the limit of a list's length and the range of its values.
+fn push_values(text: &mut String, most: usize, width: Width) -> Result<(), AllocError>
+    ensures { OnOk result (string_bytes text.new ≡ string_bytes text.old ++ values_text most width) }
+{
+    write!(text, "1..{most} values ")?;
+    text.push_str(width_text(width))?;
+    Ok(())
+}
+
+/// Appends the limits of a value of this `form`.
+fn push_limits(text: &mut String, form: Form) -> Result<(), AllocError>
+    ensures { OnOk result (string_bytes text.new ≡ string_bytes text.old ++ limits_text form) }
+{
+    match form {
+        Form::Natural(least, most, _) => write!(text, "{least}..{most}"),
+        Form::Optional(least, most) => write!(text, "{least}..{most} or absent"),
+        Form::Integer(least, most, _) => push_integers(text, least, most),
+        Form::FromLeast(_, most, _) => push_to(text, most),
+        Form::List(most, width) => push_values(text, most, width),
+    }
+}
+
+/// Returns what is between a key's name and its limits. A file may be given instead of a list.
+fn lead_text(form: Form) -> &'static str
+    ensures { result.now ≡ lead_text form }
+{
+    match form {
+        Form::List(_, _) => " or file: ",
+        _ => " ",
+    }
 }
 
 /// Appends the default in parentheses, if `absent` has one.
@@ -39,66 +82,25 @@ fn push_absent(text: &mut String, absent: Option<i32>) -> Result<(), AllocError>
     }
 }
 
-/// Appends the range and the default of a key whose value may be negative.
-fn push_integer(
-    text: &mut String,
-    least: i32,
-    most: i32,
-    absent: Option<i32>,
-) -> Result<(), AllocError>
-    ensures { OnOk result (string_bytes text.new ≡
-        string_bytes text.old ++ (integers least most ++ absent_text absent)) }
-{
-    push_integers(text, least, most)?;
-    push_absent(text, absent)
-}
-
-/// Appends the range and the default of a key whose value is at least that of the key `least`.
-fn push_from_least(text: &mut String, most: i32, absent: Option<i32>) -> Result<(), AllocError>
-    ensures { OnOk result (string_bytes text.new ≡ string_bytes text.old ++ (from_least most ++ absent_text absent)) }
-{
-    push_to(text, most)?;
-    push_absent(text, absent)
-}
-
-/// Returns the range of a list's values, in words.
-fn width_text(width: Width) -> &'static str
-    ensures { result.now ≡ width_text width }
-{
-    match width {
-        Width::Bits16 => "of -32768..32767",
-        Width::Bits32 => "of 32 bits",
-    }
-}
-
-/// Appends the limit of a list's length and the range of its values. A file may be given instead of the list.
-fn push_values(text: &mut String, most: usize, width: Width) -> Result<(), AllocError>
-    ensures { OnOk result (string_bytes text.new ≡ string_bytes text.old ++ values_text most width) }
-{
-    write!(text, " or file: 1..{most} values ")?;
-    text.push_str(width_text(width))?;
-    Ok(())
-}
-
-/// Appends what follows a key's name: its limits and its default.
-fn push_form(text: &mut String, form: Form) -> Result<(), AllocError>
-    ensures { OnOk result (string_bytes text.new ≡ string_bytes text.old ++ form_text form) }
+/// Appends the default in parentheses, if a key of this `form` has one.
+fn push_default(text: &mut String, form: Form) -> Result<(), AllocError>
+    ensures { OnOk result (string_bytes text.new ≡ string_bytes text.old ++ default_text form) }
 {
     match form {
-        Form::Natural(least, most, None) => write!(text, " {least}..{most}"),
-        Form::Natural(least, most, Some(absent)) => write!(text, " {least}..{most} ({absent})"),
-        Form::Optional(least, most) => write!(text, " {least}..{most} or absent"),
-        Form::Integer(least, most, absent) => push_integer(text, least, most, absent),
-        Form::FromLeast(_, most, absent) => push_from_least(text, most, absent),
-        Form::List(most, width) => push_values(text, most, width),
+        Form::Natural(_, _, Some(absent)) => write!(text, " ({absent})"),
+        Form::Integer(_, _, absent) | Form::FromLeast(_, _, absent) => push_absent(text, absent),
+        _ => Ok(()),
     }
 }
 
+/// Appends the name of `key`, its limits and its default.
 fn push_key(text: &mut String, key: &KeyForm) -> Result<(), AllocError>
     ensures { OnOk result (string_bytes text.new ≡ string_bytes text.old ++ key_text (key_view key.now)) }
 {
     text.push_str(key.0.name())?;
-    push_form(text, key.1)
+    text.push_str(lead_text(key.1))?;
+    push_limits(text, key.1)?;
+    push_default(text, key.1)
 }
 
 /// Appends `keys` in their order.
@@ -138,6 +140,24 @@ fn push_line(text: &mut String, kind: Kind) -> Result<(), AllocError>
     push_keys(text, row.keys)?;
     text.push_str("\n")?;
     Ok(())
+}
+
+/// Returns the limits of a value of this `form`, as the table of kinds lists them.
+pub fn limits_text(alloc: Global, form: Form) -> Result<String, AllocError>
+    ensures { IfOk result (λ text. string_bytes text ≡ limits_text form) }
+{
+    let mut text = String::new(alloc);
+    push_limits(&mut text, form)?;
+    Ok(text)
+}
+
+/// Returns `keys` with their limits and defaults, as the table of kinds lists them.
+pub fn keys_text(alloc: Global, keys: &[KeyForm]) -> Result<String, AllocError>
+    ensures { IfOk result (λ text. string_bytes text ≡ keys_text (keys_view keys.now)) }
+{
+    let mut text = String::new(alloc);
+    push_keys(&mut text, keys)?;
+    Ok(text)
 }
 
 /// Returns the table of kinds, a line for each. It lists each kind's keys with their limits, and the defaults in

@@ -25,7 +25,7 @@ pub enum Pace {
         periods: u32,
         samples: u64,
     },
-    /// In one thread: the design keeps samples for ever, or for too long.
+    /// In one thread: the design has a loop, which may keep samples for ever, or it keeps them for too long.
     Lasting,
     /// In one thread: only one worker is requested.
     Alone,

@@ -11,6 +11,7 @@ ghost use Rattle.sdf_plan.specs.Ways.{plan_by, HasBlockTable};
 ghost use Rattle.sdf_plan.specs.Plans.{Suits};
 
 use sdf_answer::BlockTable;
+use sdf_options::Runner;
 use sdf_sched::Period;
 use std::marker::Model;
 
@@ -87,6 +88,37 @@ impl Plan {
         ensures { plan_by result.now ≡ self.now }
     {
         &self.way
+    }
+
+    /// Returns the number of periods in a block.
+    pub fn blocking(&self) -> u32
+        ensures { result ≡ self.now.blocking }
+    {
+        match &self.way {
+            Way::One { blocking, .. } | Way::Parts { blocking, .. } => *blocking,
+            Way::Rows(table) | Way::Rings { table, .. } => table.factor,
+        }
+    }
+
+    /// Returns the runner.
+    pub fn runner(&self) -> Runner
+        ensures { result ≡ self.now.runner }
+    {
+        match &self.way {
+            Way::One { .. } | Way::Parts { .. } => Runner::One,
+            Way::Rows(_) => Runner::Rows,
+            Way::Rings { .. } => Runner::Rings,
+        }
+    }
+
+    /// Returns the spin limit of workers over rings, or 0 for another runner.
+    pub fn patience(&self) -> u32
+        ensures { result ≡ self.now.patience }
+    {
+        match &self.way {
+            Way::One { .. } | Way::Parts { .. } | Way::Rows(_) => 0,
+            Way::Rings { patience, .. } => *patience,
+        }
     }
 
     /// Returns the firings of one period, in their order.

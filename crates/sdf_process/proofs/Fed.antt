@@ -5,13 +5,11 @@ use Rattle.std.specs.List.{range_with_len}
 use Rattle.std.proofs.Math.Nat.{mul-div_left, mul-le-mul_left}
 use Rattle.std.proofs.lemmas.List.FromFn.{length-map-range_with_len}
 use Rattle.sdf_actor.specs.declared.sides.Lists.TheVariants.{Inputs, Outputs}
-use Rattle.sdf_actor.specs.Laws.{PortsHaveChannels}
 use Rattle.sdf_actor.specs.Nets.{Netlist}
 use Rattle.sdf_actor.specs.Rests.{AreJoined}
 use Rattle.sdf_actor.specs.Sides.{list_count, period_samples}
 use Rattle.sdf_answer.specs.Answer.{HasInputs, periods_of as firings}
 use Rattle.sdf_answer.specs.Feeds.{AreFull, HasRun}
-use Rattle.sdf_answer.specs.Laws.{NetsCanRun}
 use Rattle.sdf_answer.specs.declared.fault.RunFault.{RunFault}
 use Rattle.sdf_answer.specs.declared.fault.RunFault.TheVariants as run
 use Rattle.sdf_kit.specs.declared.kit.Kit.{Kit}
@@ -30,9 +28,8 @@ use Rattle.sdf_process.specs.declared.portion.Portion.{Portion}
 use Rattle.sdf_faults.specs.declared.fault.Fault.TheVariants.{OutOfMemory}
 use Rattle.sdf_faults.specs.Faults.{of_run}
 use Rattle.sdf_process.specs.Output.{channel_samples, exchange_of, interleaved, lists_from, lists_to}
-use Rattle.sdf_process.specs.Stages.{SamplesJoin}
 use Rattle.sdf_process.specs.Streams.{CanRun, FeedsBy, Follows, Makes, StandsAt}
-use Rattle.sdf_process.proofs.Pieced.{blank, blank_at, blank_long, blocks_made, one_list}
+use Rattle.sdf_process.proofs.Pieced.{AreRun, blank, blank_at, blank_long, blocks_made, one_list}
 use Rattle.sdf_process.proofs.Played.{from_at, lists_full, lists_joined, lists_long}
 use Rattle.sdf_process.proofs.Rendering.{are_inputs}
 use Rattle.sdf_process.proofs.Sizes.{positive}
@@ -157,15 +154,12 @@ module _ (n : Netlist Kit ℤ) (p : Schedule) (j : ℕ) (v : SessionValue Kit (L
         inputs some_inputs some_samples found.1.whole blocks_fed) found.1
 
     -- frames of what was fed
-    pub fed_made : SamplesJoin → NetsCanRun kit_steps → PortsHaveChannels kit_steps →
-        (s : Sound) (few : ℕ) (bytes : List ℕ) → Follows n p j s few blocks bytes v.rest y →
+    pub fed_made : (s : Sound) (few : ℕ) (bytes : List ℕ) → Follows n p j s few blocks bytes v.rest y →
         (frames : ℕ) (list : List ℤ) → list ≡ interleaved frames on →
         Makes n p j s few blocks frames bytes (list ∷ []) w.rest
-    fed_made joins ports_can ports s few bytes follows frames list is =
+    fed_made s few bytes follows frames list is =
         let one = one_list x.outputs frames on list is count in
-        blocks_made joins ports_can ports n p can.has j s few blocks bytes v.rest follows.stands on count
-        after_both.rest
-        run_both w.rest after_both.held frames (list ∷ []) one.0 one.1
+        blocks_made can.has are w.rest after_both.held frames (list ∷ []) one.0 one.1
       where
         count : length on ≡ list_count Outputs n.nodes
         count = fed.count ∙ ap (λ (m : Netlist Kit ℤ). list_count Outputs m.nodes) by.net
@@ -199,6 +193,9 @@ module _ (n : Netlist Kit ℤ) (p : Schedule) (j : ℕ) (v : SessionValue Kit (L
             (λ m z k. HasRun kit_steps m (lists_to ((few + blocks) * j) x s)
             (firings z.repetitions ((few + blocks) * k))
             (join follows.stands.made on) after_both.rest) after_both.run
+
+        are : AreRun n p j s few blocks bytes v.rest on after_both.rest
+        are = record { stands = follows.stands; count = count; run = run_both }
 
 -- ---- a session that was fed nothing
 

@@ -12,6 +12,7 @@ use Rattle.sdf_wav.specs.Canonical.{header, canonical_wav, sample_bytes, IsCanon
 use Rattle.sdf_wav.specs.Device.{AppendsFront, ReaderState, WriterState, one_more}
 use Rattle.sdf_wav.specs.PiecesIn.{Reading, known_frames, sound_read}
 use Rattle.sdf_wav.specs.PiecesOut.{Owed, file_header}
+use Rattle.sdf_wav.proofs.Theorems.{not_both, one_sound}
 use Rattle.sdf_process.specs.declared.exchange.Exchange.{Exchange}
 use Rattle.sdf_process.specs.declared.exchange.Extent.{Extent}
 use Rattle.sdf_faults.specs.declared.fault.Fault.{Fault}
@@ -19,7 +20,7 @@ use Rattle.sdf_faults.specs.declared.fault.Fault.TheVariants.{OutOfMemory, Write
 use Rattle.sdf_process.specs.Output.{announced_by, exchange_of, interleaved, input_lists, output_frames, output_fault}
 use Rattle.sdf_process.specs.Output.{output_header, output_of, periods_of, IsExchange, IsExtent}
 use Rattle.sdf_process.specs.Run.{AreFrames, HasOutput, IsRun, IsText, Refuses}
-use Rattle.sdf_process.specs.Stages.{Hears, IsOpened, PutsOutput, WavLaws}
+use Rattle.sdf_process.specs.Stages.{Hears, IsOpened, PutsOutput}
 use Rattle.sdf_process.specs.declared.source.Source.TheVariants.{Content}
 use Rattle.sdf_process.specs.Streams.{Streams}
 use Rattle.sdf_process.proofs.Outcomes.{appends_join, front_join}
@@ -28,14 +29,14 @@ use Rattle.sdf_process.proofs.Opened.{heard_ahead, stream_stopped, wav_of_heard}
 use Rattle.sdf_process.proofs.Sounds.{length-interleaved}
 use Rattle.sdf_process.proofs.Texts.{text_begins, whole_file}
 
-module _ (laws : WavLaws) (n : Netlist Kit ℤ) (q : List ℕ) (limits : IsExchange (exchange_of n q))
+module _ (n : Netlist Kit ℤ) (q : List ℕ) (limits : IsExchange (exchange_of n q))
     (r r' : ReaderState) (w w1 w' : WriterState) (s : Sound) (e : Extent) (o : Owed)
     (hears : Hears (exchange_of n q) r r' w w1 s e o) where
   abbrev of_output : List ℕ
   of_output = output_header (exchange_of n q) (announced_by s)
 
   heard_is_wav : (input : List ℕ) (known : r.remaining ≡ Some input) → IsWav input s (hears.heard.at input known).0
-  heard_is_wav input known = let y = hears.heard.at input known in wav_of_heard laws input s y.0 y.2.0
+  heard_is_wav input known = let y = hears.heard.at input known in wav_of_heard input s y.0 y.2.0
 
   module _ (periods : ℕ) (frames : List ℕ) (few : periods ≤ periods_of (exchange_of n q) s)
       (are : AreFrames n q s periods frames) where
@@ -60,7 +61,7 @@ module _ (laws : WavLaws) (n : Netlist Kit ℤ) (q : List ℕ) (limits : IsExcha
         }
 
     begins : Begins (of_output ++ frames)
-    begins = text_begins laws n q (announced_by s) e limits hears.extent s periods frames
+    begins = text_begins n q (announced_by s) e limits hears.extent s periods frames
         (subst (λ (k : ℕ). periods ≤ k) (sym hears.extent.periods) few) are
 
     pub finishing_failed : (f : Fault) → ((f ≡ Write) × AppendsFront w1.contents w'.contents frames
@@ -113,13 +114,13 @@ module _ (laws : WavLaws) (n : Netlist Kit ℤ) (q : List ℕ) (limits : IsExcha
     finished = record {
       runs = λ input known. (out, has_output input known, all_written);
       accepts = λ input t rest known wav.
-          let same = (laws.one_sound input t s rest (hears.heard.at input known).0 wav (heard_is_wav input known)).0 in
+          let same = (one_sound input t s rest (hears.heard.at input known).0 wav (heard_is_wav input known)).0 in
           subst (λ (u : Option Fault). Refuses u (Ok tt))
           (sym (ap (output_fault (exchange_of n q)) same ∙ hears.extent.is_allowed)) tt;
       foresees = λ input f size rest g known opens sized is. absurd
           (some_no_none g (sym is ∙ hears.allowed input known f size rest opens sized));
       refuses = λ input f known has allowed. absurd
-          (laws.not_both input s (hears.heard.at input known).0 f (heard_is_wav input known) has);
+          (not_both input s (hears.heard.at input known).0 f (heard_is_wav input known) has);
       devices = record {
         faults = tt;
         leaves = record {
@@ -129,7 +130,7 @@ module _ (laws : WavLaws) (n : Netlist Kit ℤ) (q : List ℕ) (limits : IsExcha
         writes = (
           canonical_wav out,
           subst IsCanonical (sym file_is)
-              (whole_file laws (exchange_of n q) (announced_by s) e limits hears.extent out.samples
+              (whole_file (exchange_of n q) (announced_by s) e limits hears.extent out.samples
               (long ∙ ap (λ (p : ℕ). p * (exchange_of n q).made * (exchange_of n q).outputs)
               (sym hears.extent.periods))),
           all_written,
@@ -140,17 +141,17 @@ module _ (laws : WavLaws) (n : Netlist Kit ℤ) (q : List ℕ) (limits : IsExcha
     }
 
 -- so is a run whose last stage answered this
-pub answered : WavLaws → (n : Netlist Kit ℤ) (q : List ℕ) → IsExchange (exchange_of n q) →
+pub answered : (n : Netlist Kit ℤ) (q : List ℕ) → IsExchange (exchange_of n q) →
     (r r' : ReaderState) (w w1 w' : WriterState) (s : Sound) (e : Extent) (o : Owed) →
     Hears (exchange_of n q) r r' w w1 s e o → (result : Result (Unit {0}) Fault) →
     PutsOutput n q s w1 w' result → IsRun n q r r' w w' result
-answered laws n q limits r r' w w1 w' s e o hears (Ok x) (lists, made, written, fine) =
-    finished laws n q limits r r' w w1 w' s e o hears lists made written fine
-answered laws n q limits r r' w w1 w' s e o hears (Err f) (periods, frames, few, are, why) =
-    finishing_failed laws n q limits r r' w w1 w' s e o hears periods frames few are f why
+answered n q limits r r' w w1 w' s e o hears (Ok x) (lists, made, written, fine) =
+    finished n q limits r r' w w1 w' s e o hears lists made written fine
+answered n q limits r r' w w1 w' s e o hears (Err f) (periods, frames, few, are, why) =
+    finishing_failed n q limits r r' w w1 w' s e o hears periods frames few are f why
 
 -- so is one that read and wrote as it went
-pub streamed : (laws : WavLaws) (n : Netlist Kit ℤ) (q : List ℕ) (x : Exchange) (same : x ≡ exchange_of n q)
+pub streamed : (n : Netlist Kit ℤ) (q : List ℕ) (x : Exchange) (same : x ≡ exchange_of n q)
     (limits : IsExchange x) (r mid : ReaderState) (c : Reading) (opened : IsOpened r mid c) (gone : c.gone ≡ 0)
     (frames : ℕ) (is : known_frames c ≡ Some frames) (e : Extent)
     (extent : IsExtent x (record { rate = c.rate; channels = c.channels; frames = frames }) e)
@@ -162,12 +163,12 @@ pub streamed : (laws : WavLaws) (n : Netlist Kit ℤ) (q : List ℕ) (x : Exchan
       spent = false;
     } →
     (result : Result (Unit {0}) Fault) → Streams n q (Content c) mid r' w1 w' result → IsRun n q r r' w w' result
-streamed laws n q x same limits r mid c opened gone frames is e extent r' w w1 w' written fine one o owed (Ok y)
+streamed n q x same limits r mid c opened gone frames is e extent r' w w1 w' written fine one o owed (Ok y)
     (s, reads, puts) =
-    answered laws n q (subst IsExchange same limits) r r' w w1 w' s e o
-    (heard_ahead laws n q x same limits r mid c opened gone frames is e extent r' w w1 written fine s o reads owed)
+    answered n q (subst IsExchange same limits) r r' w w1 w' s e o
+    (heard_ahead n q x same limits r mid c opened gone frames is e extent r' w w1 written fine s o reads owed)
     (Ok y) puts
-streamed laws n q x same limits r mid c opened gone frames is e extent r' w w1 w' written fine one o owed (Err f)
+streamed n q x same limits r mid c opened gone frames is e extent r' w w1 w' written fine one o owed (Err f)
     (samples, periods, bytes, last, st, reads, why) =
-    stream_stopped laws n q x same limits r mid c opened gone frames is e extent r' w w1 w' one written fine samples
+    stream_stopped n q x same limits r mid c opened gone frames is e extent r' w w1 w' one written fine samples
     periods bytes last st reads f why

@@ -7,13 +7,11 @@ use Rattle.std.proofs.lemmas.Bool.{cases_lt}
 use Rattle.std.proofs.lemmas.List.{get_or_append_left, get_or-append-add, map-append}
 use Rattle.std.proofs.lemmas.List.FromFn.{length-map-range_with_len, take-map-range_with_len}
 use Rattle.sdf_actor.specs.declared.rest.Rest.{Rest}
-use Rattle.sdf_actor.specs.Laws.{PortsHaveChannels}
 use Rattle.sdf_actor.specs.Nets.{Netlist}
 use Rattle.sdf_actor.specs.Rests.{AreJoined}
 use Rattle.sdf_actor.specs.Wires.{lists as items_of}
 use Rattle.sdf_answer.specs.Answer.{periods_of as firings}
 use Rattle.sdf_answer.specs.Feeds.{GoesOnBy, HasRun}
-use Rattle.sdf_answer.specs.Laws.{NetsCanRun}
 use Rattle.sdf_answer.specs.Periods.{HasPeriod}
 use Rattle.sdf_kit.specs.declared.kit.Kit.{Kit}
 use Rattle.sdf_kit.specs.Kit.{kit_steps}
@@ -115,7 +113,7 @@ whole_more outputs xs y each (k, is) i l = go (cases_lt i (length xs))
         ∙ get_or-append-add xs (y ∷ []) 0 [] in
         (k, ap length at ∙ is)
 
-module _ (can : NetsCanRun kit_steps) (ports : PortsHaveChannels kit_steps) (n : Netlist Kit ℤ) (p : Schedule)
+module _ (n : Netlist Kit ℤ) (p : Schedule)
     (has : HasPeriod kit_steps n p) (s : Sound) (at many : ℕ) (made : List (List ℤ)) (rest : Rest ℤ (List ℤ))
     (run : HasRun kit_steps n (lists_to at (exchange_of n p.repetitions) s) (firings p.repetitions at) made rest)
     (input : Sound) (given : lists_from at many (exchange_of n p.repetitions) s ≡
@@ -143,14 +141,14 @@ module _ (can : NetsCanRun kit_steps) (ports : PortsHaveChannels kit_steps) (n :
       GoesOnBy kit_steps n q rest k (read_by n q inputs 0 k) on last → AllLong (k * x.made) on
   on_long k l on last goes e h =
       let count : length made ≡ length on = run.count ∙ sym goes.count in
-      let first = made_long kit_steps n p has can ports at (lists_to at x s) made (are_inputs n q s at)
+      let first = made_long kit_steps n p has at (lists_to at x s) made (are_inputs n q s at)
       (outputs_of n (lists_to at x s) (firings q at) made rest run) in
       let joins : AreJoined (lists_to at x s) (read_by n q inputs 0 k) (lists_to (at + k) x s) =
       subst (λ (ys : List (List ℤ)). AreJoined (lists_to at x s) ys (lists_to (at + k) x s)) (sym (front_is k l))
       (lists_joined at k x s) in
       let both = goes.runs at (lists_to at x s) (lists_to (at + k) x s) made (join made on) (are_inputs n q s at)
       (lists_full n q at s) run joins (joined_is made on (omega (arith, count))) (joined_long made on) in
-      let all = made_long kit_steps n p has can ports (at + k) (lists_to (at + k) x s) (join made on)
+      let all = made_long kit_steps n p has (at + k) (lists_to (at + k) x s) (join made on)
       (are_inputs n q s (at + k))
       (outputs_of n (lists_to (at + k) x s) (firings q (at + k)) (join made on) last both) in
       let each : length (get_or (join made on) e []) ≡ length (get_or made e []) + length (get_or on e []) =

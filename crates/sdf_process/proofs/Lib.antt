@@ -1,4 +1,3 @@
-mod Wav
 mod Sizes
 mod Lists
 mod Outcomes

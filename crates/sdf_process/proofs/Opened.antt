@@ -17,6 +17,7 @@ use Rattle.sdf_wav.specs.PiecesIn.{sound_read, known_frames}
 use Rattle.sdf_wav.specs.PiecesOut.{Owed, file_header}
 use Rattle.sdf_wav.specs.declared.fault.FormatFault.{FormatFault}
 use Rattle.sdf_wav.specs.declared.format.Format.{Format}
+use Rattle.sdf_wav.proofs.Theorems.{files_open, not_both, one_sound, pieces_end}
 use Rattle.sdf_process.specs.declared.exchange.Announced.{Announced}
 use Rattle.sdf_process.specs.declared.exchange.Exchange.{Exchange}
 use Rattle.sdf_process.specs.declared.exchange.Extent.{Extent}
@@ -25,7 +26,7 @@ use Rattle.sdf_faults.specs.declared.fault.Fault.TheVariants.{Write}
 use Rattle.sdf_process.specs.Output.{announced_by, announced_fault, exchange_of, output_frames, output_header}
 use Rattle.sdf_process.specs.Output.{IsExchange, IsExtent}
 use Rattle.sdf_process.specs.Run.{announced_size, AreRead, IsAllowed, IsRun, IsText, IsUnsized}
-use Rattle.sdf_process.specs.Stages.{Hears, IsHeard, IsOpened, ReadsContent, PutsHeader, WavLaws}
+use Rattle.sdf_process.specs.Stages.{Hears, IsHeard, IsOpened, ReadsContent, PutsHeader}
 use Rattle.sdf_process.specs.Sources.{ReadsBy}
 use Rattle.sdf_process.specs.Streams.{IsStream}
 use Rattle.sdf_process.proofs.Outcomes.{appends_join, front_join, lost_twice}
@@ -93,12 +94,12 @@ owed_is {y} x s e o same extent is =
     ∙ ap (λ (p : ℕ). record { channels = y.outputs; missing = p * y.made; spent = false }) extent.periods)
 
 -- what was heard to its end is a file
-pub wav_of_heard : WavLaws → (input : List ℕ) (s : Sound) (rest : List ℕ) → IsHeard input s rest → IsWav input s rest
-wav_of_heard laws input s rest h =
+pub wav_of_heard : (input : List ℕ) (s : Sound) (rest : List ℕ) → IsHeard input s rest → IsWav input s rest
+wav_of_heard input s rest h =
     let made : sound_read h.reading s.samples ≡ s = rw (← h.rate, ← h.channels) refl in
-    subst (λ (t : Sound). IsWav input t rest) made (laws.ends input h.reading s.samples rest h.read h.ended)
+    subst (λ (t : Sound). IsWav input t rest) made (pieces_end input h.reading s.samples rest h.read h.ended)
 
-module _ (laws : WavLaws) (n : Netlist Kit ℤ) (q : List ℕ) (x : Exchange) (same : x ≡ exchange_of n q)
+module _ (n : Netlist Kit ℤ) (q : List ℕ) (x : Exchange) (same : x ≡ exchange_of n q)
     (limits : IsExchange x)
     (r mid : ReaderState) (c : Reading) (opened : IsOpened r mid c) (gone : c.gone ≡ 0) where
   abbrev Fails : (r' : ReaderState) (w w' : WriterState) → Fault → Type 0
@@ -156,7 +157,7 @@ module _ (laws : WavLaws) (n : Netlist Kit ℤ) (q : List ℕ) (x : Exchange) (s
     sounds : (input : List ℕ) (s : Sound) (rest : List ℕ) → r.remaining ≡ Some input → IsWav input s rest →
         announced_by s ≡ announced
     sounds input s rest known wav =
-        let o = laws.announces input s rest wav in
+        let o = files_open input s rest wav in
         let e = same_start input (record { rate = s.rate; channels = s.channels }) o.size o.rest known o.opens in
         let size : c.size ≡ o.size = ap (λ (z : Reading). z.size) e in
         announced_sound s (sym (ap (λ (z : Reading). z.rate) e)) (sym (ap (λ (z : Reading). z.channels) e))
@@ -221,7 +222,7 @@ module _ (laws : WavLaws) (n : Netlist Kit ℤ) (q : List ℕ) (x : Exchange) (s
           }
 
       begins : Begins text
-      begins = text_begins laws n q announced e limited extent_of (sound_read c []) 0 [] (omega arith)
+      begins = text_begins n q announced e limited extent_of (sound_read c []) 0 [] (omega arith)
           (inl (refl, refl))
 
       header_same : file_header e.rate x.outputs (e.periods * x.made) ≡ text
@@ -255,7 +256,7 @@ module _ (laws : WavLaws) (n : Netlist Kit ℤ) (q : List ℕ) (x : Exchange) (s
             (reads.2 ∙ ap one_more opened.counted) fine)
         reading_failed f (inr (inr reads)) =
             subst (Fails r' w w') (sym reads.1)
-            (content_cut n q r r' w w' text is_text begins laws reads.0 (reads.4 sized) put
+            (content_cut n q r r' w w' text is_text begins reads.0 (reads.4 sized) put
             (content_has reads.0 r' reads.2) allowed_by (reads.3 ∙ opened.counted) fine)
 
       -- the content was read behind the header
@@ -366,7 +367,7 @@ module _ (laws : WavLaws) (n : Netlist Kit ℤ) (q : List ℕ) (x : Exchange) (s
           ])
 
           begins_so_far : Begins (output_header (exchange_of n q) announced ++ bytes)
-          begins_so_far = text_begins laws n q announced e limited extent_of (sound_read c samples) periods bytes
+          begins_so_far = text_begins n q announced e limited extent_of (sound_read c samples) periods bytes
               few_periods st.are_frames
 
           pub stream_stopped : (f : Fault) → (((f ≡ Write) × (last ≡ r'.remaining)
@@ -403,13 +404,13 @@ module _ (laws : WavLaws) (n : Netlist Kit ℤ) (q : List ℕ) (x : Exchange) (s
         Fails r' w w f
     content_failed_behind r' w f (inl reads) =
         subst (Fails r' w w) (sym reads.0)
-        (unheard_by_memory laws n q r r' w unsized (lost r' reads.1) (reads.2 ∙ opened.counted))
+        (unheard_by_memory n q r r' w unsized (lost r' reads.1) (reads.2 ∙ opened.counted))
     content_failed_behind r' w f (inr (inl reads)) =
         subst (Fails r' w w) (sym reads.0)
-        (unheard_by_reader laws n q r r' w unsized (lost r' reads.1) (reads.2 ∙ ap one_more opened.counted))
+        (unheard_by_reader n q r r' w unsized (lost r' reads.1) (reads.2 ∙ ap one_more opened.counted))
     content_failed_behind r' w f (inr (inr reads)) =
         subst (Fails r' w w) (sym reads.1)
-        (unheard_by_fault laws n q r r' w unsized reads.0 (content_has reads.0 r' reads.2) (reads.3 ∙ opened.counted))
+        (unheard_by_fault n q r r' w unsized reads.0 (content_has reads.0 r' reads.2) (reads.3 ∙ opened.counted))
 
     -- the sound was heard, and its output is not begun
     module _ (r' : ReaderState) (s : Sound) (reads : ReadsContent c mid r' (Ok s)) where
@@ -454,16 +455,16 @@ module _ (laws : WavLaws) (n : Netlist Kit ℤ) (q : List ℕ) (x : Exchange) (s
       }
 
       is_wav : (input : List ℕ) (known : r.remaining ≡ Some input) → (rest : List ℕ) × IsWav input s rest
-      is_wav input known = let y = heard_whole.at input known in (y.0, wav_of_heard laws input s y.0 y.2.0)
+      is_wav input known = let y = heard_whole.at input known in (y.0, wav_of_heard input s y.0 y.2.0)
 
       pub refused_behind : (w : WriterState) (g : Fault) → announced_fault x (announced_by s) ≡ Some g → Fails r' w w g
       refused_behind w g why =
           refused n q r r' w (announced_by s) at_end (reads.1 ∙ opened.counted)
           (λ input t rest known wav. let y = is_wav input known in
-          ap announced_by (laws.one_sound input t s rest y.0 wav y.1).0)
+          ap announced_by (one_sound input t s rest y.0 wav y.1).0)
           (λ input f size rest known o filled. absurd (filled (unsized input known f size rest o)))
           g (ap (λ (z : Exchange). announced_fault z (announced_by s)) (sym same) ∙ why)
-          (λ input f known has allowed. let y = is_wav input known in laws.not_both input s y.0 f y.1 has)
+          (λ input f known has allowed. let y = is_wav input known in not_both input s y.0 f y.1 has)
 
       module _ (e : Extent) (extent : IsExtent x (announced_by s) e) where
         extent_behind : IsExtent (exchange_of n q) (announced_by s) e
@@ -501,7 +502,7 @@ module _ (laws : WavLaws) (n : Netlist Kit ℤ) (q : List ℕ) (x : Exchange) (s
         header_failed_behind w w' f puts =
             subst (Fails r' w w') (sym puts.0)
             (writer_failed n q r r' w w' text_behind is_text_behind
-            (text_begins laws n q (announced_by s) e limited extent_behind s 0 [] (omega arith) (inl (refl, refl)))
+            (text_begins n q (announced_by s) e limited extent_behind s 0 [] (omega arith) (inl (refl, refl)))
             (subst (AppendsFront w.contents w'.contents) (header_behind
             ∙ sym (append-nil (output_header (exchange_of n q) (announced_by s)))) puts.1)
             (record {

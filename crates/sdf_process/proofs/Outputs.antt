@@ -10,14 +10,15 @@ use Rattle.sdf_actor.specs.Sides.{list_of}
 use Rattle.sdf_actor.specs.NetFaults.{HasLists}
 use Rattle.sdf_graph.specs.Rates.{rates, IsShape, IsAlike}
 use Rattle.sdf_graph.specs.Sequences.{times, IsAdmissible, repeated}
-use Rattle.sdf_graph.specs.Laws.{PeriodsRepeat, AlikeSequences, GraphsAreSound, GraphsHavePeriods, OneLeastPeriod}
+use Rattle.sdf_graph.proofs.Theorems.{alike_sequences, graphs_are_sound, graphs_have_periods, one_least_period}
+use Rattle.sdf_graph.proofs.Theorems.{periods_repeat}
 use Rattle.sdf_sched.specs.Period.{Schedule, IsPeriodOf}
 use Rattle.sdf_actor.specs.Graphs.{graph_of}
 use Rattle.sdf_actor.specs.Laws.{HistoryIsUnique}
 use Rattle.sdf_kit.specs.Kit.{kit_steps}
 use Rattle.sdf_answer.specs.Answer.{AreOutputs, periods_of as firings}
 use Rattle.sdf_wav.specs.Sound.{Sound}
-use Rattle.sdf_wav.specs.Grammar.{IsWav}
+use Rattle.sdf_wav.proofs.Theorems.{one_sound}
 use Rattle.sdf_file.specs.Designs.{DesignValue}
 use Rattle.sdf_process.specs.Output.{exchange_of, periods_of, input_lists, output_of}
 use Rattle.sdf_process.specs.Run.{IsOutput, HasOutput}
@@ -53,19 +54,16 @@ module _ {A S T : Type 0} (s : Steps A S T) (n : Netlist A T) (inputs : List (Li
 
 module _ (d : DesignValue) (net : IsNet kit_steps d.net) (shape : IsShape (graph_of kit_steps d.net))
     (alike : IsAlike (rates (graph_of kit_steps d.net)) (wiring kit_steps d.net).rates)
-    (has : HasLists d.net.nodes) (sound : GraphsAreSound) (periods : GraphsHavePeriods) (one : OneLeastPeriod)
-    (repeats : PeriodsRepeat) (sequences : AlikeSequences) (unique : HistoryIsUnique kit_steps)
-    (one_sound : (bytes : List ℕ) (s t : Sound) (x y : List ℕ) → IsWav bytes s x → IsWav bytes t y →
-    (s ≡ t) × (x ≡ y)) where
+    (has : HasLists d.net.nodes) (unique : HistoryIsUnique kit_steps) where
   module _ (p : Schedule) (is : IsPeriodOf (rates (graph_of kit_steps d.net)) p) where
     -- the order again and again
     again : (b : ℕ) → IsAdmissible (wiring kit_steps d.net).rates (repeated b p.order)
         × ((a : ℕ) → a < length d.net.nodes → firings p.repetitions b a ≡ times (repeated b p.order) a)
     again b =
-        let both = repeats (rates (graph_of kit_steps d.net)) (λ a. get_or p.repetitions a 0) p.order b
-        (sound (graph_of kit_steps d.net) shape)
-        (periods (graph_of kit_steps d.net) p.repetitions shape is.least.is) is.pass in (
-          sequences (rates (graph_of kit_steps d.net)) (wiring kit_steps d.net).rates (repeated b p.order) alike both.0,
+        let both = periods_repeat (rates (graph_of kit_steps d.net)) (λ a. get_or p.repetitions a 0) p.order b
+        (graphs_are_sound (graph_of kit_steps d.net) shape)
+        (graphs_have_periods (graph_of kit_steps d.net) p.repetitions shape is.least.is) is.pass in (
+          alike_sequences (rates (graph_of kit_steps d.net)) (wiring kit_steps d.net).rates (repeated b p.order) alike both.0,
           λ a l. sym (both.1 a l),
         )
 
@@ -98,6 +96,6 @@ module _ (d : DesignValue) (net : IsNet kit_steps d.net) (shape : IsShape (graph
 
   pub one_output_of : OneOutput d
   one_output_of s t input x y of_s of_t of_x of_y =
-      let same : t.repetitions ≡ s.repetitions = one (rates (graph_of kit_steps d.net)) t.repetitions s.repetitions
-      of_t.least of_s.least in
+      let same : t.repetitions ≡ s.repetitions =
+      one_least_period (rates (graph_of kit_steps d.net)) t.repetitions s.repetitions of_t.least of_s.least in
       same_file s of_s input x y of_x (subst (λ q. HasOutput d.net q input y) same of_y)

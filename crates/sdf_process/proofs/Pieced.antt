@@ -3,14 +3,13 @@ use Rattle.std.proofs.Common.{◌≡◌, ℕ, zero, suc, ◌+◌, ◌*◌, ◌<�
 use Rattle.std.proofs.Common.{length, get_or, Option, Some, refl, sym, ap, ◌∙◌, subst, arith}
 use Rattle.sdf_actor.specs.declared.rest.Rest.{Rest}
 use Rattle.sdf_actor.specs.declared.sides.Lists.TheVariants.{Inputs, Outputs}
-use Rattle.sdf_actor.specs.Laws.{PortsHaveChannels}
 use Rattle.sdf_actor.specs.Nets.{Netlist, IsNet}
 use Rattle.sdf_actor.specs.Rests.{AreJoined, IsRest}
 use Rattle.sdf_actor.specs.Sides.{list_count}
 use Rattle.sdf_answer.specs.Answer.{AreOutputs, HasInputs, periods_of as firings}
-use Rattle.sdf_answer.specs.Feeds.{GoesOnBy, HasRun, NothingRuns}
-use Rattle.sdf_answer.specs.Laws.{NetsCanRun}
+use Rattle.sdf_answer.specs.Feeds.{GoesOnBy, HasRun}
 use Rattle.sdf_answer.specs.Periods.{HasPeriod}
+use Rattle.sdf_answer.proofs.Theorems.{nothing_runs}
 use Rattle.sdf_kit.specs.declared.kit.Kit.{Kit}
 use Rattle.sdf_kit.specs.Kit.{kit_steps}
 use Rattle.sdf_sched.specs.Period.{Schedule}
@@ -22,7 +21,6 @@ use Rattle.sdf_process.specs.declared.exchange.Exchange.{Exchange}
 use Rattle.sdf_process.specs.declared.playing.Player.{Player}
 use Rattle.sdf_process.specs.declared.portion.Portion.{Portion}
 use Rattle.sdf_process.specs.Output.{exchange_of, in_turn, interleaved, lists_from, lists_to}
-use Rattle.sdf_process.specs.Stages.{SamplesJoin}
 use Rattle.sdf_process.specs.Streams.{AreWhole, Follows, Makes, PlaysBy, StandsAt, StandsWhole, StaysPlayer}
 use Rattle.sdf_process.proofs.InTurn.{in_turn_more}
 use Rattle.sdf_process.proofs.Played.{frames_on_join, lists_full, lists_joined, made_long}
@@ -51,15 +49,15 @@ blank_long zero = refl
 blank_long (suc k) = ap suc (blank_long k)
 
 -- nothing was run
-pub first_stands : NothingRuns kit_steps → (n : Netlist Kit ℤ) (p : Schedule) (rest : Rest ℤ (List ℤ)) →
+pub first_stands : (n : Netlist Kit ℤ) (p : Schedule) (rest : Rest ℤ (List ℤ)) →
     IsNet kit_steps n → 0 < list_count Inputs n.nodes → 0 < (exchange_of n p.repetitions).taken →
     ((inputs : List (List ℤ)) → IsRest kit_steps n inputs (λ _. 0) rest) → (s : Sound) →
     StandsAt n p 1 s 0 0 [] (Some rest)
-first_stands nothing n p rest good some sized first s = record {
+first_stands n p rest good some sized first s = record {
   made = blank (list_count Outputs n.nodes);
   rest = rest;
   held = refl;
-  run = nothing n p.repetitions (0 * 1) (lists_to (0 * 1) (exchange_of n p.repetitions) s)
+  run = nothing_runs kit_steps n p.repetitions (0 * 1) (lists_to (0 * 1) (exchange_of n p.repetitions) s)
       (blank (list_count Outputs n.nodes)) rest good given (omega (arith, given.count, some)) sized empty
       (blank_long (list_count Outputs n.nodes)) (λ e l. blank_at (list_count Outputs n.nodes) e)
       (first (lists_to (0 * 1) (exchange_of n p.repetitions) s));
@@ -77,31 +75,39 @@ first_stands nothing n p rest good some sized first s = record {
 
 -- ---- the next blocks
 
-module _ (joins : SamplesJoin) (can : NetsCanRun kit_steps) (ports : PortsHaveChannels kit_steps) (n : Netlist Kit ℤ)
-    (p : Schedule) (has : HasPeriod kit_steps n p) (j : ℕ) (s : Sound) (few blocks : ℕ) (bytes : List ℕ)
-    (left : Option (Rest ℤ (List ℤ))) (at : StandsWhole n p j s few bytes left) (on : List (List ℤ))
-    (count : length on ≡ list_count Outputs n.nodes) (last : Rest ℤ (List ℤ))
-    (run : HasRun kit_steps n (lists_to ((few + blocks) * j) (exchange_of n p.repetitions) s)
-    (firings p.repetitions ((few + blocks) * j)) (join at.made on) last) (now : Option (Rest ℤ (List ℤ)))
-    (is : now ≡ Some last) where
+-- they were run behind the first `few`: the lists that both runs made, and the net state after them
+pub record AreRun (n : Netlist Kit ℤ) (p : Schedule) (j : ℕ) (s : Sound) (few blocks : ℕ) (bytes : List ℕ)
+    (left : Option (Rest ℤ (List ℤ))) (on : List (List ℤ)) (last : Rest ℤ (List ℤ)) : Type 0 where
+  pub stands : StandsWhole n p j s few bytes left
+  pub count : length on ≡ list_count Outputs n.nodes
+  pub run : HasRun kit_steps n (lists_to ((few + blocks) * j) (exchange_of n p.repetitions) s)
+      (firings p.repetitions ((few + blocks) * j)) (join stands.made on) last
+
+module _ {n : Netlist Kit ℤ} {p : Schedule} {j : ℕ} {s : Sound} {few blocks : ℕ} {bytes : List ℕ}
+    {left : Option (Rest ℤ (List ℤ))} {on : List (List ℤ)} {last : Rest ℤ (List ℤ)} (has : HasPeriod kit_steps n p)
+    (are : AreRun n p j s few blocks bytes left on last) (now : Option (Rest ℤ (List ℤ))) (is : now ≡ Some last) where
   abbrev x : Exchange
   x = exchange_of n p.repetitions
+
+  abbrev made : List (List ℤ)
+  made = are.stands.made
 
   stands_on_by : (frames : ℕ) → StandsAt n p j s (few + blocks) (few * j * x.made + frames)
       (bytes ++ sample_bytes (interleaved frames on)) now
   stands_on_by frames =
-      let same : length at.made ≡ length on = at.run.count ∙ sym count in
+      let same : length made ≡ length on = are.stands.run.count ∙ sym are.count in
       record {
-        made = join at.made on;
+        made = join made on;
         rest = last;
         held = is;
-        run = run;
-        bytes_are = ap (λ (b : List ℕ). b ++ sample_bytes (interleaved frames on)) at.bytes_are
-            ∙ (sym (bytes_append joins (interleaved (few * j * x.made) at.made) (interleaved frames on))
-            ∙ ap sample_bytes (sym (frames_on_join (few * j * x.made) frames at.made on
-            (made_long kit_steps n p has can ports (few * j) (lists_to (few * j) x s) at.made
+        run = are.run;
+        bytes_are = ap (λ (b : List ℕ). b ++ sample_bytes (interleaved frames on)) are.stands.bytes_are
+            ∙ (sym (bytes_append (interleaved (few * j * x.made) made) (interleaved frames on))
+            ∙ ap sample_bytes (sym (frames_on_join (few * j * x.made) frames made on
+            (made_long kit_steps n p has (few * j) (lists_to (few * j) x s) made
             (are_inputs n p.repetitions s (few * j))
-            (outputs_of n (lists_to (few * j) x s) (firings p.repetitions (few * j)) at.made at.rest at.run)) same)));
+            (outputs_of n (lists_to (few * j) x s) (firings p.repetitions (few * j)) made are.stands.rest
+            are.stands.run)) same)));
       }
 
   -- frames of what was made on
@@ -152,11 +158,11 @@ plays_still n p j v w by (net, period, cut) = record {
 }
 
 -- what it holds is what the run before left
-pub held_is : (n : Netlist Kit ℤ) (p : Schedule) (j : ℕ) (s : Sound) (few frames : ℕ) (bytes : List ℕ)
-    (rest : Rest ℤ (List ℤ)) (at : StandsAt n p j s few frames bytes (Some rest)) →
+pub held_is : {n : Netlist Kit ℤ} {p : Schedule} {j : ℕ} {s : Sound} {few frames : ℕ} {bytes : List ℕ}
+    {rest : Rest ℤ (List ℤ)} (at : StandsAt n p j s few frames bytes (Some rest)) →
     HasRun kit_steps n (lists_to (few * j) (exchange_of n p.repetitions) s) (firings p.repetitions (few * j)) at.made
     rest
-held_is n p j s few frames bytes rest at =
+held_is {n} {p} {j} {s} {few} {frames} {bytes} {rest} at =
     subst (HasRun kit_steps n (lists_to (few * j) (exchange_of n p.repetitions) s)
     (firings p.repetitions (few * j)) at.made) (sym (some_same rest at.rest at.held)) at.run
 
@@ -170,13 +176,17 @@ portion_as n p y is rest on last goes =
     subst (λ (x : Exchange). GoesOnBy kit_steps n p.repetitions rest y.periods (lists_from 0 y.periods x y.input.now) on
     last) is goes
 
-module _ (n : Netlist Kit ℤ) (p : Schedule) (j : ℕ) (s : Sound) (few blocks : ℕ) (bytes : List ℕ)
-    (rest last : Rest ℤ (List ℤ)) (y : Portion) (follows : Follows n p j s few blocks bytes (Some rest) y)
-    (on : List (List ℤ))
+-- the run before and the one on the portion are one run
+module _ {n : Netlist Kit ℤ} {p : Schedule} {j : ℕ} {s : Sound} {few blocks : ℕ} {bytes : List ℕ}
+    {rest last : Rest ℤ (List ℤ)} {y : Portion} {on : List (List ℤ)}
+    (follows : Follows n p j s few blocks bytes (Some rest) y)
     (goes : GoesOnBy kit_steps n p.repetitions rest y.periods (lists_from 0 y.periods (exchange_of n p.repetitions)
     y.input.now) on last) where
   abbrev e : Exchange
   e = exchange_of n p.repetitions
+
+  abbrev before : List (List ℤ)
+  before = follows.stands.made
 
   all : few * j + y.periods ≡ (few + blocks) * j
   all = ap (λ (k : ℕ). few * j + k) follows.periods
@@ -188,15 +198,17 @@ module _ (n : Netlist Kit ℤ) (p : Schedule) (j : ℕ) (s : Sound) (few blocks 
       (subst (λ (k : ℕ). AreJoined (lists_to (few * j) e s) (lists_from (few * j) y.periods e s) (lists_to k e s)) all
       (lists_joined (few * j) y.periods e s))
 
-  -- the run before and this one are one run
-  pub plays_on : HasRun kit_steps n (lists_to ((few + blocks) * j) e s) (firings p.repetitions ((few + blocks) * j))
-      (join follows.stands.made on) last
-  plays_on =
-      let made = follows.stands.made in
-      let count : length made ≡ length on = follows.stands.run.count ∙ sym goes.count in
+  same : length before ≡ length on
+  same = follows.stands.run.count ∙ sym goes.count
+
+  one_run : HasRun kit_steps n (lists_to ((few + blocks) * j) e s) (firings p.repetitions ((few + blocks) * j))
+      (join before on) last
+  one_run =
       subst (λ (k : ℕ). HasRun kit_steps n (lists_to ((few + blocks) * j) e s) (firings p.repetitions k)
-      (join made on) last) all
-      (goes.runs (few * j) (lists_to (few * j) e s) (lists_to ((few + blocks) * j) e s) made (join made on)
-      (are_inputs n p.repetitions s (few * j)) (lists_full n p.repetitions (few * j) s)
-      (held_is n p j s few (few * j * e.made) bytes rest follows.stands) joined
-      (joined_is made on (omega (arith, count))) (joined_long made on))
+      (join before on) last) all
+      (goes.runs (few * j) (lists_to (few * j) e s) (lists_to ((few + blocks) * j) e s) before (join before on)
+      (are_inputs n p.repetitions s (few * j)) (lists_full n p.repetitions (few * j) s) (held_is follows.stands) joined
+      (joined_is before on (omega (arith, same))) (joined_long before on))
+
+  pub plays_on : AreRun n p j s few blocks bytes (Some rest) on last
+  plays_on = record { stands = follows.stands; count = goes.count; run = one_run }

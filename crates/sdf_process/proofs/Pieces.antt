@@ -15,7 +15,7 @@ use Rattle.sdf_wav.specs.declared.fault.WavFault.TheVariants as wav
 use Rattle.sdf_faults.specs.declared.fault.Fault.{Fault}
 use Rattle.sdf_faults.specs.Faults.{of_wav}
 use Rattle.sdf_process.specs.Output.{frame, interleaved_from}
-use Rattle.sdf_process.specs.Stages.{PutsHeader, SamplesJoin}
+use Rattle.sdf_process.specs.Stages.{PutsHeader}
 use Rattle.sdf_process.proofs.Outcomes.{front_join}
 use Rattle.sdf_process.proofs.Texts.{bytes_append}
 
@@ -39,7 +39,7 @@ frames_joined xs a (suc n) m =
     ∙ (ap (λ (l : List ℤ). frame xs a ++ l) (frames_joined xs (a + 1) n m)
     ∙ (sym (flat_map-cons (frame xs) a (range_with_len (a + 1) (n + m))) ∙ end))))
 
-module _ (joins : SamplesJoin) (w w1 w2 : WriterState) (xs here rest all : List ℤ)
+module _ (w w1 w2 : WriterState) (xs here rest all : List ℤ)
     (split : xs ++ (here ++ rest) ≡ all) (before : Appends w.contents w1.contents (sample_bytes xs))
     (counted : w1.failures ≡ w.failures) where
   -- the writer failed among the samples here
@@ -52,8 +52,8 @@ module _ (joins : SamplesJoin) (w w1 w2 : WriterState) (xs here rest all : List 
       let more = sample_bytes rest in
       let bytes : sample_bytes xs ++ sample_bytes here ++ more ≡ sample_bytes all =
       append_assoc (sample_bytes xs) (sample_bytes here) more
-      ∙ (ap (λ (l : List ℕ). sample_bytes xs ++ l) (sym (bytes_append joins here rest))
-      ∙ (sym (bytes_append joins xs (here ++ rest)) ∙ ap sample_bytes split)) in (
+      ∙ (ap (λ (l : List ℕ). sample_bytes xs ++ l) (sym (bytes_append here rest))
+      ∙ (sym (bytes_append xs (here ++ rest)) ∙ ap sample_bytes split)) in (
         is,
         record {
           front = f.front;

@@ -10,7 +10,6 @@ use Rattle.std.proofs.lemmas.List.Concat.{flat_map-cons}
 use Rattle.std.proofs.lemmas.List.FromFn.{length-map-range_with_len, get_or-map-range_with_len}
 use Rattle.sdf_actor.specs.declared.node.Node.TheVariants.{Sink}
 use Rattle.sdf_actor.specs.declared.sides.Lists.TheVariants.{Outputs}
-use Rattle.sdf_actor.specs.Laws.{PortsHaveChannels}
 use Rattle.sdf_actor.specs.Nets.{Netlist, node, wire, wiring, consumed_at, inputs_of, to_port}
 use Rattle.sdf_actor.specs.Rests.{AreJoined}
 use Rattle.sdf_actor.specs.Sides.{period_samples}
@@ -19,11 +18,12 @@ use Rattle.sdf_answer.specs.Answer.{AreOutputs, HasInputs, IsRunFault, periods_o
 use Rattle.sdf_answer.specs.declared.fault.RunFault.{RunFault}
 use Rattle.sdf_answer.specs.declared.fault.RunFault.TheVariants.{OutOfMemory}
 use Rattle.sdf_answer.specs.Feeds.{AreFull}
-use Rattle.sdf_answer.specs.Laws.{NetsCanRun}
 use Rattle.sdf_answer.specs.Periods.{HasPeriod}
 use Rattle.sdf_kit.specs.declared.kit.Kit.{Kit}
 use Rattle.sdf_sched.specs.Period.{Schedule}
 use Rattle.sdf_split.specs.Cuts.{join}
+use Rattle.sdf_actor.proofs.Theorems.{ports_have_channels}
+use Rattle.sdf_answer.proofs.Theorems.{nets_can_run}
 use Rattle.sdf_wav.specs.Sound.{Sound}
 use Rattle.sdf_process.specs.declared.exchange.Exchange.{Exchange}
 use Rattle.sdf_process.specs.Output.{exchange_of, sample, channel_samples, channel_samples_from, frame, interleaved}
@@ -186,7 +186,6 @@ frames_on_join k n xs ys long same =
 
 -- each output list has the samples of its periods
 module _ {S : Type 0} (s : Steps Kit S ℤ) (n : Netlist Kit ℤ) (p : Schedule) (has : HasPeriod s n p)
-    (can : NetsCanRun s) (ports : PortsHaveChannels s)
     (periods : ℕ) (inputs made : List (List ℤ)) (given : HasInputs n p.repetitions periods inputs)
     (is : AreOutputs s n inputs (firings p.repetitions periods) made) where
   module _ (a e block : ℕ) (l : a < length n.nodes) (sink : node n a ≡ Sink e block) where
@@ -200,7 +199,7 @@ module _ {S : Type 0} (s : Steps Kit S ℤ) (n : Netlist Kit ℤ) (p : Schedule)
     known = has.net.to_all a 0 l port
 
     to : (wiring s n).rates.target c ≡ a
-    to = ((ports n a 0 has.net l).0 port).0
+    to = ((ports_have_channels s n a 0 has.net l).0 port).0
 
     takes : (wiring s n).rates.consumed c (firings p.repetitions periods a) ≡ block * firings p.repetitions periods a
     takes = ap (λ b. consumed_at s (node n b) (wire n c).to.1 (firings p.repetitions periods a)) to
@@ -208,7 +207,7 @@ module _ {S : Type 0} (s : Steps Kit S ℤ) (n : Netlist Kit ℤ) (p : Schedule)
 
     whole : (wiring s n).rates.consumed c (firings p.repetitions periods a) ≡
         periods * period_samples n.nodes Outputs p.repetitions
-    whole = takes ∙ (can n p periods inputs has given).makes a e block l sink
+    whole = takes ∙ (nets_can_run s n p periods inputs has given).makes a e block l sink
 
     enough : (wiring s n).rates.consumed c (firings p.repetitions periods a) ≤ length (is.history c)
     enough =

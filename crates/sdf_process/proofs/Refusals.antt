@@ -16,6 +16,7 @@ use Rattle.sdf_wav.specs.declared.fault.FormatFault.TheVariants.{Truncated}
 use Rattle.sdf_wav.specs.declared.fault.WavFault.{WavFault}
 use Rattle.sdf_wav.specs.declared.fault.WavFault.TheVariants as wav
 use Rattle.sdf_wav.specs.declared.format.Format.{Format}
+use Rattle.sdf_wav.proofs.Theorems.{files_open, not_both, one_fault}
 use Rattle.sdf_process.specs.declared.exchange.Announced.{Announced}
 use Rattle.sdf_faults.specs.declared.fault.Fault.{Fault}
 use Rattle.sdf_faults.specs.declared.fault.Fault.TheVariants.{OutOfMemory, Wav, Read, Write, ChannelsMissing}
@@ -24,7 +25,6 @@ use Rattle.sdf_faults.specs.Faults.{of_wav}
 use Rattle.sdf_process.specs.Output.{announced_by, announced_fault, exchange_of, output_fault}
 use Rattle.sdf_process.specs.Run.{Announces, announced_size, HasOutputFault, Handles, IsAllowed, IsRun, IsText}
 use Rattle.sdf_process.specs.Run.{IsUnsized, ReadsAnnounced, ReadsInto, Refuses, Runs, WritesFile, WritesSome}
-use Rattle.sdf_process.specs.Stages.{WavLaws}
 use Rattle.sdf_process.proofs.Outcomes.{IsOfOutput, fault_of_announced, keeps_same, kept, refuses_outside}
 
 -- what is said of the fault of a call that failed, said of that call's own
@@ -49,7 +49,7 @@ fails_by (Ok x) f P Q is q = absurd is
 
 -- ---- a file that did not open
 
-module _ (laws : WavLaws) (n : Netlist Kit ℤ) (q : List ℕ) (r r' : ReaderState) (w : WriterState) where
+module _ (n : Netlist Kit ℤ) (q : List ℕ) (r r' : ReaderState) (w : WriterState) where
   pub unopened : (e : WavFault) → AnswersOpening r.remaining r'.remaining (Err e) →
       r'.failures ≡ failures_after {X = Unit {0}} (Err e) r.failures →
       ((input : List ℕ) (f : Format) (size : ℕ) (rest : List ℕ) → r.remaining ≡ Some input → Opens input f size rest →
@@ -84,10 +84,10 @@ module _ (laws : WavLaws) (n : Netlist Kit ℤ) (q : List ℕ) (r r' : ReaderSta
   unopened (wav.Format g) said counted only = record {
     runs = λ input known. let y = said.at input known in
         inl (y.2.0.has, (λ f size rest o. absurd (y.2.0.opens_not f size rest o)), keeps_same w.contents);
-    accepts = λ input s rest known is. let o = laws.announces input s rest is in
+    accepts = λ input s rest known is. let o = files_open input s rest is in
         absurd ((said.at input known).2.0.opens_not _ o.size o.rest o.opens);
     foresees = λ input f size rest e known o sized is. absurd ((said.at input known).2.0.opens_not f size rest o);
-    refuses = λ input f known has allowed. inl (ap Wav (laws.one_fault input g f (said.at input known).2.0.has has));
+    refuses = λ input f known has allowed. inl (ap Wav (one_fault input g f (said.at input known).2.0.has has));
     devices = record {
       faults = tt;
       leaves = record { at = λ input known. let y = said.at input known in (y.0, y.1, inl (y.2.0.has, y.2.1)) };
@@ -264,17 +264,17 @@ module _ (n : Netlist Kit ℤ) (q : List ℕ) (r r' : ReaderState) (w w' : Write
   }
 
   -- the content is cut off
-  pub content_cut : WavLaws → (g : FormatFault) → g ≡ Truncated → Appends w.contents w'.contents text →
+  pub content_cut : (g : FormatFault) → g ≡ Truncated → Appends w.contents w'.contents text →
       Known r.remaining r'.remaining (λ input rest. HasFault input g × LosesFront input rest) →
       ((input : List ℕ) → r.remaining ≡ Some input → IsAllowed (exchange_of n q) input) → r'.failures ≡ r.failures →
       w'.failures ≡ w.failures →
       IsRun n q r r' w w' (Err (Wav g))
-  content_cut laws g cut written has allowed counted fine = record {
+  content_cut g cut written has allowed counted fine = record {
     runs = λ input known. inr (inr ((has.at input known).2.0, (text, is input known, written)));
-    accepts = λ input s rest known wav. absurd (laws.not_both input s rest g wav (has.at input known).2.0);
+    accepts = λ input s rest known wav. absurd (not_both input s rest g wav (has.at input known).2.0);
     foresees = λ input f size rest e known o sized why. absurd
         (some_no_none e (sym why ∙ allowed input known f size rest o sized));
-    refuses = λ input f known h allowed. inl (ap Wav (laws.one_fault input g f (has.at input known).2.0 h));
+    refuses = λ input f known h allowed. inl (ap Wav (one_fault input g f (has.at input known).2.0 h));
     devices = record {
       faults = tt;
       leaves = record { at = λ input known. let y = has.at input known in (y.0, y.1, inl y.2) };
@@ -287,7 +287,7 @@ module _ (n : Netlist Kit ℤ) (q : List ℕ) (r r' : ReaderState) (w w' : Write
 
 -- ---- the content of a size that was not filled in failed
 
-module _ (laws : WavLaws) (n : Netlist Kit ℤ) (q : List ℕ) (r r' : ReaderState) (w : WriterState)
+module _ (n : Netlist Kit ℤ) (q : List ℕ) (r r' : ReaderState) (w : WriterState)
     (unsized : (input : List ℕ) → r.remaining ≡ Some input → IsUnsized input) where
   pub unheard_by_memory : Known r.remaining r'.remaining LosesFront → r'.failures ≡ r.failures →
       IsRun n q r r' w w (Err OutOfMemory)
@@ -326,9 +326,9 @@ module _ (laws : WavLaws) (n : Netlist Kit ℤ) (q : List ℕ) (r r' : ReaderSta
       r'.failures ≡ r.failures → IsRun n q r r' w w (Err (Wav g))
   unheard_by_fault g has counted = record {
     runs = λ input known. inl ((has.at input known).2.0, unsized input known, keeps_same w.contents);
-    accepts = λ input s rest known wav. absurd (laws.not_both input s rest g wav (has.at input known).2.0);
+    accepts = λ input s rest known wav. absurd (not_both input s rest g wav (has.at input known).2.0);
     foresees = λ input f size rest e known o sized why. absurd (sized (unsized input known f size rest o));
-    refuses = λ input f known h allowed. inl (ap Wav (laws.one_fault input g f (has.at input known).2.0 h));
+    refuses = λ input f known h allowed. inl (ap Wav (one_fault input g f (has.at input known).2.0 h));
     devices = record {
       faults = tt;
       leaves = record { at = λ input known. let y = has.at input known in (y.0, y.1, inl y.2) };

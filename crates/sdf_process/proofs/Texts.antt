@@ -8,17 +8,17 @@ use Rattle.sdf_kit.specs.declared.kit.Kit.{Kit}
 use Rattle.sdf_wav.specs.Sound.{Sound}
 use Rattle.sdf_wav.specs.Canonical.{header, sample_bytes, write_fault, IsCanonical}
 use Rattle.sdf_wav.specs.PiecesOut.{file_header}
+use Rattle.sdf_wav.proofs.Theorems.{files_are_canonical, puts_join}
 use Rattle.sdf_process.specs.declared.exchange.Announced.{Announced}
 use Rattle.sdf_process.specs.declared.exchange.Exchange.{Exchange}
 use Rattle.sdf_process.specs.declared.exchange.Extent.{Extent}
 use Rattle.sdf_process.specs.Output.{exchange_of, interleaved, output_header, rate_for, IsExchange, IsExtent}
 use Rattle.sdf_process.specs.Run.{AreFrames}
-use Rattle.sdf_process.specs.Stages.{SamplesJoin, WavLaws}
 use Rattle.sdf_process.proofs.Refusals.{Begins}
 use Rattle.sdf_process.proofs.Sounds.{length-interleaved, size_fits}
 
-pub bytes_append : SamplesJoin → (xs ys : List ℤ) → sample_bytes (xs ++ ys) ≡ sample_bytes xs ++ sample_bytes ys
-bytes_append joins xs ys = sym (joins (Some []) (Some (sample_bytes xs)) (Some (sample_bytes xs ++ sample_bytes ys))
+pub bytes_append : (xs ys : List ℤ) → sample_bytes (xs ++ ys) ≡ sample_bytes xs ++ sample_bytes ys
+bytes_append xs ys = sym (puts_join (Some []) (Some (sample_bytes xs)) (Some (sample_bytes xs ++ sample_bytes ys))
     xs ys refl refl)
 
 -- the header that is written is that of the output of what is announced
@@ -27,7 +27,7 @@ pub header_is : (x : Exchange) (a : Announced) (e : Extent) → IsExtent x a e �
 header_is x a e is = ap (λ (r : ℕ). file_header r x.outputs (e.periods * x.made)) is.rate
     ∙ ap (λ (p : ℕ). file_header (rate_for x a.rate) x.outputs (p * x.made)) is.periods
 
-module _ (laws : WavLaws) (x : Exchange) (a : Announced) (e : Extent) (limits : IsExchange x)
+module _ (x : Exchange) (a : Announced) (e : Extent) (limits : IsExchange x)
     (is : IsExtent x a e) where
   abbrev frames : ℕ
   frames = e.periods * x.made
@@ -42,7 +42,7 @@ module _ (laws : WavLaws) (x : Exchange) (a : Announced) (e : Extent) (limits : 
       let whole : length samples % x.outputs ≡ 0 = ap (λ (k : ℕ). k % x.outputs) long ∙ mul-mod_left frames x.outputs in
       let small : e.rate < 2 ^ 32 = rate_small e.rate x.outputs limits.one_output is.few_bytes_a_second in
       subst (λ (k : ℕ). IsCanonical (header e.rate x.outputs (2 * k) ++ sample_bytes samples)) long
-      (laws.canonical s is.some_rate small limits.one_output limits.few_outputs whole fits)
+      (files_are_canonical s is.some_rate small limits.one_output limits.few_outputs whole fits)
     where
       rate_small : (r o : ℕ) → 1 ≤ o → r * (2 * o) ≤ 4294967295 → r < 2 ^ 32
       rate_small r o one few = let more : r * 2 ≤ r * (2 * o) = mul-le-mul_left r (omega arith) in omega arith
@@ -59,7 +59,7 @@ module _ (laws : WavLaws) (x : Exchange) (a : Announced) (e : Extent) (limits : 
         more = sample_bytes zeros;
         canonical = file_of (samples ++ zeros) long;
         whole = ap (λ (h : List ℕ). h ++ sample_bytes (samples ++ zeros)) (header_is x a e is)
-            ∙ (ap (λ (b : List ℕ). output_header x a ++ b) (bytes_append laws.joins samples zeros)
+            ∙ (ap (λ (b : List ℕ). output_header x a ++ b) (bytes_append samples zeros)
             ∙ sym (append_assoc (output_header x a) (sample_bytes samples) (sample_bytes zeros)));
       }
 
@@ -70,14 +70,14 @@ module _ (laws : WavLaws) (x : Exchange) (a : Announced) (e : Extent) (limits : 
       (file_of samples long)
 
 -- the frames of some periods behind the header
-pub text_begins : WavLaws → (n : Netlist Kit ℤ) (q : List ℕ) (a : Announced) (e : Extent) →
+pub text_begins : (n : Netlist Kit ℤ) (q : List ℕ) (a : Announced) (e : Extent) →
     IsExchange (exchange_of n q) → IsExtent (exchange_of n q) a e →
     (s : Sound) (periods : ℕ) (bytes : List ℕ) → periods ≤ e.periods → AreFrames n q s periods bytes →
     Begins (output_header (exchange_of n q) a ++ bytes)
-text_begins laws n q a e limits is s periods bytes few (inl (none, no_bytes)) =
+text_begins n q a e limits is s periods bytes few (inl (none, no_bytes)) =
     subst (λ (b : List ℕ). Begins (output_header (exchange_of n q) a ++ b)) (sym no_bytes)
-    (begins_of laws (exchange_of n q) a e limits is [] (omega arith))
-text_begins laws n q a e limits is s periods bytes few (inr (lists, made, same)) =
+    (begins_of (exchange_of n q) a e limits is [] (omega arith))
+text_begins n q a e limits is s periods bytes few (inr (lists, made, same)) =
     let x = exchange_of n q in
     let frames = interleaved (periods * x.made) lists in
     let long : length frames ≡ periods * x.made * x.outputs =
@@ -85,4 +85,4 @@ text_begins laws n q a e limits is s periods bytes few (inr (lists, made, same))
     let fewer : periods * x.made * x.outputs ≤ e.periods * x.made * x.outputs =
     mul-le-mul_right x.outputs (mul-le-mul_right x.made few) in
     subst (λ (b : List ℕ). Begins (output_header x a ++ b)) (sym same)
-    (begins_of laws x a e limits is frames (subst (λ (k : ℕ). k ≤ e.periods * x.made * x.outputs) (sym long) fewer))
+    (begins_of x a e limits is frames (subst (λ (k : ℕ). k ≤ e.periods * x.made * x.outputs) (sym long) fewer))

@@ -1,22 +1,20 @@
 -- The stages of a run: what each of them says of the devices.
-use Rattle.std.specs.Prelude.{◌≡◌, ◌≢◌, ◌⊎◌, ℕ, ◌+◌, ◌*◌, ◌%◌, ◌^◌, ◌<◌, ◌≤◌, ℤ, List, [], ◌++◌, length, Option, Some}
-use Rattle.std.specs.Prelude.{None, Result, Ok, Err, false}
+use Rattle.std.specs.Prelude.{◌≡◌, ◌≢◌, ◌⊎◌, ℕ, ◌+◌, ◌*◌, ◌≤◌, ℤ, List, [], length, Some}
+use Rattle.std.specs.Prelude.{Result, Ok, Err, false}
 use Rattle.std.specs.Io.KnownBytes.{Appends}
 use Rattle.sdf_actor.specs.Nets.{Netlist}
 use Rattle.sdf_answer.specs.Answer.{AreOutputs, periods_of as firings}
 use Rattle.sdf_kit.specs.declared.kit.Kit.{Kit}
 use Rattle.sdf_kit.specs.Kit.{kit_steps}
-use Rattle.sdf_wav.specs.Canonical.{sample_bytes, canonical_wav, write_fault, IsCanonical}
+use Rattle.sdf_wav.specs.Canonical.{sample_bytes}
 use Rattle.sdf_wav.specs.Device.{AppendsFront, Known, LosesFront, one_more, ReaderState, WriterState}
-use Rattle.sdf_wav.specs.Grammar.{IsWav}
 use Rattle.sdf_wav.specs.Fault.{HasFault}
-use Rattle.sdf_wav.specs.PiecesIn.{Reading, Opens, OpensAs, OpensTo, AnswersOpening, IsReadTo, IsEnded, sound_read}
+use Rattle.sdf_wav.specs.PiecesIn.{Reading, Opens, OpensTo, AnswersOpening, IsReadTo, IsEnded}
 use Rattle.sdf_wav.specs.PiecesOut.{Owed}
 use Rattle.sdf_wav.specs.Sound.{Sound}
 use Rattle.sdf_wav.specs.declared.format.Format.{Format}
 use Rattle.sdf_wav.specs.declared.fault.FormatFault.{FormatFault}
 use Rattle.sdf_wav.specs.declared.fault.FormatFault.TheVariants.{Truncated}
-use Rattle.sdf_wav.specs.declared.wav.TheConstants.{MOST_CHANNELS}
 use Rattle.sdf_process.specs.declared.exchange.Exchange.{Exchange}
 use Rattle.sdf_process.specs.declared.exchange.Extent.{Extent}
 use Rattle.sdf_faults.specs.declared.fault.Fault.{Fault}
@@ -95,20 +93,3 @@ pub record IsOpened (r r' : ReaderState) (c : Reading) : Type 0 where
 abbrev pub RunsOn : Netlist Kit ℤ → List ℕ → Reading → ReaderState → ReaderState → WriterState → WriterState →
     Result (Unit {0}) Fault → Type 0
 RunsOn n q c opened r' w w' result = (r : ReaderState) → IsOpened r opened c → IsRun n q r r' w w' result
-
--- samples that are written in turn are written as one list
-abbrev pub SamplesJoin : Type 0
-SamplesJoin = (a b c : Option (List ℕ)) (x y : List ℤ) → Appends a b (sample_bytes x) → Appends b c (sample_bytes y) →
-    Appends a c (sample_bytes (x ++ y))
-
--- The laws of WAV files that a run depends on.
-pub record WavLaws : Type 0 where
-  pub announces : (input : List ℕ) (s : Sound) (rest : List ℕ) → IsWav input s rest → OpensAs input s
-  pub ends : (input : List ℕ) (r : Reading) (samples : List ℤ) (rest : List ℕ) → IsReadTo input r samples rest →
-      IsEnded r rest → IsWav input (sound_read r samples) rest
-  pub one_sound : (bytes : List ℕ) (s t : Sound) (x y : List ℕ) → IsWav bytes s x → IsWav bytes t y → (s ≡ t) × (x ≡ y)
-  pub one_fault : (bytes : List ℕ) (f g : FormatFault) → HasFault bytes f → HasFault bytes g → f ≡ g
-  pub not_both : (bytes : List ℕ) (s : Sound) (x : List ℕ) (f : FormatFault) → IsWav bytes s x → HasFault bytes f → ⊥
-  pub joins : SamplesJoin
-  pub canonical : (s : Sound) → 1 ≤ s.rate → s.rate < 2 ^ 32 → 1 ≤ s.channels → s.channels ≤ MOST_CHANNELS →
-      length s.samples % s.channels ≡ 0 → write_fault s ≡ None → IsCanonical (canonical_wav s)

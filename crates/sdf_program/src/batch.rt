@@ -11,13 +11,14 @@ use crate::running::{Planned, Prepared, Running, plan_of, run_planned, workers_o
 use sdf_commands::making::make_folder;
 use sdf_faults::Fault;
 use sdf_files::files::Sources;
-use sdf_files::overwriting::{Paths, keep_what_is_read};
+use sdf_files::overwriting::{Paths, keep_what_is_read, only_path, same_file};
 use sdf_files::storage::Storage;
 use sdf_files::world::{STANDARD, World};
 use sdf_options::printable::printable;
 use sdf_words::{Batch, Crew, Run};
 use std::alloc::{AllocError, Global};
 use std::io::Write;
+use std::path::PathBuf;
 use std::sync::Mutex;
 use std::sync::atomic::{AtomicUsize, Ordering};
 use std::thread::{self, Threads};
@@ -26,7 +27,11 @@ use std::time::Clock;
 /// Returns the run of a batch from the file `input` to the file `output`.
 fn running_of<'a>(batching: Batching<'a>, input: &'a str, output: &'a str) -> Running<'a>
     ensures design { result.loaded ≡ batching.entry.loaded }
+    ensures input { result.asked.input ≡ input.entry }
+    ensures output { result.asked.output ≡ output.entry }
+    ensures options { result.asked.options ≡ batching.entry.asked.now.options }
     ensures crew { result.asked.parallel ≡ batching.entry.asked.now.parallel }
+    ensures size { result.asked.open_ended ≡ batching.entry.asked.now.open_ended }
 {
     let Batch {
         options,
@@ -56,27 +61,70 @@ struct Course<'a> {
     prepared: &'a Prepared,
 }
 
-/// Errs if a run would write a file that it reads, and names that file.
+/// Returns the canonical paths of the files that a batch reads, other than those that don't exist.
+fn paths_read<S: Storage>(
+    alloc: Global,
+    storage: &S,
+    items: &[Item<'_>],
+) -> Result<Vec<PathBuf>, Fault> {
+    let mut paths = Vec::new(alloc);
+    for item in items {
+        if let Some(path) = only_path(alloc, storage, item.input)? {
+            paths.push(path)?;
+        }
+    }
+    Ok(paths)
+}
+
+/// Refuses an output, called `word`, whose canonical path `out` is in `read`.
+fn keep_read(alloc: Global, word: &str, read: &[PathBuf], out: &str) -> Result<(), Fault> {
+    for path in read {
+        if path.as_str() == out {
+            return Err(same_file(alloc, word, "IN"));
+        }
+    }
+    Ok(())
+}
+
+/// Errs if the output at `path` is a file that the batch reads, one of `read` among them, and names the output.
+fn keep_inputs_from<S: Storage>(
+    alloc: Global,
+    storage: &S,
+    batching: Batching<'_>,
+    read: &[PathBuf],
+    path: &str,
+) -> Result<(), Fault> {
+    let Some(out) = only_path(alloc, storage, path)? else {
+        return Ok(());
+    };
+    let shown = printable(alloc, path)?;
+    keep_read(alloc, shown.as_str(), read, out.as_str())?;
+    let paths = Paths {
+        graph: batching.graph,
+        input: STANDARD,
+        output: path,
+    };
+    keep_what_is_read(
+        alloc,
+        storage,
+        shown.as_str(),
+        paths,
+        &batching.loaded.names,
+    )
+}
+
+/// Errs if a run would write a file that any run of the batch reads, and names that file. Both places of an output are
+/// tested: where it is written, and where it is moved.
 fn keep_inputs<S: Storage>(
     alloc: Global,
     storage: &S,
     batching: Batching<'_>,
     items: &[Item<'_>],
 ) -> Result<(), Fault> {
+    let read = paths_read(alloc, storage, items)?;
     for item in items {
-        let paths = Paths {
-            graph: batching.graph,
-            input: item.input,
-            output: item.output.as_str(),
-        };
-        let shown = printable(alloc, item.output.as_str())?;
-        keep_what_is_read(
-            alloc,
-            storage,
-            shown.as_str(),
-            paths,
-            &batching.loaded.names,
-        )?;
+        keep_inputs_from(alloc, storage, batching, &read, item.output.as_str())?;
+        keep_inputs_from(alloc, storage, batching, &read, item.part.as_str())?;
     }
     Ok(())
 }

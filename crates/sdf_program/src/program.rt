@@ -9,7 +9,6 @@ use crate::batch::run_batch;
 use crate::items::Batching;
 use crate::profiling::{Profiling, print_profile};
 use crate::running::{Running, run};
-use clap::error::ErrorKind;
 use sdf_commands::comparing::print_comparison;
 use sdf_commands::making::{fir, resample};
 use sdf_commands::printing::{
@@ -232,24 +231,12 @@ fn help_or_fault<O: Write>(alloc: Global, out: &mut O, fault: WordFault) -> Resu
     }
 }
 
-/// Returns the text of a usage error, for standard error. The usage is left out if only a value is wrong, because it
-/// does not help then.
-fn mistake_text(alloc: Global, told: &clap::Error) -> Result<String, AllocError> {
-    let whole = format!(in alloc; "{told}")?;
-    match whole.as_str().split_once("\n\nUsage: ") {
-        Some((error, _)) if told.kind() == ErrorKind::InvalidValue => {
-            format!(in alloc; "{error}\n")
-        }
-        _ => Ok(whole),
-    }
-}
-
 /// Returns the text of `fault`, for standard error.
 fn told(alloc: Global, fault: &Fault, background: &Background) -> Result<String, AllocError> {
-    match fault {
-        other if background.is_json() => fault_json(alloc, other),
-        Fault::Words(WordFault::Usage(told)) => mistake_text(alloc, told),
-        other => fault_text(alloc, other),
+    if background.is_json() {
+        fault_json(alloc, fault)
+    } else {
+        fault_text(alloc, fault)
     }
 }
 

@@ -1,9 +1,10 @@
 //! The command that runs a design on a WAV file.
 
-ghost use Rattle.std.specs.Prelude.{◌≤◌, IfOk, IfSome};
+ghost use Rattle.std.specs.Prelude.{◌≡◌, ◌≤◌, ℕ, IfOk, IfSome};
 ghost use Rattle.sdf_limits.specs.declared.TheConstants.{MOST_WORKERS};
 ghost use Rattle.sdf_plan.specs.Plans.{Suits};
 ghost use Rattle.sdf_words.specs.Limits.{IsCrew};
+ghost use Rattle.sdf_words.specs.declared.asked.Crew.TheVariants as crews;
 
 use sdf_faults::Fault;
 use sdf_file::Design;
@@ -106,8 +107,9 @@ fn parts_text(alloc: Global, planned: Planned<'_>, frames: u64) -> Result<String
     if parts < 2 {
         return String::from_str(alloc, "one thread: the sound is shorter than two parts\n");
     }
+    let s = if periods == 1 { "" } else { "s" };
     format!(in alloc;
-        "{parts} workers, each on its own part of the sound after {periods} periods ({samples} samples) of warm-up\n"
+        "{parts} workers, each on its own part of the sound after {periods} period{s} ({samples} samples) of warm-up\n"
     )
 }
 
@@ -286,6 +288,7 @@ pub(crate) fn workers_of<T: Threads>(threads: &T, crew: Crew) -> usize
     requires { IsCrew crew }
     ensures some { 1 ≤ result }
     ensures few { result ≤ MOST_WORKERS }
+    ensures asked { (workers : ℕ) → crew ≡ crews.Workers workers → result ≡ workers }
 {
     match crew {
         Crew::Workers(workers) => workers,
@@ -302,7 +305,7 @@ fn lasting_text(alloc: Global, design: &Design) -> Result<String, AllocError> {
     if told.is_empty() {
         return String::from_str(alloc, "one thread: the design keeps samples for too long\n");
     }
-    format!(in alloc; "one thread: the loop {told} keeps its samples for ever\n")
+    format!(in alloc; "one thread: the loop {told} may keep its samples for ever\n")
 }
 
 /// Returns why a parallel run uses one thread, if that is known before it begins.

@@ -25,7 +25,7 @@ mod leave;
 mod meet;
 mod own_rings;
 pub mod pair;
-pub mod prepare;
+mod prepare;
 pub mod rings;
 mod round;
 mod run_ends;

@@ -79,30 +79,32 @@ fn prepare_homed<'a, A: Actor>(
     lay_out(alloc, &start, &table.table, blocks)
 }
 
-/// Returns the seats of a run of `blocks` blocks before its first round. Each processor of `table` has a seat with the
-/// actors at home there and their firing list. Each channel has a ring of the table's capacity with its initial
-/// samples. A ring from an actor to itself has room for one more block. Fails with 30 NotHomed, tested first, or 29
-/// InputLength.
-pub fn prepare<'a, A: Actor>(
-    alloc: Global,
-    net: &'a Net<A>,
-    table: &BlockTable,
-    blocks: u32,
-    inputs: &'a [Vec<A::Token>],
-) -> Result<Rings<'a, A>, RunFault>
-    requires fits { IsBlockTableOf (rates (graph_of A.steps net.now)) table.now }
-    ensures { let t = table.now in let q = t.period.repetitions in let j = t.factor in MatchResult result
-        (λ r. IsHomed t.table × HasInputs net.now q (blocks * j) (lists inputs.now)
-        × IsPrepared A.steps net.now (lists inputs.now) t.table blocks r)
-        (IsPrepareFault net.now q (blocks * j) (lists inputs.now) t.table) }
-{
-    blocks_are_small(net);
-    if !table.table.homed() {
-        return Err(RunFault::NotHomed);
+impl<'a, A: Actor> Rings<'a, A> {
+    /// Returns the seats of a run of `blocks` blocks before its first round. Each processor of `table` has a seat with
+    /// the actors at home there and their firing list. Each channel has a ring of the table's capacity with its initial
+    /// samples. A ring from an actor to itself has room for one more block. Fails with 30 NotHomed, tested first, or 29
+    /// InputLength.
+    pub fn prepare(
+        alloc: Global,
+        net: &'a Net<A>,
+        table: &BlockTable,
+        blocks: u32,
+        inputs: &'a [Vec<A::Token>],
+    ) -> Result<Rings<'a, A>, RunFault>
+        requires fits { IsBlockTableOf (rates (graph_of A.steps net.now)) table.now }
+        ensures { let t = table.now in let q = t.period.repetitions in let j = t.factor in MatchResult result
+            (λ r. IsHomed t.table × HasInputs net.now q (blocks * j) (lists inputs.now)
+            × IsPrepared A.steps net.now (lists inputs.now) t.table blocks r)
+            (IsPrepareFault net.now q (blocks * j) (lists inputs.now) t.table) }
+    {
+        blocks_are_small(net);
+        if !table.table.homed() {
+            return Err(RunFault::NotHomed);
+        }
+        let least = samples_of_blocks(blocks, table.factor, net.samples_in());
+        if !are_inputs(inputs, net.inputs(), least) {
+            return Err(RunFault::InputLength);
+        }
+        Ok(prepare_homed(alloc, net, table, blocks, inputs)?)
     }
-    let least = samples_of_blocks(blocks, table.factor, net.samples_in());
-    if !are_inputs(inputs, net.inputs(), least) {
-        return Err(RunFault::InputLength);
-    }
-    Ok(prepare_homed(alloc, net, table, blocks, inputs)?)
 }

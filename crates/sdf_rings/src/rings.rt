@@ -1,6 +1,6 @@
 //! Rounds by hand: the seats of a run. Between two rounds, one owner has both ends of each ring.
 
-ghost use Rattle.std.specs.Prelude.{◌≡◌, ◌+◌, ◌<◌, ◌≤◌, ◌⊎◌, ◌^◌, ◌-◌, ℕ, List, length, min, HoldsAt, IfOk};
+ghost use Rattle.std.specs.Prelude.{◌≡◌, ◌+◌, ◌<◌, ◌≤◌, ◌⊎◌, ◌^◌, ◌-◌, ℕ, List, length, min, HoldsAt, IfErr, IfOk};
 ghost use Rattle.sdf_rings.specs.Changes.{BecameAt, AllBecame, SameBut};
 ghost use Rattle.sdf_rings.specs.Seats.{HasFirst, HasWorked, HasIdled, HasRounded};
 ghost use Rattle.sdf_rings.specs.Rests.{AreRings, HaveMet, AreAtRest, HasDone, HoldsSamples};
@@ -21,6 +21,7 @@ use crate::round::run_round;
 use crate::seat::{Seat, work};
 use crate::workers::Workers;
 use sdf_actor::{Actor, Net, Rest};
+use sdf_answer::RunFault;
 use sdf_answer::laws::net_facts;
 use sdf_node::Gate;
 use std::alloc::{AllocError, Global};
@@ -185,8 +186,9 @@ impl<'a, A: Actor> Rings<'a, A> {
         self.seats[place.0].stands[place.1].ins[to.1].cached_slots() as u64
     }
 
-    /// Ends a round: synchronizes the two ends of each ring.
-    pub fn meet(&mut self)
+    /// Ends a round: synchronizes the two ends of each ring. It takes no memory, and never errs.
+    pub fn meet(&mut self) -> Result<(), RunFault>
+        ensures never { IfErr result (λ fault. ⊥) }
         ensures met { HaveMet self.new.net self.new.seats self.new.places }
         ensures rest { AreAtRest A.steps self.new.net self.new.inputs self.new.seats self.new.places }
         ensures quiescent { AreQuiescent A.steps self.new }
@@ -201,6 +203,7 @@ impl<'a, A: Actor> Rings<'a, A> {
         let inputs = self.inputs;
         meet_all(self.alloc, net, inputs, &mut self.seats, &self.places);
         self.at_rest();
+        Ok(())
     }
 
     /// States what is true while all ends are synchronized, as `prepare` and `meet` leave them. Each channel was given
@@ -227,7 +230,7 @@ impl<'a, A: Actor> Rings<'a, A> {
             0 < total_left self.old.seats → total_left self.new.seats < total_left self.old.seats }
     {
         self.work_all(workers);
-        self.meet();
+        self.meet().unwrap();
     }
 
     /// Runs rounds until nothing is left of a plan, and returns their number. Each does at least one firing.

@@ -7,7 +7,6 @@ ghost use Rattle.sdf_actor.specs.Wires.{lists};
 ghost use Rattle.sdf_answer.specs.Rows.{IsBlockTableOf};
 ghost use Rattle.sdf_rings.specs.Outcome.{HasRunInRounds, HasEnded, IsRingsFault};
 
-use crate::prepare::prepare;
 use crate::rings::Rings;
 use crate::workers::Workers;
 use sdf_actor::{Actor, Net};
@@ -40,7 +39,7 @@ pub(crate) fn run_through<'a, R: Threads + AllocGlobal + Sync, A: Actor, G: Gate
     if workers.patience > MOST_PATIENCE {
         return Err(RunFault::Patience);
     }
-    let mut rings = prepare(workers.rt.alloc(), net, table, blocks, inputs)?;
+    let mut rings = Rings::prepare(workers.rt.alloc(), net, table, blocks, inputs)?;
     rings.facts();
     let rounds = rings.run(workers);
     Ok((rings, rounds))

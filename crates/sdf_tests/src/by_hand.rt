@@ -7,7 +7,6 @@ use crate::nets::{planned, ramp};
 use crate::patience::{Held, Hold, LATE, PAUSE, SHORT};
 use sdf_actor::{Actor, Net};
 use sdf_node::NoGate;
-use sdf_rings::prepare::prepare;
 use sdf_rings::{Rings, Workers};
 use std::alloc::Global;
 use std::process::Abort;
@@ -47,7 +46,7 @@ fn both_and_meet<A: Actor>(rt: &impl Abort, rings: &mut Rings<A>, turn: [usize; 
         assert!(rt; seat < rings.seats());
         rings.work_one(seat, 0, &NoGate);
     }
-    rings.meet();
+    rings.meet().unwrap();
 }
 
 /// Works the sink's seat, then the source's, and a second round. Reports the firings left before, each seat's firings,
@@ -58,12 +57,12 @@ fn seats<A: Actor<Token = i32>>(
 ) -> Result<String, Fail> {
     let table = planned(rt.alloc(), net, 1, 2, true)?;
     let inputs = ramp(rt.alloc(), 1, 7, 0)?;
-    let mut rings = prepare(rt.alloc(), net, &table, 1, &inputs)?;
+    let mut rings = Rings::prepare(rt.alloc(), net, &table, 1, &inputs)?;
     let left = rings.left();
     assert!(rt; rings.seats() == 2 && net.channels() == 1);
     let sunk = rings.work_one(1, 0, &NoGate);
     let put = rings.work_one(0, 0, &NoGate);
-    rings.meet();
+    rings.meet()?;
     let held = rings.held(0);
     both_and_meet(rt, &mut rings, [1, 0]);
     Ok(format!(in rt.alloc(); "{left} {sunk} {put} {held} {}", rings.left())?)
@@ -79,7 +78,7 @@ fn rounds<A: Actor<Token = i32>>(
 ) -> Result<String, Fail> {
     let table = planned(rt.alloc(), net, 1, 2, homed)?;
     let inputs = ramp(rt.alloc(), 1, 13, 0)?;
-    let mut rings = match prepare(rt.alloc(), net, &table, blocks, &inputs) {
+    let mut rings = match Rings::prepare(rt.alloc(), net, &table, blocks, &inputs) {
         Ok(rings) => rings,
         Err(fault) => return Ok(fault.to_string(rt.alloc())?),
     };
@@ -106,7 +105,7 @@ fn passed<A: Actor<Token = i32>>(
     let table = planned(rt.alloc(), net, 1, 2, true)?;
     let inputs = ramp(rt.alloc(), 1, 13, 0)?;
     let watch = Watch::new(rt.alloc(), 2, 2, gates::Hold::NONE)?;
-    let mut rings = prepare(rt.alloc(), net, &table, 2, &inputs)?;
+    let mut rings = Rings::prepare(rt.alloc(), net, &table, 2, &inputs)?;
     assert!(rt; rings.seats() == 2);
     rings.work_one(1, 7, &watch);
     let first = counts(&watch);
@@ -127,7 +126,7 @@ fn at_once<R: Abort + Threads + AllocGlobal + Sync, A: Actor<Token = i32>>(
     let table = planned(rt.alloc(), net, 1, 2, true)?;
     let inputs = ramp(rt.alloc(), 1, 3, 0)?;
     let held = Held::new(Hold { turns, ..LATE });
-    let mut rings = prepare(rt.alloc(), net, &table, 2, &inputs)?;
+    let mut rings = Rings::prepare(rt.alloc(), net, &table, 2, &inputs)?;
     rings.work_all(Workers {
         rt,
         gate: &held,
@@ -142,7 +141,7 @@ fn at_once<R: Abort + Threads + AllocGlobal + Sync, A: Actor<Token = i32>>(
 fn many<A: Actor<Token = i32>>(alloc: Global, net: &Net<A>, blocks: u32) -> Result<String, Fail> {
     let table = planned(alloc, net, 1, 1, true)?;
     let inputs = ramp(alloc, 0, 0, blocks as usize)?;
-    let rings = prepare(alloc, net, &table, blocks, &inputs)?;
+    let rings = Rings::prepare(alloc, net, &table, blocks, &inputs)?;
     Ok(format!(in alloc; "{}", rings.left())?)
 }
 

@@ -13,7 +13,6 @@ use sdf_answer::BlockTable;
 use sdf_node::NoGate;
 use sdf_prec::Table;
 use sdf_rings::Rings;
-use sdf_rings::prepare::prepare;
 use std::process::Abort;
 use std::test::Fail;
 use test_texts::row_says;
@@ -68,7 +67,7 @@ fn round<A: Actor>(
             rings.work_one(seat, 0, &NoGate);
         }
     }
-    rings.meet();
+    rings.meet().unwrap();
     all
 }
 
@@ -136,7 +135,7 @@ fn done_by<A: Actor<Token = i32>>(
 ) -> Result<String, Fail>
     requires fits { IsBlockTableOf (rates (graph_of A.steps net.now)) table.now }
 {
-    let mut rings = prepare(rt.alloc(), net, table, periods, inputs)?;
+    let mut rings = Rings::prepare(rt.alloc(), net, table, periods, inputs)?;
     rounds(rt, &mut rings, net, &table.table, turns);
     assert!(rt; rings.left() == 0);
     Ok(format!(in rt.alloc(); "{:?}", rings.finish())?)

@@ -2,7 +2,6 @@ mod Chains
 mod Rounds
 mod Items
 mod Lines
-mod Pieces
 mod Roots
 mod Edges
 mod Grown

@@ -13,7 +13,8 @@ use Rattle.std.proofs.lemmas.Option.{none-some, slice_get_past}
 use Rattle.sdf_graph.specs.Rates.{Shape, channel}
 use Rattle.sdf_why.specs.declared.cycle.Halt.{Halt}
 use Rattle.sdf_why.specs.Cycles.{short_at, HasNoCycle, IsChain, IsCycle, none_waits, ends}
-use Rattle.sdf_why.specs.Loops.{is_kept, AreFed, AreTargets, Feeds, HoldsLoops, IsFedBy, IsLoop, IsUnfed, LeadBack}
+use Rattle.sdf_graph.specs.Marks.{is_marked}
+use Rattle.sdf_why.specs.Loops.{AreFed, AreTargets, Feeds, HoldsLoops, IsFedBy, IsLoop, IsUnfed, LeadBack}
 
 some_same : (a b : ℕ) → Some a ≡ Some b → a ≡ b
 some_same a b same = ap (λ (o : Option ℕ). option_map_or (λ (x : ℕ). x) o 0) same
@@ -85,7 +86,7 @@ module _ (g : Shape) where
       HoldsLoops g (set kept a false)
   loops_stay kept a holds unfed b cs some back = go (cases_eq b a)
     where
-      go : (b ≡ a) ⊎ (b ≡ a → ⊥) → is_kept (set kept a false) b ≡ true
+      go : (b ≡ a) ⊎ (b ≡ a → ⊥) → is_marked (set kept a false) b ≡ true
       go (inl same) =
           let fed = loop_fed kept b cs holds some back in
           absurd (unfed.none fed.0 (subst (λ x. Feeds g kept x fed.0) same fed.1))
@@ -94,7 +95,7 @@ module _ (g : Shape) where
   -- a channel leads to each actor of a loop
   pub targets_hold : (kept : List Bool) → AreTargets g (length g.channels) kept → HoldsLoops g kept
   targets_hold kept all a [] some back = absurd (omega (arith, some))
-  targets_hold kept all a (c ∷ cs) some back = subst (λ x. is_kept kept x ≡ true) back.1 (all c back.0)
+  targets_hold kept all a (c ∷ cs) some back = subst (λ x. is_marked kept x ≡ true) back.1 (all c back.0)
 
   -- one more channel
   pub target_more : (kept : List Bool) (n : ℕ) → AreTargets g n kept → (channel g n).to < length kept →
@@ -102,8 +103,8 @@ module _ (g : Shape) where
   target_more kept n all within c less = go (cases_eq (channel g c).to (channel g n).to)
     where
       go : ((channel g c).to ≡ (channel g n).to) ⊎ ((channel g c).to ≡ (channel g n).to → ⊥) →
-          is_kept (set kept (channel g n).to true) (channel g c).to ≡ true
-      go (inl same) = subst (λ x. is_kept (set kept (channel g n).to true) x ≡ true) (sym same)
+          is_marked (set kept (channel g n).to true) (channel g c).to ≡ true
+      go (inl same) = subst (λ x. is_marked (set kept (channel g n).to true) x ≡ true) (sym same)
           (get_or-set_same kept (channel g n).to true false within)
       go (inr other) = get_or-set_other kept (channel g n).to (channel g c).to true false other
           ∙ all c (before (cases_lt c n))
@@ -158,7 +159,7 @@ module _ (g : Shape) where
 
     -- a kept actor waits for a channel that feeds it
     waits_kept : (kept : List Bool) (a : ℕ) → ((b : ℕ) → IsUnfed g kept b → ⊥) → AreFed g kept halts →
-        is_kept kept a ≡ true → (c : ℕ) × (short_at halts a ≡ Some c) × Feeds g kept a c
+        is_marked kept a ≡ true → (c : ℕ) × (short_at halts a ≡ Some c) × Feeds g kept a c
     waits_kept kept a none fed is = go (short_at halts a) refl
       where
         told : (o : Option ℕ) → short_at halts a ≡ o → MatchOption o ((c : ℕ) → Feeds g kept a c → ⊥) (Feeds g kept a)
@@ -169,23 +170,24 @@ module _ (g : Shape) where
         go (Some c) same = (c, same, told (Some c) same)
 
     -- what waits is kept
-    kept_waits : (kept : List Bool) (a c : ℕ) → AreFed g kept halts → short_at halts a ≡ Some c → is_kept kept a ≡ true
-    kept_waits kept a c fed waits = go (is_kept kept a) refl
+    kept_waits : (kept : List Bool) (a c : ℕ) → AreFed g kept halts → short_at halts a ≡ Some c →
+        is_marked kept a ≡ true
+    kept_waits kept a c fed waits = go (is_marked kept a) refl
       where
-        go : (b : Bool) → is_kept kept a ≡ b → is_kept kept a ≡ true
+        go : (b : Bool) → is_marked kept a ≡ b → is_marked kept a ≡ true
         go true same = same
         go false same = absurd (none-some c (sym ((fed a).no same) ∙ waits))
 
     -- and so is what it waits for
     chain_kept : (kept : List Bool) (a : ℕ) (cs : List ℕ) (b : ℕ) → ((x : ℕ) → IsUnfed g kept x → ⊥) →
-        AreFed g kept halts → is_kept kept a ≡ true → IsChain g halts a cs b → is_kept kept b ≡ true
-    chain_kept kept a [] b none fed is same = subst (λ x. is_kept kept x ≡ true) same is
+        AreFed g kept halts → is_marked kept a ≡ true → IsChain g halts a cs b → is_marked kept b ≡ true
+    chain_kept kept a [] b none fed is same = subst (λ x. is_marked kept x ≡ true) same is
     chain_kept kept a (c ∷ cs) b none fed is chain =
         let feeds = waits_kept kept a none fed is in
         let same : feeds.0 ≡ c = some_same feeds.0 c (sym feeds.1 ∙ chain.1.told) in
-        let source : is_kept kept (channel g c).from ≡ true =
-        subst (λ x. is_kept kept (channel g x).from ≡ true) same feeds.2.source in
-        chain_kept kept chain.0 cs b none fed (subst (λ x. is_kept kept x ≡ true) chain.1.source source) chain.2
+        let source : is_marked kept (channel g c).from ≡ true =
+        subst (λ x. is_marked kept (channel g x).from ≡ true) same feeds.2.source in
+        chain_kept kept chain.0 cs b none fed (subst (λ x. is_marked kept x ≡ true) chain.1.source source) chain.2
 
     -- where the walk ends, there is no loop
     pub no_loop : (kept : List Bool) → HoldsLoops g kept → ((a : ℕ) → IsUnfed g kept a → ⊥) → AreFed g kept halts →

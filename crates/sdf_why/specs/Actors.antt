@@ -19,15 +19,15 @@ unfoldable pub actor_told : Data → ℕ → List ℕ
 actor_told d a = lines_of (actor_is a) (entry (codes "actor") a d)
 
 -- the limits of a key in an actor's table, by its kind
-unfoldable pub actor_limits : List ℕ → List ℕ → Data → Option (List ℕ)
-actor_limits kinds key d = option_and_then (λ kind. limits_of kinds kind key) (text_at (codes "kind") d)
+unfoldable pub actor_limits : List ℕ → Data → Option (List ℕ)
+actor_limits key d = option_and_then (λ word. limits_of word key) (text_at (codes "kind") d)
 
-abbrev pub actor_key_is : List ℕ → ℕ → List ℕ → Data → List ℕ
-actor_key_is kinds a key d = actor_is a d ++ key_line key (get key d) (actor_limits kinds key d)
+abbrev pub actor_key_is : ℕ → List ℕ → Data → List ℕ
+actor_key_is a key d = actor_is a d ++ key_line key (get key d) (actor_limits key d)
 
 -- the line of actor a, and the line of a key of its table with the limits
-unfoldable pub actor_key : List ℕ → ℕ → List ℕ → Data → List ℕ
-actor_key kinds a key d = lines_of (actor_key_is kinds a key) (entry (codes "actor") a d)
+unfoldable pub actor_key : ℕ → List ℕ → Data → List ℕ
+actor_key a key d = lines_of (actor_key_is a key) (entry (codes "actor") a d)
 
 -- the line of actor a, and the line of a key of its table without limits
 unfoldable pub actor_value : ℕ → List ℕ → Data → List ℕ

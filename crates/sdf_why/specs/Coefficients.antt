@@ -1,43 +1,18 @@
 -- The diagnostic for a coefficient file: the length of its list, or the first value that does not fit.
-use Rattle.std.specs.Prelude.{ℕ, ◌&&◌, not, Bool, false, List, [], ◌++◌, codes, decimal, Option, Some, None, find}
-use Rattle.std.specs.Prelude.{option_and_then, is_some, nat_le, bytes_eq, if◌then◌else◌}
+use Rattle.std.specs.Prelude.{ℕ, ◌&&◌, not, Bool, false, List, [], ◌++◌, codes, decimal, Option, find}
+use Rattle.std.specs.Prelude.{option_and_then, nat_le, bytes_eq, if◌then◌else◌}
 use Rattle.std.specs.Option.{option_map_or}
 use Rattle.std.specs.List.{range_with_len}
 use Rattle.toml.specs.Data.{Data, Items, get, at, as_integer, as_array}
-use Rattle.sdf_kinds.specs.declared.row.Kind.{Kind}
 use Rattle.sdf_kinds.specs.declared.row.Width.{Width}
 use Rattle.sdf_kinds.specs.declared.row.Width.TheVariants.{Bits16, Bits32}
-use Rattle.sdf_kinds.specs.declared.row.Form.{Form}
-use Rattle.sdf_kinds.specs.declared.row.Form.TheVariants.{Natural, Optional, Integer, FromLeast}
-use Rattle.sdf_kinds.specs.declared.row.Form.TheVariants.{List as ListForm}
-use Rattle.sdf_kinds.specs.Rows.{KeyRow, row_of}
-use Rattle.sdf_document.specs.Kinds.{kind_named}
 use Rattle.sdf_document.specs.Fault.{Place, actor}
 use Rattle.sdf_document.specs.Lists.{Files, file_named, fits}
-use Rattle.sdf_why.specs.declared.coefficients.Limits.{Limits}
+use Rattle.sdf_document.specs.declared.list.Limits.{Limits}
+use Rattle.sdf_why.specs.Limits.{kind_limits}
 use Rattle.sdf_why.specs.Words.{end, quoted, value_text, item_count}
 use Rattle.sdf_why.specs.Tables.{root, text_at, entry}
 use Rattle.sdf_why.specs.Actors.{lines_of}
-
--- ---- the list that a kind has
-
-abbrev pub list_limits : Form → Option Limits
-list_limits (Natural least most absent) = None
-list_limits (Optional least most) = None
-list_limits (Integer least most absent) = None
-list_limits (FromLeast least most absent) = None
-list_limits (ListForm most width) = Some (record { most = most; width = width })
-
-abbrev pub has_list : KeyRow → Bool
-has_list k = is_some (list_limits k.form)
-
--- the limits of the first list among keys
-unfoldable pub keys_limits : List KeyRow → Option Limits
-keys_limits ks = option_and_then (λ (k : KeyRow). list_limits k.form) (find has_list ks)
-
--- the limits of the list of a kind, in any format
-unfoldable pub kind_limits : List ℕ → Option Limits
-kind_limits word = option_and_then (λ (k : Kind). keys_limits (row_of k).keys) (kind_named 4294967295 word)
 
 -- ---- one value
 

@@ -1,14 +1,19 @@
 -- The diagnostic for a graph file that is not read, by the first test that it fails.
-use Rattle.std.specs.Prelude.{ℕ, List, [], ◌++◌, codes, decimal, Option, Some, None, option_and_then}
+use Rattle.std.specs.Prelude.{ℕ, ◌==◌, List, [], ◌∷◌, ◌++◌, codes, decimal, map, Option, Some, None, option_and_then}
 use Rattle.std.specs.Prelude.{is_some, bytes_eq, if◌then◌else◌}
+use Rattle.std.specs.Ordering.{is_le, nat_cmp}
+use Rattle.std.specs.Cmp.Lexicographic.{slice_cmp}
+use Rattle.std.specs.List.{filter}
 use Rattle.toml.specs.Data.{Data, get}
 use Rattle.sdf_limits.specs.declared.TheConstants.{MOST_ACTORS, MOST_LINKS}
 use Rattle.sdf_document.specs.Fault.{Place, top, actor, link, file, Fault, actor_count, channel_count, kit_value}
 use Rattle.sdf_document.specs.Fault.{not_toml, bad_format, unknown_key, missing_key, wrong_type, bad_name, name_twice}
 use Rattle.sdf_document.specs.Fault.{unknown_kind, bad_port, no_file}
-use Rattle.sdf_kinds.specs.Listing.{kinds_text}
+use Rattle.sdf_kinds.specs.declared.row.Kind.{Kind}
+use Rattle.sdf_kinds.specs.Rows.{KeyRow, row_of, kinds}
+use Rattle.sdf_kinds.specs.Listing.{keys_text}
 use Rattle.sdf_document.specs.Lists.{Files, file_named}
-use Rattle.sdf_why.specs.Limits.{row_of}
+use Rattle.sdf_why.specs.Limits.{keys_of}
 use Rattle.sdf_why.specs.Words.{end, key_line}
 use Rattle.sdf_why.specs.Tables.{root, text_at, entry, actor_text, first_saying}
 use Rattle.sdf_why.specs.Actors.{lines_of, actor_told, actor_key, first_told}
@@ -29,11 +34,11 @@ file_key name key limits files =
 -- ---- by place
 
 -- what a place is, and the line of its key
-abbrev pub place_key : List ℕ → Place → List ℕ → Data → Files → List ℕ
-place_key kinds top key d files = key_line key (get key d) None
-place_key kinds (actor a) key d files = actor_key kinds a key d
-place_key kinds (link c) key d files = link_key c key None d
-place_key kinds (file name) key d files = file_user name d ++ file_key name key None files
+abbrev pub place_key : Place → List ℕ → Data → Files → List ℕ
+place_key top key d files = key_line key (get key d) None
+place_key (actor a) key d files = actor_key a key d
+place_key (link c) key d files = link_key c key None d
+place_key (file name) key d files = file_user name d ++ file_key name key None files
 
 -- the line of the key `format` at a place, with its limits
 abbrev pub place_format : Place → Data → Files → List ℕ
@@ -51,16 +56,17 @@ beside_is key d =
     if bytes_eq key (codes "file") then listed_at (codes "taps") d ++ listed_at (codes "values") d else []
 
 -- the row of a kind in the table of kinds
-unfoldable pub row_is : List ℕ → List ℕ → List ℕ
-row_is kinds kind = lines_of (λ row. codes "  " ++ kind ++ codes ":" ++ row ++ end) (row_of kinds kind)
+unfoldable pub row_is : List ℕ → List ℕ
+row_is word =
+    lines_of (λ (keys : List KeyRow). codes "  " ++ word ++ codes ": " ++ keys_text keys ++ end) (keys_of word)
 
-unfoldable pub keys_are : List ℕ → List ℕ → Data → List ℕ
-keys_are kinds key d = beside_is key d ++ lines_of (row_is kinds) (text_at (codes "kind") d)
+unfoldable pub keys_are : List ℕ → Data → List ℕ
+keys_are key d = beside_is key d ++ lines_of row_is (text_at (codes "kind") d)
 
 -- the keys that an actor may have
-unfoldable pub known_keys : List ℕ → Place → List ℕ → Data → List ℕ
-known_keys kinds (actor a) key d = lines_of (keys_are kinds key) (entry (codes "actor") a d)
-known_keys kinds place key d = []
+unfoldable pub known_keys : Place → List ℕ → Data → List ℕ
+known_keys (actor a) key d = lines_of (keys_are key) (entry (codes "actor") a d)
+known_keys place key d = []
 
 -- the first actor before actor a that has this name
 abbrev pub same_name : ℕ → Data → List ℕ → List ℕ
@@ -70,10 +76,30 @@ unfoldable pub twice : ℕ → Data → List ℕ
 twice a d = actor_told d a
     ++ lines_of (same_name a d) (actor_text (codes "name") d a)
 
+-- the words of the kinds that a format is the first to have
+abbrev pub words_since : ℕ → List (List ℕ)
+words_since format = map (λ (k : Kind). (row_of k).word) (filter (λ (k : Kind). (row_of k).since == format) kinds)
+
+-- words in byte order
+abbrev pub with_word : List ℕ → List (List ℕ) → List (List ℕ)
+with_word w [] = w ∷ []
+with_word w (v ∷ vs) = if is_le (slice_cmp nat_cmp w v) then w ∷ v ∷ vs else v ∷ with_word w vs
+
+abbrev pub sorted : List (List ℕ) → List (List ℕ)
+sorted [] = []
+sorted (w ∷ ws) = with_word w (sorted ws)
+
+-- words with commas between them, and `and` before the last
+abbrev pub listed : List (List ℕ) → List ℕ
+listed [] = []
+listed (w ∷ []) = w
+listed (w ∷ v ∷ []) = w ++ codes " and " ++ v
+listed (w ∷ v ∷ u ∷ ws) = w ++ codes ", " ++ listed (v ∷ u ∷ ws)
+
 -- the line of the key `format`, with the kinds that need format 2
 abbrev pub kind_format : Data → List ℕ
-kind_format d =
-    key_line (codes "format") (get (codes "format") d) (Some (codes "2 for clip, deal, gather and offset"))
+kind_format d = key_line (codes "format") (get (codes "format") d)
+    (Some (codes "2 for " ++ listed (sorted (words_since 2))))
 
 -- the rule for a name at a key
 unfoldable pub name_rule : List ℕ → List ℕ
@@ -90,24 +116,24 @@ up_to least most = decimal least ++ codes ".." ++ decimal most
 abbrev pub counted : List ℕ → ℕ → ℕ → Data → List ℕ
 counted key least most d = key_line key (get key d) (Some (up_to least most))
 
-abbrev pub told : List ℕ → Fault → Data → Files → List ℕ
-told kinds actor_count d files = counted (codes "actor") 1 MOST_ACTORS d
-told kinds channel_count d files = counted (codes "link") 0 MOST_LINKS d
-told kinds (kit_value place key) d files = place_key kinds place key d files ++ values_told place key d files
-told kinds (not_toml place) d files = []
-told kinds (bad_format place) d files = place_format place d files
-told kinds (unknown_key place key) d files =
-    place_key kinds place key d files ++ near_key place key d ++ known_keys kinds place key d
-told kinds (missing_key place key) d files = place_key kinds place key d files
-told kinds (wrong_type place key) d files = place_key kinds place key d files
-told kinds (bad_name place key) d files = place_key kinds place key d files ++ name_rule key
-told kinds (name_twice a) d files = twice a d
-told kinds (unknown_kind a) d files =
+abbrev pub told : Fault → Data → Files → List ℕ
+told actor_count d files = counted (codes "actor") 1 MOST_ACTORS d
+told channel_count d files = counted (codes "link") 0 MOST_LINKS d
+told (kit_value place key) d files = place_key place key d files ++ values_told place key d files
+told (not_toml place) d files = []
+told (bad_format place) d files = place_format place d files
+told (unknown_key place key) d files =
+    place_key place key d files ++ near_key place key d ++ known_keys place key d
+told (missing_key place key) d files = place_key place key d files
+told (wrong_type place key) d files = place_key place key d files
+told (bad_name place key) d files = place_key place key d files ++ name_rule key
+told (name_twice a) d files = twice a d
+told (unknown_kind a) d files =
     actor_told d a ++ near_kind a d ++ kind_format d
-told kinds (bad_port c key) d files =
+told (bad_port c key) d files =
     link_key c key (Some (codes "NAME or NAME:PORT, a port of 0..15")) d ++ near_end c key d
-told kinds (no_file name) d files = file_user name d
+told (no_file name) d files = file_user name d
 
 -- the diagnostic for a fault, from the bytes of a graph file
 unfoldable pub document_text : Fault → List ℕ → Files → List ℕ
-document_text fault graph files = lines_of (λ d. told kinds_text fault d files) (root graph)
+document_text fault graph files = lines_of (λ d. told fault d files) (root graph)

@@ -1,3 +1,4 @@
+pub mod Marks
 pub mod Limits
 pub mod Words
 pub mod Tables

@@ -1,53 +1,54 @@
--- The limits of a key, as the table of kinds has them.
-use Rattle.std.specs.Prelude.{ℕ, zero, suc, ◌==◌, ◌&&◌, ◌||◌, Bool, List, length, codes, Option, Some, None}
-use Rattle.std.specs.Prelude.{option_and_then, nat_lt, bytes_eq, if◌then◌else◌}
+-- The limits of a key, as the rows of kinds have them.
+use Rattle.std.specs.Prelude.{ℕ, ◌&&◌, ◌||◌, Bool, List, codes, find, Option, Some, None, option_map, option_and_then}
+use Rattle.std.specs.Prelude.{is_some, bytes_eq}
 use Rattle.std.specs.Option.{option_or}
-use Rattle.std.specs.List.{before_first, after_first, position_or_len}
-use Rattle.sdf_why.specs.declared.limits.TheConstants.{MOST_KEYS, MOST_ROWS}
+use Rattle.sdf_kinds.specs.declared.row.Kind.{Kind}
+use Rattle.sdf_kinds.specs.declared.row.Form.{Form}
+use Rattle.sdf_kinds.specs.declared.row.Form.TheVariants.{Natural, Optional, Integer, FromLeast}
+use Rattle.sdf_kinds.specs.declared.row.Form.TheVariants.{List as ListForm}
+use Rattle.sdf_kinds.specs.Rows.{KeyRow, row_of, shared_keys}
+use Rattle.sdf_kinds.specs.Listing.{limits_text}
+use Rattle.sdf_document.specs.declared.list.Limits.{Limits}
+use Rattle.sdf_document.specs.Kinds.{kind_named}
 
--- the parts of a text before and behind the first mark, and whether there is one: 10 ends a line, 32 is a space, 40
--- opens a parenthesis, 44 is a comma, 58 a colon
-unfoldable pub before : ℕ → List ℕ → List ℕ
-before mark text = before_first (λ b. b == mark) text
+-- the keys of a kind, in any format
+abbrev pub keys_of : List ℕ → Option (List KeyRow)
+keys_of word = option_map (λ (k : Kind). (row_of k).keys) (kind_named 4294967295 word)
 
-unfoldable pub behind : ℕ → List ℕ → List ℕ
-behind mark text = after_first (λ b. b == mark) text
+-- ---- the list that a kind has
 
-unfoldable pub has : ℕ → List ℕ → Bool
-has mark text = nat_lt (position_or_len (λ b. b == mark) text) (length text)
+abbrev pub list_limits : Form → Option Limits
+list_limits (Natural least most absent) = None
+list_limits (Optional least most) = None
+list_limits (Integer least most absent) = None
+list_limits (FromLeast least most absent) = None
+list_limits (ListForm most width) = Some (record { most = most; width = width })
 
--- the limits of a value, from the form behind the name of its key
-unfoldable pub form_limits : List ℕ → List ℕ
-form_limits form = if has 40 form then before 32 form else (if has 58 form then behind 32 (behind 58 form) else form)
+abbrev pub is_list : KeyRow → Bool
+is_list k = is_some (list_limits k.form)
 
--- an item is for its own key, and for `file` if that may replace a list
-unfoldable pub is_of : List ℕ → List ℕ → List ℕ → Bool
-is_of key name form = bytes_eq key name || (bytes_eq key (codes "file") && has 58 form)
+-- the limits of the first list among keys
+unfoldable pub keys_limits : List KeyRow → Option Limits
+keys_limits ks = option_and_then (λ (k : KeyRow). list_limits k.form) (find is_list ks)
 
--- the limits of a key from an item of a row
-unfoldable pub limits_by : List ℕ → List ℕ → List ℕ → Option (List ℕ)
-limits_by key name form = if is_of key name form then Some (form_limits form) else None
+-- the limits of the list of a kind, in any format
+unfoldable pub kind_limits : List ℕ → Option Limits
+kind_limits word = option_and_then keys_limits (keys_of word)
 
-abbrev pub limits_in : List ℕ → List ℕ → Option (List ℕ)
-limits_in key item = limits_by key (before 32 (behind 32 item)) (behind 32 (behind 32 item))
+-- ---- the form of a key
 
--- the limits of a key from the first n items of a row
-unfoldable pub limits_among : ℕ → List ℕ → List ℕ → Option (List ℕ)
-limits_among zero key row = None
-limits_among (suc n) key row = option_or (limits_in key (before 44 row)) (limits_among n key (behind 44 row))
+-- a row's key is the one of this name, or a list that `file` may replace
+unfoldable pub is_of : List ℕ → KeyRow → Bool
+is_of key k = bytes_eq key k.name || (bytes_eq key (codes "file") && is_list k)
 
--- what is behind a word in the first n lines of the table
-unfoldable pub row_among : ℕ → List ℕ → List ℕ → Option (List ℕ)
-row_among zero word table = None
-row_among (suc n) word table =
-    if bytes_eq word (before 44 (before 58 (before 10 table))) then Some (behind 58 (before 10 table))
-    else row_among n word (behind 10 table)
+-- the form of the first key of this name
+unfoldable pub form_among : List ℕ → List KeyRow → Option Form
+form_among key ks = option_map (λ (k : KeyRow). k.form) (find (is_of key) ks)
 
-abbrev pub row_of : List ℕ → List ℕ → Option (List ℕ)
-row_of table word = row_among MOST_ROWS word table
+-- the form of a key of a kind, or its form as a key that every kind has
+abbrev pub form_of : List ℕ → List ℕ → Option Form
+form_of word key = option_or (option_and_then (form_among key) (keys_of word)) (form_among key shared_keys)
 
--- the limits of a key for a kind, or its limits as a key that every kind has
-abbrev pub limits_of : List ℕ → List ℕ → List ℕ → Option (List ℕ)
-limits_of table kind key = option_or
-    (option_and_then (limits_among MOST_KEYS key) (row_of table kind))
-    (option_and_then (limits_among MOST_KEYS key) (row_of table (codes "every kind")))
+-- the limits of a key for a kind
+abbrev pub limits_of : List ℕ → List ℕ → Option (List ℕ)
+limits_of word key = option_map limits_text (form_of word key)

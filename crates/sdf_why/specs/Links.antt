@@ -4,7 +4,7 @@ use Rattle.std.specs.Prelude.{bytes_eq}
 use Rattle.std.specs.Prelude.{find, if◌then◌else◌}
 use Rattle.std.specs.List.{range_with_len}
 use Rattle.toml.specs.Data.{Data, get}
-use Rattle.sdf_why.specs.Limits.{before, behind, has}
+use Rattle.sdf_why.specs.Marks.{before, behind, has}
 use Rattle.sdf_why.specs.Words.{link_line, key_line}
 use Rattle.sdf_why.specs.Tables.{text_at, entry}
 use Rattle.sdf_why.specs.Actors.{lines_of, first_told}

@@ -1,8 +1,9 @@
--- A loop of links through which a design keeps its samples for ever.
+-- A loop of links through which a design may keep its samples for ever.
 use Rattle.std.specs.Prelude.{◌≡◌, ℕ, ◌<◌, List, [], ◌∷◌, ◌++◌, length, codes, Bool, true, false, slice_index_or}
 use Rattle.std.specs.Prelude.{Option, None, MatchOption, reverse}
 use Rattle.std.specs.List.{flat_map}
 use Rattle.sdf_graph.specs.Rates.{Shape, channel}
+use Rattle.sdf_graph.specs.Marks.{is_marked}
 use Rattle.sdf_why.specs.declared.cycle.Halt.{Halt}
 use Rattle.sdf_why.specs.Cycles.{short_at}
 
@@ -17,33 +18,29 @@ pub record IsLoop (g : Shape) (cs : List ℕ) : Type 0 where
   pub some : 0 < length cs
   pub round : LeadBack g actor cs actor
 
--- whether actor a is kept
-abbrev pub is_kept : List Bool → ℕ → Bool
-is_kept kept a = slice_index_or kept a false
-
 -- channel c leads from a kept actor to actor a
 pub record Feeds (g : Shape) (kept : List Bool) (a c : ℕ) : Type 0 where
   pub known : c < length g.channels
   pub into : (channel g c).to ≡ a
-  pub source : is_kept kept (channel g c).from ≡ true
+  pub source : is_marked kept (channel g c).from ≡ true
 
 -- actor a is kept, and no channel leads there from a kept actor
 pub record IsUnfed (g : Shape) (kept : List Bool) (a : ℕ) : Type 0 where
-  pub kept_yet : is_kept kept a ≡ true
+  pub kept_yet : is_marked kept a ≡ true
   pub none : (c : ℕ) → Feeds g kept a c → ⊥
 
 -- each actor to which one of the first n channels leads is kept
 abbrev pub AreTargets : Shape → ℕ → List Bool → Type 0
-AreTargets g n kept = (c : ℕ) → c < n → is_kept kept (channel g c).to ≡ true
+AreTargets g n kept = (c : ℕ) → c < n → is_marked kept (channel g c).to ≡ true
 
 -- each actor of each loop is kept
 abbrev pub HoldsLoops : Shape → List Bool → Type 0
-HoldsLoops g kept = (a : ℕ) (cs : List ℕ) → 0 < length cs → LeadBack g a cs a → is_kept kept a ≡ true
+HoldsLoops g kept = (a : ℕ) (cs : List ℕ) → 0 < length cs → LeadBack g a cs a → is_marked kept a ≡ true
 
 -- short is a channel that feeds actor a: none if no channel does, or if a is not kept
 pub record IsFedBy (g : Shape) (kept : List Bool) (a : ℕ) (short : Option ℕ) : Type 0 where
-  pub yes : is_kept kept a ≡ true → MatchOption short ((c : ℕ) → Feeds g kept a c → ⊥) (Feeds g kept a)
-  pub no : is_kept kept a ≡ false → short ≡ None
+  pub yes : is_marked kept a ≡ true → MatchOption short ((c : ℕ) → Feeds g kept a c → ⊥) (Feeds g kept a)
+  pub no : is_marked kept a ≡ false → short ≡ None
 
 abbrev pub AreFed : Shape → List Bool → List Halt → Type 0
 AreFed g kept halts = (a : ℕ) → IsFedBy g kept a (short_at halts a)

@@ -11,11 +11,11 @@ use Rattle.sdf_kinds.specs.declared.row.Form.TheVariants.{Natural, Optional, Int
 use Rattle.sdf_kinds.specs.declared.row.Form.TheVariants.{List as ListForm}
 use Rattle.sdf_document.specs.Fault.{Place, top, actor, link, file}
 use Rattle.sdf_kinds.specs.Rows.{KeyRow, row_of, kinds, shared_keys}
-use Rattle.sdf_document.specs.Kinds.{kind_named}
 use Rattle.sdf_document.specs.Document.{top_keys}
 use Rattle.sdf_document.specs.Links.{link_keys}
 use Rattle.sdf_document.specs.Lists.{file_keys}
-use Rattle.sdf_why.specs.Limits.{before}
+use Rattle.sdf_why.specs.Marks.{before}
+use Rattle.sdf_why.specs.Limits.{keys_of}
 use Rattle.sdf_why.specs.Words.{hint_line}
 use Rattle.sdf_why.specs.Tables.{actor_text}
 use Rattle.sdf_why.specs.Actors.{lines_of}
@@ -54,7 +54,7 @@ key_names k = k.name ∷ file_beside k.form
 
 -- the names of the keys of a kind, in any format
 abbrev pub kind_keys : List ℕ → List (List ℕ)
-kind_keys word = option_map_or (λ (k : Kind). flat_map key_names (row_of k).keys) (kind_named 4294967295 word) []
+kind_keys word = option_map_or (flat_map key_names) (keys_of word) []
 
 -- the keys that an actor of a kind may have
 unfoldable pub actor_keys : List ℕ → List (List ℕ)

@@ -4,7 +4,7 @@ use Rattle.std.specs.Prelude.{slice_index, if◌then◌else◌}
 use Rattle.std.specs.Fmt.{signed_decimal}
 use Rattle.toml.specs.Data.{Data, Items, no_items, item, as_str, as_integer, as_array, type_name}
 use Rattle.sdf_options.specs.Printable.{printable_text}
-use Rattle.sdf_why.specs.Limits.{has}
+use Rattle.sdf_why.specs.Marks.{has}
 
 -- a line feed
 abbrev pub end : List ℕ

@@ -1,11 +1,11 @@
 //! The lines about an actor, from its table.
 
-ghost use Rattle.std.specs.Prelude.{◌≡◌, ◌++◌, OnOk, option_map, string_bytes};
+ghost use Rattle.std.specs.Prelude.{◌≡◌, ◌++◌, IfOk, OnOk, option_map, string_bytes};
 ghost use Rattle.toml.specs.View.{view};
 ghost use Rattle.sdf_why.specs.Actors.{actor_is, actor_told, actor_limits, actor_key, actor_value, first_told};
 
 use crate::limits::limits_of;
-use crate::tables::{Source, entry, first_saying, text_at, value_at};
+use crate::tables::{entry, first_saying, text_at, value_at};
 use crate::words::{push_actor, push_key};
 use sdf_limits::MOST_ACTORS;
 use std::alloc::{AllocError, Global};
@@ -47,10 +47,13 @@ pub(crate) fn push_actor_of(
 
 /// Returns the limits of `key` for the kind of `actor`.
 #[tactic(auto, unfolding(crate::specs::Actors::actor_limits))]
-fn actor_limits<'a>(kinds: &'a str, key: &str, actor: &Value) -> Option<&'a str>
-    ensures { option_map (λ s. s.now) result ≡ actor_limits kinds.now key.now (view actor.now) }
+fn actor_limits(alloc: Global, key: &str, actor: &Value) -> Result<Option<String>, AllocError>
+    ensures { IfOk result (λ o. option_map string_bytes o ≡ actor_limits key.now (view actor.now)) }
 {
-    limits_of(kinds, text_at(actor, "kind")?, key)
+    match text_at(actor, "kind") {
+        Some(word) => limits_of(alloc, word, key),
+        None => Ok(None),
+    }
 }
 
 /// Adds the line of the actor `number`, and the line of its `key` with the limits.
@@ -58,19 +61,19 @@ fn actor_limits<'a>(kinds: &'a str, key: &str, actor: &Value) -> Option<&'a str>
 pub(crate) fn push_actor_key(
     alloc: Global,
     text: &mut String,
-    source: Source<'_>,
+    graph: &Value,
     number: usize,
     key: &str,
 ) -> Result<(), AllocError>
     ensures { OnOk result (string_bytes text.new ≡ string_bytes text.old
-        ++ actor_key source.entry.kinds.now number key.now (view source.entry.graph.now)) }
+        ++ actor_key number key.now (view graph.now)) }
 {
-    let Some(actor) = entry(source.graph, "actor", number) else {
+    let Some(actor) = entry(graph, "actor", number) else {
         return Ok(());
     };
     push_actor_table(alloc, text, number, actor)?;
-    let limits = actor_limits(source.kinds, key, actor);
-    push_key(alloc, text, key, value_at(actor, key), limits)
+    let limits = actor_limits(alloc, key, actor)?;
+    push_key(alloc, text, key, value_at(actor, key), limits.as_deref())
 }
 
 /// Adds the line of the actor `number`, and the line of its `key` without limits.

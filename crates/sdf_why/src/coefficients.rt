@@ -5,41 +5,22 @@ ghost use Rattle.std.specs.Prelude.{◌≡◌, ◌++◌, OnOk, codes, option_map
 ghost use Rattle.toml.specs.Data.{at, get, as_integer};
 ghost use Rattle.toml.specs.View.{view};
 ghost use Rattle.sdf_document.specs.Fault.{place_view};
-ghost use Rattle.sdf_kinds.specs.Rows.{keys_view};
-ghost use Rattle.sdf_document.specs.Lists.{files_view, file_named, fits};
+ghost use Rattle.sdf_document.specs.Lists.{files_view};
 ghost use Rattle.sdf_why.specs.Tables.{text_at};
 ghost use Rattle.sdf_why.specs.Actors.{lines_of};
 ghost use Rattle.sdf_why.specs.Documents.{file_key};
-ghost use Rattle.sdf_why.specs.Coefficients.{list_limits, keys_limits, kind_limits, is_unfit, first_unfit, width_text};
-ghost use Rattle.sdf_why.specs.Coefficients.{values_in, place_text, wants_text, value_line, value_told, count_text};
-ghost use Rattle.sdf_why.specs.Coefficients.{most_text, count_line, items_told, list_told, file_told, named_told};
-ghost use Rattle.sdf_why.specs.Coefficients.{table_told, values_told};
+ghost use Rattle.sdf_why.specs.Limits.{kind_limits};
+ghost use Rattle.sdf_why.specs.Coefficients.{is_unfit, first_unfit, width_text, values_in, place_text, wants_text};
+ghost use Rattle.sdf_why.specs.Coefficients.{value_line, value_told, count_text, most_text, count_line, items_told};
+ghost use Rattle.sdf_why.specs.Coefficients.{list_told, file_told, named_told, table_told, values_told};
 
+use crate::limits::kind_limits;
 use crate::tables::{Source, entry, root, text_at, value_at};
 use crate::words::{push_key, push_quoted, push_value};
-use sdf_document::{Place, kind_named};
-use sdf_kinds::{Form, KeyForm, Width, row_of};
+use sdf_document::{Limits, Place, file_named, fitting};
+use sdf_kinds::Width;
 use std::alloc::{AllocError, Global};
 use toml::Value;
-
-/// The limits of a list: its maximum length, and the width of its values.
-#[derive(Clone, Copy)]
-pub(crate) struct Limits {
-    pub(crate) most: usize,
-    pub(crate) width: Width,
-}
-
-/// Returns the bytes of the first file with this `name`.
-fn file_named<'a>(name: &str, files: &'a [(String, Vec<u8>)]) -> Option<&'a [u8]>
-    ensures { option_map (λ s. s.now) result ≡ file_named name.now (files_view files.now) }
-{
-    for file in files {
-        if name == file.0.as_str() {
-            return Some(file.1.as_slice());
-        }
-    }
-    None
-}
 
 /// Adds the line of `key` in the coefficient file `name`.
 #[tactic(auto, unfolding(crate::specs::Documents::file_key))]
@@ -63,49 +44,6 @@ pub(crate) fn push_file_key(
     }
 }
 
-fn list_limits(form: Form) -> Option<Limits>
-    ensures { result ≡ list_limits form }
-{
-    match form {
-        Form::List(most, width) => Some(Limits { most, width }),
-        Form::Natural(_, _, _)
-        | Form::Optional(_, _)
-        | Form::Integer(_, _, _)
-        | Form::FromLeast(_, _, _) => None,
-    }
-}
-
-/// Returns the limits of the first list among `keys`.
-#[tactic(auto, unfolding(crate::specs::Coefficients::keys_limits))]
-fn keys_limits(keys: &[KeyForm]) -> Option<Limits>
-    ensures { result ≡ keys_limits (keys_view keys.now) }
-{
-    for key in keys {
-        if let Some(limits) = list_limits(key.1) {
-            return Some(limits);
-        }
-    }
-    None
-}
-
-/// Returns the limits of the list that the kind `word` has, if it has one.
-#[tactic(auto, unfolding(crate::specs::Coefficients::kind_limits))]
-fn kind_limits(word: &str) -> Option<Limits>
-    ensures { result ≡ kind_limits word.now }
-{
-    let kind = kind_named(u32::MAX, word)?;
-    keys_limits(row_of(kind).keys)
-}
-
-fn fits(width: Width, number: i64) -> bool
-    ensures { result ≡ fits width number }
-{
-    match width {
-        Width::Bits16 => -32768 <= number && number <= 32767,
-        Width::Bits32 => -2147483648 <= number && number <= 2147483647,
-    }
-}
-
 /// Returns the whole number at the index `place` of `list`.
 fn number_at(list: &Value, place: usize) -> Option<i64>
     ensures { result ≡ option_and_then as_integer (at place (view list.now)) }
@@ -119,7 +57,7 @@ fn is_unfit(width: Width, list: &Value, place: usize) -> bool
     ensures { result ≡ is_unfit width (view list.now) place }
 {
     match number_at(list, place) {
-        Some(number) => !fits(width, number),
+        Some(number) => fitting(width, number).is_none(),
         None => true,
     }
 }

@@ -4,15 +4,14 @@ ghost use Rattle.std.specs.Prelude.{◌≡◌, ℕ, ◌*◌, ◌+◌, ◌-◌, �
 ghost use Rattle.std.specs.Prelude.{string_bytes};
 ghost use Rattle.std.specs.List.{All, flat_map};
 ghost use Rattle.toml.specs.View.{view};
-ghost use Rattle.sdf_graph.specs.Rates.{sum_to, rate_at};
 ghost use Rattle.sdf_why.specs.Cycles.{done_at, short_at, first_waiting, Waits, HasNoCycle, IsCycle, held, wanted};
 ghost use Rattle.sdf_why.specs.Cycles.{lack_told, is_among, other_told, others_told, IsCycleText};
 
 use crate::links::push_link_of;
 use crate::tables::{entry, text_at};
 use crate::words::{Lack, push_lack};
-use sdf_graph::{Channel, Graph};
-use sdf_limits::{MOST_INITIAL, MOST_RATE};
+use sdf_graph::{Channel, Graph, moved_by};
+use sdf_limits::MOST_INITIAL;
 use std::alloc::{AllocError, Global};
 use toml::Value;
 
@@ -102,34 +101,6 @@ pub(crate) fn cycle_of(
     }
 }
 
-/// Returns the number of samples that the first `firings` firings of the source put.
-fn put_by(channel: &Channel, firings: u32) -> u64
-    requires some { 0 < length channel.now.put }
-    requires rates { (i : ℕ) → rate_at channel.now.put i ≤ MOST_RATE }
-    ensures value { result ≡ sum_to (rate_at channel.now.put) firings }
-    ensures small { result ≤ firings * MOST_RATE }
-{
-    let mut samples = 0;
-    for firing in 0..firings {
-        samples += u64::from(channel.puts(firing));
-    }
-    samples
-}
-
-/// Returns the number of samples that the first `firings` firings of the target take.
-fn taken_by(channel: &Channel, firings: u32) -> u64
-    requires some { 0 < length channel.now.take }
-    requires rates { (i : ℕ) → rate_at channel.now.take i ≤ MOST_RATE }
-    ensures value { result ≡ sum_to (rate_at channel.now.take) firings }
-    ensures small { result ≤ firings * MOST_RATE }
-{
-    let mut samples = 0;
-    for firing in 0..firings {
-        samples += u64::from(channel.takes(firing));
-    }
-    samples
-}
-
 /// Returns the number of samples that `channel` holds after `put` samples were put and `taken` samples were taken.
 fn held(channel: &Channel, put: u64, taken: u64) -> u64
     requires initial { channel.now.initial ≤ MOST_INITIAL }
@@ -146,10 +117,10 @@ fn lack_of(graph: &Graph, halts: &[Halt], number: usize) -> Lack
     ensures wants { result.wants ≡ wanted graph.now halts.now number }
 {
     let channel = &graph.channels()[number];
-    let put = put_by(channel, done_at(halts, channel.from));
+    let put = moved_by(&channel.put, u64::from(done_at(halts, channel.from)));
     let done = done_at(halts, channel.to);
     Lack {
-        holds: held(channel, put, taken_by(channel, done)),
+        holds: held(channel, put, moved_by(&channel.take, u64::from(done))),
         wants: channel.takes(done),
     }
 }

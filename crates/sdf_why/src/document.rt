@@ -10,13 +10,13 @@ ghost use Rattle.sdf_why.specs.Documents.{known_keys, kind_format, same_name, tw
 
 use crate::actors::{push_actor_key, push_actor_of, push_first};
 use crate::coefficients::{push_file_key, push_values};
-use crate::limits::row_of;
+use crate::limits::keys_of;
 use crate::links::push_link_key;
 use crate::near::{push_near_end, push_near_key, push_near_kind};
 use crate::tables::{Source, actor_text, entry, first_saying, root, text_at, value_at};
 use crate::words::push_key;
 use sdf_document::{DocumentFault, Place};
-use sdf_kinds::kinds_text;
+use sdf_kinds::keys_text;
 use sdf_limits::{MOST_ACTORS, MOST_LINKS};
 use std::alloc::{AllocError, Global};
 use toml::Value;
@@ -29,12 +29,12 @@ fn push_place(
     place: &Place,
     key: &str,
 ) -> Result<(), AllocError>
-    ensures { OnOk result (string_bytes text.new ≡ string_bytes text.old ++ place_key source.entry.kinds.now
+    ensures { OnOk result (string_bytes text.new ≡ string_bytes text.old ++ place_key
         (place_view place.now) key.now (view source.entry.graph.now) (files_view source.entry.files.now)) }
 {
     match place {
         Place::Top => push_key(alloc, text, key, value_at(source.graph, key), None),
-        Place::Actor(number) => push_actor_key(alloc, text, source, *number, key),
+        Place::Actor(number) => push_actor_key(alloc, text, source.graph, *number, key),
         Place::Link(number) => push_link_key(alloc, text, source.graph, *number, key, None),
         Place::File(name) => {
             push_first(alloc, text, source.graph, "file", name.as_str())?;
@@ -93,25 +93,26 @@ fn push_beside(text: &mut String, key: &str, actor: &Value) -> Result<(), AllocE
     push_listed(text, "values", actor)
 }
 
-/// Adds the row of `kind` in the table of kinds.
+/// Adds the row of the kind `word` in the table of kinds.
 #[tactic(auto, unfolding(crate::specs::Documents::row_is))]
-fn push_row(text: &mut String, kinds: &str, kind: &str) -> Result<(), AllocError>
-    ensures { OnOk result (string_bytes text.new ≡ string_bytes text.old ++ row_is kinds.now kind.now) }
+fn push_row(alloc: Global, text: &mut String, word: &str) -> Result<(), AllocError>
+    ensures { OnOk result (string_bytes text.new ≡ string_bytes text.old ++ row_is word.now) }
 {
-    match row_of(kinds, kind) {
-        Some(row) => writeln!(text, "  {kind}:{row}"),
-        None => Ok(()),
-    }
+    let Some(keys) = keys_of(word) else {
+        return Ok(());
+    };
+    let listed = keys_text(alloc, keys)?;
+    let row = listed.as_str();
+    writeln!(text, "  {word}: {row}")
 }
 
 #[tactic(auto, unfolding(crate::specs::Documents::keys_are))]
-fn push_keys(text: &mut String, kinds: &str, key: &str, actor: &Value) -> Result<(), AllocError>
-    ensures { OnOk result (string_bytes text.new ≡ string_bytes text.old
-        ++ keys_are kinds.now key.now (view actor.now)) }
+fn push_keys(alloc: Global, text: &mut String, key: &str, actor: &Value) -> Result<(), AllocError>
+    ensures { OnOk result (string_bytes text.new ≡ string_bytes text.old ++ keys_are key.now (view actor.now)) }
 {
     push_beside(text, key, actor)?;
     match text_at(actor, "kind") {
-        Some(kind) => push_row(text, kinds, kind),
+        Some(word) => push_row(alloc, text, word),
         None => Ok(()),
     }
 }
@@ -119,19 +120,20 @@ fn push_keys(text: &mut String, kinds: &str, key: &str, actor: &Value) -> Result
 /// Adds the keys that an actor may have, if `place` is an actor.
 #[tactic(auto, unfolding(crate::specs::Documents::known_keys))]
 fn push_known(
+    alloc: Global,
     text: &mut String,
-    source: Source<'_>,
+    graph: &Value,
     place: &Place,
     key: &str,
 ) -> Result<(), AllocError>
     ensures { OnOk result (string_bytes text.new ≡ string_bytes text.old
-        ++ known_keys source.entry.kinds.now (place_view place.now) key.now (view source.entry.graph.now)) }
+        ++ known_keys (place_view place.now) key.now (view graph.now)) }
 {
     let Place::Actor(number) = place else {
         return Ok(());
     };
-    match entry(source.graph, "actor", *number) {
-        Some(actor) => push_keys(text, source.kinds, key, actor),
+    match entry(graph, "actor", *number) {
+        Some(actor) => push_keys(alloc, text, key, actor),
         None => Ok(()),
     }
 }
@@ -226,7 +228,7 @@ fn push_told(
     fault: &DocumentFault,
 ) -> Result<(), AllocError>
     ensures { OnOk result (string_bytes text.new ≡ string_bytes text.old
-        ++ told source.entry.kinds.now (fault_view fault.now) (view source.entry.graph.now)
+        ++ told (fault_view fault.now) (view source.entry.graph.now)
         (files_view source.entry.files.now)) }
 {
     let graph = source.graph;
@@ -249,7 +251,7 @@ fn push_told(
         DocumentFault::UnknownKey(place, key) => {
             push_place(alloc, text, source, place, key.as_str())?;
             push_near_key(alloc, text, graph, place, key.as_str())?;
-            push_known(text, source, place, key.as_str())
+            push_known(alloc, text, graph, place, key.as_str())
         }
         DocumentFault::NameTwice(number) => push_twice(alloc, text, graph, *number),
         DocumentFault::UnknownKind(number) => {
@@ -285,12 +287,10 @@ pub fn document_text(
         document_text (fault_view fault.now) graph.now (files_view files.now)) }
 {
     let mut text = String::new(alloc);
-    let kinds = kinds_text(alloc)?;
     if let Some(graph) = root(alloc, graph)? {
         let source = Source {
             graph: &graph,
             files,
-            kinds: kinds.as_str(),
         };
         push_told(alloc, &mut text, source, fault)?;
     }

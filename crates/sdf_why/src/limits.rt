@@ -1,111 +1,98 @@
-//! The limits of a key, as the table of kinds has them.
+//! The limits of a key, as the rows of kinds have them.
 
-ghost use Rattle.std.specs.Prelude.{◌≡◌, ◌-◌, IfOk, option_map, string_bytes};
-ghost use Rattle.sdf_why.specs.Limits.{form_limits, is_of, limits_by, limits_in, limits_among, row_among, row_of};
-ghost use Rattle.sdf_why.specs.Limits.{limits_of};
+ghost use Rattle.std.specs.Prelude.{◌≡◌, IfOk, option_map, option_and_then, string_bytes};
+ghost use Rattle.sdf_kinds.specs.Rows.{key_view, keys_view};
+ghost use Rattle.sdf_why.specs.Limits.{keys_of, list_limits, keys_limits, kind_limits, is_of, form_among};
+ghost use Rattle.sdf_why.specs.Limits.{form_of, limits_of};
 
-use crate::marks::{before, behind, has};
+use sdf_document::{Limits, kind_named};
+use sdf_kinds::{Form, KeyForm, limits_text, row_of, shared_keys};
+use std::alloc::{AllocError, Global};
 
-/// An upper bound on the keys in a row of the table.
-pub(crate) const MOST_KEYS: u32 = 8;
-
-/// An upper bound on the lines in the table.
-pub(crate) const MOST_ROWS: u32 = 32;
-
-/// Returns the limits of a value from the `form` behind the name of its key. Leaves out the default in parentheses, and
-/// the note that a list may be in a file.
-#[tactic(auto, unfolding(crate::specs::Limits::form_limits))]
-fn form_limits(form: &str) -> &str
-    ensures { result.now ≡ form_limits form.now }
+/// Returns the keys of the kind `word`, in any format.
+pub(crate) fn keys_of(word: &str) -> Option<&'static [KeyForm]>
+    ensures { option_map (λ s. keys_view s.now) result ≡ keys_of word.now }
 {
-    if has(form, '(') {
-        before(form, ' ')
-    } else if has(form, ':') {
-        behind(behind(form, ':'), ' ')
-    } else {
-        form
+    let kind = kind_named(u32::MAX, word)?;
+    Some(row_of(kind).keys)
+}
+
+fn list_limits(form: Form) -> Option<Limits>
+    ensures { result ≡ list_limits form }
+{
+    match form {
+        Form::List(most, width) => Some(Limits { most, width }),
+        Form::Natural(_, _, _)
+        | Form::Optional(_, _)
+        | Form::Integer(_, _, _)
+        | Form::FromLeast(_, _, _) => None,
     }
 }
 
-/// Checks whether an item of a row is for `key`: its own key, or `file` in place of a list.
-#[tactic(auto, unfolding(crate::specs::Limits::is_of))]
-fn is_of(key: &str, name: &str, form: &str) -> bool
-    ensures { result ≡ is_of key.now name.now form.now }
+/// Returns the limits of the first list among `keys`.
+#[tactic(auto, unfolding(crate::specs::Limits::keys_limits))]
+fn keys_limits(keys: &[KeyForm]) -> Option<Limits>
+    ensures { result ≡ keys_limits (keys_view keys.now) }
 {
-    key == name || key == "file" && has(form, ':')
-}
-
-/// Returns the limits of `key` from the `name` and the `form` of an item.
-#[tactic(auto, unfolding(crate::specs::Limits::limits_by))]
-fn limits_by<'a>(key: &str, name: &str, form: &'a str) -> Option<&'a str>
-    ensures { option_map (λ s. s.now) result ≡ limits_by key.now name.now form.now }
-{
-    if is_of(key, name, form) {
-        Some(form_limits(form))
-    } else {
-        None
-    }
-}
-
-/// Returns the limits of `key` from an `item` of a row.
-fn limits_in<'a>(item: &'a str, key: &str) -> Option<&'a str>
-    ensures { option_map (λ s. s.now) result ≡ limits_in key.now item.now }
-{
-    let said = behind(item, ' ');
-    limits_by(key, before(said, ' '), behind(said, ' '))
-}
-
-/// Returns the limits of `key` from the first `items` items of `row`.
-#[tactic(auto, using(crate::proofs::Pieces::limits_none, crate::proofs::Pieces::limits_step))]
-fn limits_among<'a>(items: u32, key: &str, row: &'a str) -> Option<&'a str>
-    ensures { option_map (λ s. s.now) result ≡ limits_among items key.now row.now }
-{
-    if items == 0 {
-        return None;
-    }
-    match limits_in(before(row, ','), key) {
-        Some(limits) => Some(limits),
-        None => limits_among(items - 1, key, behind(row, ',')),
-    }
-}
-
-/// Returns what is behind `word` in the first `lines` lines of the table of kinds.
-#[tactic(auto, using(crate::proofs::Pieces::row_none, crate::proofs::Pieces::row_step))]
-fn row_among<'a>(lines: u32, word: &str, kinds: &'a str) -> Option<&'a str>
-    ensures { option_map (λ s. s.now) result ≡ row_among lines word.now kinds.now }
-{
-    if lines == 0 {
-        return None;
-    }
-    let line = before(kinds, '\n');
-    if word == before(before(line, ':'), ',') {
-        return Some(behind(line, ':'));
-    }
-    row_among(lines - 1, word, behind(kinds, '\n'))
-}
-
-/// Returns what is behind `word` in the table of kinds.
-pub(crate) fn row_of<'a>(kinds: &'a str, word: &str) -> Option<&'a str>
-    ensures { option_map (λ s. s.now) result ≡ row_of kinds.now word.now }
-{
-    row_among(MOST_ROWS, word, kinds)
-}
-
-/// Returns the limits of `key` from `row`.
-fn limits_by_row<'a>(row: &'a str, key: &str) -> Option<&'a str>
-    ensures { option_map (λ s. s.now) result ≡ limits_among MOST_KEYS key.now row.now }
-{
-    limits_among(MOST_KEYS, key, row)
-}
-
-/// Returns the limits of `key` for `kind`, or its limits as a key that every kind has.
-pub(crate) fn limits_of<'a>(kinds: &'a str, kind: &str, key: &str) -> Option<&'a str>
-    ensures { option_map (λ s. s.now) result ≡ limits_of kinds.now kind.now key.now }
-{
-    if let Some(row) = row_of(kinds, kind) {
-        if let Some(limits) = limits_by_row(row, key) {
+    for key in keys {
+        if let Some(limits) = list_limits(key.1) {
             return Some(limits);
         }
     }
-    limits_by_row(row_of(kinds, "every kind")?, key)
+    None
+}
+
+/// Returns the limits of the list that the kind `word` has, if it has one.
+#[tactic(auto, unfolding(crate::specs::Limits::kind_limits))]
+pub(crate) fn kind_limits(word: &str) -> Option<Limits>
+    ensures { result ≡ kind_limits word.now }
+{
+    keys_limits(keys_of(word)?)
+}
+
+/// Checks whether `name` is the name of `key`, or `file` in place of its list.
+#[tactic(auto, unfolding(crate::specs::Limits::is_of))]
+fn is_of(name: &str, key: &KeyForm) -> bool
+    ensures { result ≡ is_of name.now (key_view key.now) }
+{
+    name == key.0.name() || name == "file" && list_limits(key.1).is_some()
+}
+
+/// Returns the form of the first of `keys` that has this `name`.
+#[tactic(auto, unfolding(crate::specs::Limits::form_among))]
+fn form_among(name: &str, keys: &[KeyForm]) -> Option<Form>
+    ensures { result ≡ form_among name.now (keys_view keys.now) }
+{
+    for key in keys {
+        if is_of(name, key) {
+            return Some(key.1);
+        }
+    }
+    None
+}
+
+fn form_in_kind(word: &str, key: &str) -> Option<Form>
+    ensures { result ≡ option_and_then (form_among key.now) (keys_of word.now) }
+{
+    form_among(key, keys_of(word)?)
+}
+
+/// Returns the form of `key` of the kind `word`, or its form as a key that every kind has.
+fn form_of(word: &str, key: &str) -> Option<Form>
+    ensures { result ≡ form_of word.now key.now }
+{
+    match form_in_kind(word, key) {
+        Some(form) => Some(form),
+        None => form_among(key, shared_keys()),
+    }
+}
+
+/// Returns the limits of `key` of the kind `word`, or its limits as a key that every kind has.
+pub(crate) fn limits_of(alloc: Global, word: &str, key: &str) -> Result<Option<String>, AllocError>
+    ensures { IfOk result (λ o. option_map string_bytes o ≡ limits_of word.now key.now) }
+{
+    match form_of(word, key) {
+        Some(form) => Ok(Some(limits_text(alloc, form)?)),
+        None => Ok(None),
+    }
 }

@@ -1,27 +1,19 @@
-//! A loop of links through which a design keeps its samples for ever.
+//! A loop of links through which a design may keep its samples for ever.
 
 ghost use Rattle.std.specs.Prelude.{◌≡◌, ◌<◌, ◌++◌, ◌↔◌, ℕ, true, false, [], length, slice_index, slice_index_or};
 ghost use Rattle.std.specs.Prelude.{None, IfOk, OnOk, MatchOption, string_bytes, List};
 ghost use Rattle.std.specs.List.{flat_map, All};
+ghost use Rattle.sdf_graph.specs.Marks.{is_marked};
 ghost use Rattle.sdf_actor.specs.Graphs.{graph_of};
 ghost use Rattle.sdf_kit.specs.Kit.{kit_steps};
-ghost use Rattle.sdf_why.specs.Loops.{arrow_to, is_kept, loop_line, name_at, AreFed, AreTargets, Feeds, HoldsLoops};
+ghost use Rattle.sdf_why.specs.Loops.{arrow_to, loop_line, name_at, AreFed, AreTargets, Feeds, HoldsLoops};
 ghost use Rattle.sdf_why.specs.Loops.{IsLoop, IsLoopText, IsUnfed};
 
 use crate::cycle::{Halt, cycle_of};
+use crate::more::is_marked;
 use sdf_file::Design;
 use sdf_graph::Graph;
 use std::alloc::{AllocError, Global};
-
-/// Checks whether `actor` is kept.
-fn is_kept(kept: &[bool], actor: usize) -> bool
-    ensures { result ≡ is_kept kept.now actor }
-{
-    match kept.get(actor) {
-        Some(kept) => *kept,
-        None => false,
-    }
-}
 
 /// Returns the first channel from a kept actor to `actor`.
 fn feeder(graph: &Graph, kept: &[bool], actor: usize) -> Option<usize>
@@ -30,7 +22,7 @@ fn feeder(graph: &Graph, kept: &[bool], actor: usize) -> Option<usize>
     let channels = graph.channels();
     for number in 0..channels.len() {
         let channel = &channels[number];
-        if channel.to == actor && is_kept(kept, channel.from) {
+        if channel.to == actor && is_marked(kept, channel.from) {
             return Some(number);
         }
     }
@@ -74,11 +66,11 @@ fn kept_by_loops(alloc: Global, graph: &Graph) -> Result<Vec<bool>, AllocError>
 
 /// Returns the channel that feeds `actor`, if the actor is kept. It is a `Halt` so that `cycle_of` can follow it.
 fn halt_of(graph: &Graph, kept: &[bool], actor: usize) -> Halt
-    ensures kept { is_kept kept.now actor ≡ true →
+    ensures kept { is_marked kept.now actor ≡ true →
         MatchOption result.short ((c : ℕ) → Feeds graph.now kept.now actor c → ⊥) (Feeds graph.now kept.now actor) }
-    ensures gone { is_kept kept.now actor ≡ false → result.short ≡ None }
+    ensures gone { is_marked kept.now actor ≡ false → result.short ≡ None }
 {
-    let short = if is_kept(kept, actor) {
+    let short = if is_marked(kept, actor) {
         feeder(graph, kept, actor)
     } else {
         None

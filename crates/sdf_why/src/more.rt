@@ -28,7 +28,8 @@ use sdf_graph::{Channel, GraphFault, Meeting, joined};
 use std::alloc::{AllocError, Global};
 use toml::Value;
 
-fn is_marked(marked: &[bool], actor: usize) -> bool
+/// Checks whether `actor` is marked.
+pub(crate) fn is_marked(marked: &[bool], actor: usize) -> bool
     ensures { result ≡ is_marked marked.now actor }
 {
     match marked.get(actor) {

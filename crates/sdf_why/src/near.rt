@@ -8,12 +8,13 @@ ghost use Rattle.sdf_kinds.specs.Rows.{key_view, keys_view};
 ghost use Rattle.sdf_why.specs.Near.{near_told, kind_words, key_names, kind_keys, actor_keys, near_kind, near_key};
 ghost use Rattle.sdf_why.specs.Near.{near_actor_key, name_in, actor_names, near_end};
 
+use crate::limits::keys_of;
 use crate::links::end_at;
 use crate::marks::before;
 use crate::tables::actor_text;
 use crate::words::push_hint;
-use sdf_document::{Place, file_keys, kind_named, link_keys, top_keys};
-use sdf_kinds::{Form, KeyForm, kinds, row_of, shared_keys};
+use sdf_document::{Place, file_keys, link_keys, top_keys};
+use sdf_kinds::{Form, KeyForm, kinds, shared_keys};
 use sdf_limits::MOST_ACTORS;
 use sdf_similar::nearest;
 use std::alloc::{AllocError, Global};
@@ -88,8 +89,8 @@ fn push_kind_keys<'a>(names: &mut Vec<&'a str>, word: &str) -> Result<(), AllocE
     ensures { OnOk result (map (λ name. name.now) names.new.items ≡
         map (λ name. name.now) names.old.items ++ kind_keys word.now) }
 {
-    match kind_named(u32::MAX, word) {
-        Some(kind) => push_keys(names, row_of(kind).keys),
+    match keys_of(word) {
+        Some(keys) => push_keys(names, keys),
         None => Ok(()),
     }
 }

@@ -8,12 +8,11 @@ ghost use Rattle.sdf_why.specs.Tables.{root, text_at, entry, actor_text, says, f
 use std::alloc::{AllocError, Global};
 use toml::Value;
 
-/// The sources of a diagnostic: the graph file, its coefficient files and the table of kinds.
+/// The sources of a diagnostic: the graph file and its coefficient files.
 #[derive(Clone, Copy)]
 pub(crate) struct Source<'a> {
     pub(crate) graph: &'a Value,
     pub(crate) files: &'a [(String, Vec<u8>)],
-    pub(crate) kinds: &'a str,
 }
 
 /// Parses `bytes` as a TOML document, if they are one.

@@ -1,6 +1,6 @@
 //! 22 PortOpen: the channels at the ports of nodes.
 
-ghost use Rattle.std.specs.Prelude.{◌≡◌, ◌==◌, ◌&&◌, ℕ, [], length, map, MatchResult};
+ghost use Rattle.std.specs.Prelude.{◌≡◌, ◌==◌, ◌&&◌, ◌<◌, ℕ, [], length, map, MatchOption, MatchResult};
 ghost use Rattle.std.specs.List.{range_with_len, position_or_len};
 ghost use Rattle.sdf_actor.specs.declared.sides.Side.TheVariants.{Input, Output};
 ghost use Rattle.sdf_actor.specs.Sides.{channel_at, end_of};
@@ -61,29 +61,29 @@ fn channels_at<T>(
 {
     let mut channels = Vec::new(alloc);
     for port in 0..ports {
-        let channel = first_at(links, side, node, port);
-        if channel == links.len() {
+        let Some(channel) = first_at(links, side, node, port) else {
             return Err(NetFault::PortOpen {
                 actor: node,
                 side,
                 port,
             });
-        }
+        };
         channels.push(channel)?;
     }
     Ok(channels)
 }
 
-/// Returns the first link at `port` of `node` on `side`, or the number of links if there is none.
-pub(crate) fn first_at<T>(links: &[Link<T>], side: Side, node: usize, port: usize) -> usize
-    ensures { result ≡ channel_at (netlist {A = ℕ} [] links.now) side node port }
+/// Returns the first link at `port` of `node` on `side`.
+fn first_at<T>(links: &[Link<T>], side: Side, node: usize, port: usize) -> Option<usize>
+    ensures { let first = channel_at (netlist {A = ℕ} [] links.now) side node port in
+        MatchOption result (first ≡ length links.now) (λ c. (c ≡ first) × (c < length links.now)) }
 {
     for (c, link) in links.iter().enumerate() {
         if is_at(link, side, node, port) {
-            return c;
+            return Some(c);
         }
     }
-    links.len()
+    None
 }
 
 /// Checks whether `link` ends at `port` of `node` on `side`.

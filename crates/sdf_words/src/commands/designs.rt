@@ -111,7 +111,7 @@ const PARALLEL: Argument = Argument {
     help: "Runs in parallel, by as many workers as there are processors or by M",
     more: "Runs in parallel, by M workers, 1 to 16, or by as many as there are processors: each runs the whole design on
 a part of the sound of its own, after a warm-up on the samples before it. It is one thread if a loop of the
-design keeps samples for ever, if the warm-up would be too long, if the sound is short, or if M is 1. With
+design may keep samples for ever, if the warm-up would be too long, if the sound is short, or if M is 1. With
 `--why` a line on standard error says which",
     given: Given::Switch(Switch {
         against: &[

@@ -4,6 +4,7 @@ use Rattle.sdf_answer.proofs.rooms.put_in.Goals as goal
 
 pub returns-clause-few : goal.returns-clause-few
 returns-clause-few c =
-    let one : c.put_by.result ≤ 67108864 = omega (arith, c.put_by.ensures.few, c.requires.short) in
-    let all : c.args.periods * c.put_by.result ≤ 65536 * 67108864 = mul-le-mul c.requires.periods one in
+    let one : c.moved_by.result ≤ 67108864 =
+    omega (arith, c.moved_by.ensures.small, c.from.ensures, c.requires.short) in
+    let all : c.args.periods * c.moved_by.result ≤ 65536 * 67108864 = mul-le-mul c.requires.periods one in
     omega arith

@@ -3,11 +3,8 @@ use Rattle.sdf_graph.specs.Rates.{rates, IsShape, IsAlike}
 use Rattle.sdf_actor.specs.Nets.{wiring, IsNet}
 use Rattle.sdf_actor.specs.NetFaults.{IsAccepted}
 use Rattle.sdf_actor.specs.Graphs.{graph_of}
-use Rattle.sdf_graph.proofs.Theorems.{alike_sequences, graphs_are_sound, graphs_have_periods, one_least_period}
-use Rattle.sdf_graph.proofs.Theorems.{periods_repeat}
 use Rattle.sdf_kit.specs.Kit.{kit_steps}
 use Rattle.sdf_process.proofs.Outputs.{one_output_of}
-use Rattle.sdf_wav.proofs.Theorems.{one_sound}
 use Rattle.sdf_process.proofs.laws.one_output.Goals as goal
 
 pub returns : goal.returns
@@ -21,6 +18,4 @@ returns c =
     (subst (λ n. IsAlike (rates (graph_of kit_steps n)) (wiring kit_steps n).rates) same
     (subst (λ g. IsAlike (rates g) (wiring kit_steps c.net-net.result.now).rates) c.graph-graph.ensures.value
     c.graph-graph.ensures.rates))
-    accepted.lists graphs_are_sound graphs_have_periods one_least_period
-    periods_repeat alike_sequences c.one_history.ensures.is_unique
-    one_sound
+    accepted.lists c.one_history.ensures.is_unique

@@ -46,7 +46,7 @@ returns-in_err-put-clause-puts g c =
     let item : c.deref.result.now ≡ get_or xs i [] =
     c.deref.ensures.value ∙ list_read c.args.parts.now i c.list-item.result c.loop-list-test.true c.list-item.is in
     let unspent = ap (λ (o : Owed). o.spent) c.loop-list.invariant.owed.2 ∙ c.requires.unspent in
-    put_stopped puts_join (g.W.Writer.state c.args.writer.now) (g.W.Writer.state c.loop-list.writer)
+    put_stopped (g.W.Writer.state c.args.writer.now) (g.W.Writer.state c.loop-list.writer)
     (g.W.Writer.state c.put.new.writer) (in_turn (take i xs)) (get_or xs i []) (in_turn (drop (i + 1) xs))
     (in_turn xs) (in_turn_split xs i within) c.loop-list.invariant.written c.loop-list.invariant.counted
     c.in_err-put.field-0.0 c.from_residual.result

@@ -2,12 +2,8 @@ use Rattle.std.proofs.Common.{◌≡◌, ◌∷◌, [], ap, ◌∙◌, sym, subs
 use Rattle.sdf_process.specs.Streams.{Makes}
 use Rattle.sdf_process.proofs.Refusals.{if_err}
 use Rattle.sdf_actor.specs.Wires.{lists as items_of}
-use Rattle.sdf_actor.proofs.Theorems.{ports_have_channels}
-use Rattle.sdf_answer.proofs.Theorems.{nets_can_run}
-use Rattle.sdf_kit.specs.Kit.{kit_steps}
 use Rattle.sdf_process.specs.Output.{interleaved}
 use Rattle.sdf_process.proofs.Fed.{fed_made, fed_refused, feeds_still}
-use Rattle.sdf_wav.proofs.Theorems.{puts_join}
 use Rattle.sdf_process.proofs.runner.run_fed.Goals as goal
 
 pub returns-in_err-ran-clause-refused : goal.returns-in_err-ran-clause-refused
@@ -28,8 +24,7 @@ returns-clause-runs g c = λ n p j s few blocks bytes by can follows.
       subst (λ l. Makes n p j s few blocks y.frames bytes (items_of l) c.feed.new.self.rest) (sym only)
           (fed_made n p j c.args.session.now by y can blocks follows.periods (items_of c.deref.result.now)
           (ap items_of c.deref.ensures.value ∙ c.in_ok-inputs.ensures) c.feed.new.self on c.in_ok-ran.ran.rounds
-          c.in_ok-ran.ensures puts_join (nets_can_run kit_steps) (ports_have_channels kit_steps) s few bytes follows
-          y.frames c.in_ok-frames.frames.items
+          c.in_ok-ran.ensures s few bytes follows y.frames c.in_ok-frames.frames.items
           (c.in_ok-frames.ensures ∙ ap (λ l. interleaved y.frames (items_of l)) c.deref-2.ensures.value)),
       feeds_still n p j c.args.session.now by c.feed.new.self c.in_ok-ran.ensures.0
           (items_of c.deref.result.now) on c.in_ok-ran.ran.rounds c.in_ok-ran.ensures.1,

@@ -6,7 +6,6 @@ use Rattle.sdf_process.specs.Stages.{RunsOn}
 use Rattle.sdf_process.proofs.Finished.{streamed}
 use Rattle.sdf_process.proofs.Opened.{announced_same, header_failed_ahead, refused_ahead}
 use Rattle.sdf_process.proofs.Pieces.{run_fails}
-use Rattle.sdf_process.proofs.Wav.{wav_laws}
 use Rattle.sdf_process.proofs.running.run_ahead.Goals as goal
 
 pub returns-in_err-extent : goal.returns-in_err-extent
@@ -21,7 +20,7 @@ returns-in_err-extent g c =
     (g.R.Reader.state c.args.reader.now) (g.R.Reader.state c.args.reader.now)
     (g.W.Writer.state c.args.writer.now) (g.W.Writer.state c.args.writer.now) x)
     c.in_err-extent.field-0.0 c.from_residual.result c.from_residual.ensures.1
-    (λ r opened. refused_ahead wav_laws n q c.of_net-exchange.result same c.of_net-exchange.ensures.limits
+    (λ r opened. refused_ahead n q c.of_net-exchange.result same c.of_net-exchange.ensures.limits
     r (g.R.Reader.state c.args.reader.now) c.args.unheard.content opened c.requires.content.unread
     c.args.unheard.frames c.requires.content.known (g.W.Writer.state c.args.writer.now)
     c.in_err-extent.field-0.0 (ap (announced_fault c.of_net-exchange.result) (sym told) ∙ c.in_err-extent.ensures))
@@ -38,7 +37,7 @@ returns-in_err-output g c =
     (g.R.Reader.state c.args.reader.now) (g.R.Reader.state c.args.reader.now)
     (g.W.Writer.state c.args.writer.now) (g.W.Writer.state c.begin.new.writer) x)
     c.in_err-output.field-0.0 c.from_residual-in_err-output.result c.from_residual-in_err-output.ensures.1
-    (λ r opened. header_failed_ahead wav_laws n q c.of_net-exchange.result same
+    (λ r opened. header_failed_ahead n q c.of_net-exchange.result same
     c.of_net-exchange.ensures.limits r (g.R.Reader.state c.args.reader.now)
     c.args.unheard.content opened c.requires.content.unread c.args.unheard.frames c.requires.content.known
     c.in_ok-extent.extent
@@ -77,7 +76,7 @@ returns g c = λ r opened.
     let told = announced_same c.rate.result c.channels.result c.args.unheard.frames c.args.unheard.content.rate
     c.args.unheard.content.channels
     c.args.unheard.frames c.rate.ensures.value c.channels.ensures.value refl in
-    streamed wav_laws n q c.of_net-exchange.result same c.of_net-exchange.ensures.limits r
+    streamed n q c.of_net-exchange.result same c.of_net-exchange.ensures.limits r
     (g.R.Reader.state c.args.reader.now) c.args.unheard.content opened c.requires.content.unread
     c.args.unheard.frames c.requires.content.known c.in_ok-extent.extent
     (subst (λ z. IsExtent c.of_net-exchange.result z c.in_ok-extent.extent) told c.in_ok-extent.ensures)

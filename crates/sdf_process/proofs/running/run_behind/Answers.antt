@@ -11,7 +11,6 @@ use Rattle.sdf_process.proofs.Came.{allowed_lower}
 use Rattle.sdf_process.proofs.Opened.{content_failed_behind, refused_behind, header_failed_behind, heard_behind}
 use Rattle.sdf_process.proofs.Pieces.{run_fails}
 use Rattle.sdf_process.proofs.Taken.{heard_puts, unheard_sound}
-use Rattle.sdf_process.proofs.Wav.{wav_laws}
 use Rattle.sdf_process.proofs.running.run_behind.Goals as goal
 
 pub returns-in_err-sound : goal.returns-in_err-sound
@@ -23,7 +22,7 @@ returns-in_err-sound g c =
     (g.R.Reader.state c.read_content.new.reader) (g.W.Writer.state c.args.writer.now)
     (g.W.Writer.state c.args.writer.now) x)
     c.in_err-sound.field-0.0 c.from_residual.result c.from_residual.ensures.1
-    (λ r opened. content_failed_behind wav_laws n q c.of_net-exchange.result same
+    (λ r opened. content_failed_behind n q c.of_net-exchange.result same
     c.of_net-exchange.ensures.limits r (g.R.Reader.state c.args.reader.now) c.args.content opened
     c.requires.unread c.requires.unknown (g.R.Reader.state c.read_content.new.reader)
     (g.W.Writer.state c.args.writer.now) c.in_err-sound.field-0.0 c.in_err-sound.ensures.reads)
@@ -37,7 +36,7 @@ returns-in_err-extent g c =
     (g.R.Reader.state c.read_content.new.reader) (g.W.Writer.state c.args.writer.now)
     (g.W.Writer.state c.args.writer.now) x)
     c.in_err-extent.field-0.0 c.from_residual-in_err-extent.result c.from_residual-in_err-extent.ensures.1
-    (λ r opened. refused_behind wav_laws n q c.of_net-exchange.result same c.of_net-exchange.ensures.limits
+    (λ r opened. refused_behind n q c.of_net-exchange.result same c.of_net-exchange.ensures.limits
     r (g.R.Reader.state c.args.reader.now) c.args.content opened c.requires.unread c.requires.unknown
     (g.R.Reader.state c.read_content.new.reader) c.in_ok-sound.sound c.in_ok-sound.ensures.reads
     (g.W.Writer.state c.args.writer.now) c.in_err-extent.field-0.0
@@ -52,7 +51,7 @@ returns-in_err-output g c =
     (g.R.Reader.state c.read_content.new.reader) (g.W.Writer.state c.args.writer.now)
     (g.W.Writer.state c.begin.new.writer) x)
     c.in_err-output.field-0.0 c.from_residual-in_err-output.result c.from_residual-in_err-output.ensures.1
-    (λ r opened. header_failed_behind wav_laws n q c.of_net-exchange.result same
+    (λ r opened. header_failed_behind n q c.of_net-exchange.result same
     c.of_net-exchange.ensures.limits r (g.R.Reader.state c.args.reader.now) c.args.content opened
     c.requires.unread c.requires.unknown (g.R.Reader.state c.read_content.new.reader) c.in_ok-sound.sound
     c.in_ok-sound.ensures.reads
@@ -98,7 +97,7 @@ returns g c = λ r opened.
     let before = g.W.Writer.state c.args.writer.now in
     let begun = g.W.Writer.state c.begin.new.writer in
     let written = g.W.Writer.state c.run_begun.new.writer in
-    let hears = heard_behind wav_laws n q c.of_net-exchange.result same c.of_net-exchange.ensures.limits r
+    let hears = heard_behind n q c.of_net-exchange.result same c.of_net-exchange.ensures.limits r
     (g.R.Reader.state c.args.reader.now) c.args.content opened c.requires.unread c.requires.unknown read s
     c.in_ok-sound.ensures.reads
     c.in_ok-extent.extent (subst (λ z. IsExtent c.of_net-exchange.result z c.in_ok-extent.extent) c.by.ensures
@@ -108,5 +107,5 @@ returns g c = λ r opened.
     (allowed_lower (exchange_of n q) (announced_by s) extent.is_allowed) limits.some_taken
     read after begun written c.run_begun.result c.run_begun.ensures in
     subst (λ (x : ReaderState). IsRun n q r x before written c.run_begun.result) (sym puts.1)
-    (answered wav_laws n q limits r read before begun written
+    (answered n q limits r read before begun written
     s c.in_ok-extent.extent c.in_ok-output.output hears c.run_begun.result puts.0)

@@ -4,7 +4,6 @@ use Rattle.sdf_faults.specs.declared.fault.Fault.{Fault}
 use Rattle.sdf_process.specs.Run.{IsRun}
 use Rattle.sdf_process.proofs.Pieces.{run_fails}
 use Rattle.sdf_process.proofs.Refusals.{unopened}
-use Rattle.sdf_process.proofs.Wav.{wav_laws}
 use Rattle.sdf_process.proofs.running.run_net.Goals as goal
 
 pub returns-in_err-content : goal.returns-in_err-content
@@ -13,7 +12,7 @@ returns-in_err-content g c =
     (g.R.Reader.state c.args.reader.now) (g.R.Reader.state c.open.new.reader)
     (g.W.Writer.state c.args.writer.now) (g.W.Writer.state c.args.writer.now) x)
     (of_wav c.in_err-content.field-0.0) c.from_residual.result c.from_residual.ensures.1
-    (unopened wav_laws c.args.task.net.now c.args.task.plan.now.period.repetitions
+    (unopened c.args.task.net.now c.args.task.plan.now.period.repetitions
     (g.R.Reader.state c.args.reader.now) (g.R.Reader.state c.open.new.reader)
     (g.W.Writer.state c.args.writer.now) c.in_err-content.field-0.0 c.in_err-content.ensures.answers
     c.in_err-content.ensures.counted c.in_err-content.ensures.accepts)

@@ -3,12 +3,9 @@ use Rattle.sdf_process.specs.Streams.{Makes}
 use Rattle.sdf_answer.specs.Feeds.{GoesOnBy}
 use Rattle.sdf_process.proofs.Played.{piece_refused}
 use Rattle.sdf_actor.specs.Wires.{lists as items_of}
-use Rattle.sdf_actor.proofs.Theorems.{ports_have_channels}
-use Rattle.sdf_answer.proofs.Theorems.{nets_can_run}
 use Rattle.sdf_kit.specs.Kit.{kit_steps}
 use Rattle.sdf_process.specs.Output.{exchange_of, interleaved}
 use Rattle.sdf_process.proofs.Pieced.{blocks_made, one_list, plays_on, portion_as}
-use Rattle.sdf_wav.proofs.Theorems.{puts_join}
 use Rattle.sdf_process.proofs.playing.Memory.play.Goals as goal
 
 pub returns-in_err-ran-clause-refused : goal.returns-in_err-ran-clause-refused
@@ -34,7 +31,5 @@ returns-clause-plays c = λ j s few blocks bytes follows.
     (c.in_ok-frames.ensures ∙ ap (λ l. interleaved y.frames (items_of l)) c.deref-2.ensures.value) goes.count in
     let only : c.push_reserved.new.self.items ≡ c.in_ok-frames.frames ∷ [] = search rules in
     subst (λ l. Makes n p j s few blocks y.frames bytes (items_of l) (Some last)) (sym only)
-    (blocks_made puts_join (nets_can_run kit_steps) (ports_have_channels kit_steps) n p can.has j s
-    few blocks bytes (Some rest) follows.stands on goes.count last
-    (plays_on n p j s few blocks bytes rest last y follows on goes)
-    (Some last) refl y.frames (c.in_ok-frames.frames.items ∷ []) one.0 one.1)
+    (blocks_made can.has (plays_on follows goes) (Some last) refl y.frames (c.in_ok-frames.frames.items ∷ []) one.0
+    one.1)

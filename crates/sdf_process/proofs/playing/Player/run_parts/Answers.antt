@@ -3,9 +3,6 @@ use Rattle.std.proofs.lemmas.Result.{MatchResult-at_ok}
 use Rattle.sdf_actor.specs.Wires.{lists as items_of}
 use Rattle.sdf_answer.specs.Answer.{HasInputs}
 use Rattle.sdf_answer.specs.Feeds.{AreFull}
-use Rattle.sdf_kit.specs.Kit.{kit_steps}
-use Rattle.sdf_actor.proofs.Theorems.{ports_have_channels}
-use Rattle.sdf_answer.proofs.Theorems.{nets_can_run}
 use Rattle.sdf_process.specs.declared.exchange.Exchange.{Exchange}
 use Rattle.sdf_process.specs.Output.{exchange_of, interleaved, lists_from}
 use Rattle.sdf_process.specs.Streams.{AreWhole}
@@ -13,7 +10,6 @@ use Rattle.sdf_process.specs.Tasks.{IsCut, cut_by}
 use Rattle.sdf_process.proofs.InParts.{in_parts}
 use Rattle.sdf_process.proofs.Pieced.{blocks_made, held_is, plays_on}
 use Rattle.sdf_process.proofs.Played.{piece_full, piece_given}
-use Rattle.sdf_wav.proofs.Theorems.{puts_join}
 use Rattle.sdf_process.proofs.playing.Player.run_parts.Goals as goal
 
 pub resume_split-ran-requires-clause-split : goal.resume_split-ran-requires-clause-split
@@ -46,13 +42,9 @@ returns-in-Ok-clause-plays g c = λ j s few blocks bytes follows.
     let q = p.repetitions in
     let made : y.frames ≡ y.periods * (exchange_of n q).made =
     c.requires.all ∙ ap (λ (x : Exchange). y.periods * x.made) can.exchange in
-    let h = in_parts (nets_can_run kit_steps) (ports_have_channels kit_steps) n p can.has s (few * j) y.periods
-    follows.stands.made v.rest (held_is n p j s few (few * j * (exchange_of n q).made) bytes v.rest follows.stands)
+    let h = in_parts n p can.has s (few * j) y.periods follows.stands.made v.rest (held_is follows.stands)
     y.input.now follows.lists y.exchange can.exchange c.in-Ok.parts.items c.in-Ok.last
     (MatchResult-at_ok _ _ _ c.in-Ok.is c.resume_split-ran.ensures.ran) in
-    blocks_made puts_join (nets_can_run kit_steps) (ports_have_channels kit_steps) n p can.has j s few blocks
-    bytes (Some v.rest) follows.stands h.outputs h.goes.count c.in-Ok.last
-    (plays_on n p j s few blocks bytes v.rest c.in-Ok.last y follows h.outputs h.goes)
-    (Some c.in-Ok.last) refl y.frames (items_of c.in-Ok.parts.items)
+    blocks_made can.has (plays_on follows h.goes) (Some c.in-Ok.last) refl y.frames (items_of c.in-Ok.parts.items)
     (h.frames ∙ ap (λ k. interleaved k h.outputs) (sym made))
     (subst (λ k. AreWhole (exchange_of n q).outputs k (items_of c.in-Ok.parts.items)) (sym made) h.whole)

@@ -3,7 +3,7 @@ use Rattle.sdf_actor.specs.Wires.{lists}
 use Rattle.sdf_actor.specs.declared.sides.Lists.TheVariants.{Inputs}
 use Rattle.sdf_actor.specs.Sides.{period_samples}
 use Rattle.sdf_answer.specs.Answer.{AreInputs}
-use Rattle.sdf_rings.proofs.prepare.prepare.Goals as goal
+use Rattle.sdf_rings.proofs.prepare.Rings.prepare.Goals as goal
 
 pub prepare_homed-requires-clause-inputs : goal.prepare_homed-requires-clause-inputs
 prepare_homed-requires-clause-inputs g c κs within =

@@ -1,6 +1,6 @@
 //! Rounds in which a tap is moved twice. No filter that was tried has one, so the values are made up.
 
-use crate::settling::settle;
+use sdf_filters::settle;
 use std::test::Fail;
 
 /// Real values, the total of four taps that begin at 0, and the taps at that total.
