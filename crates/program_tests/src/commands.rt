@@ -108,7 +108,7 @@ impl Served {
     }
 }
 
-/// Serves the words `given` over the files of `storage`. The result has no file.
+/// Serves the words `given` over the files of `storage`. The `file` of the result is empty.
 pub(crate) fn serve_over<S: Storage, T: Threads + AllocGlobal + Clock + Clone + Drop + Sync>(
     storage: &S,
     threads: &T,
