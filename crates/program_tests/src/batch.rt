@@ -1,7 +1,7 @@
 //! Tests of runs of several files into a folder.
 
 use crate::commands;
-use crate::commands::{Around, OPEN, Row, are_told_around, is_told, told_around};
+use crate::commands::{Around, OPEN, Row, Served, are_told_around, is_told, told_around};
 use crate::files::{
     HALVES, PLAIN, are_told, folder, has_bytes, path_in, put, served, told, with_files,
 };
@@ -283,24 +283,19 @@ fn put_takes(rt: &HostRuntime, takes: Takes<'_>, into: &str) -> Result<(), Fail>
     Ok(())
 }
 
-/// Adds the files of a batch to `words`.
-fn push_takes(words: &mut String, takes: Takes<'_>) -> Result<(), AllocError> {
-    for number in 0..takes.count {
-        write!(words, " @/{number}.wav")?;
-    }
-    Ok(())
-}
-
 /// Returns the words that run a batch, with the option `option`.
 fn words_for(alloc: Global, takes: Takes<'_>, option: &str) -> Result<String, AllocError> {
     let mut words = String::from_str(alloc, "run @/plain.toml --into @/out")?;
-    push_takes(&mut words, takes)?;
+    for number in 0..takes.count {
+        write!(words, " @/{number}.wav")?;
+    }
     words.push_str(option)?;
     Ok(words)
 }
 
-/// Adds the wanted line of each file of a batch to `lines`.
-fn push_lines(lines: &mut String, takes: Takes<'_>) -> Result<(), AllocError> {
+/// Returns the wanted status and lines of a batch.
+fn lines_of(alloc: Global, takes: Takes<'_>) -> Result<String, AllocError> {
+    let mut lines = String::from_str(alloc, if takes.cut.is_some() { "4\n" } else { "0\n" })?;
     for number in 0..takes.count {
         let ended = if takes.cut == Some(number) {
             "43 Truncated"
@@ -309,13 +304,6 @@ fn push_lines(lines: &mut String, takes: Takes<'_>) -> Result<(), AllocError> {
         };
         writeln!(lines, "{}/{number}.wav: {ended}", takes.above)?;
     }
-    Ok(())
-}
-
-/// Returns the wanted status and lines of a batch.
-fn lines_of(alloc: Global, takes: Takes<'_>) -> Result<String, AllocError> {
-    let mut lines = String::from_str(alloc, if takes.cut.is_some() { "4\n" } else { "0\n" })?;
-    push_lines(&mut lines, takes)?;
     Ok(lines)
 }
 
@@ -326,9 +314,9 @@ fn lines_told<T: Threads + AllocGlobal + Clock + Clone + Drop + Sync>(
     takes: Takes<'_>,
     words: &str,
 ) -> Result<String, Fail> {
-    let served = served(&Disk { rt }, threads, takes.above, words)?;
-    let out = str::from_utf8(&served.out)?;
-    Ok(format!(in rt.alloc(); "{}\n{out}", served.status)?)
+    let Served { status, out, .. } = served(&Disk { rt }, threads, takes.above, words)?;
+    let out = String::from_utf8(out)?;
+    Ok(format!(in rt.alloc(); "{status}\n{out}")?)
 }
 
 /// Compares the status and the lines of a batch with the wanted ones.

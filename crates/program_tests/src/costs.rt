@@ -3,7 +3,6 @@
 use crate::commands;
 use crate::commands::is_told;
 use sdf_profile::costed_text;
-use std::alloc::AllocError;
 use std::test::Fail;
 use std::thread::Threads;
 use std::time::Clock;
@@ -172,33 +171,19 @@ fn other_forms(rt: HostRuntime) -> Result<(), Fail> {
     Ok(())
 }
 
-/// Adds a line to a text, with `N` in place of a cost.
-fn push_masked(masked: &mut String, line: &str) -> Result<(), AllocError> {
-    match line.strip_prefix("cost = ") {
-        Some(cost) => {
-            let rest = cost.trim_start_matches(|digit: char| digit.is_ascii_digit());
-            writeln!(masked, "cost = N{rest}")
-        }
-        None => writeln!(masked, "{line}"),
-    }
-}
-
 /// Returns a text with `N` in place of each cost.
 fn masked(rt: &(impl AllocGlobal), text: &str) -> Result<String, Fail> {
     let mut masked = String::new(rt.alloc());
     for line in text.lines() {
-        push_masked(&mut masked, line)?;
+        match line.strip_prefix("cost = ") {
+            Some(cost) => {
+                let rest = cost.trim_start_matches(|digit: char| digit.is_ascii_digit());
+                writeln!(masked, "cost = N{rest}")?;
+            }
+            None => writeln!(masked, "{line}")?,
+        }
     }
     Ok(masked)
-}
-
-/// Runs a profile that writes `file`, and returns the report.
-fn written_to<T: Threads + AllocGlobal + Clock + Clone + Drop + Sync>(
-    rt: &T,
-    file: &str,
-) -> Result<String, Fail> {
-    let line = format!(in rt.alloc(); "profile commented.toml in.wav --write {file}")?;
-    commands::told(rt, &line)
 }
 
 /// Runs a profile that writes `file`, and returns the report with `N` in place of each cost.
@@ -206,8 +191,8 @@ fn profiled<T: Threads + AllocGlobal + Clock + Clone + Drop + Sync>(
     rt: &T,
     file: &str,
 ) -> Result<String, Fail> {
-    let report = written_to(rt, file)?;
-    masked(rt, report.as_str())
+    let line = format!(in rt.alloc(); "profile commented.toml in.wav --write {file}")?;
+    masked(rt, commands::told(rt, &line)?.as_str())
 }
 
 /// Checks that a profile writes `text` to a file, and prints its lines.

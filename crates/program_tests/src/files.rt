@@ -109,9 +109,9 @@ pub(crate) fn told<S: Storage, T: Threads + AllocGlobal + Clock + Clone + Drop +
     folder: &str,
     line: &str,
 ) -> Result<String, Fail> {
-    let served = served(storage, threads, folder, line)?;
-    let err = str::from_utf8(&served.err)?;
-    Ok(format!(in threads.alloc(); "{} {err}", served.status)?)
+    let Served { status, err, .. } = served(storage, threads, folder, line)?;
+    let err = String::from_utf8(err)?;
+    Ok(format!(in threads.alloc(); "{status} {err}")?)
 }
 
 /// The name of a row, a line of words, and the report.

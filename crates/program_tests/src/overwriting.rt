@@ -10,18 +10,13 @@ use std::test::Fail;
 use std::thread::Threads;
 use std::time::Clock;
 
-/// Removes the file at `path`, if there is one.
-fn remove(rt: &HostRuntime, path: &str) -> Result<(), Fail> {
-    match fs::remove_file(rt, path) {
-        Err(error) if error.kind() != ErrorKind::NotFound => Err(Fail::from(error)),
-        _ => Ok(()),
-    }
-}
-
 /// Puts a symbolic link `link` to `file` into a folder.
 fn put_link(rt: &HostRuntime, folder: &str, file: &str, link: &str) -> Result<(), Fail> {
     let path = path_in(rt.alloc(), folder, link)?;
-    remove(rt, &path)?;
+    match fs::remove_file(rt, path.as_str()) {
+        Err(error) if error.kind() != ErrorKind::NotFound => return Err(Fail::from(error)),
+        _ => {}
+    }
     Ok(symlink(rt, file, path.as_str())?)
 }
 
