@@ -299,23 +299,43 @@ fn how_often(rt: HostRuntime) -> Result<(), Fail> {
     Ok(())
 }
 
+/// Returns what is said of a fault by its number.
+fn by_number<T: Threads + AllocGlobal + Clock + Clone + Drop + Sync>(
+    rt: &T,
+    number: u32,
+) -> Result<String, Fail> {
+    let line = format!(in rt.alloc(); "explain {number}")?;
+    told(rt, &line)
+}
+
+/// Returns what is said of a fault by its name.
+fn by_name<T: Threads + AllocGlobal + Clock + Clone + Drop + Sync>(
+    rt: &T,
+    name: &str,
+) -> Result<String, Fail> {
+    let line = format!(in rt.alloc(); "explain {name}")?;
+    told(rt, &line)
+}
+
+/// Returns the name of the fault that `text` explains. It is behind the first space, at the end of a line.
+fn name_in(text: &str) -> &str {
+    let Some((_, rest)) = text.split_once(' ') else {
+        return "";
+    };
+    match rest.split_once('\n') {
+        Some((name, _)) => name,
+        None => "",
+    }
+}
+
 /// Checks that a fault is explained by its name as by its number.
 fn is_named<T: Threads + AllocGlobal + Clock + Clone + Drop + Sync>(
     rt: &T,
     number: u32,
 ) -> Result<(), Fail> {
-    let alloc = rt.alloc();
-    let by_number = told(rt, &format!(in alloc; "explain {number}")?)?;
-    let mut words = by_number.as_str().split(&[' ', '\n']);
-    let name = match words.nth(2) {
-        Some(name) => name,
-        None => "",
-    };
-    row_says(
-        name,
-        told(rt, &format!(in alloc; "explain {name}")?),
-        by_number.as_str(),
-    )
+    let text = by_number(rt, number)?;
+    let name = name_in(&text);
+    row_says(name, by_name(rt, name), text.as_str())
 }
 
 /// Tests that each fault is explained by name. Refuses a program that does not look names up.

@@ -1,7 +1,10 @@
 //! Tests of runs of several files into a folder.
 
-use crate::commands::{Around, OPEN, Row, Served, is_told, told_around};
-use crate::files::{HALVES, PLAIN, are_told, folder, has_bytes, put, served, told, with_files};
+use crate::commands;
+use crate::commands::{Around, OPEN, Row, Served, are_told_around, is_told, told_around};
+use crate::files::{
+    HALVES, PLAIN, are_told, folder, has_bytes, path_in, put, served, told, with_files,
+};
 use crate::shelf::{HEADER, SOUND};
 use sdf_files::storage::Disk;
 use std::alloc::{AllocError, Global};
@@ -152,22 +155,10 @@ const SAID: &[Row] = &[
     ),
 ];
 
-/// Compares what the words of each row print in these surroundings with the wanted text.
-fn are_batches<T: Threads + AllocGlobal + Clock + Clone + Drop + Sync>(
-    rt: &T,
-    around: &Around<'_>,
-    rows: &[Row],
-) -> Result<(), Fail> {
-    for (name, line, wanted) in rows {
-        is_told(name, told_around(rt, around, line), wanted)?;
-    }
-    Ok(())
-}
-
 #[test]
 fn what_batches_tell(rt: HostRuntime) -> Result<(), Fail> {
-    are_batches(&rt, &OPEN, BATCHES)?;
-    are_batches(&rt, &TERMINAL, SAID)?;
+    commands::are_told(&rt, BATCHES)?;
+    are_told_around(&rt, &TERMINAL, SAID)?;
     for line in [
         "run plain.toml --into made in.wav",
         "run plain.toml --into made in.wav silence.wav --parallel 1",
@@ -195,27 +186,48 @@ const ITSELF: &[crate::files::Row] = &[
     ),
 ];
 
+/// Makes the folder `into` anew, with an output of an earlier run.
+fn put_old(rt: &HostRuntime, into: &str) -> Result<(), Fail> {
+    let _ = fs::remove_dir_all(rt, into);
+    fs::create_dir(rt, into)?;
+    put(rt, into, "cut.wav", b"old")
+}
+
+/// Fails if the part of `cut.wav` is left in the folder `into`.
+fn has_no_part(rt: &HostRuntime, into: &str) -> Result<(), Fail> {
+    let part = path_in(rt.alloc(), into, "cut.wav.part")?;
+    if fs::metadata(rt, part.as_str()).is_ok() {
+        return Err(Fail::new(format_args!("a part of cut.wav is left")));
+    }
+    Ok(())
+}
+
+/// Runs a batch in the folder `above`, and compares the files that it leaves there and in the folder `into`.
+fn leaves<T: Threads + AllocGlobal + Clock + Clone + Drop + Sync>(
+    rt: &HostRuntime,
+    threads: &T,
+    above: &str,
+    into: &str,
+) -> Result<(), Fail> {
+    let line = "run @/graph.toml --into @/out @/in.wav @/cut.wav";
+    says(told(&Disk { rt }, threads, above, line), "4 ")?;
+    has_bytes(rt, into, "in.wav", HALVES, line)?;
+    has_bytes(rt, into, "cut.wav", b"old", line)?;
+    has_no_part(rt, into)?;
+    put(rt, into, "in.wav.part", PLAIN.as_bytes())?;
+    are_told(&Disk { rt }, threads, above, ITSELF)?;
+    has_bytes(rt, into, "in.wav.part", PLAIN.as_bytes(), line)?;
+    has_bytes(rt, above, "in.wav", SOUND, line)
+}
+
 /// Tests the files that a batch leaves. Refuses a half-written file, an old one that is gone, and a part that stays.
 #[test]
 fn files_in_a_folder(rt: HostRuntime) -> Result<(), Fail> {
     let above = with_files(&rt, "batch")?;
     put(&rt, &above, "cut.wav", HEADER)?;
-    let into = format!(in rt.alloc(); "{}/out", above.as_str())?;
-    let _ = fs::remove_dir_all(&rt, into.as_str());
-    fs::create_dir(&rt, into.as_str())?;
-    put(&rt, &into, "cut.wav", b"old")?;
-    let line = "run @/graph.toml --into @/out @/in.wav @/cut.wav";
-    says(told(&Disk { rt: &rt }, &rt, &above, line), "4 ")?;
-    has_bytes(&rt, &into, "in.wav", HALVES, line)?;
-    has_bytes(&rt, &into, "cut.wav", b"old", line)?;
-    let part = format!(in rt.alloc(); "{}/cut.wav.part", into.as_str())?;
-    if fs::metadata(&rt, part.as_str()).is_ok() {
-        return Err(Fail::new(format_args!("a part of cut.wav is left")));
-    }
-    put(&rt, &into, "in.wav.part", PLAIN.as_bytes())?;
-    are_told(&Disk { rt: &rt }, &rt, &above, ITSELF)?;
-    has_bytes(&rt, &into, "in.wav.part", PLAIN.as_bytes(), line)?;
-    has_bytes(&rt, &above, "in.wav", SOUND, line)
+    let into = path_in(rt.alloc(), &above, "out")?;
+    put_old(&rt, &into)?;
+    leaves(&rt, &rt, &above, &into)
 }
 
 /// Returns a sound of `frames` frames of `sample`.
@@ -254,12 +266,19 @@ fn take_of(alloc: Global, takes: Takes<'_>, number: u8) -> Result<Vec<u8>, Alloc
     sound_at(alloc, number, takes.count)
 }
 
-/// Puts the files of a batch into their folder.
-fn put_takes(rt: &HostRuntime, takes: Takes<'_>) -> Result<(), Fail> {
+/// Puts file `number` of a batch into its folder.
+fn put_take(rt: &HostRuntime, takes: Takes<'_>, number: u8) -> Result<(), Fail> {
+    let name = format!(in rt.alloc(); "{number}.wav")?;
+    let bytes = take_of(rt.alloc(), takes, number)?;
+    put(rt, takes.above, name.as_str(), &bytes)
+}
+
+/// Puts the design and the files of a batch into their folder, without the outputs of earlier runs.
+fn put_takes(rt: &HostRuntime, takes: Takes<'_>, into: &str) -> Result<(), Fail> {
+    let _ = fs::remove_dir_all(rt, into);
+    put(rt, takes.above, "plain.toml", PLAIN.as_bytes())?;
     for number in 0..takes.count {
-        let name = format!(in rt.alloc(); "{number}.wav")?;
-        let bytes = take_of(rt.alloc(), takes, number)?;
-        put(rt, takes.above, name.as_str(), &bytes)?;
+        put_take(rt, takes, number)?;
     }
     Ok(())
 }
@@ -300,29 +319,70 @@ fn lines_told<T: Threads + AllocGlobal + Clock + Clone + Drop + Sync>(
     Ok(format!(in rt.alloc(); "{status}\n{out}")?)
 }
 
+/// Compares the status and the lines of a batch with the wanted ones.
+fn are_lines<T: Threads + AllocGlobal + Clock + Clone + Drop + Sync>(
+    rt: &HostRuntime,
+    threads: &T,
+    takes: Takes<'_>,
+    words: &str,
+) -> Result<(), Fail> {
+    let wanted = lines_of(rt.alloc(), takes)?;
+    says(lines_told(rt, threads, takes, words), wanted.as_str())
+}
+
+/// Fails if file `number` of a batch is not written as it was read.
+fn is_written(
+    rt: &HostRuntime,
+    takes: Takes<'_>,
+    into: &str,
+    number: u8,
+    words: &str,
+) -> Result<(), Fail> {
+    let name = format!(in rt.alloc(); "{number}.wav")?;
+    let bytes = take_of(rt.alloc(), takes, number)?;
+    has_bytes(rt, into, name.as_str(), &bytes, words)
+}
+
+/// Returns the number of files in a folder.
+fn files_in(rt: &HostRuntime, folder: &str) -> Result<u8, Fail> {
+    let mut names: u8 = 0;
+    for _ in fs::read_dir(rt, folder)? {
+        names = names.saturating_add(1);
+    }
+    Ok(names)
+}
+
 /// Fails if a file of a batch is not written as it was read, or if a cut file or a part is there.
-fn are_written(rt: &HostRuntime, takes: Takes<'_>, words: &str) -> Result<(), Fail> {
-    let into = format!(in rt.alloc(); "{}/out", takes.above)?;
+fn are_written(rt: &HostRuntime, takes: Takes<'_>, into: &str, words: &str) -> Result<(), Fail> {
     for number in 0..takes.count {
         if takes.cut != Some(number) {
-            let name = format!(in rt.alloc(); "{number}.wav")?;
-            let bytes = take_of(rt.alloc(), takes, number)?;
-            has_bytes(rt, &into, name.as_str(), &bytes, words)?;
+            is_written(rt, takes, into, number, words)?;
         }
     }
     let failed = if takes.cut.is_some() { 1 } else { 0 };
     let there = takes.count.saturating_sub(failed);
-    let mut names: u8 = 0;
-    for _ in fs::read_dir(rt, into.as_str())? {
-        names = names.saturating_add(1);
-    }
+    let names = files_in(rt, into)?;
     if names == there {
         return Ok(());
     }
     Err(Fail::new(format_args!("{words}: {names} files in place of {there}")))
 }
 
-/// Runs a batch in a folder of its own, and compares its status, its lines and the files that it leaves.
+/// Runs a batch into the folder `into`, and compares its status, its lines and the files that it leaves.
+fn is_done<T: Threads + AllocGlobal + Clock + Clone + Drop + Sync>(
+    rt: &HostRuntime,
+    threads: &T,
+    takes: Takes<'_>,
+    into: &str,
+    option: &str,
+) -> Result<(), Fail> {
+    put_takes(rt, takes, into)?;
+    let words = words_for(rt.alloc(), takes, option)?;
+    are_lines(rt, threads, takes, &words)?;
+    are_written(rt, takes, into, &words)
+}
+
+/// Runs a batch in a folder of its own, and compares what it does with what is wanted.
 fn is_run<T: Threads + AllocGlobal + Clock + Clone + Drop + Sync>(
     rt: &HostRuntime,
     threads: &T,
@@ -337,14 +397,8 @@ fn is_run<T: Threads + AllocGlobal + Clock + Clone + Drop + Sync>(
         count,
         cut,
     };
-    let into = format!(in rt.alloc(); "{}/out", takes.above)?;
-    let _ = fs::remove_dir_all(rt, into.as_str());
-    put(rt, takes.above, "plain.toml", PLAIN.as_bytes())?;
-    put_takes(rt, takes)?;
-    let words = words_for(rt.alloc(), takes, option)?;
-    let wanted = lines_of(rt.alloc(), takes)?;
-    says(lines_told(rt, threads, takes, &words), wanted.as_str())?;
-    are_written(rt, takes, &words)
+    let into = path_in(rt.alloc(), takes.above, "out")?;
+    is_done(rt, threads, takes, &into, option)
 }
 
 /// Tests files that are run at once. Refuses mixed-up outputs of two files, and lines in the order in which files are

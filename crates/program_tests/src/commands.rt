@@ -4,9 +4,12 @@ use crate::shelf::{HEADER, NEW_SOUND, SOUND, Shelf, places};
 use sdf_files::files::MOST_BYTES;
 use sdf_files::storage::Storage;
 use sdf_files::world::World;
+use sdf_options::WordFault;
 use sdf_program::program::serve;
 use sdf_words::arguments::Given;
+use std::alloc::{AllocError, Global};
 use std::io::{self, Error, ErrorKind, Write};
+use std::sync::Mutex;
 use std::test::Fail;
 use std::thread::Threads;
 use std::time::Clock;
@@ -37,25 +40,17 @@ impl Write for Stream {
     }
 }
 
-/// Serves `words`, with the program's name before them, and returns the exit status.
-pub(crate) fn status_of<S: Storage, T: Threads + AllocGlobal + Clock + Clone + Drop + Sync>(
-    world: &World<S, T>,
-    mut stdin: &[u8],
-    out: &mut Stream,
-    err: &mut Stream,
-    words: &[&str],
-) -> Result<u8, Fail> {
-    let alloc = world.threads.alloc();
-    let mut given = Vec::new(alloc);
-    given.push(String::from_str(alloc, "sdfw")?)?;
-    for word in words {
-        given.push(String::from_str(alloc, word)?)?;
+/// Returns the program's name and the words of `line`, with `folder` in place of `@`.
+pub(crate) fn given_of(alloc: Global, line: &str, folder: &str) -> Result<Given, AllocError> {
+    let mut words = Vec::new(alloc);
+    words.push(String::from_str(alloc, "sdfw")?)?;
+    for word in line.split(' ') {
+        words.push(word.replace(alloc, "@", folder)?)?;
     }
-    let given = Given {
-        words: given,
+    Ok(Given {
+        words,
         unread: None,
-    };
-    Ok(serve(world, &mut stdin, out, err, Ok(given)))
+    })
 }
 
 /// The surroundings of a command: standard input, the maximum length of files, the errors of standard output and of
@@ -105,43 +100,74 @@ pub(crate) struct Served {
     pub(crate) file: Vec<u8>,
 }
 
+impl Served {
+    /// Returns the result as text.
+    fn text(&self, alloc: Global) -> Result<String, AllocError> {
+        let (out, err, file) = (text_of(&self.out), text_of(&self.err), text_of(&self.file));
+        format!(in alloc; "{}\n{out}--\n{err}--\n{file}", self.status)
+    }
+}
+
+/// Serves the words `given` over the files of `storage`. The `file` of the result is empty.
+pub(crate) fn serve_over<S: Storage, T: Threads + AllocGlobal + Clock + Clone + Drop + Sync>(
+    storage: &S,
+    threads: &T,
+    around: &Around<'_>,
+    given: Result<Given, WordFault>,
+) -> Served {
+    let world = World {
+        storage,
+        threads,
+        most: around.most,
+        terminal: around.terminal,
+    };
+    let mut stdin = around.stdin;
+    let mut out = Stream {
+        refuses: around.output,
+        written: Vec::new(threads.alloc()),
+    };
+    let mut err = Stream {
+        refuses: around.error,
+        written: Vec::new(threads.alloc()),
+    };
+    let status = serve(&world, &mut stdin, &mut out, &mut err, given);
+    Served {
+        status,
+        out: out.written,
+        err: err.written,
+        file: Vec::new(threads.alloc()),
+    }
+}
+
+/// Returns what is written in `places`, one place after the other.
+fn written(alloc: Global, places: Vec<Mutex<Vec<u8>>>) -> Result<Vec<u8>, AllocError> {
+    let mut file = Vec::new(alloc);
+    for place in places {
+        file.append(&mut place.into_inner())?;
+    }
+    Ok(file)
+}
+
+/// Serves the words `given` over the files of the tests.
+pub(crate) fn serve_given<T: Threads + AllocGlobal + Clock + Clone + Drop + Sync>(
+    rt: &T,
+    around: &Around<'_>,
+    given: Result<Given, WordFault>,
+) -> Result<Served, Fail> {
+    let places = places(rt.alloc())?;
+    let mut served = serve_over(&Shelf { places: &places }, rt, around, given);
+    served.file = written(rt.alloc(), places)?;
+    Ok(served)
+}
+
 /// Serves a line of words over the files of the tests.
 pub(crate) fn serve_line<T: Threads + AllocGlobal + Clock + Clone + Drop + Sync>(
     rt: &T,
     around: &Around<'_>,
     line: &str,
 ) -> Result<Served, Fail> {
-    let alloc = rt.alloc();
-    let mut words = Vec::new(alloc);
-    for word in line.split(' ') {
-        words.push(word)?;
-    }
-    let places = places(alloc)?;
-    let world = World {
-        storage: &Shelf { places: &places },
-        threads: rt,
-        most: around.most,
-        terminal: around.terminal,
-    };
-    let mut out = Stream {
-        refuses: around.output,
-        written: Vec::new(alloc),
-    };
-    let mut err = Stream {
-        refuses: around.error,
-        written: Vec::new(alloc),
-    };
-    let status = status_of(&world, around.stdin, &mut out, &mut err, &words)?;
-    let mut file = Vec::new(alloc);
-    for place in places {
-        file.append(&mut place.into_inner())?;
-    }
-    Ok(Served {
-        status,
-        out: out.written,
-        err: err.written,
-        file,
-    })
+    let given = given_of(rt.alloc(), line, "")?;
+    serve_given(rt, around, Ok(given))
 }
 
 /// Serves `line` in these surroundings, and returns the result as text.
@@ -150,14 +176,8 @@ pub(crate) fn told_around<T: Threads + AllocGlobal + Clock + Clone + Drop + Sync
     around: &Around<'_>,
     line: &str,
 ) -> Result<String, Fail> {
-    let Served {
-        status,
-        out,
-        err,
-        file,
-    } = serve_line(rt, around, line)?;
-    let (out, err) = (text_of(&out), text_of(&err));
-    Ok(format!(in rt.alloc(); "{status}\n{out}--\n{err}--\n{}", text_of(&file))?)
+    let served = serve_line(rt, around, line)?;
+    Ok(served.text(rt.alloc())?)
 }
 
 /// Serves `line` in surroundings in which nothing is refused, and returns the result as text.
@@ -195,13 +215,22 @@ pub(crate) fn is_told(name: &str, told: Result<String, Fail>, wanted: &str) -> R
     Err(Fail::new(format_args!("{name}: {text:?} in place of {wanted:?}")))
 }
 
+/// Compares what the words of each row print in these surroundings with the wanted text.
+pub(crate) fn are_told_around<T: Threads + AllocGlobal + Clock + Clone + Drop + Sync>(
+    rt: &T,
+    around: &Around<'_>,
+    rows: &[Row],
+) -> Result<(), Fail> {
+    for (name, line, wanted) in rows {
+        is_told(name, told_around(rt, around, line), wanted)?;
+    }
+    Ok(())
+}
+
 /// Compares what the words of each row print with the wanted text.
 pub(crate) fn are_told<T: Threads + AllocGlobal + Clock + Clone + Drop + Sync>(
     rt: &T,
     rows: &[Row],
 ) -> Result<(), Fail> {
-    for (name, line, wanted) in rows {
-        is_told(name, told(rt, line), wanted)?;
-    }
-    Ok(())
+    are_told_around(rt, &OPEN, rows)
 }

@@ -195,13 +195,29 @@ fn profiled<T: Threads + AllocGlobal + Clock + Clone + Drop + Sync>(
     masked(rt, commands::told(rt, &line)?.as_str())
 }
 
+/// Checks that a profile writes `text` to a file, and prints its lines.
+fn is_written<T: Threads + AllocGlobal + Clock + Clone + Drop + Sync>(
+    rt: &T,
+    text: &str,
+) -> Result<(), Fail> {
+    let wanted = format!(in rt.alloc(); "0\nshare in …\n--\n--\n{text}")?;
+    is_told("a file", profiled(rt, "made/measured.toml"), &wanted)
+}
+
+/// Checks that a profile writes `text` to standard output, and prints nothing else.
+fn is_printed<T: Threads + AllocGlobal + Clock + Clone + Drop + Sync>(
+    rt: &T,
+    text: &str,
+) -> Result<(), Fail> {
+    let wanted = format!(in rt.alloc(); "0\n{text}--\n--\n")?;
+    is_told("standard output", profiled(rt, "-"), &wanted)
+}
+
 /// Tests profiles that are written. To a file, refuses another text and lines that are not printed. To standard output,
 /// refuses lines beside the text, and a file that is made.
 #[test]
 fn profiles_are_written(rt: HostRuntime) -> Result<(), Fail> {
     let text = masked(&rt, MEASURED)?;
-    let written = format!(in rt.alloc(); "0\nshare in …\n--\n--\n{text}")?;
-    let printed = format!(in rt.alloc(); "0\n{text}--\n--\n")?;
-    is_told("a file", profiled(&rt, "made/measured.toml"), &written)?;
-    is_told("standard output", profiled(&rt, "-"), &printed)
+    is_written(&rt, &text)?;
+    is_printed(&rt, &text)
 }

@@ -1,12 +1,11 @@
 //! Commands over real files.
 
-use crate::commands::{Served, Stream, is_told, status_of};
+use crate::commands::{OPEN, Served, given_of, is_told, serve_over};
 use crate::shelf::SOUND;
-use sdf_faults::fault_text;
+use sdf_faults::{Fault, fault_text};
 use sdf_files::files::{MOST_BYTES, load, read_all};
 use sdf_files::storage::{Disk, Storage};
-use sdf_files::world::World;
-use std::alloc::Global;
+use std::alloc::{AllocError, Global};
 use std::io::{self, Error, ErrorKind, Read};
 use std::rt::Files;
 use std::test::Fail;
@@ -28,20 +27,30 @@ link = [{ from = "in", to = "out" }]"#;
 
 pub(crate) const TAPS: &str = "format = 1\nvalues = [1]\n";
 
+/// Makes the folder `path`, if it is not there.
+pub(crate) fn make_folder(rt: &HostRuntime, path: &str) -> Result<(), Fail> {
+    match fs::create_dir(rt, path) {
+        Err(error) if error.kind() != ErrorKind::AlreadyExists => Err(Fail::from(error)),
+        _ => Ok(()),
+    }
+}
+
 /// Makes a folder of its own for a test, if it is not there, and returns its path.
 pub(crate) fn folder(rt: &HostRuntime, name: &str) -> Result<String, Fail> {
     let above = env::temp_dir(rt)?;
-    let above = above.as_str();
-    let path = format!(in rt.alloc(); "{above}/sdfw-{name}")?;
-    match fs::create_dir(rt, path.as_str()) {
-        Err(error) if error.kind() != ErrorKind::AlreadyExists => Err(Fail::from(error)),
-        _ => Ok(path),
-    }
+    let path = format!(in rt.alloc(); "{}/sdfw-{name}", above.as_str())?;
+    make_folder(rt, &path)?;
+    Ok(path)
+}
+
+/// Returns the path of the file `name` in a folder.
+pub(crate) fn path_in(alloc: Global, folder: &str, name: &str) -> Result<String, AllocError> {
+    format!(in alloc; "{folder}/{name}")
 }
 
 /// Writes a file into a folder.
 pub(crate) fn put(rt: &HostRuntime, folder: &str, name: &str, bytes: &[u8]) -> Result<(), Fail> {
-    let path = format!(in rt.alloc(); "{folder}/{name}")?;
+    let path = path_in(rt.alloc(), folder, name)?;
     Ok(fs::write(rt, path.as_str(), bytes)?)
 }
 
@@ -54,6 +63,14 @@ pub(crate) fn with_files(rt: &HostRuntime, name: &str) -> Result<String, Fail> {
     Ok(folder)
 }
 
+/// Fails if the `bytes` of the file `name` are not the `wanted` ones, after a line of words.
+fn are_bytes(name: &str, bytes: &[u8], wanted: &[u8], line: &str) -> Result<(), Fail> {
+    if bytes == wanted {
+        return Ok(());
+    }
+    Err(Fail::new(format_args!("{name} after {line}: {bytes:?}")))
+}
+
 /// Checks that the file `name` of a folder has the bytes `wanted`, after a line of words.
 pub(crate) fn has_bytes(
     rt: &(impl Files + AllocGlobal),
@@ -62,13 +79,9 @@ pub(crate) fn has_bytes(
     wanted: &[u8],
     line: &str,
 ) -> Result<(), Fail> {
-    let path = format!(in rt.alloc(); "{folder}/{name}")?;
+    let path = path_in(rt.alloc(), folder, name)?;
     let bytes = fs::read(rt, path.as_str())?;
-    if bytes.as_slice() == wanted {
-        return Ok(());
-    }
-    let bytes = bytes.as_slice();
-    Err(Fail::new(format_args!("{name} after {line}: {bytes:?}")))
+    are_bytes(name, &bytes, wanted, line)
 }
 
 /// Checks that the files of a run are as they were put there.
@@ -85,36 +98,8 @@ pub(crate) fn served<S: Storage, T: Threads + AllocGlobal + Clock + Clone + Drop
     folder: &str,
     line: &str,
 ) -> Result<Served, Fail> {
-    let alloc = threads.alloc();
-    let mut paths = Vec::new(alloc);
-    for word in line.split(' ') {
-        paths.push(word.replace(alloc, "@", folder)?)?;
-    }
-    let mut words = Vec::new(alloc);
-    for path in &paths {
-        words.push(path.as_str())?;
-    }
-    let world = World {
-        storage,
-        threads,
-        most: MOST_BYTES,
-        terminal: false,
-    };
-    let mut out = Stream {
-        refuses: None,
-        written: Vec::new(alloc),
-    };
-    let mut err = Stream {
-        refuses: None,
-        written: Vec::new(alloc),
-    };
-    let status = status_of(&world, b"", &mut out, &mut err, &words)?;
-    Ok(Served {
-        status,
-        out: out.written,
-        err: err.written,
-        file: Vec::new(alloc),
-    })
+    let given = given_of(threads.alloc(), line, folder)?;
+    Ok(serve_over(storage, threads, &OPEN, Ok(given)))
 }
 
 /// Runs the command `line` as `served` does, and returns its exit status and what it prints on standard error.
@@ -149,16 +134,25 @@ pub(crate) fn are_told<S: Storage, T: Threads + AllocGlobal + Clock + Clone + Dr
 pub(crate) const HALVES: &[u8; 48] =
     b"RIFF\x28\0\0\0WAVEfmt \x10\0\0\0\x01\0\x01\0\x44\xAC\0\0\x88\x58\x01\0\x02\0\x10\0data\x04\0\0\0\x03\0\xFE\xFF";
 
+/// Runs a design in `folder` over an old file, and compares the files that it leaves.
+fn is_run<T: Threads + AllocGlobal + Clock + Clone + Drop + Sync>(
+    rt: &HostRuntime,
+    threads: &T,
+    folder: &str,
+) -> Result<(), Fail> {
+    let line = "run @/graph.toml @/in.wav @/out.wav";
+    let old = b"an old file that is longer than what is written over it";
+    put(rt, folder, "out.wav", old)?;
+    says(told(&Disk { rt }, threads, folder, line), "0 ")?;
+    has_bytes(rt, folder, "in.wav", SOUND, line)?;
+    has_bytes(rt, folder, "out.wav", HALVES, line)
+}
+
 /// Tests a run over real files. Refuses a program that looks for coefficient files where it runs, not beside GRAPH.
 #[test]
 fn makes_out_from_in(rt: HostRuntime) -> Result<(), Fail> {
     let folder = with_files(&rt, "runs")?;
-    let line = "run @/graph.toml @/in.wav @/out.wav";
-    let old = b"an old file that is longer than what is written over it";
-    put(&rt, &folder, "out.wav", old)?;
-    says(told(&Disk { rt: &rt }, &rt, &folder, line), "0 ")?;
-    has_bytes(&rt, &folder, "in.wav", SOUND, line)?;
-    has_bytes(&rt, &folder, "out.wav", HALVES, line)
+    is_run(&rt, &rt, &folder)
 }
 
 const LACKING: &[Row] = &[
@@ -185,15 +179,24 @@ const LACKING: &[Row] = &[
     ),
 ];
 
+/// Runs the lines of `LACKING` in `folder`, and checks that the old file is as it was.
+fn are_lacking<T: Threads + AllocGlobal + Clock + Clone + Drop + Sync>(
+    rt: &HostRuntime,
+    threads: &T,
+    folder: &str,
+) -> Result<(), Fail> {
+    put(rt, folder, "graph.toml", FILTERED.as_bytes())?;
+    put(rt, folder, "plain.toml", PLAIN.as_bytes())?;
+    put(rt, folder, "in.wav", SOUND)?;
+    put(rt, folder, "old.wav", b"old")?;
+    are_told(&Disk { rt }, threads, folder, LACKING)?;
+    has_bytes(rt, folder, "old.wav", b"old", "all")
+}
+
 #[test]
 fn files_that_are_not_there(rt: HostRuntime) -> Result<(), Fail> {
     let folder = folder(&rt, "lacks")?;
-    put(&rt, &folder, "graph.toml", FILTERED.as_bytes())?;
-    put(&rt, &folder, "plain.toml", PLAIN.as_bytes())?;
-    put(&rt, &folder, "in.wav", SOUND)?;
-    put(&rt, &folder, "old.wav", b"old")?;
-    are_told(&Disk { rt: &rt }, &rt, &folder, LACKING)?;
-    has_bytes(&rt, &folder, "old.wav", b"old", "all")
+    are_lacking(&rt, &rt, &folder)
 }
 
 /// A converter that is written into a folder, whether it is there or not, and a check of its design.
@@ -202,16 +205,25 @@ const MADE: &[Row] = &[
     ("its design", "check @/graph.toml", "0 "),
 ];
 
+/// Makes designs in the folder `path`, which is not there at first, and is empty then.
+fn is_made<T: Threads + AllocGlobal + Clock + Clone + Drop + Sync>(
+    rt: &HostRuntime,
+    threads: &T,
+    path: &str,
+) -> Result<(), Fail> {
+    let _ = fs::remove_dir_all(rt, path);
+    are_told(&Disk { rt }, threads, path, MADE)?;
+    fs::remove_dir_all(rt, path)?;
+    fs::create_dir(rt, path)?;
+    are_told(&Disk { rt }, threads, path, MADE)
+}
+
 /// Tests folders of designs. Refuses a folder that is not made or has no design, and one that is there and made again.
 #[test]
 fn folders_are_made(rt: HostRuntime) -> Result<(), Fail> {
     let above = folder(&rt, "making")?;
-    let path = format!(in rt.alloc(); "{}/new", above.as_str())?;
-    let _ = fs::remove_dir_all(&rt, path.as_str());
-    are_told(&Disk { rt: &rt }, &rt, &path, MADE)?;
-    fs::remove_dir_all(&rt, path.as_str())?;
-    fs::create_dir(&rt, path.as_str())?;
-    are_told(&Disk { rt: &rt }, &rt, &path, MADE)
+    let path = path_in(rt.alloc(), &above, "new")?;
+    is_made(&rt, &rt, &path)
 }
 
 /// A file that gives `left` bytes, and then is out of memory.
@@ -232,19 +244,29 @@ impl Read for Long {
     }
 }
 
+/// Returns the text of `fault`.
+fn text_of(alloc: Global, fault: Fault) -> Result<String, Fail> {
+    let text = fault_text(alloc, &fault);
+    drop(fault);
+    Ok(text?)
+}
+
 /// Returns the text of a file of which at most `most` bytes may be read, or the fault.
 fn read_told<F: Read + Drop>(alloc: Global, file: F, most: u32) -> Result<String, Fail> {
     match read_all(alloc, file, most) {
         Ok(bytes) => Ok(String::from_utf8(bytes)?),
-        Err(fault) => Ok(fault_text(alloc, &fault)?),
+        Err(fault) => text_of(alloc, fault),
     }
 }
 
 /// Loads a file that may have `most` bytes, and returns `loaded` or the fault.
 fn loaded(rt: &HostRuntime, path: &str, most: u32) -> Result<String, Fail> {
     match load(rt.alloc(), &Disk { rt }, path, most) {
-        Ok(_) => Ok(String::from_str(rt.alloc(), "loaded")?),
-        Err(fault) => Ok(fault_text(rt.alloc(), &fault)?),
+        Ok(loaded) => {
+            drop(loaded);
+            Ok(String::from_str(rt.alloc(), "loaded")?)
+        }
+        Err(fault) => text_of(rt.alloc(), fault),
     }
 }
 
@@ -263,6 +285,17 @@ const LIMITS: &[(u32, &str)] = &[
     (8, "samples"),
 ];
 
+/// Loads the graph file at `path`, which is `PLAIN`, with its length as the limit, and with a byte less.
+fn is_loaded(rt: &HostRuntime, path: &str) -> Result<(), Fail> {
+    let len = u32::try_from(PLAIN.len()).unwrap_or(0);
+    row_says("a graph file", loaded(rt, path, len), "loaded")?;
+    row_says(
+        "a longer one",
+        loaded(rt, path, len.saturating_sub(1)),
+        "sdfw: 47 Read\n",
+    )
+}
+
 /// Tests the limit on a file. Refuses a file that is read past its limit before it is refused: it may have no end, and
 /// only one byte past the limit is asked for. Refuses also an out-of-memory fault for a long file.
 #[test]
@@ -279,12 +312,6 @@ fn files_are_read_to_their_limit(rt: HostRuntime) -> Result<(), Fail> {
     }
     let folder = folder(&rt, "long")?;
     put(&rt, &folder, "graph.toml", PLAIN.as_bytes())?;
-    let path = format!(in alloc; "{folder}/graph.toml")?;
-    let len = u32::try_from(PLAIN.len()).unwrap_or(0);
-    row_says("a graph file", loaded(&rt, &path, len), "loaded")?;
-    row_says(
-        "a longer one",
-        loaded(&rt, &path, len.saturating_sub(1)),
-        "sdfw: 47 Read\n",
-    )
+    let path = path_in(alloc, &folder, "graph.toml")?;
+    is_loaded(&rt, &path)
 }

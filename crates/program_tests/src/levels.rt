@@ -69,14 +69,19 @@ fn levels_of(rt: &HostRuntime, sound: &[u8], most: usize) -> Result<String, Fail
     }
 }
 
+/// Compares the levels of a sound that is written in pieces with the `wanted` ones.
+fn are_levels(rt: &HostRuntime, sound: &[u8], wanted: &str) -> Result<(), Fail> {
+    for most in [2, 7, 16, 45, 59, 4_096, 100_000] {
+        says(levels_of(rt, sound, most), wanted)?;
+    }
+    Ok(())
+}
+
 /// Compares the levels of a sound that is written in pieces with its levels if it is written byte by byte.
 fn is_counted(rt: &HostRuntime, outputs: u8, samples: u32) -> Result<(), Fail> {
     let sound = sound_of(rt.alloc(), outputs, samples)?;
     let plain = levels_of(rt, &sound, 1)?;
-    for most in [2, 7, 16, 45, 59, 4_096, 100_000] {
-        says(levels_of(rt, &sound, most), plain.as_str())?;
-    }
-    Ok(())
+    are_levels(rt, &sound, plain.as_str())
 }
 
 /// Returns a sound with two outputs and 1,000 samples: one has only samples of -16,384, the other of 8,192.
@@ -87,6 +92,12 @@ fn steady(alloc: Global) -> Result<Vec<u8>, AllocError> {
         sound.extend_from_slice(&8_192i16.to_le_bytes())?;
     }
     Ok(sound)
+}
+
+/// Returns the lines of levels for `steady`, written at most `most` bytes at a time.
+fn steady_levels(rt: &HostRuntime, most: usize) -> Result<String, Fail> {
+    let sound = steady(rt.alloc())?;
+    levels_of(rt, &sound, most)
 }
 
 /// The levels of `steady`.
@@ -106,7 +117,7 @@ fn levels_in_pieces(rt: HostRuntime) -> Result<(), Fail> {
     }
     is_counted(&rt, 2, 40_000)?;
     for most in [16, 59, 4_096] {
-        says(levels_of(&rt, &steady(rt.alloc())?, most), STEADY)?;
+        says(steady_levels(&rt, most), STEADY)?;
     }
     let sound = sound_of(rt.alloc(), 2, 1_000)?;
     says(levels_of(&rt, &sound, 4_096), FULL)

@@ -1,16 +1,18 @@
 //! Tests that a run leaves the files that it reads as they are, by whatever path OUT leads to them.
 
 use crate::commands::is_told;
-use crate::files::{HALVES, has_bytes, put, stand, told, with_files};
+use crate::files::{HALVES, has_bytes, make_folder, path_in, put, stand, told, with_files};
 use sdf_files::storage::Disk;
 use std::fs;
 use std::io::ErrorKind;
 use std::os::unix::fs::symlink;
 use std::test::Fail;
+use std::thread::Threads;
+use std::time::Clock;
 
 /// Puts a symbolic link `link` to `file` into a folder.
 fn put_link(rt: &HostRuntime, folder: &str, file: &str, link: &str) -> Result<(), Fail> {
-    let path = format!(in rt.alloc(); "{folder}/{link}")?;
+    let path = path_in(rt.alloc(), folder, link)?;
     match fs::remove_file(rt, path.as_str()) {
         Err(error) if error.kind() != ErrorKind::NotFound => return Err(Fail::from(error)),
         _ => {}
@@ -67,18 +69,27 @@ const READ: &[(&str, &str)] = &[
     ),
 ];
 
+/// Runs the lines of `READ` in `folder`.
+fn are_kept<T: Threads + AllocGlobal + Clock + Clone + Drop + Sync>(
+    rt: &HostRuntime,
+    threads: &T,
+    folder: &str,
+) -> Result<(), Fail> {
+    put_link(rt, folder, "in.wav", "in-link.wav")?;
+    put_link(rt, folder, "in-link.wav", "link-link.wav")?;
+    put_link(rt, folder, "one.toml", "taps-link.toml")?;
+    put_link(rt, folder, ".", "folder-link")?;
+    for (line, wanted) in READ {
+        is_told(line, told(&Disk { rt }, threads, folder, line), wanted)?;
+        stand(rt, folder, line)?;
+    }
+    Ok(())
+}
+
 #[test]
 fn what_is_read_is_not_written(rt: HostRuntime) -> Result<(), Fail> {
     let folder = with_files(&rt, "same")?;
-    put_link(&rt, &folder, "in.wav", "in-link.wav")?;
-    put_link(&rt, &folder, "in-link.wav", "link-link.wav")?;
-    put_link(&rt, &folder, "one.toml", "taps-link.toml")?;
-    put_link(&rt, &folder, ".", "folder-link")?;
-    for (line, wanted) in READ {
-        is_told(line, told(&Disk { rt: &rt }, &rt, &folder, line), wanted)?;
-        stand(&rt, &folder, line)?;
-    }
-    Ok(())
+    are_kept(&rt, &rt, &folder)
 }
 
 /// Runs, and the files that they write. A link to another file is written through. A file is written, too, if only its
@@ -92,20 +103,31 @@ const OTHERS: &[(&str, &str)] = &[
     ),
 ];
 
+/// Makes the folder `inner` in a folder, if it is not there.
+fn put_inner(rt: &HostRuntime, folder: &str) -> Result<(), Fail> {
+    let path = path_in(rt.alloc(), folder, "inner")?;
+    make_folder(rt, &path)
+}
+
+/// Runs the lines of `OTHERS` in `folder`.
+fn are_written<T: Threads + AllocGlobal + Clock + Clone + Drop + Sync>(
+    rt: &HostRuntime,
+    threads: &T,
+    folder: &str,
+) -> Result<(), Fail> {
+    put_inner(rt, folder)?;
+    put(rt, folder, "old.wav", b"old")?;
+    put_link(rt, folder, "old.wav", "old-link.wav")?;
+    for (line, file) in OTHERS {
+        is_told(line, told(&Disk { rt }, threads, folder, line), "0 ")?;
+        has_bytes(rt, folder, file, HALVES, line)?;
+        stand(rt, folder, line)?;
+    }
+    Ok(())
+}
+
 #[test]
 fn other_files_are_written(rt: HostRuntime) -> Result<(), Fail> {
     let folder = with_files(&rt, "others")?;
-    let inner = format!(in rt.alloc(); "{folder}/inner")?;
-    match fs::create_dir(&rt, inner.as_str()) {
-        Err(error) if error.kind() != ErrorKind::AlreadyExists => return Err(Fail::from(error)),
-        _ => {}
-    }
-    put(&rt, &folder, "old.wav", b"old")?;
-    put_link(&rt, &folder, "old.wav", "old-link.wav")?;
-    for (line, file) in OTHERS {
-        is_told(line, told(&Disk { rt: &rt }, &rt, &folder, line), "0 ")?;
-        has_bytes(&rt, &folder, file, HALVES, line)?;
-        stand(&rt, &folder, line)?;
-    }
-    Ok(())
+    are_written(&rt, &rt, &folder)
 }

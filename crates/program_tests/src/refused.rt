@@ -7,6 +7,8 @@ use std::fs::{File, Metadata, OpenOptions};
 use std::io::{self, Error, ErrorKind};
 use std::rt::Files;
 use std::test::Fail;
+use std::thread::Threads;
+use std::time::Clock;
 use test_texts::row_says;
 
 /// A file system that refuses to open files whose paths end with `ending`.
@@ -100,25 +102,30 @@ const ROWS: &[(&str, ErrorKind, &str)] = &[
     ("out.wav", ErrorKind::OutOfMemory, "6 sdfw: 1 OutOfMemory\n"),
 ];
 
-#[test]
-fn refused_opens(rt: HostRuntime) -> Result<(), Fail> {
-    let folder = with_files(&rt, "refused")?;
+/// Runs a design in `folder` with each of the opens refused.
+fn are_refused<T: Threads + AllocGlobal + Clock + Clone + Drop + Sync>(
+    host: &HostRuntime,
+    threads: &T,
+    folder: &str,
+) -> Result<(), Fail> {
+    let line = "run @/graph.toml @/in.wav @/out.wav";
     for (ending, kind, wanted) in ROWS {
         let refusing = Refusing {
-            host: &rt,
+            host,
             ending,
             kind: *kind,
         };
         row_says(
             ending,
-            told(
-                &Disk { rt: &refusing },
-                &rt,
-                &folder,
-                "run @/graph.toml @/in.wav @/out.wav",
-            ),
+            told(&Disk { rt: &refusing }, threads, folder, line),
             wanted,
         )?;
     }
     Ok(())
+}
+
+#[test]
+fn refused_opens(rt: HostRuntime) -> Result<(), Fail> {
+    let folder = with_files(&rt, "refused")?;
+    are_refused(&rt, &rt, &folder)
 }

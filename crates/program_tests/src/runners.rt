@@ -3,7 +3,7 @@
 //! has written all its whole pieces except the last, which it runs while it reads on. For each worker, the first piece
 //! has 65,536 frames, and each other one 131,072.
 
-use crate::commands::{Around, OPEN, serve_line};
+use crate::commands::{Around, OPEN, Served, serve_line};
 use std::alloc::{AllocError, Global};
 use std::test::Fail;
 use std::thread::Threads;
@@ -32,24 +32,28 @@ fn is_front(made: &[u8], read: &[u8]) -> bool {
     }
 }
 
-/// Serves `line` on `frames` frames. Reports the exit status, how many bytes are written, whether the samples are the
-/// first ones of the input, and standard error. Each design of the rows copies its input.
+/// Reports the exit status, how many bytes are written, whether the samples are the first ones of `input`, and standard
+/// error.
+fn report(alloc: Global, served: &Served, input: &[u8]) -> Result<String, Fail> {
+    let made = &served.out;
+    let front = is_front(made, input);
+    let err = str::from_utf8(&served.err)?;
+    Ok(format!(in alloc; "{} {} {front} {err}", served.status, made.len())?)
+}
+
+/// Serves `line` on `frames` frames, and returns the report. Each design of the rows copies its input.
 fn told<T: Threads + AllocGlobal + Clock + Clone + Drop + Sync>(
     rt: &T,
     frames: u32,
     line: &str,
 ) -> Result<String, Fail> {
-    let alloc = rt.alloc();
-    let input = cut(alloc, frames)?;
+    let input = cut(rt.alloc(), frames)?;
     let around = Around {
         stdin: &input,
         ..OPEN
     };
     let served = serve_line(rt, &around, line)?;
-    let (status, made) = (served.status, &served.out);
-    let front = is_front(made, &input);
-    let err = str::from_utf8(&served.err)?;
-    Ok(format!(in alloc; "{status} {} {front} {err}", made.len())?)
+    report(rt.alloc(), &served, &input)
 }
 
 /// The name of a row, how many of 600,000 frames are there, the words after the program's name, and the report.

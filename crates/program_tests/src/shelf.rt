@@ -213,21 +213,13 @@ pub(crate) const PADDED: &str = "format = 1
 values = [1]
 ";
 
-/// The graph files and coefficient files of the tests.
-const TEXTS: [(&str, &str); 44] = [
+/// Graph files that name no other file.
+const DESIGNS: &[(&str, &str)] = &[
     ("plain.toml", PLAIN),
     ("-", PLAIN),
     ("commented.toml", COMMENTED),
     ("begun.toml", BEGUN),
-    ("branches.toml", BRANCHES),
     ("both.toml", BOTH),
-    ("heavy.toml", HEAVY),
-    ("wider.toml", WIDER),
-    ("stretched.toml", STRETCHED),
-    ("steep.toml", STEEP),
-    ("kept.toml", KEPT),
-    ("lasting.toml", LASTING),
-    ("line.toml", LINE),
     ("blocks.toml", BLOCKS),
     ("long.toml", LONG),
     ("stuck.toml", STUCK),
@@ -235,6 +227,25 @@ const TEXTS: [(&str, &str); 44] = [
     ("lacking.toml", LACKING),
     ("right.toml", RIGHT),
     ("eighth.toml", EIGHTH),
+    ("wide.toml", WIDE),
+    ("underscored.toml", UNDERSCORED),
+    ("far.toml", FAR),
+];
+
+/// Graph files of the tests of parallel runs.
+const PARALLEL: &[(&str, &str)] = &[
+    ("branches.toml", BRANCHES),
+    ("heavy.toml", HEAVY),
+    ("wider.toml", WIDER),
+    ("stretched.toml", STRETCHED),
+    ("steep.toml", STEEP),
+    ("kept.toml", KEPT),
+    ("lasting.toml", LASTING),
+    ("line.toml", LINE),
+];
+
+/// Graph files that name coefficient files, those files, and files in folders.
+const BESIDE: &[(&str, &str)] = &[
     ("filtered.toml", FILTERED),
     ("one.toml", TAPS),
     ("full/graph.toml", PLAIN),
@@ -252,32 +263,40 @@ const TEXTS: [(&str, &str); 44] = [
     ("lacks/twice.toml", TWICE),
     ("torn/filtered.toml", FILTERED),
     ("torn/one.toml", BROKEN),
-    ("wide.toml", WIDE),
-    ("underscored.toml", UNDERSCORED),
-    ("far.toml", FAR),
     ("odd/filtered.toml", FILTERED),
     ("odd/one.toml", ODD),
     ("padded/filtered.toml", FILTERED),
     ("padded/one.toml", PADDED),
 ];
 
-/// Returns the bytes of a file of the tests.
-fn bytes_of(path: &str) -> Option<&'static [u8]> {
-    if path == "in.wav" || path == "./-" {
-        return Some(SOUND);
-    }
-    if path == "silence.wav" {
-        return Some(SILENCE);
-    }
-    if path == "cut.wav" {
-        return Some(HEADER);
-    }
-    for (name, text) in TEXTS {
-        if path == name {
-            return Some(text.as_bytes());
+/// Returns the text at `path` in `texts`, if there is one.
+fn text_at(texts: &[(&str, &'static str)], path: &str) -> Option<&'static str> {
+    for (name, text) in texts {
+        if path == *name {
+            return Some(*text);
         }
     }
     None
+}
+
+/// Returns the text of a graph file or a coefficient file.
+fn text_of(path: &str) -> Option<&'static str> {
+    for texts in [DESIGNS, PARALLEL, BESIDE] {
+        if let Some(text) = text_at(texts, path) {
+            return Some(text);
+        }
+    }
+    None
+}
+
+/// Returns the bytes of a file of the tests.
+fn bytes_of(path: &str) -> Option<&'static [u8]> {
+    match path {
+        "in.wav" | "./-" => Some(SOUND),
+        "silence.wav" => Some(SILENCE),
+        "cut.wav" => Some(HEADER),
+        _ => Some(text_of(path)?.as_bytes()),
+    }
 }
 
 /// Files with a place of their own, since they are written at the same time.

@@ -1,12 +1,10 @@
 //! Tests of standard input and output, of closed streams, and of the length limit of files, over files in memory.
 
-use crate::commands::{Around, OPEN, is_told, told_around};
+use crate::commands::{Around, OPEN, given_of, is_told, serve_given, told_around};
 use crate::files::{FILTERED, TAPS};
-use crate::shelf::{PADDED, SOUND, Shelf, places};
+use crate::shelf::{PADDED, SOUND};
 use sdf_files::files::MOST_BYTES;
-use sdf_files::world::World;
 use sdf_options::WordFault;
-use sdf_program::program::serve;
 use sdf_words::arguments::Given;
 use std::io::ErrorKind;
 use std::test::Fail;
@@ -263,33 +261,19 @@ fn unread_given<T: Threads + AllocGlobal + Clock + Clone + Drop + Sync>(
     rt: &T,
     given: Result<Given, WordFault>,
 ) -> Result<String, Fail> {
-    let alloc = rt.alloc();
-    let places = places(alloc)?;
-    let world = World {
-        storage: &Shelf { places: &places },
-        threads: rt,
-        most: MOST_BYTES,
-        terminal: false,
-    };
-    let mut stdin = b"".as_slice();
-    let mut out = Vec::new(alloc);
-    let mut err = Vec::new(alloc);
-    let status = serve(&world, &mut stdin, &mut out, &mut err, given);
-    let err = String::from_utf8(err)?;
-    Ok(format!(in alloc; "{status} {} {err}", out.len())?)
+    let served = serve_given(rt, &OPEN, given)?;
+    let err = str::from_utf8(&served.err)?;
+    Ok(format!(in rt.alloc(); "{} {} {err}", served.status, served.out.len())?)
 }
 
 /// Serves the words of `line` and a last one that is not UTF-8, and returns the report.
 fn without_last<T: Threads + AllocGlobal + Clock + Clone + Drop + Sync>(
     rt: &T,
-    line: &[&str],
+    line: &str,
 ) -> Result<String, Fail> {
-    let mut words = Vec::new(rt.alloc());
-    for word in line {
-        words.push(String::from_str(rt.alloc(), word)?)?;
-    }
-    let unread = Some(words.len());
-    unread_given(rt, Ok(Given { words, unread }))
+    let mut given = given_of(rt.alloc(), line, "")?;
+    given.unread = Some(given.words.len());
+    unread_given(rt, Ok(given))
 }
 
 /// Tests files and words that are not read. Refuses a limit other than in `docs/FORMATS.md`, and a program that does
@@ -298,18 +282,21 @@ fn without_last<T: Threads + AllocGlobal + Clock + Clone + Drop + Sync>(
 fn files_and_words_that_are_not_read(rt: HostRuntime) -> Result<(), Fail> {
     assert_eq!(rt; MOST_BYTES, 1_073_741_824);
     assert!(rt; TAPS.len() < FILTERED.len() && FILTERED.len() < PADDED.len());
-    let refused = Err(WordFault::OutOfMemory);
     is_told(
         "words",
-        unread_given(&rt, refused),
+        unread_given(&rt, Err(WordFault::OutOfMemory)),
         "6 0 sdfw: 1 OutOfMemory\n",
     )?;
-    let plain = without_last(&rt, &["sdfw", "check"]);
-    is_told("no UTF-8", plain, "2 0 error: argument 2 is no UTF-8\n")?;
-    let json = without_last(&rt, &["sdfw", "check", "--json"]);
-    let wanted =
-        "2 0 {\"fault\":0,\"name\":\"Usage\",\"text\":\"error: argument 3 is no UTF-8…\"}\n";
-    is_told("no UTF-8 with JSON", json, wanted)?;
+    is_told(
+        "no UTF-8",
+        without_last(&rt, "check"),
+        "2 0 error: argument 2 is no UTF-8\n",
+    )?;
+    is_told(
+        "no UTF-8 with JSON",
+        without_last(&rt, "check --json"),
+        "2 0 {\"fault\":0,\"name\":\"Usage\",\"text\":\"error: argument 3 is no UTF-8…\"}\n",
+    )?;
     for (longest, line, wanted) in LIMITS {
         fits(&rt, longest, line, wanted)?;
     }

@@ -1,11 +1,9 @@
 //! Tests of diagnostics at a terminal and by `--why`, over files in memory.
 
-use crate::commands::{Around, OPEN, Row, is_told, told_around};
+use crate::commands::{Around, OPEN, Row, are_told_around, is_told, told_around};
 use crate::shelf::SOUND;
 use std::alloc::{AllocError, Global};
 use std::test::Fail;
-use std::thread::Threads;
-use std::time::Clock;
 
 /// Standard error is a terminal.
 const TERMINAL: Around<'static> = Around {
@@ -138,18 +136,6 @@ const AT_TERMINAL: &[Row] = &[
         "2\n--\nerror: …Usage: …",
     ),
 ];
-
-/// Compares the diagnostics of each row with the wanted ones.
-fn are_told_around<T: Threads + AllocGlobal + Clock + Clone + Drop + Sync>(
-    rt: &T,
-    around: &Around<'_>,
-    rows: &[Row],
-) -> Result<(), Fail> {
-    for (name, line, wanted) in rows {
-        is_told(name, told_around(rt, around, line), wanted)?;
-    }
-    Ok(())
-}
 
 #[test]
 fn what_is_told_at_a_terminal(rt: HostRuntime) -> Result<(), Fail> {

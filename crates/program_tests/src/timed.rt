@@ -2,7 +2,7 @@
 
 use crate::commands::{is_told, told};
 use crate::costs::MEASURED;
-use std::alloc::Global;
+use std::alloc::{AllocError, Global};
 use std::sync::atomic::{AtomicBool, AtomicU64, Ordering};
 use std::test::Fail;
 use std::thread::Threads;
@@ -16,14 +16,20 @@ const READINGS: u64 = 129;
 /// The turns that a reading lasts, in which another thread may begin one.
 const TURNS: u32 = 200;
 
+/// The readings of a clock.
+#[derive(Drop)]
+struct Readings {
+    read: AtomicU64,
+    reading: AtomicBool,
+    /// Whether two threads have read the clock at the same time.
+    met: AtomicBool,
+}
+
 /// Threads with a clock by which a microsecond passes before each reading, and 373 before the last.
 #[derive_where(Clone, Copy)]
 struct Timed<'a, R> {
     rt: &'a R,
-    read: &'a AtomicU64,
-    reading: &'a AtomicBool,
-    /// Whether two threads have read the clock at the same time.
-    met: &'a AtomicBool,
+    readings: &'a Readings,
 }
 
 impl<R: Threads> Threads for Timed<'_, R> {}
@@ -38,14 +44,15 @@ impl<R: AllocGlobal> Alloc for Timed<'_, R> {
 
 impl<R> Clock for Timed<'_, R> {
     fn monotonic(&self) -> io::Result<Duration> {
-        if self.reading.swap(true, Ordering::SeqCst) {
-            self.met.store(true, Ordering::SeqCst);
+        let Readings { read, reading, met } = self.readings;
+        if reading.swap(true, Ordering::SeqCst) {
+            met.store(true, Ordering::SeqCst);
         }
-        let number = self.read.fetch_add(1, Ordering::SeqCst).wrapping_add(1);
+        let number = read.fetch_add(1, Ordering::SeqCst).wrapping_add(1);
         for _ in 0..TURNS {
             thread::yield_now();
         }
-        self.reading.store(false, Ordering::SeqCst);
+        reading.store(false, Ordering::SeqCst);
         let more = if number < READINGS { 0 } else { 372 };
         Ok(Duration::from_micros(number.wrapping_add(more)))
     }
@@ -57,17 +64,25 @@ impl<R> Clock for Timed<'_, R> {
 
 /// Serves `line` by this clock. Returns the report, and whether two threads have read the clock at the same time.
 fn told_by_clock<R: Threads + AllocGlobal + Sync>(rt: &R, line: &str) -> Result<String, Fail> {
-    let (read, reading) = (AtomicU64::new(0), AtomicBool::new(false));
-    let met = AtomicBool::new(false);
+    let readings = Readings {
+        read: AtomicU64::new(0),
+        reading: AtomicBool::new(false),
+        met: AtomicBool::new(false),
+    };
     let timed = Timed {
         rt,
-        read: &read,
-        reading: &reading,
-        met: &met,
+        readings: &readings,
     };
     let told = told(&timed, line)?;
-    let met = met.load(Ordering::SeqCst);
+    let met = readings.met.load(Ordering::SeqCst);
     Ok(format!(in rt.alloc(); "{told}{met}")?)
+}
+
+/// Returns the report with the text of `commented.toml` and its costs by this clock.
+fn text_by_clock(alloc: Global) -> Result<String, AllocError> {
+    let text = MEASURED.replace(alloc, "cost = 20", "cost = 7")?;
+    let text = text.as_str().replace(alloc, "cost = 1000000", "cost = 1")?;
+    format!(in alloc; "0\n{text}--\n--\n…")
 }
 
 /// Tests profiles by a clock. Refuses time that is counted for the actor that begins, a last firing that takes none,
@@ -86,11 +101,7 @@ fn profiles_by_a_clock(rt: HostRuntime) -> Result<(), Fail> {
         "0\nshare in 81.50 %, 192 firings of 2937.5 ns\nshare out 18.49 %, 128 firings of 1000.0 ns\n\
          cost in 3\ncost out 1\n--\n--\nfalse",
     )?;
-    let wanted = MEASURED.replace(rt.alloc(), "cost = 20", "cost = 7")?;
-    let wanted = wanted
-        .as_str()
-        .replace(rt.alloc(), "cost = 1000000", "cost = 1")?;
-    let wanted = format!(in rt.alloc(); "0\n{wanted}--\n--\n…")?;
+    let wanted = text_by_clock(rt.alloc())?;
     is_told(
         "costs that are written",
         told_by_clock(&rt, "profile commented.toml in.wav --write -"),
