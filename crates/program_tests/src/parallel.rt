@@ -7,7 +7,8 @@ use std::time::Clock;
 use test_texts::says;
 
 /// Parallel runs write what one thread writes. A worker runs one period of `stretched` at first, so sixteen periods
-/// keep five workers busy. The filter of `kept` keeps five inputs, and the loop of `lasting` may keep its samples for ever.
+/// keep five workers busy. The filter of `kept` keeps five inputs, and the loop of `lasting` may keep its samples for
+/// ever.
 const PARALLEL: &[Row] = &[
     (
         "heavy parallel 2",
