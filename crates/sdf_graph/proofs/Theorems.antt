@@ -2,9 +2,10 @@
 use Rattle.sdf_graph.specs.Laws.{PeriodsRepeat, CapacitiesRepeat, AlikeSequences, GraphsAreSound}
 use Rattle.sdf_graph.specs.Laws.{GraphsHavePeriods, OneLeastPeriod, LastCountsMore, OthersCountSame}
 use Rattle.sdf_graph.specs.Laws.{FrontsCountWithin, SumsGrow, SumsRise, SumsAreSmall, CyclesBeginAnew}
-use Rattle.sdf_graph.specs.Laws.{ListsSumWithin}
+use Rattle.sdf_graph.specs.Laws.{WholeCyclesMove, OneCycleMoves, ConstantRatesMove, ListsSumWithin}
 use Rattle.sdf_graph.proofs.Alike.{admissible_alike}
 use Rattle.sdf_graph.proofs.Cycles.{sum_to_more, sum_to_rises, sum_within, sum_to_small, sum_to_anew}
+use Rattle.sdf_graph.proofs.Cycles.{sum_to_cycles, sum_to_cycle, sum_to_steady}
 use Rattle.sdf_graph.proofs.Greedy.{times_same, times_other, times_within}
 use Rattle.sdf_graph.proofs.Least.{one_least_period as least_is_one}
 use Rattle.sdf_graph.proofs.Repeated.{periods_repeat as words_repeat, capacities_repeat as places_repeat}
@@ -42,6 +43,15 @@ sums_are_small = sum_to_small
 
 pub cycles_begin_anew : CyclesBeginAnew
 cycles_begin_anew = sum_to_anew
+
+pub whole_cycles_move : WholeCyclesMove
+whole_cycles_move = sum_to_cycles
+
+pub one_cycle_moves : OneCycleMoves
+one_cycle_moves = sum_to_cycle
+
+pub constant_rates_move : ConstantRatesMove
+constant_rates_move = sum_to_steady
 
 pub periods_repeat : PeriodsRepeat
 periods_repeat = words_repeat

@@ -47,6 +47,18 @@ SumsAreSmall = (f : ℕ → ℕ) (most : ℕ) → ((i : ℕ) → f i ≤ most) �
 abbrev pub CyclesBeginAnew : Type 0
 CyclesBeginAnew = (xs : List ℕ) (k i : ℕ) → sum_to (rate_at xs) (i + k * length xs) ≡ sum_to (rate_at xs) i + k * sum xs
 
+-- whole cycles move the sum of their rates each time
+abbrev pub WholeCyclesMove : Type 0
+WholeCyclesMove = (xs : List ℕ) (k : ℕ) → sum_to (rate_at xs) (k * length xs) ≡ k * sum xs
+
+-- one cycle moves the sum of its rates
+abbrev pub OneCycleMoves : Type 0
+OneCycleMoves = (xs : List ℕ) → sum_to (rate_at xs) (length xs) ≡ sum xs
+
+-- at a constant rate each firing moves as much
+abbrev pub ConstantRatesMove : Type 0
+ConstantRatesMove = (xs : List ℕ) → length xs ≡ 1 → (n : ℕ) → sum_to (rate_at xs) n ≡ n * slice_index xs 0
+
 -- a list of numbers that are no greater has no greater sum
 abbrev pub ListsSumWithin : Type 0
 ListsSumWithin = (xs ys : List ℕ) → length xs ≡ length ys → ((a : ℕ) → slice_index xs a ≤ slice_index ys a) →

@@ -10,7 +10,8 @@ use Rattle.sdf_graph.specs.Periods.{IsPeriodVector}
 use Rattle.sdf_prec.specs.declared.long.TheConstants.{MOST_MOVED}
 use Rattle.sdf_prec.specs.Blocks.{IsShort}
 use Rattle.sdf_prec.specs.Long.{moved, IsWithinLong, IsLongest}
-use Rattle.sdf_prec.proofs.Cyclic.{whole_cycles, product_small}
+use Rattle.sdf_graph.proofs.Theorems.{whole_cycles_move}
+use Rattle.sdf_prec.proofs.Cyclic.{product_small}
 use Rattle.sdf_prec.proofs.Shifts.{within_sum}
 
 -- whole cycles move something
@@ -20,7 +21,7 @@ cycles_move xs n zero q ok is some = absurd (omega arith)
 cycles_move xs n (suc k) q ok is some =
     let same : q ≡ suc k * length xs = is ∙ ap (λ n. suc k * n) (sym ok.all) in
     let more : suc k * 1 ≤ suc k * sum xs = mul-le-mul_left (suc k) (omega (arith, ok.moves)) in
-    omega (arith, ap (sum_to (rate_at xs)) same, whole_cycles xs (suc k), more)
+    omega (arith, ap (sum_to (rate_at xs)) same, whole_cycles_move xs (suc k), more)
 
 pub channel_moves : (g : Shape) → IsShape g → (q : List ℕ) → IsPeriodVector (rates g) q → (c : ℕ) →
     c < length g.channels → 0 < moved (rates g) q c

@@ -1,5 +1,8 @@
 use Rattle.std.proofs.Common.{ℕ, arith}
-use Rattle.sdf_prec.proofs.Cyclic.{few_moved, one_more, still_in, below_more, least_is}
+use Rattle.sdf_limits.specs.declared.TheConstants.{MOST_RATE}
+use Rattle.sdf_graph.specs.Rates.{rate_at}
+use Rattle.sdf_graph.proofs.Theorems.{sums_are_small}
+use Rattle.sdf_prec.proofs.Cyclic.{one_more, still_in, below_more, least_is}
 use Rattle.sdf_prec.proofs.sums.least_in_cycle.Goals as goal
 
 pub overflow_add-moved : goal.overflow_add-moved
@@ -13,7 +16,7 @@ overflow_add-moved c =
       rates.short,
       v.is,
       v.within,
-      few_moved c.args.rates.now rates c.loop-moved.firings,
+      sums_are_small (rate_at c.args.rates.now) MOST_RATE (λ i. rates.small _) c.loop-moved.firings,
     )
 
 pub loop-moved-preserved : goal.loop-moved-preserved
