@@ -1,7 +1,7 @@
-//! Texts that are safe to print on one line.
+//! Texts that are safe to print, on one line or on several.
 
 ghost use Rattle.std.specs.Prelude.{◌≡◌, ◌++◌, IfOk, OnOk, string_bytes};
-ghost use Rattle.sdf_options.specs.Printable.{printable_char, printable_text};
+ghost use Rattle.sdf_options.specs.Printable.{line_char, printable_char, printable_lines, printable_text};
 
 use std::alloc::{AllocError, Global};
 
@@ -25,6 +25,28 @@ pub fn printable(alloc: Global, text: &str) -> Result<String, AllocError>
     let mut shown = String::new(alloc);
     for character in text.chars() {
         push_printable(&mut shown, character)?;
+    }
+    Ok(shown)
+}
+
+/// Adds `character` to `shown` as it is printed in a text of several lines.
+fn push_in_lines(shown: &mut String, character: char) -> Result<(), AllocError>
+    ensures { OnOk result (string_bytes shown.new ≡ string_bytes shown.old ++ line_char character) }
+{
+    if character == '\n' {
+        shown.push('\n')
+    } else {
+        push_printable(shown, character)
+    }
+}
+
+/// Returns `text` with each control character except line ends written as `printable` does.
+pub fn printable_lines(alloc: Global, text: &str) -> Result<String, AllocError>
+    ensures { IfOk result (λ shown. string_bytes shown ≡ printable_lines text.now) }
+{
+    let mut shown = String::new(alloc);
+    for character in text.chars() {
+        push_in_lines(&mut shown, character)?;
     }
     Ok(shown)
 }

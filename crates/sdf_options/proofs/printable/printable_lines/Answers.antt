@@ -1,0 +1,17 @@
+use Rattle.std.proofs.Common.{sym, ◌∙◌, append_assoc, append-nil}
+use Rattle.std.proofs.lemmas.Str.{IsUtf8-past_char}
+use Rattle.sdf_options.specs.Printable.{line_char}
+use Rattle.sdf_options.proofs.Printing.{chars_step, chars_empty}
+use Rattle.sdf_options.proofs.printable.printable_lines.Goals as goal
+
+pub loop-character-preserved : goal.loop-character-preserved
+loop-character-preserved c =
+    let held = c.loop-character.invariant in
+    let parts = c.in-Some.ensures.steps.0 in
+    let step = chars_step line_char _ _ c.in-Some.character held.0 parts in (
+      IsUtf8-past_char _ _ c.in-Some.character held.0 parts,
+      rw (c.in_ok-push_in_lines.ensures, append_assoc) (rw step at held.1),
+    )
+
+pub returns : goal.returns
+returns c = sym (append-nil _) ∙ rw (chars_empty line_char _ c.in-None.ensures.steps.0.0) at c.loop-character.invariant.1
