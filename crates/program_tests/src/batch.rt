@@ -103,7 +103,8 @@ const BATCHES: &[Row] = &[
 ];
 
 /// Batches at a terminal, where more is printed. Refuses levels without the name of their file, and a program that
-/// ignores `--no-why`. Refuses also one that counts files only once several are done, or leaves this line there.
+/// ignores `--no-why`. Refuses also one that counts files only once several are done, or leaves this line there, and
+/// levels of a file that fails.
 const SAID: &[Row] = &[
     (
         "a file that ends well, and one that does not",
@@ -122,6 +123,11 @@ const SAID: &[Row] = &[
         "run plain.toml --into made in.wav silence.wav",
         "0\nin.wav: done\nsilence.wav: done\n--\n\r0 of 2 files done\x1b[K\r\x1b[K…\r1 of 2 files done\x1b[K\r\x1b[K…\
          silence.wav: output 0: 16 frames, no peak, 0 samples at full scale\n--\n…",
+    ),
+    (
+        "no levels of a file that can't be moved to its place",
+        "run plain.toml --into made locked.wav",
+        "5\nlocked.wav: 48 Write\n--\n\r0 of 1 file done\x1b[K\r\x1b[K  \"made/locked.wav\": permission denied\n--\n",
     ),
     (
         "files that are not there, each by itself",

@@ -39,6 +39,21 @@ from = "half"
 to = "out"
 "#;
 
+/// A graph file in which one of two actors begins with the plain form of its line.
+pub(crate) const SPACED: &str = r#"format = 1
+[[actor]]
+name = "in"
+kind = "input"
+channel = 0
+[[ actor ]]
+name = "out"
+kind = "output"
+channel = 0
+[[link]]
+from = "in"
+to = "out"
+"#;
+
 /// `COMMENTED` with the costs 1, 20 and 1,000,000.
 pub(crate) const MEASURED: &str = r#"# half as loud
 format = 1

@@ -4,7 +4,7 @@ use crate::commands::{Row, are_told};
 use std::test::Fail;
 
 /// Faults and mistakes. Refuses a program that checks without a plan, reports a mistake as a fault, or always ends with
-/// the status for memory.
+/// the status for memory. Refuses also control characters of a word as they are, and a mistake in one line.
 const FAULTS: &[Row] = &[
     (
         "a number that there is not",
@@ -26,6 +26,16 @@ const FAULTS: &[Row] = &[
         "a name that is like none",
         "explain Dreadnought",
         "2\n--\nerror: no fault has the name 'Dreadnought'\n--\n",
+    ),
+    (
+        "a word that would control the terminal",
+        "\u{1b}[31mcheck\u{7}",
+        "2\n--\nerror: …'\\u{1b}[31mcheck\\u{7}'…\n\nUsage: …",
+    ),
+    (
+        "the value of an option that would",
+        "schedule plain.toml --policy \u{9b}2J",
+        "2\n--\nerror: invalid value '\\u{9b}2J' for '--policy <…>'\n…",
     ),
     (
         "a design in place of a sound",
@@ -224,6 +234,11 @@ const UNWRITTEN: &[Row] = &[
         "a GRAPH without lines for actors",
         "profile plain.toml in.wav --write made/measured.toml",
         "2\n--\nerror: GRAPH has 0 lines [[actor]] for 2 actors: costs want one for each\n--\n",
+    ),
+    (
+        "a GRAPH with one line for two actors",
+        "profile spaced.toml in.wav --write made/measured.toml",
+        "2\n--\nerror: GRAPH has 1 line [[actor]] for 2 actors: costs want one for each\n--\n",
     ),
     (
         "a cost in another form, and the actor by its name",

@@ -22,6 +22,8 @@ mod files;
 #[cfg(test)]
 mod filters;
 #[cfg(test)]
+mod left;
+#[cfg(test)]
 mod levels;
 #[cfg(test)]
 mod overwriting;

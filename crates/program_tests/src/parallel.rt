@@ -6,6 +6,15 @@ use std::thread::{Threads, available_parallelism};
 use std::time::Clock;
 use test_texts::says;
 
+/// A design in which a sample becomes 4,096 and one again, after a filter that keeps one input.
+pub(crate) const RECENT: &str = r#"format = 1
+actor = [{ name = "in", kind = "input", channel = 0 }, { name = "newest", kind = "fir", shift = 0, taps = [1, 0] },
+    { name = "up", kind = "interpolate", factor = 64 }, { name = "top", kind = "interpolate", factor = 64 },
+    { name = "same", kind = "decimate", factor = 64 }, { name = "down", kind = "decimate", factor = 64 },
+    { name = "out", kind = "output", channel = 0 }]
+link = [{ from = "in", to = "newest" }, { from = "newest", to = "up" }, { from = "up", to = "top" },
+    { from = "top", to = "same" }, { from = "same", to = "down" }, { from = "down", to = "out" }]"#;
+
 /// Parallel runs write what one thread writes. A worker runs one period of `stretched` at first, so sixteen periods
 /// keep five workers busy. The filter of `kept` keeps five inputs, and the loop of `lasting` may keep its samples for
 /// ever.
@@ -38,6 +47,12 @@ const PARALLEL: &[Row] = &[
         "run kept.toml in.wav out.wav --parallel 3 --why",
         "0\n--\none thread: the sound is shorter than two parts\n\
          output 0: 2 frames, peak -76.3 dB, 0 samples at full scale\n--\n<5 -5>",
+    ),
+    (
+        "recent parallel 2 why, with one sample of warm-up",
+        "run recent.toml silence.wav out.wav --parallel 2 --why",
+        "0\n--\n2 workers, each on its own part of the sound after 1 period (1 sample) of warm-up\n\
+         output 0: 16 frames, no peak, 0 samples at full scale\n--\n<another sound>",
     ),
     (
         "lasting parallel 4 why",

@@ -1,7 +1,8 @@
 //! Files in memory.
 
-use crate::costs::COMMENTED;
+use crate::costs::{COMMENTED, SPACED};
 use crate::files::{FILTERED, PLAIN, TAPS};
+use crate::parallel::RECENT;
 use sdf_files::storage::Storage;
 use std::alloc::{AllocError, Global};
 use std::io::{self, Error, ErrorKind, Write};
@@ -229,6 +230,7 @@ const DESIGNS: &[(&str, &str)] = &[
     ("eighth.toml", EIGHTH),
     ("wide.toml", WIDE),
     ("underscored.toml", UNDERSCORED),
+    ("spaced.toml", SPACED),
     ("far.toml", FAR),
 ];
 
@@ -240,6 +242,7 @@ const PARALLEL: &[(&str, &str)] = &[
     ("stretched.toml", STRETCHED),
     ("steep.toml", STEEP),
     ("kept.toml", KEPT),
+    ("recent.toml", RECENT),
     ("lasting.toml", LASTING),
     ("line.toml", LINE),
 ];
@@ -292,7 +295,7 @@ fn text_of(path: &str) -> Option<&'static str> {
 /// Returns the bytes of a file of the tests.
 fn bytes_of(path: &str) -> Option<&'static [u8]> {
     match path {
-        "in.wav" | "./-" => Some(SOUND),
+        "in.wav" | "./-" | "locked.wav" => Some(SOUND),
         "silence.wav" => Some(SILENCE),
         "cut.wav" => Some(HEADER),
         _ => Some(text_of(path)?.as_bytes()),
@@ -331,7 +334,7 @@ pub(crate) fn places(alloc: Global) -> Result<Vec<Mutex<Vec<u8>>>, AllocError> {
 
 /// Files in memory that threads share. Only out.wav and files in the folder `made` can be written: each part of a sound
 /// in a place of its own, and all other files in one place, one after the other. Removing a file clears its place. Only
-/// parts can be renamed. `-` names no sound, but `./-` does.
+/// parts can be renamed, except the one of locked.wav. `-` names no sound, but `./-` does.
 #[derive(Clone, Copy)]
 pub(crate) struct Shelf<'a> {
     pub(crate) places: &'a [Mutex<Vec<u8>>],
@@ -392,6 +395,9 @@ impl<'a> Storage for Shelf<'a> {
 
     fn rename(&self, from: &str, to: &str) -> io::Result<()> {
         match from.strip_prefix(to) {
+            Some(".part") if to == "made/locked.wav" => Err(Error::from(
+                ErrorKind::PermissionDenied,
+            )),
             Some(".part") => Ok(()),
             _ => Err(Error::from(ErrorKind::NotFound)),
         }
@@ -405,6 +411,10 @@ impl<'a> Storage for Shelf<'a> {
             Some(mut written) => Ok(written.clear()),
             None => Err(Error::from(ErrorKind::ResourceBusy)),
         }
+    }
+
+    fn remove_folder(&self, _path: &str) -> io::Result<()> {
+        Err(Error::from(ErrorKind::PermissionDenied))
     }
 
     fn only_path(&self, alloc: Global, path: &str) -> io::Result<PathBuf> {

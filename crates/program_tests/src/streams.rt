@@ -190,10 +190,10 @@ const ROWS: &[Row] = &[
         "5\n--\n--\n",
     ),
     (
-        "a converter whose taps can't be told of",
+        "a converter whose taps can't be told of, of which nothing is left",
         UNTOLD,
         "resample 8000 16000 made --attenuation 40",
-        "5\n--\n--\n# fir up 2 …",
+        "5\n--\n--\n",
     ),
     (
         "a run in parallel that can't tell how it goes",

@@ -148,7 +148,7 @@ fn what_is_told_at_a_terminal(rt: HostRuntime) -> Result<(), Fail> {
 }
 
 /// Faults of a sound on standard input: its bytes, and the report. Refuses a program that prints what is at another
-/// place of the sound, or that takes the number after a size for the size.
+/// place of the sound, or that takes the number after a size for the size. Refuses also one thing in the plural.
 const SOUNDS: &[(&[u8], &str)] = &[
     (
         b"fLaC\0\0\0\x22",
@@ -171,6 +171,14 @@ const SOUNDS: &[(&[u8], &str)] = &[
         "4\n--\nsdfw: 37 ShortFormat\n  \"-\": has a chunk \"fmt \" of 14 bytes, wants 16\n--\n",
     ),
     (
+        b"RIFF\x28\0\0\0WAVEfmt \x01\0\0\0\x01\0",
+        "4\n--\nsdfw: 37 ShortFormat\n  \"-\": has a chunk \"fmt \" of 1 byte, wants 16\n--\n",
+    ),
+    (
+        b"RIFF\x28\0\0\0WAVEfmt \x10\0\0\0\x01\0\x01\0\x44\xAC\0\0\x88\x58\x01\0\x02\0\x01\0data\0\0\0\0",
+        "4\n--\nsdfw: 38 NotPcm16\n  \"-\": has samples of 1 bit in format 1 (PCM), wants 16 bits in format 1\n--\n",
+    ),
+    (
         b"RIFF\x28\0\0\0WAVEfmt \x10\0\0\0\x03\0\x01\0\x44\xAC\0\0\x10\xB1\x02\0\x04\0\x20\0data\0\0\0\0",
         "4\n--\nsdfw: 38 NotPcm16\n  \"-\": has samples of 32 bits in format 3 (floating point), wants 16 bits in \
          format 1\n--\n",
@@ -180,6 +188,10 @@ const SOUNDS: &[(&[u8], &str)] = &[
         "4\n--\nsdfw: 39 Channels\n  \"-\": has 44100 samples a second in 9 channels, wants 1 to 8 channels\n--\n",
     ),
     (
+        b"RIFF\x28\0\0\0WAVEfmt \x10\0\0\0\x01\0\x09\0\x01\0\0\0\x88\x58\x01\0\x12\0\x10\0data\0\0\0\0",
+        "4\n--\nsdfw: 39 Channels\n  \"-\": has 1 sample a second in 9 channels, wants 1 to 8 channels\n--\n",
+    ),
+    (
         b"RIFF\x28\0\0\0WAVEfmt \x10\0\0\0\x01\0\x01\0\0\0\0\0\x88\x58\x01\0\x02\0\x10\0data\0\0\0\0",
         "4\n--\nsdfw: 40 RateZero\n  \"-\": has 0 samples a second in 1 channel, wants at least 1 a \
          second\n--\n",
@@ -187,6 +199,10 @@ const SOUNDS: &[(&[u8], &str)] = &[
     (
         b"RIFF\x28\0\0\0WAVEfmt \x10\0\0\0\x01\0\x01\0\x44\xAC\0\0\x88\x58\x01\0\x03\0\x10\0data\0\0\0\0",
         "4\n--\nsdfw: 41 BadAlign\n  \"-\": has frames of 3 bytes, wants 2 for 1 channel\n--\n",
+    ),
+    (
+        b"RIFF\x28\0\0\0WAVEfmt \x10\0\0\0\x01\0\x01\0\x44\xAC\0\0\x88\x58\x01\0\x01\0\x10\0data\0\0\0\0",
+        "4\n--\nsdfw: 41 BadAlign\n  \"-\": has frames of 1 byte, wants 2 for 1 channel\n--\n",
     ),
     (
         b"RIFF\x28\0\0\0WAVEfmt \x10\0\0\0\x01\0\x01\0\x44\xAC\0\0\x88\x58\x01\0\x02\0\x10\0",
@@ -203,6 +219,10 @@ const SOUNDS: &[(&[u8], &str)] = &[
     (
         b"RIFF\x28\0\0\0WAVEfmt \x10\0\0\0\x01\0\x01\0\x44\xAC\0\0\x88\x58\x01\0\x02\0\x10\0data\x03\0\0\0\x05\0\xFB",
         "4\n--\nsdfw: 44 PartialFrame\n  \"-\": has 3 bytes of samples, wants frames of 2 bytes\n--\n",
+    ),
+    (
+        b"RIFF\x28\0\0\0WAVEfmt \x10\0\0\0\x01\0\x01\0\x44\xAC\0\0\x88\x58\x01\0\x02\0\x10\0data\x01\0\0\0\x05",
+        "4\n--\nsdfw: 44 PartialFrame\n  \"-\": has 1 byte of samples, wants frames of 2 bytes\n--\n",
     ),
     (
         b"RIFF\x28\0\0\0WAVEfmt \x10\0\0\0\x01\0\x01\0\xFF\xFF\xFF\xFF\x88\x58\x01\0\x02\0\x10\0data\x04\0\0\0\x05\0\xFB\xFF",

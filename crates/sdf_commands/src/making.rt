@@ -3,7 +3,7 @@
 use crate::printing::{show, test_plan};
 use sdf_faults::Fault;
 use sdf_file::{Design, read_design};
-use sdf_files::files::{Refused, Sources, refuse, write_at};
+use sdf_files::files::{Refused, Sources, make_at, note_left, refuse};
 use sdf_files::overwriting::{keep_file, only_path};
 use sdf_files::storage::Storage;
 use sdf_files::world::World;
@@ -64,48 +64,54 @@ fn keep_all<S: Storage>(
 }
 
 /// Makes `folder` if it does not exist, or notes in `refused` how the system refused it. Another program may make it at
-/// the same time.
+/// the same time. Returns whether this call made it.
 pub fn make_folder<S: Storage>(
     alloc: Global,
     storage: &S,
     folder: &str,
     refused: &mut Vec<Refused>,
-) -> Result<(), Fault> {
+) -> Result<bool, Fault> {
     if only_path(alloc, storage, folder)?.is_some() {
-        return Ok(());
+        return Ok(false);
     }
     match storage.create_folder(folder) {
-        Ok(()) => Ok(()),
-        Err(error) if error.kind() == ErrorKind::AlreadyExists => Ok(()),
+        Ok(()) => Ok(true),
+        Err(error) if error.kind() == ErrorKind::AlreadyExists => Ok(false),
         Err(error) => Err(refuse(alloc, refused, folder, &error, Fault::Write)),
     }
 }
 
-/// Writes `text` into the file `name` of `folder`.
+/// Writes `text` into the new file `name` of `folder`, and adds its path to `made`.
 fn write_into<S: Storage, T: AllocGlobal>(
     world: &World<S, T>,
     folder: &str,
     name: &str,
     text: &str,
+    made: &mut Vec<String>,
     refused: &mut Vec<Refused>,
 ) -> Result<(), Fault> {
     let alloc = world.threads.alloc();
     let path = format!(in alloc; "{folder}/{name}")?;
-    write_at(
+    made.reserve(1)?;
+    make_at(
         alloc,
         world.storage,
         path.as_str(),
         text.as_bytes(),
         refused,
-    )
+    )?;
+    made.push_reserved(path);
+    Ok(())
 }
 
-/// Writes the files of a converter into `folder`, and the measures of each stage's taps to `err`.
+/// Writes the files of a converter into `folder`, adds their paths to `made`, and writes the measures of each stage's
+/// taps to `err`.
 fn write_all<S: Storage, T: AllocGlobal, E: Write>(
     world: &World<S, T>,
     err: &mut E,
     folder: &str,
     texts: &ConverterTexts,
+    made: &mut Vec<String>,
     refused: &mut Vec<Refused>,
 ) -> Result<(), Fault> {
     for file in &texts.files {
@@ -114,11 +120,36 @@ fn write_all<S: Storage, T: AllocGlobal, E: Write>(
             folder,
             file.name.as_str(),
             file.text.as_str(),
+            made,
             refused,
         )?;
         show(err, file.told.as_str())?;
     }
-    write_into(world, folder, GRAPH, texts.graph.as_str(), refused)
+    write_into(world, folder, GRAPH, texts.graph.as_str(), made, refused)
+}
+
+/// Removes the files in `made`. Notes in `refused` which files are left.
+fn remove_all<S: Storage>(alloc: Global, storage: &S, made: &[String], refused: &mut Vec<Refused>) {
+    for path in made {
+        note_left(alloc, refused, path.as_str(), storage.remove(path.as_str()));
+    }
+}
+
+/// Writes the files of a converter into `folder`, or none of them if one is refused.
+fn write_or_remove<S: Storage, T: AllocGlobal, E: Write>(
+    world: &World<S, T>,
+    err: &mut E,
+    folder: &str,
+    texts: &ConverterTexts,
+    refused: &mut Vec<Refused>,
+) -> Result<(), Fault> {
+    let alloc = world.threads.alloc();
+    let mut made = Vec::new(alloc);
+    let written = write_all(world, err, folder, texts, &mut made, refused);
+    if written.is_err() {
+        remove_all(alloc, world.storage, &made, refused);
+    }
+    written
 }
 
 /// Checks that the design that `texts` describe can be scheduled.
@@ -128,7 +159,7 @@ fn test_texts(alloc: Global, texts: &ConverterTexts) -> Result<(), Fault> {
 }
 
 /// Writes the files of a converter into `folder`, after its design was read and scheduled. So the written design can be
-/// run, and no existing file is replaced.
+/// run, and no existing file is replaced. If a file is refused, no file is left, nor the folder if this call made it.
 fn write_design<S: Storage, T: AllocGlobal, E: Write>(
     world: &World<S, T>,
     err: &mut E,
@@ -139,8 +170,12 @@ fn write_design<S: Storage, T: AllocGlobal, E: Write>(
     let alloc = world.threads.alloc();
     test_texts(alloc, texts)?;
     keep_all(alloc, world.storage, folder, texts)?;
-    make_folder(alloc, world.storage, folder, refused)?;
-    write_all(world, err, folder, texts, refused)
+    let is_new = make_folder(alloc, world.storage, folder, refused)?;
+    let written = write_or_remove(world, err, folder, texts, refused);
+    if is_new && written.is_err() {
+        note_left(alloc, refused, folder, world.storage.remove_folder(folder));
+    }
+    written
 }
 
 /// Writes the design of `conversion`. Notes in `sources` how the system refused a file.

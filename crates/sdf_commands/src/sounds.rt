@@ -2,6 +2,7 @@
 
 use byteorder::{ByteOrder, LittleEndian};
 use sdf_files::input::InputTrace;
+use sdf_options::plural::plural;
 use sdf_wav::{EXTENSIBLE_TAG, FormatFault, MOST_DATA_BYTES, UNKNOWN_SIZE};
 use sdf_why::{Header, device_text};
 use std::alloc::{AllocError, Global};
@@ -133,7 +134,8 @@ fn short_text(alloc: Global, front: Front<'_>) -> Result<String, AllocError> {
         return Ok(String::new(alloc));
     };
     let wanted = if size < 16 { 16 } else { 40 };
-    format!(in alloc; "has a chunk \"fmt \" of {size} bytes, wants {wanted}")
+    let s = plural(u64::from(size));
+    format!(in alloc; "has a chunk \"fmt \" of {size} byte{s}, wants {wanted}")
 }
 
 /// Returns the name of the format with this `tag` if it is a common one, otherwise an empty text.
@@ -156,12 +158,10 @@ fn samples_text(alloc: Global, front: Front<'_>) -> Result<String, AllocError> {
         return Ok(String::new(alloc));
     };
     let name = format_name(tag);
-    format!(in alloc; "has samples of {bits} bits in format {tag}{name}, wants 16 bits in format 1")
-}
-
-/// Returns the plural ending of a word for `count` things.
-fn plural_of(count: u32) -> &'static str {
-    if count == 1 { "" } else { "s" }
+    let s = plural(u64::from(bits));
+    format!(in alloc;
+        "has samples of {bits} bit{s} in format {tag}{name}, wants 16 bits in format 1"
+    )
 }
 
 /// Returns the text of the channels and the rate.
@@ -169,8 +169,11 @@ fn header_text(alloc: Global, front: Front<'_>) -> Result<String, AllocError> {
     let Some(Header { rate, channels }) = front.header() else {
         return Ok(String::new(alloc));
     };
-    let plural = plural_of(channels);
-    format!(in alloc; "has {rate} samples a second in {channels} channel{plural}")
+    format!(in alloc;
+        "has {rate} sample{} a second in {channels} channel{}",
+        plural(u64::from(rate)),
+        plural(u64::from(channels))
+    )
 }
 
 /// Returns the text of the channels and the rate, followed by `wanted`.
@@ -189,8 +192,11 @@ fn align_text(alloc: Global, front: Front<'_>) -> Result<String, AllocError> {
         return Ok(String::new(alloc));
     };
     let wanted = channels.saturating_mul(2);
-    let plural = plural_of(channels);
-    format!(in alloc; "has frames of {align} bytes, wants {wanted} for {channels} channel{plural}")
+    format!(in alloc;
+        "has frames of {align} byte{}, wants {wanted} for {channels} channel{}",
+        plural(u64::from(align)),
+        plural(u64::from(channels))
+    )
 }
 
 /// The least data size that is taken for a placeholder, written by a program that does not know the size yet.
@@ -222,7 +228,8 @@ fn frames_text(alloc: Global, front: Front<'_>, bytes: u64) -> Result<String, Al
         size => u64::from(size),
     };
     let frame = channels.saturating_mul(2);
-    format!(in alloc; "has {samples} bytes of samples, wants frames of {frame} bytes")
+    let s = plural(samples);
+    format!(in alloc; "has {samples} byte{s} of samples, wants frames of {frame} bytes")
 }
 
 /// Returns the text for a WAV file that is too long, has too many chunks, or whose output would be too long.

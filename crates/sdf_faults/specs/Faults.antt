@@ -12,7 +12,7 @@ use Rattle.sdf_options.specs.declared.fault.WordFault.{WordFault}
 use Rattle.sdf_options.specs.declared.fault.WordFault.TheVariants as words
 use Rattle.sdf_faults.specs.declared.fault.Fault.{Fault}
 use Rattle.sdf_faults.specs.declared.fault.Fault.TheVariants as fault
-use Rattle.sdf_options.specs.Printable.{printable_text}
+use Rattle.sdf_options.specs.Printable.{printable_lines, printable_text}
 
 abbrev pub of_words : WordFault → Fault
 of_words words.OutOfMemory = fault.OutOfMemory
@@ -41,8 +41,8 @@ of_wav wav.Read = fault.Read
 of_wav wav.Write = fault.Write
 
 -- one line, which no name in a fault can break or escape from; a deadlock has a line for each actor, and a mistake of
--- usage has the parser's own text
+-- usage has lines without any other control character
 abbrev pub IsFaultText : Fault → List ℕ → Type 0
 IsFaultText (fault.Deadlock s) text = Unit {0}
-IsFaultText (fault.Words w) text = Unit {0}
+IsFaultText (fault.Words (words.Usage e)) text = (said : List ℕ) × (text ≡ printable_lines said)
 IsFaultText f text = (said : List ℕ) × (text ≡ codes "sdfw: " ++ printable_text said ++ 10 ∷ [])

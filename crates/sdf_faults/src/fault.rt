@@ -9,7 +9,7 @@ use clap::error::ErrorKind;
 use sdf_answer::RunFault;
 use sdf_file::FileFault;
 use sdf_options::WordFault;
-use sdf_options::printable::printable;
+use sdf_options::printable::{printable, printable_lines};
 use sdf_prec::PrecFault;
 use sdf_wav::{FormatFault, WavFault};
 use std::alloc::{AllocError, AllocFailed, Global};
@@ -236,12 +236,16 @@ fn mistake_text(alloc: Global, mistake: &clap::Error) -> Result<String, AllocErr
 /// Returns the text of `fault` for standard error: one line, and for a deadlock one more line for each actor. For a
 /// mistake on the command line, it has the parser's own text.
 ///
-/// A control character, even in a key, is written like `\u{a}`, so that it can't begin a line or control the terminal.
+/// A control character, even in a key or in a word of the command line, is written like `\u{a}`, so that it can't
+/// control the terminal. Only the line ends of the parser's text stay.
 pub fn fault_text(alloc: Global, fault: &Fault) -> Result<String, AllocError>
     ensures { IfOk result (λ text. IsFaultText fault.now (string_bytes text)) }
 {
     match fault {
-        Fault::Words(WordFault::Usage(mistake)) => mistake_text(alloc, mistake),
+        Fault::Words(WordFault::Usage(mistake)) => {
+            let said = mistake_text(alloc, mistake)?;
+            printable_lines(alloc, said.as_str())
+        }
         // The names of actors are printed as they are.
         Fault::Deadlock(_) => format!(in alloc; "sdfw: {fault}\n"),
         _ => {

@@ -62,15 +62,16 @@ pub struct Refused {
     pub said: String,
 }
 
-/// Notes in `refused` that the system refused the file `name` with `error`.
+/// Notes in `refused` that the system refused the file `name` with `error`. `before` begins the message.
 fn note(
     alloc: Global,
     refused: &mut Vec<Refused>,
     name: &str,
+    before: &str,
     error: &io::Error,
 ) -> Result<(), AllocError> {
     let name = format!(in alloc; "{name}")?;
-    let said = format!(in alloc; "{error}")?;
+    let said = format!(in alloc; "{before}{error}")?;
     Ok(refused.push(Refused { name, said })?)
 }
 
@@ -82,9 +83,50 @@ pub fn refuse(
     error: &io::Error,
     blamed: Fault,
 ) -> Fault {
-    match note(alloc, refused, name, error) {
+    match note(alloc, refused, name, "", error) {
         Ok(()) => device_fault(error, blamed),
         Err(_) => Fault::OutOfMemory,
+    }
+}
+
+/// Notes in `refused` that the file or the folder `name` is left, if the system refused to remove it. Notes nothing if
+/// memory is refused for it.
+pub fn note_left(alloc: Global, refused: &mut Vec<Refused>, name: &str, removed: io::Result<()>) {
+    if let Err(error) = removed {
+        let _ = note(
+            alloc,
+            refused,
+            name,
+            "is left, since it can't be removed: ",
+            &error,
+        );
+    }
+}
+
+/// Creates the file at `path`, or empties it if there is one. Notes in `refused` if the system refuses it.
+fn create_at<S: Storage>(
+    alloc: Global,
+    storage: &S,
+    path: &str,
+    refused: &mut Vec<Refused>,
+) -> Result<S::Sink, Fault> {
+    match storage.create(path) {
+        Ok(file) => Ok(file),
+        Err(error) => Err(refuse(alloc, refused, path, &error, Fault::Write)),
+    }
+}
+
+/// Writes `bytes` into `file`, and closes it. Notes in `refused` if the system refuses it.
+fn fill<F: Write + Drop>(
+    alloc: Global,
+    mut file: F,
+    path: &str,
+    bytes: &[u8],
+    refused: &mut Vec<Refused>,
+) -> Result<(), Fault> {
+    match file.write_all(bytes) {
+        Ok(()) => Ok(()),
+        Err(error) => Err(refuse(alloc, refused, path, &error, Fault::Write)),
     }
 }
 
@@ -96,19 +138,30 @@ pub fn write_at<S: Storage>(
     bytes: &[u8],
     refused: &mut Vec<Refused>,
 ) -> Result<(), Fault> {
-    let written = match storage.create(path) {
-        Ok(mut file) => file.write_all(bytes),
-        Err(error) => Err(error),
-    };
-    match written {
-        Ok(()) => Ok(()),
-        Err(error) => Err(refuse(alloc, refused, path, &error, Fault::Write)),
+    let file = create_at(alloc, storage, path, refused)?;
+    fill(alloc, file, path, bytes, refused)
+}
+
+/// Creates the file at `path`, which does not exist, with these `bytes`. If they can't be written, removes it again.
+/// Notes in `refused` what the system refuses.
+pub fn make_at<S: Storage>(
+    alloc: Global,
+    storage: &S,
+    path: &str,
+    bytes: &[u8],
+    refused: &mut Vec<Refused>,
+) -> Result<(), Fault> {
+    let file = create_at(alloc, storage, path, refused)?;
+    let filled = fill(alloc, file, path, bytes, refused);
+    if filled.is_err() {
+        note_left(alloc, refused, path, storage.remove(path));
     }
+    filled
 }
 
 /// Notes in `refused` that the system refused an open file. Notes nothing if memory is refused for it.
 pub fn refuse_kind(alloc: Global, refused: &mut Vec<Refused>, name: &str, kind: ErrorKind) {
-    let _ = note(alloc, refused, name, &io::Error::from(kind));
+    let _ = note(alloc, refused, name, "", &io::Error::from(kind));
 }
 
 /// Reads the coefficient file `name` in the folder of `graph`. Returns `None` if it can't be opened, and notes that in

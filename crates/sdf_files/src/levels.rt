@@ -3,6 +3,7 @@
 ghost use Rattle.std.specs.Prelude.{◌≤◌, ◌<◌, length};
 
 use crate::lanes::{Lane, Lanes, SIDE};
+use sdf_options::plural::plural;
 use sdf_wav::{HEADER_BYTES, MOST_CHANNELS};
 use std::alloc::{AllocError, Global};
 use std::num::saturating_f64_to_u64;
@@ -215,8 +216,8 @@ impl Levels {
 
 /// Adds `count` and the noun `thing`, in the plural unless `count` is 1.
 fn push_count(text: &mut String, count: u64, thing: &str) -> Result<(), AllocError> {
-    let plural = if count == 1 { "" } else { "s" };
-    write!(text, "{count} {thing}{plural}")
+    let s = plural(count);
+    write!(text, "{count} {thing}{s}")
 }
 
 /// Adds the line of an output.

@@ -27,6 +27,9 @@ pub trait Storage: Sync {
 
     fn remove(&self, path: &str) -> io::Result<()>;
 
+    /// Removes an empty folder.
+    fn remove_folder(&self, path: &str) -> io::Result<()>;
+
     /// Returns the canonical path of a file that exists, without dots and symbolic links.
     fn only_path(&self, alloc: Global, path: &str) -> io::Result<PathBuf>;
 }
@@ -63,6 +66,10 @@ where
 
     fn remove(&self, path: &str) -> io::Result<()> {
         self.rt.remove_file(path)
+    }
+
+    fn remove_folder(&self, path: &str) -> io::Result<()> {
+        self.rt.remove_dir(path)
     }
 
     fn only_path(&self, alloc: Global, path: &str) -> io::Result<PathBuf> {

@@ -1,4 +1,4 @@
-//! Options of a schedule or a run, faults of reading a command line, and texts that are safe to print.
+//! Options of a schedule or a run, faults of reading a command line, texts that are safe to print, and plurals.
 //!
 //! It depends on `clap`, whose errors it carries, and on `sdf_limits`. It does not know any command. Begin at
 //! `options`. The definitions are in `specs/Limits.antt` and `specs/Printable.antt`.
@@ -6,6 +6,7 @@
 
 mod fault;
 mod options;
+pub mod plural;
 pub mod printable;
 
 pub use fault::WordFault;

@@ -1,6 +1,7 @@
 //! The number of files of a batch that are done, on one line of a terminal.
 
 use sdf_files::progress::GONE;
+use sdf_options::plural::plural;
 use std::alloc::{AllocError, Global};
 use std::io::Write;
 
@@ -29,8 +30,8 @@ impl Count {
     /// Returns the line.
     fn line(self, alloc: Global) -> Result<String, AllocError> {
         let Count { done, all, .. } = self;
-        let plural = if all == 1 { "" } else { "s" };
-        format!(in alloc; "\r{done} of {all} file{plural} done\x1b[K")
+        let s = plural(all as u64);
+        format!(in alloc; "\r{done} of {all} file{s} done\x1b[K")
     }
 
     /// Shows how many files are done if others are not, unless memory is refused for it.

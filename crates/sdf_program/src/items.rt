@@ -96,12 +96,11 @@ fn push_item<'a>(
     if is_part(items, output.as_str(), part.as_str()) {
         return Err(named_as_a_part(alloc, name)?);
     }
-    items.push(Item {
+    Ok(items.push(Item {
         input,
         part,
         output,
-    })?;
-    Ok(())
+    })?)
 }
 
 /// Returns the files of a batch.

@@ -74,15 +74,14 @@ impl Outcome<'_> {
         Ok(text)
     }
 
-    /// Writes the text of the run and the diagnostic of its fault to `err`.
+    /// Writes the text of a run that ended well, or the diagnostic of the fault, to `err`.
     fn say<E: Write>(&self, alloc: Global, err: &mut E, batching: Batching<'_>, sources: &Sources) {
-        if let Ok(text) = self.said_text(alloc) {
+        let text = match &self.ended {
+            Ok(()) => self.said_text(alloc),
+            Err(fault) => why(alloc, fault, &batching.asked.options, sources),
+        };
+        if let Ok(text) = text {
             let _ = err.write_all(text.as_bytes());
-        }
-        if let Err(fault) = &self.ended {
-            if let Ok(text) = why(alloc, fault, &batching.asked.options, sources) {
-                let _ = err.write_all(text.as_bytes());
-            }
         }
     }
 

@@ -7,6 +7,7 @@ use sdf_files::files::{Loaded, Refused, Sources, bytes_of, put, read_at, refuse,
 use sdf_files::overwriting::{Paths, keep_what_is_read};
 use sdf_files::storage::Storage;
 use sdf_files::world::{STANDARD, World};
+use sdf_options::plural::plural;
 use sdf_profile::{Measured, Unwritten, costed_text, profile};
 use sdf_words::mistake;
 use std::alloc::{AllocError, Global};
@@ -53,7 +54,9 @@ fn unwritten(alloc: Global, design: &Design, fault: Unwritten) -> Result<Fault, 
         Unwritten::Tables(lines) => {
             let actors = design.costs().len();
             format!(in alloc;
-                "GRAPH has {lines} lines [[actor]] for {actors} actors: costs want one for each"
+                "GRAPH has {lines} line{} [[actor]] for {actors} actor{}: costs want one for each",
+                plural(lines as u64),
+                plural(actors as u64)
             )?
         }
         Unwritten::Cost(actor) => {

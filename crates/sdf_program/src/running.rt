@@ -17,6 +17,7 @@ use sdf_files::progress::Progress;
 use sdf_files::storage::Storage;
 use sdf_files::world::{STANDARD, World};
 use sdf_limits::MOST_WORKERS;
+use sdf_options::plural::plural;
 use sdf_plan::Plan;
 use sdf_plan::parallel::{Pace, Paced, parallel_plan};
 use sdf_plan::planning::plan;
@@ -107,9 +108,10 @@ fn parts_text(alloc: Global, planned: Planned<'_>, frames: u64) -> Result<String
     if parts < 2 {
         return String::from_str(alloc, "one thread: the sound is shorter than two parts\n");
     }
-    let s = if periods == 1 { "" } else { "s" };
     format!(in alloc;
-        "{parts} workers, each on its own part of the sound after {periods} period{s} ({samples} samples) of warm-up\n"
+        "{parts} workers, each on its own part of the sound after {periods} period{} ({samples} sample{}) of warm-up\n",
+        plural(u64::from(periods)),
+        plural(samples)
     )
 }
 

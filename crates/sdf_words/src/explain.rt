@@ -104,8 +104,7 @@ fn push_line(text: &mut String, label: &str, said: &str) -> Result<(), AllocErro
 fn push_heading(text: &mut String, number: u32, name: &str) -> Result<(), AllocError>
     ensures { OnOk result (string_bytes text.new ≡ string_bytes text.old ++ heading number name.now) }
 {
-    writeln!(text, "{number} {name}")?;
-    Ok(())
+    writeln!(text, "{number} {name}")
 }
 
 /// Adds lines of a graph file before and after the fault `number` is mended, if there are some.

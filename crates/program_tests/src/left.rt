@@ -1,0 +1,215 @@
+//! Tests of what `resample` leaves on a disk that is full: nothing, or files that it names.
+
+use crate::commands::{Around, OPEN, Served, given_of, is_told, serve_over};
+use crate::files::{folder, has_bytes, path_in, put, told};
+use sdf_files::storage::{Disk, Storage};
+use std::alloc::Global;
+use std::fs::{self, File};
+use std::io::{self, Error, ErrorKind, Write};
+use std::path::PathBuf;
+use std::test::Fail;
+use std::thread::Threads;
+use std::time::Clock;
+
+/// A disk on which the files whose paths end with `ending` have room for so many bytes, or can't be made. If `keeps` is
+/// set, nothing can be removed.
+#[derive(Clone, Copy)]
+struct Full<'a> {
+    host: &'a HostRuntime,
+    ending: &'a str,
+    room: Option<usize>,
+    keeps: bool,
+}
+
+/// A file that has room for `room` more bytes.
+#[derive(Drop)]
+struct Short {
+    file: File,
+    room: usize,
+}
+
+impl Write for Short {
+    fn write(&mut self, bytes: &[u8]) -> io::Result<usize> {
+        if self.room == 0 {
+            return Err(Error::from(ErrorKind::StorageFull));
+        }
+        let many = bytes.len().min(self.room);
+        let count = self.file.write(&bytes[..many])?;
+        self.room = self.room.saturating_sub(count);
+        Ok(count)
+    }
+
+    fn flush(&mut self) -> io::Result<()> {
+        self.file.flush()
+    }
+}
+
+impl<'a> Full<'a> {
+    /// Returns the disk as it is otherwise.
+    fn disk(&self) -> Disk<'a, HostRuntime> {
+        Disk { rt: self.host }
+    }
+
+    /// Returns the room for the file at `path`, if it can be made.
+    fn room_for(&self, path: &str) -> Option<usize> {
+        if path.ends_with(self.ending) {
+            self.room
+        } else {
+            Some(usize::MAX)
+        }
+    }
+}
+
+impl Storage for Full<'_> {
+    type Source = File;
+
+    type Sink = Short;
+
+    fn open(&self, path: &str) -> io::Result<File> {
+        self.disk().open(path)
+    }
+
+    fn create(&self, path: &str) -> io::Result<Short> {
+        let Some(room) = self.room_for(path) else {
+            return Err(Error::from(ErrorKind::StorageFull));
+        };
+        let file = self.disk().create(path)?;
+        Ok(Short { file, room })
+    }
+
+    fn create_folder(&self, path: &str) -> io::Result<()> {
+        self.disk().create_folder(path)
+    }
+
+    fn rename(&self, from: &str, to: &str) -> io::Result<()> {
+        self.disk().rename(from, to)
+    }
+
+    fn remove(&self, path: &str) -> io::Result<()> {
+        if self.keeps {
+            return Err(Error::from(ErrorKind::PermissionDenied));
+        }
+        self.disk().remove(path)
+    }
+
+    fn remove_folder(&self, path: &str) -> io::Result<()> {
+        if self.keeps {
+            return Err(Error::from(ErrorKind::PermissionDenied));
+        }
+        self.disk().remove_folder(path)
+    }
+
+    fn only_path(&self, alloc: Global, path: &str) -> io::Result<PathBuf> {
+        self.disk().only_path(alloc, path)
+    }
+}
+
+/// A converter with one coefficient file and a graph file.
+const LINE: &str = "resample 8000 16000 @ --attenuation 40";
+
+/// Files that don't fit on the disk, and the room for each.
+const ROWS: &[(&str, Option<usize>)] = &[
+    ("stage1.toml", None),
+    ("stage1.toml", Some(40)),
+    ("graph.toml", None),
+    ("graph.toml", Some(40)),
+];
+
+/// Fails if there is a file or a folder at `path`.
+fn is_gone(rt: &HostRuntime, path: &str) -> Result<(), Fail> {
+    if fs::metadata(rt, path).is_ok() {
+        return Err(Fail::new(format_args!("{path} is left")));
+    }
+    Ok(())
+}
+
+/// Writes a converter into the folder `path`, which is refused, and then on a disk with room.
+fn is_tried_again<T: Threads + AllocGlobal + Clock + Clone + Drop + Sync>(
+    full: Full<'_>,
+    threads: &T,
+    path: &str,
+) -> Result<(), Fail> {
+    is_told(
+        full.ending,
+        told(&full, threads, path, LINE),
+        "5 …sdfw: 48 Write\n",
+    )?;
+    is_told("again", told(&full.disk(), threads, path, LINE), "0 …")
+}
+
+/// Writes a converter that is refused into the folder `path`, if it is not there, and if it has a file.
+fn leaves_nothing<T: Threads + AllocGlobal + Clock + Clone + Drop + Sync>(
+    full: Full<'_>,
+    threads: &T,
+    path: &str,
+) -> Result<(), Fail> {
+    let _ = fs::remove_dir_all(full.host, path);
+    is_told(
+        full.ending,
+        told(&full, threads, path, LINE),
+        "5 …sdfw: 48 Write\n",
+    )?;
+    is_gone(full.host, path)?;
+    fs::create_dir(full.host, path)?;
+    put(full.host, path, "notes", b"kept")?;
+    is_tried_again(full, threads, path)?;
+    has_bytes(full.host, path, "notes", b"kept", LINE)
+}
+
+/// Standard error is a terminal.
+const TERMINAL: Around<'static> = Around {
+    terminal: true,
+    ..OPEN
+};
+
+/// Returns the report at a terminal of a converter that is written into the folder `path`.
+fn told_at_terminal<T: Threads + AllocGlobal + Clock + Clone + Drop + Sync>(
+    full: Full<'_>,
+    threads: &T,
+    path: &str,
+) -> Result<String, Fail> {
+    let given = given_of(threads.alloc(), LINE, path)?;
+    let Served { status, err, .. } = serve_over(&full, threads, &TERMINAL, Ok(given));
+    let err = String::from_utf8(err)?;
+    Ok(format!(in threads.alloc(); "{status} {err}")?)
+}
+
+/// Tests a converter on a disk from which nothing can be removed, and that it names what is left.
+fn names_what_is_left<T: Threads + AllocGlobal + Clock + Clone + Drop + Sync>(
+    rt: &HostRuntime,
+    threads: &T,
+    path: &str,
+) -> Result<(), Fail> {
+    let _ = fs::remove_dir_all(rt, path);
+    let full = Full {
+        host: rt,
+        ending: "graph.toml",
+        room: Some(40),
+        keeps: true,
+    };
+    is_told(
+        "what is left",
+        told_at_terminal(full, threads, path),
+        "5 …sdfw: 48 Write\n  \"…/graph.toml\": no storage space\n  \"…/graph.toml\": is left, since it can't be \
+         removed: permission denied\n  \"…/stage1.toml\": is left, since it can't be removed: permission denied\n  \
+         \"…/new\": is left, since it can't be removed: permission denied\n",
+    )
+}
+
+/// Tests converters that are refused. Refuses a program that leaves a file of them, so that a second try is refused,
+/// and one that removes a folder or a file that it did not make. Refuses also one that does not name what it leaves.
+#[test]
+fn what_a_refused_converter_leaves(rt: HostRuntime) -> Result<(), Fail> {
+    let above = folder(&rt, "left")?;
+    let path = path_in(rt.alloc(), &above, "new")?;
+    for (ending, room) in ROWS {
+        let full = Full {
+            host: &rt,
+            ending,
+            room: *room,
+            keeps: false,
+        };
+        leaves_nothing(full, &rt, &path)?;
+    }
+    names_what_is_left(&rt, &rt, &path)
+}
