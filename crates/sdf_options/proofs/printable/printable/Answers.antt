@@ -14,4 +14,5 @@ loop-character-preserved c =
     )
 
 pub returns : goal.returns
-returns c = sym (append-nil _) ∙ rw (chars_empty printable_char _ c.in-None.ensures.steps.0.0) at c.loop-character.invariant.1
+returns c = sym (append-nil _) ∙ rw (chars_empty printable_char _ c.in-None.ensures.steps.0.0) at
+    c.loop-character.invariant.1
