@@ -11,8 +11,8 @@ use std::test::Fail;
 use std::thread::Threads;
 use std::time::Clock;
 
-/// A disk on which the files whose paths end with `ending` have room for so many bytes, or can't be made. If `keeps` is
-/// set, nothing can be removed.
+/// A disk on which a file whose path ends with `ending` has room for `room` bytes, or can't be made if that is `None`.
+/// If `keeps` is set, nothing can be removed.
 #[derive(Clone, Copy)]
 struct Full<'a> {
     host: &'a HostRuntime,
