@@ -4,3 +4,4 @@ mod Whole
 mod Lines
 mod Stretches
 mod Parsed
+mod Priced

@@ -1,6 +1,6 @@
 //! Designs.
 ghost use Rattle.std.specs.Prelude.{◌≡◌, ◌<◌, ℕ, List, [], true, map, slice_index_or};
-ghost use Rattle.std.specs.Prelude.{IfOk, MatchResult, Ok};
+ghost use Rattle.std.specs.Prelude.{MatchResult, Ok};
 ghost use Rattle.std.specs.List.{All};
 ghost use Rattle.sdf_document.specs.Lists.{files_view};
 ghost use Rattle.sdf_document.specs.Actors.{actor_view, names_in, IsActorWithin};
@@ -9,6 +9,7 @@ ghost use Rattle.sdf_document.specs.Document.{table_view, graph_table, document_
 ghost use Rattle.sdf_document.specs.Names.{names_of};
 ghost use Rattle.sdf_actor.specs.NetFaults.{IsAccepted};
 ghost use Rattle.sdf_kit.specs.Kit.{kit_steps};
+ghost use Rattle.sdf_prec.specs.declared.fault.PrecFault.TheVariants.{OutOfMemory};
 ghost use Rattle.sdf_file.specs.Designs.{design_of, IsDesign, IsDesignOf, IsFileFault, IsMadeFault, AreFileNames};
 ghost use Rattle.sdf_file.specs.Designs.{IsNamesFault, IsDesignFrom, IsFaultFrom, IsReadFault};
 
@@ -18,8 +19,8 @@ use indexmap::IndexSet;
 use sdf_actor::Net;
 use sdf_document::{Document, GraphFile};
 use sdf_kit::Kit;
-use sdf_prec::Costs;
-use std::alloc::{AllocError, Global};
+use sdf_prec::{Costs, PrecFault};
+use std::alloc::Global;
 use std::marker::Model;
 
 /// A design: a net, with the name, the home processor and the cost of a firing of each actor.
@@ -85,15 +86,12 @@ impl Design {
         &self.costs
     }
 
-    /// Returns a copy of the costs, as `Costs` for making a table.
-    pub fn firing_costs(&self, alloc: Global) -> Result<Costs, AllocError>
-        ensures { IfOk result (λ c. c ≡ self.now.costs) }
+    /// Returns a copy of the costs, as `Costs` for making a table. The only fault is that memory was refused.
+    pub fn firing_costs(&self, alloc: Global) -> Result<Costs, PrecFault>
+        ensures { MatchResult result (λ c. c ≡ self.now.costs) (λ fault. fault ≡ OutOfMemory) }
     {
         let costs = Vec::from_slice(alloc, self.costs())?;
-        match Costs::new(self.net().graph(), costs) {
-            Ok(costs) => Ok(costs),
-            Err(_) => unreachable!(),
-        }
+        Costs::new(self.net().graph(), costs)
     }
 }
 
