@@ -4,3 +4,4 @@ mod Suiting
 mod Weighing
 mod Placing
 mod Tabling
+mod Alone

@@ -1,18 +1,21 @@
 //! A plan for several workers, each on its own part of the sound.
 
 ghost use Rattle.std.specs.Prelude.{◌≡◌, ◌≤◌, MatchResult, IfOk};
+ghost use Rattle.sdf_actor.specs.Graphs.{graph_of};
 ghost use Rattle.sdf_kit.specs.Kit.{kit_steps};
 ghost use Rattle.sdf_fission.specs.Warm.{IsLeast};
 ghost use Rattle.sdf_fission.specs.WarmUps.{WarmsIn};
 ghost use Rattle.sdf_plan.specs.Paces.{one_thread, IsPaced};
-ghost use Rattle.sdf_plan.specs.Plans.{IsPlanOf, IsPlanFault, IsWorkers, Suits};
+ghost use Rattle.sdf_options.specs.declared.options.Policy.TheVariants.{Round};
+ghost use Rattle.sdf_plan.specs.Plans.{IsPlanFault, IsScheduleBy, IsWorkers, Suits};
 
 use crate::plan::Plan;
-use crate::planning::plan;
+use crate::planning::period_by;
 use sdf_faults::Fault;
 use sdf_file::Design;
 use sdf_fission::warm_up::warm_up;
-use sdf_options::Options;
+use sdf_options::Policy;
+use sdf_sched::Period;
 use std::alloc::Global;
 
 /// The way in which a design is run by several workers, or the reason why one thread runs it.
@@ -38,11 +41,12 @@ pub struct Paced {
     pub pace: Pace,
 }
 
-/// Cuts `alone`, the plan for one thread, into a part of the sound for each worker.
-fn by_parts(design: &Design, workers: usize, periods: u32, alone: Plan) -> Paced
-    requires alone { IsPlanOf design.now one_thread alone }
-    requires suits { Suits design.now.net alone }
-    requires warm_up { IsLeast (WarmsIn kit_steps design.now.net alone.period.repetitions) periods }
+/// Makes the plan for one thread by the order of `period`, cut into a part of the sound for each worker, with a warm-up
+/// of `periods` periods.
+#[tactic(auto, using(crate::proofs::Alone::is_in_parts, crate::proofs::Alone::parts_suit))]
+fn by_parts(design: &Design, workers: usize, periods: u32, period: Period) -> Paced
+    requires by_policy { IsScheduleBy Round (graph_of kit_steps design.now.net) period }
+    requires warm_up { IsLeast (WarmsIn kit_steps design.now.net period.repetitions) periods }
     requires workers { IsWorkers workers }
     requires several { 2 ≤ workers }
     ensures answers { IsPaced design.now workers result.plan result.pace }
@@ -55,13 +59,14 @@ fn by_parts(design: &Design, workers: usize, periods: u32, alone: Plan) -> Paced
         samples,
     };
     Paced {
-        plan: alone.in_parts(workers as u32),
+        plan: Plan::in_parts(period, workers as u32),
         pace,
     }
 }
 
 /// Plans a run by `workers` workers, each on its own part of the sound, if the design is known to forget its input.
 /// Otherwise the run is in one thread. Its faults are the faults of a plan for one thread.
+#[tactic(auto, using(crate::proofs::Alone::is_alone, crate::proofs::Alone::suits, crate::proofs::Alone::no_plan))]
 pub fn parallel_plan(alloc: Global, design: &Design, workers: usize) -> Result<Paced, Fault>
     requires { IsWorkers workers }
 
@@ -72,17 +77,17 @@ pub fn parallel_plan(alloc: Global, design: &Design, workers: usize) -> Result<P
     // The plan suits the design's net.
     ensures suits { IfOk result (λ p. Suits design.now.net p.plan) }
 {
-    let plan = plan(alloc, design, &Options::DEFAULT)?;
+    let period = period_by(alloc, design, Policy::Round)?;
     if workers == 1 {
         return Ok(Paced {
-            plan,
+            plan: Plan::alone(period),
             pace: Pace::Alone,
         });
     }
     match warm_up(alloc, design.net())? {
-        Some(periods) => Ok(by_parts(design, workers, periods, plan)),
+        Some(periods) => Ok(by_parts(design, workers, periods, period)),
         None => Ok(Paced {
-            plan,
+            plan: Plan::alone(period),
             pace: Pace::Lasting,
         }),
     }

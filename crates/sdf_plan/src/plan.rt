@@ -7,6 +7,7 @@ ghost use Rattle.sdf_actor.specs.Nets.{Netlist};
 ghost use Rattle.sdf_answer.specs.Rows.{IsBlockTableOf};
 ghost use Rattle.sdf_kit.specs.declared.kit.Kit.{Kit};
 ghost use Rattle.sdf_kit.specs.Kit.{kit_steps};
+ghost use Rattle.sdf_plan.specs.declared.plan.Way.TheVariants.{One, Parts};
 ghost use Rattle.sdf_plan.specs.Ways.{plan_by, HasBlockTable};
 ghost use Rattle.sdf_plan.specs.Plans.{Suits};
 
@@ -62,25 +63,25 @@ impl Plan {
         Plan { way }
     }
 
-    /// Turns a plan for one thread into a plan that runs up to `parts` parts of the sound in parallel.
-    pub(crate) fn in_parts(self, parts: u32) -> Plan
-        requires { self.table ≡ None }
-        ensures { result ≡ record self { parts = parts } }
+    /// Makes the plan that runs a design on one thread by the order of `period`, in blocks of one period.
+    pub(crate) fn alone(period: Period) -> Plan
+        ensures { result ≡ plan_by (One period 1) }
     {
-        let way = match self.way {
-            Way::One { period, blocking }
-            | Way::Parts {
-                period,
-                blocking,
-                ..
-            } => Way::Parts {
-                period,
-                blocking,
-                parts,
-            },
-            Way::Rows(_) | Way::Rings { .. } => unreachable!(),
-        };
-        Plan { way }
+        Plan::new(Way::One {
+            period,
+            blocking: 1,
+        })
+    }
+
+    /// Makes the plan that runs up to `parts` parts of the sound in parallel, each as `alone` runs the whole sound.
+    pub(crate) fn in_parts(period: Period, parts: u32) -> Plan
+        ensures { result ≡ plan_by (Parts period 1 parts) }
+    {
+        Plan::new(Way::Parts {
+            period,
+            blocking: 1,
+            parts,
+        })
     }
 
     /// Returns the way in which it runs a design.

@@ -1,21 +1,20 @@
-use Rattle.std.proofs.Common.{◌≡◌, ◌≤◌, ℕ, List, IfNone, IfSome, subst, sym, rules}
+use Rattle.std.proofs.Common.{◌≡◌, ◌≤◌, ℕ, List, IfNone, IfSome, subst, sym}
 use Rattle.sdf_graph.specs.Periods.{IsLeastPeriod}
 use Rattle.sdf_graph.specs.Rates.{rates}
 use Rattle.sdf_actor.specs.Graphs.{graph_of}
 use Rattle.sdf_kit.specs.Kit.{kit_steps}
 use Rattle.sdf_fission.specs.Warm.{IsLeast}
 use Rattle.sdf_fission.specs.WarmUps.{IsLasting, WarmsIn}
-use Rattle.sdf_plan.specs.Paces.{one_thread}
-use Rattle.sdf_plan.specs.Plans.{IsPlanOf}
+use Rattle.sdf_plan.proofs.Alone.{is_alone}
 use Rattle.sdf_plan.proofs.parallel.parallel_plan.Goals as goal
 
 pub by_parts-requires-clause-warm_up : goal.by_parts-requires-clause-warm_up
 by_parts-requires-clause-warm_up c =
-    let q = c.in_ok-plan.plan.period.repetitions in
+    let q = c.in_ok-period.period.repetitions in
     let n = c.net.result.now in
     let period : IsLeastPeriod (rates (graph_of kit_steps n)) q =
     subst (λ m. IsLeastPeriod (rates (graph_of kit_steps m)) q) (sym c.net.ensures.value)
-    c.in_ok-plan.ensures.suits.period.least in
+    c.in_ok-period.ensures.period.least in
     subst (λ m. IsLeast (WarmsIn kit_steps m q) c.in-Some.periods) c.net.ensures.value
     (record {
       is = subst (λ o. IfSome o (λ periods. (r : List ℕ) → IsLeastPeriod (rates (graph_of kit_steps n)) r →
@@ -26,10 +25,10 @@ by_parts-requires-clause-warm_up c =
     })
 
 pub returns-in-None-clause-answers : goal.returns-in-None-clause-answers
-returns-in-None-clause-answers c =
-    let by_options : IsPlanOf c.args.design.now one_thread c.in_ok-plan.plan = search rules in (
-      by_options,
-      c.if-workers-eq1.false,
-      subst (IsLasting kit_steps) c.net.ensures.value
-          (subst (λ o. IfNone o (IsLasting kit_steps c.net.result.now)) c.in-None.is c.in_ok-periods.ensures.lasts),
-    )
+returns-in-None-clause-answers c = (
+  is_alone c.args.design.now c.in_ok-period.period c.in_ok-period.ensures c.alone-in-None.result
+      c.alone-in-None.ensures,
+  c.if-workers-eq1.false,
+  subst (IsLasting kit_steps) c.net.ensures.value
+      (subst (λ o. IfNone o (IsLasting kit_steps c.net.result.now)) c.in-None.is c.in_ok-periods.ensures.lasts),
+)
