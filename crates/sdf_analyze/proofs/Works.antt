@@ -3,7 +3,7 @@
 use Rattle.std.proofs.Common.{◌≡◌, ◌≤◌, ◌*◌, ℕ, zero, suc, List, [], ◌∷◌, get_or}
 use Rattle.std.proofs.Common.{sum, subst, refl}
 use Rattle.std.proofs.Common.{arith}
-use Rattle.std.specs.Prelude.{slice_index}
+use Rattle.std.specs.Prelude.{slice_index, MatchResult, Result, Ok, Err}
 use Rattle.std.proofs.lemmas.List.Sums.{sum_by-cons}
 use Rattle.std.proofs.lemmas.Nat.{mul-le}
 use Rattle.sdf_limits.specs.declared.TheConstants.{MOST_BLOCK, MOST_COST}
@@ -14,7 +14,8 @@ use Rattle.sdf_prec.specs.declared.fault.PrecFault.TheVariants.{OutOfMemory, Blo
 use Rattle.sdf_prec.specs.Blocks.{block, IsShort, IsLengthFault}
 use Rattle.sdf_prec.specs.Costs.{AreCosts}
 use Rattle.sdf_prec.specs.Tables.{Tabled}
-use Rattle.sdf_times.specs.Times.{work_of}
+use Rattle.sdf_times.specs.Times.{work_of, IsSpan}
+use Rattle.sdf_plan.specs.Placements.{firings_of}
 use Rattle.sdf_analyze.specs.Figures.{Figured, AreFigures}
 
 pub figures_of : (g h : Shape) (costs others : List ℕ) (j m : ℕ) (s : Schedule) (t : Tabled) (f : Figured) → g ≡ h →
@@ -51,7 +52,18 @@ work_small j reps costs m (suc n) short priced within =
     omega (arith, so_far, low)
 
 -- where a block is short nothing is wrong with its length
-pub only_memory : (j : ℕ) (reps : List ℕ) (e : PrecFault) → IsShort j reps → IsLengthFault j reps e → e ≡ OutOfMemory
+only_memory : (j : ℕ) (reps : List ℕ) (e : PrecFault) → IsShort j reps → IsLengthFault j reps e → e ≡ OutOfMemory
 only_memory j reps OutOfMemory short is = refl
 only_memory j reps BlockTooLong short is = absurd (is short)
 only_memory j reps _ short is = absurd is
+
+-- the span of a short block by a net's graph and by the costs of a table is that of the design
+pub span_of : (g h : Shape) (costs others : List ℕ) (j : ℕ) (s : Schedule) (r : Result ℕ PrecFault) → g ≡ h →
+    costs ≡ others → IsShort j s.repetitions →
+    MatchResult r (λ t. IsShort j s.repetitions × IsSpan (rates g) (firings_of j s) (slice_index costs) t)
+    (IsLengthFault j s.repetitions) →
+    MatchResult r (IsSpan (rates h) (firings_of j s) (slice_index others)) (λ fault. fault ≡ OutOfMemory)
+span_of g h costs others j s (Ok t) graph same short is =
+    subst (λ x. IsSpan (rates x) (firings_of j s) (slice_index others) t) graph
+    (subst (λ xs. IsSpan (rates g) (firings_of j s) (slice_index xs) t) same is.1)
+span_of g h costs others j s (Err fault) graph same short is = only_memory j s.repetitions fault short is

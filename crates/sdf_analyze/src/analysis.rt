@@ -14,48 +14,50 @@ use crate::lines::analysis_text;
 use sdf_faults::Fault;
 use sdf_file::Design;
 use sdf_options::Options;
-use sdf_plan::schedule::scheduled;
-use sdf_prec::Table;
+use sdf_plan::schedule::{Block, DesignSchedule, scheduled};
 use sdf_sched::Period;
 use std::alloc::Global;
 
-/// Returns the figures of `table`, which `options` give `design` for blocks of `blocking` periods.
+/// The table of a block that options give a design, and the table's figures.
+#[derive(Drop)]
+pub struct Analysis {
+    pub block: Block,
+    pub figures: Figures,
+}
+
+/// Returns the figures of the table of `block`, which `options` give `design`.
 #[tactic(auto, using(crate::proofs::Refusals::memory_shows))]
 fn figures_of(
     alloc: Global,
     design: &Design,
     options: &Options,
-    blocking: u32,
     period: &Period,
-    table: &Table,
+    block: &Block,
 ) -> Result<Figures, Fault>
     requires period { IsPeriodOf (rates_of design.now) period.now }
-    requires size { IsLongSize blocking options.now.workers period.now.repetitions }
-    requires table { IsTable (rates_of design.now) (firings_of blocking period.now) options.now.workers table.now }
+    requires size { IsLongSize block.now.periods options.now.workers period.now.repetitions }
+    requires table { IsTable (rates_of design.now) (firings_of block.now.periods period.now) options.now.workers
+        block.now.table }
     ensures { MatchResult result
-        (AreFiguresOf design.now blocking options.now.workers period.now table.now)
+        (AreFiguresOf design.now block.now.periods options.now.workers period.now block.now.table)
         (IsShowFault design.now options.now) }
 {
     let placed = Options {
-        blocking,
+        blocking: block.periods,
         ..*options
     };
-    Ok(Figures::of(alloc, design, &placed, period, table)?)
+    Ok(Figures::of(alloc, design, &placed, period, &block.table)?)
 }
 
-/// Returns the periods of a block, the table that `options` give `design`, and the table's figures. The tests are
-/// listed at `sdf_plan::schedule::scheduled`.
-pub fn figured(
-    alloc: Global,
-    design: &Design,
-    options: &Options,
-) -> Result<(u32, Table, Figures), Fault>
-    ensures { MatchResult result (λ r. IsFigured design.now options.now r.0 r.1 r.2)
+/// Returns the table of a block that `options` give `design`, and the table's figures. The tests are listed at
+/// `sdf_plan::schedule::scheduled`.
+pub fn figured(alloc: Global, design: &Design, options: &Options) -> Result<Analysis, Fault>
+    ensures { MatchResult result (λ a. IsFigured design.now options.now a.block.periods a.block.table a.figures)
         (IsShowFault design.now options.now) }
 {
-    let (period, table, blocking) = scheduled(alloc, design, options)?;
-    let figures = figures_of(alloc, design, options, blocking, &period, &table)?;
-    Ok((blocking, table, figures))
+    let DesignSchedule { period, block } = scheduled(alloc, design, options)?;
+    let figures = figures_of(alloc, design, options, &period, &block)?;
+    Ok(Analysis { block, figures })
 }
 
 /// Returns the text that the command `analyze` prints about the schedule that `schedule` prints. First is the makespan,
@@ -67,7 +69,6 @@ pub fn analyze(alloc: Global, design: &Design, options: &Options) -> Result<Stri
     ensures { MatchResult result (λ s. IsAnalysis design.now options.now (string_bytes s))
         (IsShowFault design.now options.now) }
 {
-    let (_, table, figures) = figured(alloc, design, options)?;
-    let text = analysis_text(alloc, design, &table, &figures, options.workers)?;
-    Ok(text)
+    let Analysis { block, figures } = figured(alloc, design, options)?;
+    Ok(analysis_text(alloc, design, &block.table, &figures, options.workers)?)
 }

@@ -23,20 +23,20 @@ use crate::ways::ways;
 use sdf_faults::Fault;
 use sdf_file::Design;
 use sdf_options::{Options, Placement};
-use sdf_plan::schedule::tabled;
-use sdf_prec::{PrecFault, Table};
+use sdf_plan::schedule::{Block, tabled};
+use sdf_prec::PrecFault;
 use sdf_sched::Period;
 use std::alloc::Global;
 
-/// Returns the compared values of `table`, whose block has `periods` periods.
-fn measures_of(periods: u32, table: &Table, figures: &Figures) -> Measures
-    ensures { result ≡ measures_of periods table.now figures.now }
+/// Returns the compared values of `block` and the `figures` of its table.
+fn measures_of(block: &Block, figures: &Figures) -> Measures
+    ensures { result ≡ measures_of block.now.periods block.now.table figures.now }
 {
     Measures {
-        blocking: periods,
+        blocking: block.periods,
         makespan: figures.makespan(),
         speedup: figures.speedup(),
-        rows: table.rows(),
+        rows: block.table.rows(),
         held: figures.held(),
     }
 }
@@ -88,14 +88,15 @@ fn made(
     ensures spans { AreSpans design.now spans.new.items }
     ensures made { MatchResult result (IsMade design.now options.now) (IsShowFault design.now options.now) }
 {
-    let (table, blocking) = tabled(alloc, design, options, period)?;
+    let block = tabled(alloc, design, options, period)?;
+    let blocking = block.periods;
     let placed = Options {
         blocking,
         ..*options
     };
     let span = span_once(alloc, design, spans, blocking, period)?;
-    let figures = Figures::with_span(alloc, design, &placed, period, &table, span)?;
-    Ok(measures_of(blocking, &table, &figures))
+    let figures = Figures::with_span(alloc, design, &placed, period, &block.table, span)?;
+    Ok(measures_of(&block, &figures))
 }
 
 /// Returns the outcome of the schedule that `options` give `period`, which is by their policy.
@@ -198,8 +199,7 @@ pub fn compared(alloc: Global, design: &Design, options: &Options) -> Result<Vec
     ensures { MatchResult result (λ v. AreCompared design.now options.now v.items) (IsScheduleFault design.now) }
 {
     let ways = ways(alloc, options)?;
-    let entries = entries_of(alloc, design, &ways)?;
-    Ok(entries)
+    entries_of(alloc, design, &ways)
 }
 
 /// Returns the text that the command `analyze --compare` prints: a table with a line for each compared schedule. A star
@@ -211,6 +211,5 @@ pub fn compare(alloc: Global, design: &Design, options: &Options) -> Result<Stri
         (IsScheduleFault design.now) }
 {
     let entries = compared(alloc, design, options)?;
-    let text = comparison_text(alloc, &entries)?;
-    Ok(text)
+    Ok(comparison_text(alloc, &entries)?)
 }

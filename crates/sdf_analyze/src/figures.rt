@@ -75,8 +75,7 @@ impl Figures {
             (λ fault. fault ≡ OutOfMemory) }
     {
         let span = block_span(alloc, design, options.blocking, period)?;
-        let figures = Figures::with_span(alloc, design, options, period, table, span)?;
-        Ok(figures)
+        Figures::with_span(alloc, design, options, period, table, span)
     }
 
     /// Returns the figures of `table`, as `of` does, but with a `span` of its block that is already known.

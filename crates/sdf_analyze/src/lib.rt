@@ -17,7 +17,7 @@ mod periods;
 mod spans;
 mod ways;
 
-pub use analysis::{analyze, figured};
+pub use analysis::{Analysis, analyze, figured};
 pub use columns::{Entry, Measures, Outcome, comparison_text, placement_word, policy_word};
 pub use comparison::{compare, compared};
 pub use figures::Figures;

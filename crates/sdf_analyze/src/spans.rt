@@ -23,7 +23,6 @@ pub(crate) struct BlockSpan {
 }
 
 /// Returns the span of a design's block of `periods` periods. The only fault is that memory was refused.
-#[tactic(auto, using(crate::proofs::Works::only_memory))]
 pub(crate) fn block_span(
     alloc: Global,
     design: &Design,
@@ -39,8 +38,7 @@ pub(crate) fn block_span(
     let graph = design.net().graph();
     let _ = graph.channels();
     let costs = design.firing_costs(alloc)?;
-    let span = span(alloc, graph, period, periods, &costs)?;
-    Ok(span)
+    span(alloc, graph, period, periods, &costs)
 }
 
 /// Returns the span of a block of `periods` periods if it is known.

@@ -17,7 +17,7 @@ use sdf_analyze::Figures;
 use sdf_faults::Fault;
 use sdf_file::Design;
 use sdf_options::Options;
-use sdf_plan::schedule::scheduled;
+use sdf_plan::schedule::{DesignSchedule, scheduled};
 use sdf_prec::Table;
 use sdf_sched::Period;
 use std::alloc::{AllocError, Global};
@@ -180,17 +180,17 @@ fn drawn(alloc: Global, design: &Design, options: &Options) -> Result<Drawing, F
         (IsShowFault design.now options.now) }
 {
     let _ = design.net();
-    let (period, table, blocking) = scheduled(alloc, design, options)?;
+    let DesignSchedule { period, block } = scheduled(alloc, design, options)?;
     let placed = Options {
-        blocking,
+        blocking: block.periods,
         ..*options
     };
-    let figures = Figures::of(alloc, design, &placed, &period, &table)?;
+    let figures = Figures::of(alloc, design, &placed, &period, &block.table)?;
     let _ = figures.makespan();
     let layout = laid_out(alloc, design, period.order())?;
     Ok(Drawing {
         period,
-        table,
+        table: block.table,
         figures,
         layout,
     })
@@ -203,6 +203,5 @@ pub fn svg(alloc: Global, design: &Design, options: &Options) -> Result<String, 
         (IsShowFault design.now options.now) }
 {
     let drawing = drawn(alloc, design, options)?;
-    let text = picture(alloc, design, &drawing, options.workers)?;
-    Ok(text)
+    Ok(picture(alloc, design, &drawing, options.workers)?)
 }

@@ -10,7 +10,7 @@ ghost use Rattle.sdf_json.specs.Analyses.{times_of, analysis_value, IsAnalysisJs
 use crate::schedules::asked;
 use crate::tables::capacities;
 use crate::values::{Members, line_of, put_number};
-use sdf_analyze::{Figures, figured};
+use sdf_analyze::{Analysis, Figures, figured};
 use sdf_faults::Fault;
 use sdf_file::Design;
 use sdf_options::Options;
@@ -70,11 +70,11 @@ pub fn analysis_json(alloc: Global, design: &Design, options: &Options) -> Resul
     ensures { MatchResult result (λ text. IsAnalysisJson design.now options.now (string_bytes text))
         (IsShowFault design.now options.now) }
 {
-    let (blocking, table, figures) = figured(alloc, design, options)?;
+    let Analysis { block, figures } = figured(alloc, design, options)?;
     let placed = Options {
-        blocking,
+        blocking: block.periods,
         ..*options
     };
-    let value = analysis_value(alloc, design, &placed, &table, &figures)?;
+    let value = analysis_value(alloc, design, &placed, &block.table, &figures)?;
     Ok(line_of(alloc, &value)?)
 }

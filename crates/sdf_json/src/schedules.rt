@@ -13,7 +13,7 @@ use sdf_analyze::{placement_word, policy_word};
 use sdf_faults::Fault;
 use sdf_file::Design;
 use sdf_options::Options;
-use sdf_plan::schedule::scheduled;
+use sdf_plan::schedule::{DesignSchedule, scheduled};
 use sdf_prec::Table;
 use sdf_sched::Period;
 use serde_json::{Map, Value, put};
@@ -68,11 +68,11 @@ pub fn schedule_json(alloc: Global, design: &Design, options: &Options) -> Resul
     ensures { MatchResult result (λ text. IsScheduleJson design.now options.now (string_bytes text))
         (IsShowFault design.now options.now) }
 {
-    let (period, table, blocking) = scheduled(alloc, design, options)?;
+    let DesignSchedule { period, block } = scheduled(alloc, design, options)?;
     let placed = Options {
-        blocking,
+        blocking: block.periods,
         ..*options
     };
-    let value = schedule_value(alloc, design, &placed, &period, &table)?;
+    let value = schedule_value(alloc, design, &placed, &period, &block.table)?;
     Ok(line_of(alloc, &value)?)
 }

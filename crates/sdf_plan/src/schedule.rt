@@ -18,52 +18,64 @@ use sdf_prec::Table;
 use sdf_sched::Period;
 use std::alloc::Global;
 
-/// Returns one period by the policy of `options`, the table of a block by their placement, and the block's periods.
+/// The table of a block of periods.
+#[derive(Drop)]
+pub struct Block {
+    /// Periods in the block.
+    pub periods: u32,
+    pub table: Table,
+}
+
+/// The firings of one period of a design, in their order, and the table of a block for its workers.
+#[derive(Drop)]
+pub struct DesignSchedule {
+    pub period: Period,
+    pub block: Block,
+}
+
+/// Returns one period by the policy of `options`, and the table of a block by their placement.
 ///
 /// The tests in order: the blocking factor and the workers are within their limits; the design has a schedule; a block
 /// is not too long; with the placement `file`, each actor has a home among the workers.
-pub fn scheduled(
-    alloc: Global,
-    design: &Design,
-    options: &Options,
-) -> Result<(Period, Table, u32), Fault>
-    ensures answers { MatchResult result (λ s. IsScheduled design.now options.now s.2 s.0 s.1)
+pub fn scheduled(alloc: Global, design: &Design, options: &Options) -> Result<DesignSchedule, Fault>
+    ensures answers { MatchResult result
+        (λ s. IsScheduled design.now options.now s.block.periods s.period s.block.table)
         (IsShowFault design.now options.now) }
 
     // The table is a table of the block.
-    ensures table { IfOk result (λ s. IsTable (rates_of design.now) (firings_of s.2 s.0)
-        options.now.workers s.1) }
-    ensures size { IfOk result (λ s. IsLongSize s.2 options.now.workers s.0.repetitions) }
+    ensures table { IfOk result (λ s. IsTable (rates_of design.now) (firings_of s.block.periods s.period)
+        options.now.workers s.block.table) }
+    ensures size { IfOk result (λ s. IsLongSize s.block.periods options.now.workers s.period.repetitions) }
 {
     if let Some(fault) = size_fault(options) {
         return Err(fault);
     }
     let period = period_by(alloc, design, options.policy)?;
-    let (table, blocking) = tabled(alloc, design, options, &period)?;
-    Ok((period, table, blocking))
+    let block = tabled(alloc, design, options, &period)?;
+    Ok(DesignSchedule { period, block })
 }
 
-/// Returns the table that `options` give to `period`, an order by their policy, and the periods of its block. The tests
-/// in order: a block is not too long; with the placement `file`, each actor has a home among the workers.
+/// Returns the table of a block that `options` give to `period`, an order by their policy. The tests in order: a block
+/// is not too long; with the placement `file`, each actor has a home among the workers.
 pub fn tabled(
     alloc: Global,
     design: &Design,
     options: &Options,
     period: &Period,
-) -> Result<(Table, u32), Fault>
+) -> Result<Block, Fault>
     requires sizes { AreSizes options.now }
     requires by_policy { IsScheduleBy options.now.policy (graph_of kit_steps design.now.net) period.now }
-    ensures answers { MatchResult result (λ s. IsScheduled design.now options.now s.1 period.now s.0)
+    ensures answers { MatchResult result (λ b. IsScheduled design.now options.now b.periods period.now b.table)
         (IsShowFault design.now options.now) }
 
     // The table is a table of the block.
-    ensures table { IfOk result (λ s. IsTable (rates_of design.now) (firings_of s.1 period.now)
-        options.now.workers s.0) }
-    ensures size { IfOk result (λ s. IsLongSize s.1 options.now.workers period.now.repetitions) }
+    ensures table { IfOk result (λ b. IsTable (rates_of design.now) (firings_of b.periods period.now)
+        options.now.workers b.table) }
+    ensures size { IfOk result (λ b. IsLongSize b.periods options.now.workers period.now.repetitions) }
 {
-    let blocking = blocking_by(design, options, period);
-    let table = table_by(alloc, design, period, options, blocking)?;
-    Ok((table, blocking))
+    let periods = blocking_by(design, options, period);
+    let table = table_by(alloc, design, period, options, periods)?;
+    Ok(Block { periods, table })
 }
 
 /// Returns what the command `schedule` prints: the order by the policy, and the table by the placement. Its tests are
@@ -72,6 +84,6 @@ pub fn schedule(alloc: Global, design: &Design, options: &Options) -> Result<Str
     ensures { MatchResult result (λ s. IsShown design.now options.now (string_bytes s))
         (IsShowFault design.now options.now) }
 {
-    let (period, table, _) = scheduled(alloc, design, options)?;
-    Ok(schedule_text(alloc, design, &period, &table)?)
+    let DesignSchedule { period, block } = scheduled(alloc, design, options)?;
+    Ok(schedule_text(alloc, design, &period, &block.table)?)
 }
