@@ -1,52 +1,32 @@
--- The diagnostic for a coefficient file: the length of its list, or the first value that does not fit.
-use Rattle.std.specs.Prelude.{ℕ, ◌&&◌, not, Bool, false, List, [], ◌++◌, codes, decimal, Option, find}
-use Rattle.std.specs.Prelude.{option_and_then, nat_le, bytes_eq, if◌then◌else◌}
-use Rattle.std.specs.Option.{option_map_or}
-use Rattle.std.specs.List.{range_with_len}
-use Rattle.toml.specs.Data.{Data, Items, get, at, as_integer, as_array}
-use Rattle.sdf_kinds.specs.declared.row.Width.{Width}
-use Rattle.sdf_kinds.specs.declared.row.Width.TheVariants.{Bits16, Bits32}
-use Rattle.sdf_document.specs.Fault.{Place, actor}
-use Rattle.sdf_document.specs.Lists.{Files, file_named, fits}
+-- The lines about a coefficient file, and what is outside the limits in a list.
+use Rattle.std.specs.Prelude.{ℕ, ◌&&◌, List, [], ◌++◌, codes, decimal, Option, option_and_then, nat_le, bytes_eq}
+use Rattle.std.specs.Prelude.{if◌then◌else◌}
+use Rattle.toml.specs.Data.{Data, Items, get, as_array}
+use Rattle.sdf_kinds.specs.declared.row.Width.TheVariants.{Bits32}
+use Rattle.sdf_document.specs.Fault.{Place, top, actor, link, file}
+use Rattle.sdf_document.specs.Lists.{Files, file_named}
 use Rattle.sdf_document.specs.declared.list.Limits.{Limits}
 use Rattle.sdf_why.specs.Limits.{kind_limits}
-use Rattle.sdf_why.specs.Words.{end, quoted, value_text, item_count}
+use Rattle.sdf_why.specs.Words.{end, quoted, item_count, key_line}
 use Rattle.sdf_why.specs.Tables.{root, text_at, entry}
-use Rattle.sdf_why.specs.Actors.{lines_of}
+use Rattle.sdf_why.specs.Actors.{lines_of, first_told}
+use Rattle.sdf_why.specs.Values.{unfit_told, own_told}
 
--- ---- one value
+-- ---- a key of a coefficient file
 
--- item i of a list is not a whole number of a width
-unfoldable pub is_unfit : Width → Data → ℕ → Bool
-is_unfit width list i = not (option_map_or (fits width) (option_and_then as_integer (at i list)) false)
+-- the first actor that names the file
+abbrev pub file_user : List ℕ → Data → List ℕ
+file_user name d = first_told (codes "file") name d
 
--- the first of n items that is not a whole number of a width
-unfoldable pub first_unfit : Width → Data → ℕ → Option ℕ
-first_unfit width list n = find (is_unfit width list) (range_with_len 0 n)
+unfoldable pub file_key : List ℕ → List ℕ → Option (List ℕ) → Files → List ℕ
+file_key name key limits files =
+    lines_of (λ d. key_line key (get key d) limits) (option_and_then root (file_named name files))
 
--- the range of a width
-abbrev pub width_text : Width → List ℕ
-width_text Bits16 = codes "-32768..32767"
-width_text Bits32 = codes "-2147483648..2147483647"
+-- ---- its list
 
 -- the beginning of a line about the values in a file
 unfoldable pub values_in : List ℕ → List ℕ
 values_in name = codes "  " ++ quoted name ++ codes ": values"
-
--- the index of a value, and the range that it needs
-unfoldable pub place_text : ℕ → List ℕ
-place_text i = codes "[" ++ decimal i ++ codes "] = "
-
-abbrev pub wants_text : Width → List ℕ
-wants_text width = codes ", wants " ++ width_text width ++ end
-
-unfoldable pub value_line : List ℕ → Width → ℕ → Data → List ℕ
-value_line name width i d = values_in name ++ place_text i ++ value_text d ++ wants_text width
-
-unfoldable pub value_told : List ℕ → Width → Data → ℕ → List ℕ
-value_told name width list i = lines_of (value_line name width i) (at i list)
-
--- ---- the list
 
 -- the number of values in a list, and the limits of that number
 unfoldable pub count_text : ℕ → List ℕ
@@ -56,18 +36,17 @@ unfoldable pub most_text : ℕ → List ℕ
 most_text most = codes ", wants 1.." ++ decimal most ++ end
 
 unfoldable pub count_line : List ℕ → ℕ → ℕ → List ℕ
-count_line name n most = values_in name ++ count_text n ++ most_text most
+count_line label n most = label ++ count_text n ++ most_text most
 
 -- for a list of n items: n if it is outside the limits, and otherwise the first item that does not fit
 abbrev pub items_told : List ℕ → Limits → Data → ℕ → List ℕ
-items_told name limits list n = if nat_le 1 n && nat_le n limits.most
-    then lines_of (value_told name limits.width list) (first_unfit limits.width list n)
-    else count_line name n limits.most
+items_told label limits list n = if nat_le 1 n && nat_le n limits.most
+    then unfit_told label limits.width list n
+    else count_line label n limits.most
 
 unfoldable pub list_told : List ℕ → Limits → Data → List ℕ
-list_told name limits list = lines_of (λ (ds : Items). items_told name limits list (item_count ds)) (as_array list)
-
--- ---- by place
+list_told name limits list =
+    lines_of (λ (ds : Items). items_told (values_in name) limits list (item_count ds)) (as_array list)
 
 -- the list in the file with this name
 abbrev pub list_in : List ℕ → Files → Option Data
@@ -80,11 +59,30 @@ file_told files limits name = lines_of (list_told name limits) (list_in name fil
 abbrev pub named_told : Files → Data → Limits → List ℕ
 named_told files d limits = lines_of (file_told files limits) (text_at (codes "file") d)
 
-unfoldable pub table_told : Files → Data → List ℕ
-table_told files d = lines_of (named_told files d) (option_and_then kind_limits (text_at (codes "kind") d))
+-- ---- by place
 
--- what is outside the limits in the file of an actor, if the fault is at its key `file`
-unfoldable pub values_told : Place → List ℕ → Data → Files → List ℕ
-values_told (actor a) key d files =
-    if bytes_eq key (codes "file") then lines_of (table_told files) (entry (codes "actor") a d) else []
-values_told place key d files = []
+-- the limits of the list that an actor's kind has
+abbrev pub list_of : Data → Option Limits
+list_of d = option_and_then kind_limits (text_at (codes "kind") d)
+
+unfoldable pub table_told : Files → Data → List ℕ
+table_told files d = lines_of (named_told files d) (list_of d)
+
+-- the first value that does not fit in the list at a key of an actor's table
+unfoldable pub listed_told : List ℕ → Data → List ℕ
+listed_told key d = lines_of (λ (l : Limits). own_told key l.width d) (list_of d)
+
+-- what is outside the limits at a key of an actor: in its file, or in a list of its table
+unfoldable pub actor_values : List ℕ → Files → Data → List ℕ
+actor_values key files d = if bytes_eq key (codes "file") then table_told files d else listed_told key d
+
+-- the first value of more than 32 bits, or of another type, in the list at a key of a file
+abbrev pub file_values : List ℕ → List ℕ → Files → List ℕ
+file_values name key files = lines_of (own_told key Bits32) (option_and_then root (file_named name files))
+
+-- what is outside the limits in the list at a key; no list has values of more than 32 bits
+abbrev pub values_told : Place → List ℕ → Data → Files → List ℕ
+values_told top key d files = []
+values_told (actor a) key d files = lines_of (actor_values key files) (entry (codes "actor") a d)
+values_told (link c) key d files = lines_of (own_told key Bits32) (entry (codes "link") c d)
+values_told (file name) key d files = file_values name key files

@@ -1,35 +1,22 @@
 -- The diagnostic for a graph file that is not read, by the first test that it fails.
-use Rattle.std.specs.Prelude.{ℕ, ◌==◌, List, [], ◌∷◌, ◌++◌, codes, decimal, map, Option, Some, None, option_and_then}
-use Rattle.std.specs.Prelude.{is_some, bytes_eq, if◌then◌else◌}
-use Rattle.std.specs.Ordering.{is_le, nat_cmp}
-use Rattle.std.specs.Cmp.Lexicographic.{slice_cmp}
-use Rattle.std.specs.List.{filter}
+use Rattle.std.specs.Prelude.{ℕ, List, [], ◌++◌, codes, decimal, Some, None, is_some, bytes_eq, if◌then◌else◌}
 use Rattle.toml.specs.Data.{Data, get}
 use Rattle.sdf_limits.specs.declared.TheConstants.{MOST_ACTORS, MOST_LINKS}
 use Rattle.sdf_document.specs.Fault.{Place, top, actor, link, file, Fault, actor_count, channel_count, kit_value}
 use Rattle.sdf_document.specs.Fault.{not_toml, bad_format, unknown_key, missing_key, wrong_type, bad_name, name_twice}
 use Rattle.sdf_document.specs.Fault.{unknown_kind, bad_port, no_file}
-use Rattle.sdf_kinds.specs.declared.row.Kind.{Kind}
-use Rattle.sdf_kinds.specs.Rows.{KeyRow, row_of, kinds}
+use Rattle.sdf_kinds.specs.Rows.{KeyRow}
 use Rattle.sdf_kinds.specs.Listing.{keys_text}
-use Rattle.sdf_document.specs.Lists.{Files, file_named}
+use Rattle.sdf_document.specs.Lists.{Files}
 use Rattle.sdf_why.specs.Limits.{keys_of}
 use Rattle.sdf_why.specs.Words.{end, key_line}
 use Rattle.sdf_why.specs.Tables.{root, text_at, entry, actor_text, first_saying}
 use Rattle.sdf_why.specs.Actors.{lines_of, actor_told, actor_key, first_told}
 use Rattle.sdf_why.specs.Links.{link_key}
-use Rattle.sdf_why.specs.Coefficients.{values_told}
-use Rattle.sdf_why.specs.Near.{near_key, near_kind, near_end}
-
--- ---- a coefficient file
-
--- the first actor that names the file
-abbrev pub file_user : List ℕ → Data → List ℕ
-file_user name d = first_told (codes "file") name d
-
-unfoldable pub file_key : List ℕ → List ℕ → Option (List ℕ) → Files → List ℕ
-file_key name key limits files =
-    lines_of (λ d. key_line key (get key d) limits) (option_and_then root (file_named name files))
+use Rattle.sdf_why.specs.Coefficients.{file_user, file_key, values_told}
+use Rattle.sdf_why.specs.Types.{type_told}
+use Rattle.sdf_why.specs.Kinds.{kind_told}
+use Rattle.sdf_why.specs.Near.{near_key, near_end}
 
 -- ---- by place
 
@@ -76,31 +63,6 @@ unfoldable pub twice : ℕ → Data → List ℕ
 twice a d = actor_told d a
     ++ lines_of (same_name a d) (actor_text (codes "name") d a)
 
--- the words of the kinds that a format is the first to have
-abbrev pub words_since : ℕ → List (List ℕ)
-words_since format = map (λ (k : Kind). (row_of k).word) (filter (λ (k : Kind). (row_of k).since == format) kinds)
-
--- words in byte order
-abbrev pub with_word : List ℕ → List (List ℕ) → List (List ℕ)
-with_word w [] = w ∷ []
-with_word w (v ∷ vs) = if is_le (slice_cmp nat_cmp w v) then w ∷ v ∷ vs else v ∷ with_word w vs
-
-abbrev pub sorted : List (List ℕ) → List (List ℕ)
-sorted [] = []
-sorted (w ∷ ws) = with_word w (sorted ws)
-
--- words with commas between them, and `and` before the last
-abbrev pub listed : List (List ℕ) → List ℕ
-listed [] = []
-listed (w ∷ []) = w
-listed (w ∷ v ∷ []) = w ++ codes " and " ++ v
-listed (w ∷ v ∷ u ∷ ws) = w ++ codes ", " ++ listed (v ∷ u ∷ ws)
-
--- the line of the key `format`, with the kinds that need format 2
-abbrev pub kind_format : Data → List ℕ
-kind_format d = key_line (codes "format") (get (codes "format") d)
-    (Some (codes "2 for " ++ listed (sorted (words_since 2))))
-
 -- the rule for a name at a key
 unfoldable pub name_rule : List ℕ → List ℕ
 name_rule key =
@@ -125,11 +87,10 @@ told (bad_format place) d files = place_format place d files
 told (unknown_key place key) d files =
     place_key place key d files ++ near_key place key d ++ known_keys place key d
 told (missing_key place key) d files = place_key place key d files
-told (wrong_type place key) d files = place_key place key d files
+told (wrong_type place key) d files = type_told place key d files
 told (bad_name place key) d files = place_key place key d files ++ name_rule key
 told (name_twice a) d files = twice a d
-told (unknown_kind a) d files =
-    actor_told d a ++ near_kind a d ++ kind_format d
+told (unknown_kind a) d files = actor_told d a ++ kind_told a d
 told (bad_port c key) d files =
     link_key c key (Some (codes "NAME or NAME:PORT, a port of 0..15")) d ++ near_end c key d
 told (no_file name) d files = file_user name d

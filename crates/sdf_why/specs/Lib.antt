@@ -5,7 +5,10 @@ pub mod Tables
 pub mod Actors
 pub mod Links
 pub mod Loops
+pub mod Values
 pub mod Coefficients
+pub mod Types
+pub mod Kinds
 pub mod Documents
 pub mod Nets
 pub mod Cycles

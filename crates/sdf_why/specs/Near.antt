@@ -1,16 +1,15 @@
 -- What the user may have meant: a known name that is like an unknown one.
-use Rattle.std.specs.Prelude.{ℕ, List, [], ◌∷◌, ◌++◌, codes, map, Option, Some, None, bytes_eq, if◌then◌else◌}
+use Rattle.std.specs.Prelude.{ℕ, List, [], ◌∷◌, ◌++◌, codes, Option, Some, None, bytes_eq, if◌then◌else◌}
 use Rattle.std.specs.Option.{option_map_or}
 use Rattle.std.specs.List.{flat_map, range_with_len}
 use Rattle.toml.specs.Data.{Data}
 use Rattle.sdf_limits.specs.declared.TheConstants.{MOST_ACTORS}
 use Rattle.sdf_similar.specs.Similar.{nearest}
-use Rattle.sdf_kinds.specs.declared.row.Kind.{Kind}
 use Rattle.sdf_kinds.specs.declared.row.Form.{Form}
 use Rattle.sdf_kinds.specs.declared.row.Form.TheVariants.{Natural, Optional, Integer, FromLeast}
 use Rattle.sdf_kinds.specs.declared.row.Form.TheVariants.{List as ListForm}
 use Rattle.sdf_document.specs.Fault.{Place, top, actor, link, file}
-use Rattle.sdf_kinds.specs.Rows.{KeyRow, row_of, kinds, shared_keys}
+use Rattle.sdf_kinds.specs.Rows.{KeyRow, shared_keys}
 use Rattle.sdf_document.specs.Document.{top_keys}
 use Rattle.sdf_document.specs.Links.{link_keys}
 use Rattle.sdf_document.specs.Lists.{file_keys}
@@ -29,15 +28,6 @@ other_told word (Some name) = if bytes_eq name word then [] else hint_line name
 -- the first of the names that is most like a word, unless it is the word itself
 unfoldable pub near_told : List (List ℕ) → List ℕ → List ℕ
 near_told names word = other_told word (nearest word names)
-
--- ---- kinds
-
-abbrev pub kind_words : List (List ℕ)
-kind_words = map (λ (k : Kind). (row_of k).word) kinds
-
--- the kind that may have been meant for actor a
-unfoldable pub near_kind : ℕ → Data → List ℕ
-near_kind a d = lines_of (near_told kind_words) (actor_text (codes "kind") d a)
 
 -- ---- keys
 

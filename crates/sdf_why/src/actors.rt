@@ -47,7 +47,11 @@ pub(crate) fn push_actor_of(
 
 /// Returns the limits of `key` for the kind of `actor`.
 #[tactic(auto, unfolding(crate::specs::Actors::actor_limits))]
-fn actor_limits(alloc: Global, key: &str, actor: &Value) -> Result<Option<String>, AllocError>
+pub(crate) fn actor_limits(
+    alloc: Global,
+    key: &str,
+    actor: &Value,
+) -> Result<Option<String>, AllocError>
     ensures { IfOk result (λ o. option_map string_bytes o ≡ actor_limits key.now (view actor.now)) }
 {
     match text_at(actor, "kind") {

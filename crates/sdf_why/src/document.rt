@@ -6,14 +6,16 @@ ghost use Rattle.sdf_document.specs.Fault.{place_view, fault_view};
 ghost use Rattle.sdf_document.specs.Lists.{files_view};
 ghost use Rattle.sdf_why.specs.Documents.{place_key, place_format, beside_is, listed_at, row_is, keys_are};
 ghost use Rattle.sdf_why.specs.Documents.{name_rule};
-ghost use Rattle.sdf_why.specs.Documents.{known_keys, kind_format, same_name, twice, counted, told, document_text};
+ghost use Rattle.sdf_why.specs.Documents.{known_keys, same_name, twice, counted, told, document_text};
 
 use crate::actors::{push_actor_key, push_actor_of, push_first};
 use crate::coefficients::{push_file_key, push_values};
+use crate::kind::push_kind;
 use crate::limits::keys_of;
 use crate::links::push_link_key;
-use crate::near::{push_near_end, push_near_key, push_near_kind};
+use crate::near::{push_near_end, push_near_key};
 use crate::tables::{Source, actor_text, entry, first_saying, root, text_at, value_at};
+use crate::types::push_type;
 use crate::words::push_key;
 use sdf_document::{DocumentFault, Place};
 use sdf_kinds::keys_text;
@@ -194,20 +196,6 @@ pub(crate) fn push_counted(
     )
 }
 
-/// Adds the line of the key `format`, with the kinds that need format 2.
-fn push_kind_format(alloc: Global, text: &mut String, graph: &Value) -> Result<(), AllocError>
-    ensures { OnOk result (string_bytes text.new ≡ string_bytes text.old ++ kind_format (view graph.now)) }
-{
-    let format = value_at(graph, "format");
-    push_key(
-        alloc,
-        text,
-        "format",
-        format,
-        Some("2 for clip, deal, gather and offset"),
-    )
-}
-
 /// Adds the rule for a name at `key`.
 #[tactic(auto, unfolding(crate::specs::Documents::name_rule))]
 fn push_name_rule(text: &mut String, key: &str) -> Result<(), AllocError>
@@ -239,9 +227,8 @@ fn push_told(
             push_place(alloc, text, source, place, key)?;
             push_values(alloc, text, source, place, key)
         }
-        DocumentFault::MissingKey(place, key) | DocumentFault::WrongType(place, key) => {
-            push_place(alloc, text, source, place, key)
-        }
+        DocumentFault::MissingKey(place, key) => push_place(alloc, text, source, place, key),
+        DocumentFault::WrongType(place, key) => push_type(alloc, text, source, place, key),
         DocumentFault::BadName(place, key) => {
             push_place(alloc, text, source, place, key)?;
             push_name_rule(text, key)
@@ -256,8 +243,7 @@ fn push_told(
         DocumentFault::NameTwice(number) => push_twice(alloc, text, graph, *number),
         DocumentFault::UnknownKind(number) => {
             push_actor_of(alloc, text, graph, *number)?;
-            push_near_kind(alloc, text, graph, *number)?;
-            push_kind_format(alloc, text, graph)
+            push_kind(alloc, text, graph, *number)
         }
         DocumentFault::BadPort(number, key) => {
             push_link_key(

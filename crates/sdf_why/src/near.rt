@@ -1,11 +1,11 @@
 //! What the user may have meant: a known name that is like an unknown one.
 
-ghost use Rattle.std.specs.Prelude.{◌≡◌, ◌++◌, IfOk, OnOk, map, string_bytes};
+ghost use Rattle.std.specs.Prelude.{◌≡◌, ◌++◌, IfOk, OnOk, map, option_map, string_bytes};
 ghost use Rattle.std.specs.List.{flat_map};
 ghost use Rattle.toml.specs.View.{view};
 ghost use Rattle.sdf_document.specs.Fault.{place_view};
 ghost use Rattle.sdf_kinds.specs.Rows.{key_view, keys_view};
-ghost use Rattle.sdf_why.specs.Near.{near_told, kind_words, key_names, kind_keys, actor_keys, near_kind, near_key};
+ghost use Rattle.sdf_why.specs.Near.{other_told, near_told, key_names, kind_keys, actor_keys, near_key};
 ghost use Rattle.sdf_why.specs.Near.{near_actor_key, name_in, actor_names, near_end};
 
 use crate::limits::keys_of;
@@ -14,11 +14,27 @@ use crate::marks::before;
 use crate::tables::actor_text;
 use crate::words::push_hint;
 use sdf_document::{Place, file_keys, link_keys, top_keys};
-use sdf_kinds::{Form, KeyForm, kinds, shared_keys};
+use sdf_kinds::{Form, KeyForm, shared_keys};
 use sdf_limits::MOST_ACTORS;
 use sdf_similar::nearest;
 use std::alloc::{AllocError, Global};
 use toml::Value;
+
+/// Adds `name`, if there is one and it is not `word` itself.
+pub(crate) fn push_other(
+    alloc: Global,
+    text: &mut String,
+    word: &str,
+    name: Option<&str>,
+) -> Result<(), AllocError>
+    ensures { OnOk result (string_bytes text.new ≡ string_bytes text.old
+        ++ other_told word.now (option_map (λ s. s.now) name.entry)) }
+{
+    match name {
+        Some(name) if name != word => push_hint(alloc, text, name),
+        _ => Ok(()),
+    }
+}
 
 /// Adds the name in `names` that is most like `word`, if there is one and it is not the word itself.
 #[tactic(auto, unfolding(crate::specs::Near::near_told))]
@@ -26,39 +42,8 @@ fn push_near(alloc: Global, text: &mut String, names: &[&str], word: &str) -> Re
     ensures { OnOk result (string_bytes text.new ≡ string_bytes text.old
         ++ near_told (map (λ name. name.now) names.now) word.now) }
 {
-    match nearest(alloc, names, word)? {
-        Some(name) if name != word => push_hint(alloc, text, name),
-        _ => Ok(()),
-    }
-}
-
-/// Returns the words of all kinds.
-fn kind_words(alloc: Global) -> Result<Vec<&'static str>, AllocError>
-    ensures { IfOk result (λ words. map (λ word. word.now) words.items ≡ kind_words) }
-{
-    let mut words = Vec::new(alloc);
-    let all = kinds();
-    for kind in all {
-        words.push(kind.word())?;
-    }
-    Ok(words)
-}
-
-/// Adds the kind that may have been meant for `actor`.
-#[tactic(auto, unfolding(crate::specs::Near::near_kind))]
-pub(crate) fn push_near_kind(
-    alloc: Global,
-    text: &mut String,
-    graph: &Value,
-    actor: usize,
-) -> Result<(), AllocError>
-    ensures { OnOk result (string_bytes text.new ≡ string_bytes text.old ++ near_kind actor (view graph.now)) }
-{
-    let Some(word) = actor_text(graph, "kind", actor) else {
-        return Ok(());
-    };
-    let words = kind_words(alloc)?;
-    push_near(alloc, text, &words, word)
+    let name = nearest(alloc, names, word)?;
+    push_other(alloc, text, word, name)
 }
 
 /// Adds the name of `key`, and for a list also `file`, which may replace it.

@@ -64,7 +64,7 @@ static ROWS: [Row; 24] = [
     Row {
         graph: "format = 1\nlink = []\n[[actor]]\nname = \"i\"\nkind = \"gain\"\ngain = 1.5\n",
         told: "53 WrongType actor 0 key gain\n  \
-            actor 0 is \"i\", a gain\n  gain = a float, wants -32768..32767\n",
+            actor 0 is \"i\", a gain\n  gain = a float, wants a whole number, -32768..32767\n",
     },
     Row {
         graph: "format = 1\nlink = []\n[[actor]]\nname = \"h\"\nkind = \"fir\"\nfile = \"a.toml\"\nshift = 0\n\
@@ -89,7 +89,7 @@ static ROWS: [Row; 24] = [
     Row {
         graph: "format = 1\nlink = []\n[[actor]]\nname = \"d\"\nkind = \"deal\"\n",
         told: "56 UnknownKind actor 0\n  \
-            actor 0 is \"d\", a deal\n  format = 1, wants 2 for clip, deal, gather and offset\n",
+            actor 0 is \"d\", a deal\n  format = 1, wants 2 for deal\n",
     },
     Row {
         graph: "format = 1\nactor = [{ name = \"a\", kind = \"fork\", ways = 2 }]\n\
@@ -100,8 +100,7 @@ static ROWS: [Row; 24] = [
     Row {
         graph: "format = 1\nlink = []\n[[actor]]\nname = \"d\"\nkind = \"gian\"\n",
         told: "56 UnknownKind actor 0\n  \
-            actor 0 is \"d\", a gian\n  did you mean \"gain\"?\n  \
-            format = 1, wants 2 for clip, deal, gather and offset\n",
+            actor 0 is \"d\", a gian\n  did you mean \"gain\"?\n",
     },
     Row {
         graph: "format = 1\nlink = []\n[[actor]]\nname = \"d\"\nkind = \"resampler\"\n",
@@ -150,13 +149,106 @@ static ROWS: [Row; 24] = [
     },
 ];
 
-/// Coefficient files: one with an empty list, and one with a value too wide for taps and another too wide for tables.
-static FILES: [(&str, &str); 2] = [
+/// Lists with a value that does not fit, values of a wrong type, and words that are not kinds of the file's format.
+static OTHERS: [Row; 16] = [
+    Row {
+        graph: "format = 1\nlink = []\n[[actor]]\nname = \"h\"\nkind = \"fir\"\nshift = 0\ntaps = [1, 40000]\n",
+        told: "28 KitValue actor 0 key taps\n  \
+            actor 0 is \"h\", a fir\n  taps = a list of 2, wants 1..1024 values of -32768..32767\n  \
+            taps[1] = 40000, wants -32768..32767\n",
+    },
+    Row {
+        graph: "format = 1\nlink = []\n[[actor]]\nname = \"t\"\nkind = \"table\"\noffset = 0\n\
+            values = [-2147483649, 2147483648]\n",
+        told: "28 KitValue actor 0 key values\n  \
+            actor 0 is \"t\", a table\n  values = a list of 2, wants 1..65536 values of 32 bits\n  \
+            values[0] = -2147483649, wants -2147483648..2147483647\n",
+    },
+    Row {
+        graph: "format = 1\nactor = [{ name = \"a\", kind = \"delay\", length = 1 }]\n\
+            link = [{ from = \"a\", to = \"a\", initial = [0, 2147483648] }]\n",
+        told: "28 KitValue link 0 key initial\n  \
+            link 0 is a:0 -> a:0\n  initial = a list of 2\n  \
+            initial[1] = 2147483648, wants -2147483648..2147483647\n",
+    },
+    Row {
+        graph: "format = 1\nlink = []\n[[actor]]\nname = \"h\"\nkind = \"fir\"\nshift = 0\ntaps = [1, 2.5]\n",
+        told: "53 WrongType actor 0 key taps\n  \
+            actor 0 is \"h\", a fir\n  taps = a list of 2, wants a list of whole numbers, 1..1024 values of \
+            -32768..32767\n  taps[1] = a float, wants -32768..32767\n",
+    },
+    Row {
+        graph: "format = 1\nlink = []\n[[actor]]\nname = \"h\"\nkind = \"fir\"\nshift = 0\nfile = \"d.toml\"\n",
+        told: "53 WrongType file d.toml key values\n  \
+            actor 0 is \"h\", a fir\n  values = a list of 2, wants a list of whole numbers\n  \
+            values[1] = a float, wants -2147483648..2147483647\n",
+    },
+    Row {
+        graph: "format = 1\nlink = []\n[[actor]]\nname = \"i\"\nkind = \"input\"\nchannel = 0\nprocessor = \"1\"\n",
+        told: "53 WrongType actor 0 key processor\n  \
+            actor 0 is \"i\", an input\n  processor = \"1\", wants a whole number, 0..15 or absent\n",
+    },
+    Row {
+        graph: "format = 1\nlink = []\n[[actor]]\nname = 3\nkind = \"fork\"\n",
+        told: "53 WrongType actor 0 key name\n  \
+            actor 0 is without a name, a fork\n  name = 3, wants a text in quotes\n",
+    },
+    Row {
+        graph: "format = 1\nlink = []\n[actor]\nname = \"a\"\n",
+        told: "53 WrongType top key actor\n  \
+            actor = a table, wants double brackets: [[actor]]\n",
+    },
+    Row {
+        graph: "format = 1\nactor = []\n[link]\nfrom = \"a\"\n",
+        told: "53 WrongType top key link\n  \
+            link = a table, wants double brackets: [[link]]\n",
+    },
+    Row {
+        graph: "format = 1\nlink = []\nactor = [1]\n",
+        told: "53 WrongType actor 0 key actor\n  \
+            actor 0 is without a name, of no kind\n  actor wants double brackets: [[actor]]\n",
+    },
+    Row {
+        graph: "format = 1\nactor = [{ name = \"a\", kind = \"fork\", ways = 2 }]\nlink = [{ from = 3, to = \"a\" }]\n",
+        told: "53 WrongType link 0 key from\n  \
+            link 0 is ? -> a:0\n  from = 3, wants a text in quotes\n",
+    },
+    Row {
+        graph: "format = 1\nlink = []\n[[actor]]\nname = \"h\"\nkind = \"fir\"\nup = [2.5]\nshift = 0\ntaps = [1]\n",
+        told: "53 WrongType actor 0 key up\n  \
+            actor 0 is \"h\", a fir\n  up = a list of 1, wants a whole number, 1..64\n",
+    },
+    Row {
+        graph: "format = 1.0\n",
+        told: "53 WrongType top key format\n  \
+            format = a float, wants a whole number\n",
+    },
+    Row {
+        graph: "format = 1\nlink = []\n[[actor]]\nname = \"d\"\nkind = \"gahter\"\n",
+        told: "56 UnknownKind actor 0\n  \
+            actor 0 is \"d\", a gahter\n  did you mean \"gather\"?\n  format = 1, wants 2 for gather\n",
+    },
+    Row {
+        graph: "format = 2\nlink = []\n[[actor]]\nname = \"d\"\nkind = \"gahter\"\n",
+        told: "56 UnknownKind actor 0\n  \
+            actor 0 is \"d\", a gahter\n  did you mean \"gather\"?\n",
+    },
+    Row {
+        graph: "format = 2\nlink = []\n[[actor]]\nname = \"d\"\nkind = \"resampler\"\n",
+        told: "56 UnknownKind actor 0\n  \
+            actor 0 is \"d\", a resampler\n",
+    },
+];
+
+/// Coefficient files: one with an empty list, one with a value too wide for taps and another too wide for tables, and
+/// one with a value that is not a whole number.
+static FILES: [(&str, &str); 3] = [
     ("a.toml", "format = 1\nvalues = []\n"),
     (
         "c.toml",
         "format = 1\nvalues = [-32768, 32767, 40000, -2147483649]\n",
     ),
+    ("d.toml", "format = 1\nvalues = [1, 0.5]\n"),
 ];
 
 fn files(alloc: Global) -> Result<Vec<(String, Vec<u8>)>, Fail> {
@@ -182,6 +274,15 @@ fn told(alloc: Global, graph: &[u8]) -> Result<String, Fail> {
 #[test]
 fn faults_of_documents_are_told(rt: HostRuntime) -> Result<(), Fail> {
     for row in &ROWS {
+        row_says(row.graph, told(rt.alloc(), row.graph.as_bytes()), row.told)?;
+    }
+    Ok(())
+}
+
+/// Tests that a diagnostic shows the value that does not fit, the type that is needed, and the kind that was meant.
+#[test]
+fn values_types_and_kinds_are_told(rt: HostRuntime) -> Result<(), Fail> {
+    for row in &OTHERS {
         row_says(row.graph, told(rt.alloc(), row.graph.as_bytes()), row.told)?;
     }
     Ok(())

@@ -1,7 +1,7 @@
 use Rattle.std.proofs.Common.{◌≡◌, map, take}
 use Rattle.sdf_kinds.specs.declared.row.Kind.{Kind}
 use Rattle.sdf_kinds.specs.Rows.{row_of}
-use Rattle.sdf_why.proofs.near.kind_words.Given as goal
+use Rattle.sdf_why.proofs.kind.kind_words.Given as goal
 
 abbrev pub invariant-loop-kind : goal.invariant-loop-kind
 invariant-loop-kind l =

@@ -1,0 +1,55 @@
+-- The type that a key needs, for a value of another type.
+use Rattle.std.specs.Prelude.{ℕ, ◌||◌, Bool, List, [], ◌++◌, codes, Option, Some, None, bytes_eq}
+use Rattle.std.specs.Prelude.{if◌then◌else◌}
+use Rattle.toml.specs.Data.{Data, get}
+use Rattle.sdf_document.specs.Fault.{Place, top, actor, link, file}
+use Rattle.sdf_document.specs.Lists.{Files}
+use Rattle.sdf_why.specs.Words.{key_line}
+use Rattle.sdf_why.specs.Tables.{entry}
+use Rattle.sdf_why.specs.Actors.{lines_of, actor_is, actor_limits}
+use Rattle.sdf_why.specs.Links.{link_key}
+use Rattle.sdf_why.specs.Coefficients.{file_user, file_key, values_told}
+
+-- keys of texts, and of lists
+abbrev pub is_text_key : List ℕ → Bool
+is_text_key key = bytes_eq key (codes "name") || (bytes_eq key (codes "kind") || (bytes_eq key (codes "file")
+    || (bytes_eq key (codes "from") || bytes_eq key (codes "to"))))
+
+abbrev pub is_list_key : List ℕ → Bool
+is_list_key key = bytes_eq key (codes "taps") || (bytes_eq key (codes "values") || bytes_eq key (codes "initial"))
+
+-- the type that a key needs; all other keys are of whole numbers
+unfoldable pub type_of : List ℕ → List ℕ
+type_of key =
+    if bytes_eq key (codes "actor") then codes "double brackets: [[actor]]" else
+    if bytes_eq key (codes "link") then codes "double brackets: [[link]]" else
+    if is_text_key key then codes "a text in quotes" else
+    if is_list_key key then codes "a list of whole numbers" else
+    codes "a whole number"
+
+-- the type that a key needs, and its limits if it has some
+abbrev pub limits_text : Option (List ℕ) → List ℕ
+limits_text None = []
+limits_text (Some limits) = codes ", " ++ limits
+
+abbrev pub type_within : List ℕ → Option (List ℕ) → List ℕ
+type_within key limits = type_of key ++ limits_text limits
+
+-- the line of actor a, and the line of a key of its table with the type and the limits
+abbrev pub actor_type_is : ℕ → List ℕ → Data → List ℕ
+actor_type_is a key d = actor_is a d ++ key_line key (get key d) (Some (type_within key (actor_limits key d)))
+
+unfoldable pub actor_type : ℕ → List ℕ → Data → List ℕ
+actor_type a key d = lines_of (actor_type_is a key) (entry (codes "actor") a d)
+
+-- what a place is, and the line of its key with the type that it needs
+abbrev pub place_type : Place → List ℕ → Data → Files → List ℕ
+place_type top key d files = key_line key (get key d) (Some (type_of key))
+place_type (actor a) key d files = actor_type a key d
+place_type (link c) key d files = link_key c key (Some (type_of key)) d
+place_type (file name) key d files = file_user name d ++ file_key name key (Some (type_of key)) files
+
+-- the line of a key of another type, and for a list the first value that does not fit
+abbrev pub type_told : Place → List ℕ → Data → Files → List ℕ
+type_told place key d files =
+    place_type place key d files ++ (if is_list_key key then values_told place key d files else [])

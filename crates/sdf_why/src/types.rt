@@ -1,0 +1,136 @@
+//! The type that a key needs, for a value of another type.
+
+ghost use Rattle.std.specs.Prelude.{◌≡◌, ◌++◌, IfOk, OnOk, option_map, string_bytes};
+ghost use Rattle.toml.specs.View.{view};
+ghost use Rattle.sdf_document.specs.Fault.{place_view};
+ghost use Rattle.sdf_document.specs.Lists.{files_view};
+ghost use Rattle.sdf_why.specs.Types.{is_text_key, is_list_key, type_of, limits_text, type_within};
+ghost use Rattle.sdf_why.specs.Types.{actor_type, place_type, type_told};
+
+use crate::actors::{actor_limits, push_actor_table, push_first};
+use crate::coefficients::{push_file_key, push_values};
+use crate::links::push_link_key;
+use crate::tables::{Source, entry, value_at};
+use crate::words::push_key;
+use sdf_document::Place;
+use std::alloc::{AllocError, Global};
+use toml::Value;
+
+fn is_text_key(key: &str) -> bool
+    ensures { result ≡ is_text_key key.now }
+{
+    key == "name" || key == "kind" || key == "file" || key == "from" || key == "to"
+}
+
+fn is_list_key(key: &str) -> bool
+    ensures { result ≡ is_list_key key.now }
+{
+    key == "taps" || key == "values" || key == "initial"
+}
+
+/// Returns the type that `key` needs, in words.
+#[tactic(auto, unfolding(crate::specs::Types::type_of))]
+fn type_of(key: &str) -> &'static str
+    ensures { result.now ≡ type_of key.now }
+{
+    if key == "actor" {
+        "double brackets: [[actor]]"
+    } else if key == "link" {
+        "double brackets: [[link]]"
+    } else if is_text_key(key) {
+        "a text in quotes"
+    } else if is_list_key(key) {
+        "a list of whole numbers"
+    } else {
+        "a whole number"
+    }
+}
+
+/// Adds the `limits` of a key behind its type, if it has some.
+fn push_limits(text: &mut String, limits: Option<&str>) -> Result<(), AllocError>
+    ensures { OnOk result (string_bytes text.new ≡ string_bytes text.old
+        ++ limits_text (option_map (λ s. s.now) limits.entry)) }
+{
+    match limits {
+        Some(limits) => write!(text, ", {limits}"),
+        None => Ok(()),
+    }
+}
+
+/// Returns the type that `key` needs, and its `limits` if it has some.
+fn type_within(alloc: Global, key: &str, limits: Option<&str>) -> Result<String, AllocError>
+    ensures { IfOk result (λ text. string_bytes text ≡ type_within key.now (option_map (λ s. s.now) limits.entry)) }
+{
+    let mut text = String::from_str(alloc, type_of(key))?;
+    push_limits(&mut text, limits)?;
+    Ok(text)
+}
+
+/// Adds the line of the actor `number`, and the line of its `key` with the type and the limits.
+#[tactic(auto, unfolding(crate::specs::Types::actor_type))]
+fn push_actor_type(
+    alloc: Global,
+    text: &mut String,
+    graph: &Value,
+    number: usize,
+    key: &str,
+) -> Result<(), AllocError>
+    ensures { OnOk result (string_bytes text.new ≡ string_bytes text.old
+        ++ actor_type number key.now (view graph.now)) }
+{
+    let Some(actor) = entry(graph, "actor", number) else {
+        return Ok(());
+    };
+    push_actor_table(alloc, text, number, actor)?;
+    let limits = actor_limits(alloc, key, actor)?;
+    let wanted = type_within(alloc, key, limits.as_deref())?;
+    push_key(
+        alloc,
+        text,
+        key,
+        value_at(actor, key),
+        Some(wanted.as_str()),
+    )
+}
+
+/// Adds what `place` is, and the line of its `key` with the type that it needs.
+fn push_place(
+    alloc: Global,
+    text: &mut String,
+    source: Source<'_>,
+    place: &Place,
+    key: &str,
+) -> Result<(), AllocError>
+    ensures { OnOk result (string_bytes text.new ≡ string_bytes text.old ++ place_type
+        (place_view place.now) key.now (view source.entry.graph.now) (files_view source.entry.files.now)) }
+{
+    let wanted = Some(type_of(key));
+    match place {
+        Place::Top => push_key(alloc, text, key, value_at(source.graph, key), wanted),
+        Place::Actor(number) => push_actor_type(alloc, text, source.graph, *number, key),
+        Place::Link(number) => push_link_key(alloc, text, source.graph, *number, key, wanted),
+        Place::File(name) => {
+            push_first(alloc, text, source.graph, "file", name.as_str())?;
+            push_file_key(alloc, text, source.files, name.as_str(), key, wanted)
+        }
+    }
+}
+
+/// Adds the line of a `key` of another type, and for a list the first value that does not fit.
+pub(crate) fn push_type(
+    alloc: Global,
+    text: &mut String,
+    source: Source<'_>,
+    place: &Place,
+    key: &str,
+) -> Result<(), AllocError>
+    ensures { OnOk result (string_bytes text.new ≡ string_bytes text.old ++ type_told
+        (place_view place.now) key.now (view source.entry.graph.now) (files_view source.entry.files.now)) }
+{
+    push_place(alloc, text, source, place, key)?;
+    if is_list_key(key) {
+        push_values(alloc, text, source, place, key)
+    } else {
+        Ok(())
+    }
+}
