@@ -5,7 +5,7 @@ use sdf_actor::laws::{
 };
 use sdf_graph::laws::{
     alike_sequences, counts_grow, cycles_begin_anew, graphs_are_sound, graphs_have_periods,
-    one_least_period, periods_repeat, sums_rise,
+    one_least_period, periods_repeat, sums_rise, whole_cycles_move,
 };
 use sdf_sched::laws::{
     enabled_stays, period_or_deadlock, rounds_pass, runs_stay, stuck_counts_mean_deadlock,
@@ -21,6 +21,7 @@ fn laws(_rt: HostRuntime) {
     counts_grow();
     sums_rise();
     cycles_begin_anew();
+    whole_cycles_move();
     periods_repeat();
     alike_sequences();
     enabled_stays();

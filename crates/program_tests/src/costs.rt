@@ -39,7 +39,7 @@ from = "half"
 to = "out"
 "#;
 
-/// A graph file in which one of two actors begins with the plain form of its line.
+/// A graph file with two actors, of which only one has the line `[[actor]]` in its plain form.
 pub(crate) const SPACED: &str = r#"format = 1
 [[actor]]
 name = "in"

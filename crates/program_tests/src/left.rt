@@ -11,8 +11,8 @@ use std::test::Fail;
 use std::thread::Threads;
 use std::time::Clock;
 
-/// A disk on which a file whose path ends with `ending` has room for `room` bytes, or can't be made if that is `None`.
-/// If `keeps` is set, nothing can be removed.
+/// A disk that is full for files whose path ends with `ending`: they have room for `room` bytes, or can't be made if
+/// it is `None`. If `keeps` is set, nothing can be removed.
 #[derive(Clone, Copy)]
 struct Full<'a> {
     host: &'a HostRuntime,
@@ -123,7 +123,7 @@ fn is_gone(rt: &HostRuntime, path: &str) -> Result<(), Fail> {
     Ok(())
 }
 
-/// Writes a converter into the folder `path`, which is refused, and then on a disk with room.
+/// Writes a converter into `path` on the full disk, and then on one with room.
 fn is_tried_again<T: Threads + AllocGlobal + Clock + Clone + Drop + Sync>(
     full: Full<'_>,
     threads: &T,
@@ -137,7 +137,8 @@ fn is_tried_again<T: Threads + AllocGlobal + Clock + Clone + Drop + Sync>(
     is_told("again", told(&full.disk(), threads, path, LINE), "0 …")
 }
 
-/// Writes a converter that is refused into the folder `path`, if it is not there, and if it has a file.
+/// Checks that a refused converter leaves nothing: no folder that it made, an empty folder that was there before, and
+/// only the old file in one that has a file.
 fn leaves_nothing<T: Threads + AllocGlobal + Clock + Clone + Drop + Sync>(
     full: Full<'_>,
     threads: &T,
@@ -151,6 +152,12 @@ fn leaves_nothing<T: Threads + AllocGlobal + Clock + Clone + Drop + Sync>(
     )?;
     is_gone(full.host, path)?;
     fs::create_dir(full.host, path)?;
+    is_told(
+        "an empty folder",
+        told(&full, threads, path, LINE),
+        "5 …sdfw: 48 Write\n",
+    )?;
+    // This fails if the folder is no longer there.
     put(full.host, path, "notes", b"kept")?;
     is_tried_again(full, threads, path)?;
     has_bytes(full.host, path, "notes", b"kept", LINE)

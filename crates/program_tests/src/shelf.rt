@@ -334,7 +334,7 @@ pub(crate) fn places(alloc: Global) -> Result<Vec<Mutex<Vec<u8>>>, AllocError> {
 
 /// Files in memory that threads share. Only out.wav and files in the folder `made` can be written: each part of a sound
 /// in a place of its own, and all other files in one place, one after the other. Removing a file clears its place. Only
-/// parts can be renamed, except the one of locked.wav. `-` names no sound, but `./-` does.
+/// parts can be renamed, except the part of locked.wav. `-` names no sound, but `./-` does.
 #[derive(Clone, Copy)]
 pub(crate) struct Shelf<'a> {
     pub(crate) places: &'a [Mutex<Vec<u8>>],

@@ -151,6 +151,10 @@ fn what_is_told_at_a_terminal(rt: HostRuntime) -> Result<(), Fail> {
 /// place of the sound, or that takes the number after a size for the size. Refuses also one thing in the plural.
 const SOUNDS: &[(&[u8], &str)] = &[
     (
+        b"R",
+        "4\n--\nsdfw: 43 Truncated\n  \"-\": ends after 1 byte\n--\n",
+    ),
+    (
         b"fLaC\0\0\0\x22",
         "4\n--\nsdfw: 34 NotRiff\n  \"-\": has \"fLaC\" at byte 0, wants \"RIFF\"\n--\n",
     ),

@@ -135,7 +135,7 @@ fn remove_all<S: Storage>(alloc: Global, storage: &S, made: &[String], refused: 
     }
 }
 
-/// Writes the files of a converter into `folder`, or none of them if one is refused.
+/// Writes the files of a converter into `folder`. If it fails, removes those that it wrote.
 fn write_or_remove<S: Storage, T: AllocGlobal, E: Write>(
     world: &World<S, T>,
     err: &mut E,
@@ -159,7 +159,7 @@ fn test_texts(alloc: Global, texts: &ConverterTexts) -> Result<(), Fault> {
 }
 
 /// Writes the files of a converter into `folder`, after its design was read and scheduled. So the written design can be
-/// run, and no existing file is replaced. If a file is refused, no file is left, nor the folder if this call made it.
+/// run, and no existing file is replaced. If it fails, removes what it wrote, and the folder if it made it.
 fn write_design<S: Storage, T: AllocGlobal, E: Write>(
     world: &World<S, T>,
     err: &mut E,

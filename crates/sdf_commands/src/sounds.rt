@@ -134,8 +134,10 @@ fn short_text(alloc: Global, front: Front<'_>) -> Result<String, AllocError> {
         return Ok(String::new(alloc));
     };
     let wanted = if size < 16 { 16 } else { 40 };
-    let s = plural(u64::from(size));
-    format!(in alloc; "has a chunk \"fmt \" of {size} byte{s}, wants {wanted}")
+    format!(in alloc;
+        "has a chunk \"fmt \" of {size} byte{}, wants {wanted}",
+        plural(u64::from(size))
+    )
 }
 
 /// Returns the name of the format with this `tag` if it is a common one, otherwise an empty text.
@@ -158,9 +160,9 @@ fn samples_text(alloc: Global, front: Front<'_>) -> Result<String, AllocError> {
         return Ok(String::new(alloc));
     };
     let name = format_name(tag);
-    let s = plural(u64::from(bits));
     format!(in alloc;
-        "has samples of {bits} bit{s} in format {tag}{name}, wants 16 bits in format 1"
+        "has samples of {bits} bit{} in format {tag}{name}, wants 16 bits in format 1",
+        plural(u64::from(bits))
     )
 }
 
@@ -214,7 +216,7 @@ fn end_text(alloc: Global, front: Front<'_>, bytes: u64) -> Result<String, Alloc
             };
             format!(in alloc; "ends after {bytes} bytes, wants {whole}{hint}")
         }
-        _ => format!(in alloc; "ends after {bytes} bytes"),
+        _ => format!(in alloc; "ends after {bytes} byte{}", plural(bytes)),
     }
 }
 
@@ -228,8 +230,10 @@ fn frames_text(alloc: Global, front: Front<'_>, bytes: u64) -> Result<String, Al
         size => u64::from(size),
     };
     let frame = channels.saturating_mul(2);
-    let s = plural(samples);
-    format!(in alloc; "has {samples} byte{s} of samples, wants frames of {frame} bytes")
+    format!(in alloc;
+        "has {samples} byte{} of samples, wants frames of {frame} bytes",
+        plural(samples)
+    )
 }
 
 /// Returns the text for a WAV file that is too long, has too many chunks, or whose output would be too long.

@@ -55,7 +55,7 @@ pub fn put<W: Write>(to: &mut W, bytes: &[u8]) -> Result<(), Fault> {
     }
 }
 
-/// A file that the system refused: its name as it was given, and the message of the system.
+/// A file or a folder that the system refused: its name as it was given, and what is said of it.
 #[derive(Drop)]
 pub struct Refused {
     pub name: String,

@@ -214,10 +214,9 @@ impl Levels {
     }
 }
 
-/// Adds `count` and the noun `thing`, in the plural unless `count` is 1.
+/// Adds `count` and the noun `thing`, in the plural if `count` is not 1.
 fn push_count(text: &mut String, count: u64, thing: &str) -> Result<(), AllocError> {
-    let s = plural(count);
-    write!(text, "{count} {thing}{s}")
+    write!(text, "{count} {thing}{}", plural(count))
 }
 
 /// Adds the line of an output.

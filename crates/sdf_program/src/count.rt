@@ -30,8 +30,7 @@ impl Count {
     /// Returns the line.
     fn line(self, alloc: Global) -> Result<String, AllocError> {
         let Count { done, all, .. } = self;
-        let s = plural(all as u64);
-        format!(in alloc; "\r{done} of {all} file{s} done\x1b[K")
+        format!(in alloc; "\r{done} of {all} file{} done\x1b[K", plural(all as u64))
     }
 
     /// Shows how many files are done if others are not, unless memory is refused for it.
