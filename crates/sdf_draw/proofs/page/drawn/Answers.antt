@@ -10,14 +10,14 @@ pub returns : goal.returns
 returns c =
     let fits : c.in_ok-figures.figures.makespan < 2 ^ 64 = omega (arith, c.makespan.ensures) in
     record {
-      periods = c.in_ok-period.block.periods;
+      periods = c.in_ok-period.field-0.block.periods;
       scheduled = c.in_ok-period.ensures.answers;
       figures = c.in_ok-figures.ensures;
       layout = subst (λ (w : List ℕ). IsLayout c.args.design.now w c.in_ok-layout.layout.places.items
           c.in_ok-layout.layout.above c.in_ok-layout.layout.below c.in_ok-layout.layout.routes.items) c.order.ensures
           c.in_ok-layout.ensures.is;
-      drawable = drawable c.args.design.now c.in_ok-period.block.periods c.args.options.now.workers
-          c.in_ok-period.period c.in_ok-period.block.table c.in_ok-figures.figures c.net.ensures.whole
+      drawable = drawable c.args.design.now c.in_ok-period.field-0.block.periods c.args.options.now.workers
+          c.in_ok-period.field-0.period c.in_ok-period.field-0.block.table c.in_ok-figures.figures c.net.ensures.whole
           c.in_ok-period.ensures.table c.in_ok-figures.ensures fits;
       capacities = c.in_ok-period.ensures.table.exact.caps_all
           ∙ length-map c.args.design.now.net.wires (channel_of kit_steps c.args.design.now.net.nodes);
