@@ -11,7 +11,7 @@ use Rattle.sdf_document.specs.Lists.{Files}
 use Rattle.sdf_why.specs.Limits.{keys_of}
 use Rattle.sdf_why.specs.Words.{end, key_line}
 use Rattle.sdf_why.specs.Tables.{root, text_at, entry, actor_text, first_saying}
-use Rattle.sdf_why.specs.Actors.{lines_of, actor_told, actor_key, first_told}
+use Rattle.sdf_why.specs.Actors.{lines_of, actor_told, actor_key, actor_value, first_told}
 use Rattle.sdf_why.specs.Links.{link_key}
 use Rattle.sdf_why.specs.Coefficients.{file_user, file_key, values_told}
 use Rattle.sdf_why.specs.Types.{type_told}
@@ -26,6 +26,11 @@ place_key top key d files = key_line key (get key d) None
 place_key (actor a) key d files = actor_key a key d
 place_key (link c) key d files = link_key c key None d
 place_key (file name) key d files = file_user name d ++ file_key name key None files
+
+-- what a place is, and the line of its key without limits
+abbrev pub place_value : Place → List ℕ → Data → Files → List ℕ
+place_value (actor a) key d files = actor_value a key d
+place_value place key d files = place_key place key d files
 
 -- the line of the key `format` at a place, with its limits
 abbrev pub place_format : Place → Data → Files → List ℕ
@@ -88,7 +93,7 @@ told (unknown_key place key) d files =
     place_key place key d files ++ near_key place key d ++ known_keys place key d
 told (missing_key place key) d files = place_key place key d files
 told (wrong_type place key) d files = type_told place key d files
-told (bad_name place key) d files = place_key place key d files ++ name_rule key
+told (bad_name place key) d files = place_value place key d files ++ name_rule key
 told (name_twice a) d files = twice a d
 told (unknown_kind a) d files = actor_told d a ++ kind_told a d
 told (bad_port c key) d files =

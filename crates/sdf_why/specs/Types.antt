@@ -27,13 +27,13 @@ type_of key =
     if is_list_key key then codes "a list of whole numbers" else
     codes "a whole number"
 
--- the type that a key needs, and its limits if it has some
-abbrev pub limits_text : Option (List ℕ) → List ℕ
-limits_text None = []
-limits_text (Some limits) = codes ", " ++ limits
+abbrev pub limits_behind : Option (List ℕ) → List ℕ
+limits_behind None = []
+limits_behind (Some limits) = codes ", " ++ limits
 
+-- the type that a key needs, and its limits if it has some; those of `file` are the limits of the list in the file
 abbrev pub type_within : List ℕ → Option (List ℕ) → List ℕ
-type_within key limits = type_of key ++ limits_text limits
+type_within key limits = type_of key ++ (if is_text_key key then [] else limits_behind limits)
 
 -- the line of actor a, and the line of a key of its table with the type and the limits
 abbrev pub actor_type_is : ℕ → List ℕ → Data → List ℕ

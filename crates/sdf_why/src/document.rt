@@ -4,11 +4,11 @@ ghost use Rattle.std.specs.Prelude.{◌≡◌, ◌++◌, IfOk, OnOk, option_map,
 ghost use Rattle.toml.specs.View.{view};
 ghost use Rattle.sdf_document.specs.Fault.{place_view, fault_view};
 ghost use Rattle.sdf_document.specs.Lists.{files_view};
-ghost use Rattle.sdf_why.specs.Documents.{place_key, place_format, beside_is, listed_at, row_is, keys_are};
-ghost use Rattle.sdf_why.specs.Documents.{name_rule};
-ghost use Rattle.sdf_why.specs.Documents.{known_keys, same_name, twice, counted, told, document_text};
+ghost use Rattle.sdf_why.specs.Documents.{place_key, place_value, place_format, beside_is, listed_at, row_is};
+ghost use Rattle.sdf_why.specs.Documents.{keys_are, known_keys, same_name, twice, counted, name_rule, told};
+ghost use Rattle.sdf_why.specs.Documents.{document_text};
 
-use crate::actors::{push_actor_key, push_actor_of, push_first};
+use crate::actors::{push_actor_key, push_actor_of, push_actor_value, push_first};
 use crate::coefficients::{push_file_key, push_values};
 use crate::kind::push_kind;
 use crate::limits::keys_of;
@@ -42,6 +42,23 @@ fn push_place(
             push_first(alloc, text, source.graph, "file", name.as_str())?;
             push_file_key(alloc, text, source.files, name.as_str(), key, None)
         }
+    }
+}
+
+/// Adds what `place` is, and the line of its `key` without limits.
+fn push_place_value(
+    alloc: Global,
+    text: &mut String,
+    source: Source<'_>,
+    place: &Place,
+    key: &str,
+) -> Result<(), AllocError>
+    ensures { OnOk result (string_bytes text.new ≡ string_bytes text.old ++ place_value
+        (place_view place.now) key.now (view source.entry.graph.now) (files_view source.entry.files.now)) }
+{
+    match place {
+        Place::Actor(number) => push_actor_value(alloc, text, source.graph, *number, key),
+        _ => push_place(alloc, text, source, place, key),
     }
 }
 
@@ -230,7 +247,7 @@ fn push_told(
         DocumentFault::MissingKey(place, key) => push_place(alloc, text, source, place, key),
         DocumentFault::WrongType(place, key) => push_type(alloc, text, source, place, key),
         DocumentFault::BadName(place, key) => {
-            push_place(alloc, text, source, place, key)?;
+            push_place_value(alloc, text, source, place, key)?;
             push_name_rule(text, key)
         }
         DocumentFault::NotToml(_) => Ok(()),

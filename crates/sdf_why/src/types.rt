@@ -4,7 +4,7 @@ ghost use Rattle.std.specs.Prelude.{◌≡◌, ◌++◌, IfOk, OnOk, option_map,
 ghost use Rattle.toml.specs.View.{view};
 ghost use Rattle.sdf_document.specs.Fault.{place_view};
 ghost use Rattle.sdf_document.specs.Lists.{files_view};
-ghost use Rattle.sdf_why.specs.Types.{is_text_key, is_list_key, type_of, limits_text, type_within};
+ghost use Rattle.sdf_why.specs.Types.{is_text_key, is_list_key, type_of, limits_behind, type_within};
 ghost use Rattle.sdf_why.specs.Types.{actor_type, place_type, type_told};
 
 use crate::actors::{actor_limits, push_actor_table, push_first};
@@ -47,9 +47,9 @@ fn type_of(key: &str) -> &'static str
 }
 
 /// Adds the `limits` of a key behind its type, if it has some.
-fn push_limits(text: &mut String, limits: Option<&str>) -> Result<(), AllocError>
+fn push_limits_behind(text: &mut String, limits: Option<&str>) -> Result<(), AllocError>
     ensures { OnOk result (string_bytes text.new ≡ string_bytes text.old
-        ++ limits_text (option_map (λ s. s.now) limits.entry)) }
+        ++ limits_behind (option_map (λ s. s.now) limits.entry)) }
 {
     match limits {
         Some(limits) => write!(text, ", {limits}"),
@@ -57,12 +57,14 @@ fn push_limits(text: &mut String, limits: Option<&str>) -> Result<(), AllocError
     }
 }
 
-/// Returns the type that `key` needs, and its `limits` if it has some.
+/// Returns the type that `key` needs, and its `limits` if it has some and is not a text.
 fn type_within(alloc: Global, key: &str, limits: Option<&str>) -> Result<String, AllocError>
     ensures { IfOk result (λ text. string_bytes text ≡ type_within key.now (option_map (λ s. s.now) limits.entry)) }
 {
     let mut text = String::from_str(alloc, type_of(key))?;
-    push_limits(&mut text, limits)?;
+    if !is_text_key(key) {
+        push_limits_behind(&mut text, limits)?;
+    }
     Ok(text)
 }
 

@@ -150,7 +150,7 @@ static ROWS: [Row; 24] = [
 ];
 
 /// Lists with a value that does not fit, values of a wrong type, and words that are not kinds of the file's format.
-static OTHERS: [Row; 16] = [
+static OTHERS: [Row; 18] = [
     Row {
         graph: "format = 1\nlink = []\n[[actor]]\nname = \"h\"\nkind = \"fir\"\nshift = 0\ntaps = [1, 40000]\n",
         told: "28 KitValue actor 0 key taps\n  \
@@ -192,6 +192,17 @@ static OTHERS: [Row; 16] = [
         graph: "format = 1\nlink = []\n[[actor]]\nname = 3\nkind = \"fork\"\n",
         told: "53 WrongType actor 0 key name\n  \
             actor 0 is without a name, a fork\n  name = 3, wants a text in quotes\n",
+    },
+    Row {
+        graph: "format = 1\nlink = []\n[[actor]]\nname = \"h\"\nkind = \"fir\"\nshift = 0\nfile = 3\n",
+        told: "53 WrongType actor 0 key file\n  \
+            actor 0 is \"h\", a fir\n  file = 3, wants a text in quotes\n",
+    },
+    Row {
+        graph: "format = 1\nlink = []\n[[actor]]\nname = \"h\"\nkind = \"fir\"\nshift = 0\nfile = \".toml\"\n",
+        told: "54 BadName actor 0 key file\n  \
+            actor 0 is \"h\", a fir\n  file = \".toml\"\n  \
+            a file's name has 1 to 64 of A-Z a-z 0-9 _ - ., the first no dot\n",
     },
     Row {
         graph: "format = 1\nlink = []\n[actor]\nname = \"a\"\n",
