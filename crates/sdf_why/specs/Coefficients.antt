@@ -1,6 +1,6 @@
 -- The lines about a coefficient file, and what is outside the limits in a list.
 use Rattle.std.specs.Prelude.{ℕ, ◌&&◌, List, [], ◌++◌, codes, decimal, Option, option_and_then, nat_le, bytes_eq}
-use Rattle.std.specs.Prelude.{if◌then◌else◌}
+use Rattle.std.specs.Prelude.{Some, if◌then◌else◌}
 use Rattle.toml.specs.Data.{Data, Items, get, as_array}
 use Rattle.sdf_kinds.specs.declared.row.Width.TheVariants.{Bits32}
 use Rattle.sdf_document.specs.Fault.{Place, top, actor, link, file}
@@ -10,7 +10,7 @@ use Rattle.sdf_why.specs.Limits.{kind_limits}
 use Rattle.sdf_why.specs.Words.{end, quoted, item_count, key_line}
 use Rattle.sdf_why.specs.Tables.{root, text_at, entry}
 use Rattle.sdf_why.specs.Actors.{lines_of, first_told}
-use Rattle.sdf_why.specs.Values.{unfit_told, own_told}
+use Rattle.sdf_why.specs.Values.{unfit_told, unfit_at_key}
 
 -- ---- a key of a coefficient file
 
@@ -41,7 +41,7 @@ count_line label n most = label ++ count_text n ++ most_text most
 -- for a list of n items: n if it is outside the limits, and otherwise the first item that does not fit
 abbrev pub items_told : List ℕ → Limits → Data → ℕ → List ℕ
 items_told label limits list n = if nat_le 1 n && nat_le n limits.most
-    then unfit_told label limits.width list n
+    then unfit_told label (Some limits.width) list n
     else count_line label n limits.most
 
 unfoldable pub list_told : List ℕ → Limits → Data → List ℕ
@@ -70,19 +70,15 @@ table_told files d = lines_of (named_told files d) (list_of d)
 
 -- the first value that does not fit in the list at a key of an actor's table
 unfoldable pub listed_told : List ℕ → Data → List ℕ
-listed_told key d = lines_of (λ (l : Limits). own_told key l.width d) (list_of d)
+listed_told key d = lines_of (λ (l : Limits). unfit_at_key key (Some l.width) d) (list_of d)
 
 -- what is outside the limits at a key of an actor: in its file, or in a list of its table
 unfoldable pub actor_values : List ℕ → Files → Data → List ℕ
 actor_values key files d = if bytes_eq key (codes "file") then table_told files d else listed_told key d
 
--- the first value of more than 32 bits, or of another type, in the list at a key of a file
-abbrev pub file_values : List ℕ → List ℕ → Files → List ℕ
-file_values name key files = lines_of (own_told key Bits32) (option_and_then root (file_named name files))
-
--- what is outside the limits in the list at a key; no list has values of more than 32 bits
+-- what is outside the limits in the list at a key; the values on a link have 32 bits
 abbrev pub values_told : Place → List ℕ → Data → Files → List ℕ
 values_told top key d files = []
 values_told (actor a) key d files = lines_of (actor_values key files) (entry (codes "actor") a d)
-values_told (link c) key d files = lines_of (own_told key Bits32) (entry (codes "link") c d)
-values_told (file name) key d files = file_values name key files
+values_told (link c) key d files = lines_of (unfit_at_key key (Some Bits32)) (entry (codes "link") c d)
+values_told (file name) key d files = []

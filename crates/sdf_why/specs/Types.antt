@@ -1,14 +1,15 @@
 -- The type that a key needs, for a value of another type.
 use Rattle.std.specs.Prelude.{ℕ, ◌||◌, Bool, List, [], ◌++◌, codes, Option, Some, None, bytes_eq}
-use Rattle.std.specs.Prelude.{if◌then◌else◌}
+use Rattle.std.specs.Prelude.{option_and_then, if◌then◌else◌}
 use Rattle.toml.specs.Data.{Data, get}
 use Rattle.sdf_document.specs.Fault.{Place, top, actor, link, file}
-use Rattle.sdf_document.specs.Lists.{Files}
+use Rattle.sdf_document.specs.Lists.{Files, file_named}
 use Rattle.sdf_why.specs.Words.{key_line}
-use Rattle.sdf_why.specs.Tables.{entry}
+use Rattle.sdf_why.specs.Tables.{root, entry}
 use Rattle.sdf_why.specs.Actors.{lines_of, actor_is, actor_limits}
 use Rattle.sdf_why.specs.Links.{link_key}
-use Rattle.sdf_why.specs.Coefficients.{file_user, file_key, values_told}
+use Rattle.sdf_why.specs.Values.{unfit_at_key}
+use Rattle.sdf_why.specs.Coefficients.{file_user, file_key}
 
 -- keys of texts, and of lists
 abbrev pub is_text_key : List ℕ → Bool
@@ -49,7 +50,18 @@ place_type (actor a) key d files = actor_type a key d
 place_type (link c) key d files = link_key c key (Some (type_of key)) d
 place_type (file name) key d files = file_user name d ++ file_key name key (Some (type_of key)) files
 
--- the line of a key of another type, and for a list the first value that does not fit
+-- the table of a place
+abbrev pub table_of : Place → Data → Files → Option Data
+table_of top d files = Some d
+table_of (actor a) d files = entry (codes "actor") a d
+table_of (link c) d files = entry (codes "link") c d
+table_of (file name) d files = option_and_then root (file_named name files)
+
+-- the first value that is not a whole number in the list at a key of a place
+abbrev pub unwhole_told : Place → List ℕ → Data → Files → List ℕ
+unwhole_told place key d files = lines_of (unfit_at_key key None) (table_of place d files)
+
+-- the line of a key of another type, and for a list the first value that is not a whole number
 abbrev pub type_told : Place → List ℕ → Data → Files → List ℕ
 type_told place key d files =
-    place_type place key d files ++ (if is_list_key key then values_told place key d files else [])
+    place_type place key d files ++ (if is_list_key key then unwhole_told place key d files else [])

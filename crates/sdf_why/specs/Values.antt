@@ -1,5 +1,6 @@
 -- The first value of a list that does not fit.
-use Rattle.std.specs.Prelude.{ℕ, not, Bool, false, List, ◌++◌, codes, decimal, Option, find, option_and_then}
+use Rattle.std.specs.Prelude.{ℕ, ℤ, not, Bool, true, false, List, ◌++◌, codes, decimal, Option, Some, None, find}
+use Rattle.std.specs.Prelude.{option_and_then}
 use Rattle.std.specs.Option.{option_map_or}
 use Rattle.std.specs.List.{range_with_len}
 use Rattle.toml.specs.Data.{Data, Items, get, at, as_integer, as_array}
@@ -11,35 +12,41 @@ use Rattle.sdf_why.specs.Actors.{lines_of}
 
 -- ---- one value
 
--- item i of a list is not a whole number of a width
-unfoldable pub is_unfit : Width → Data → ℕ → Bool
-is_unfit width list i = not (option_map_or (fits width) (option_and_then as_integer (at i list)) false)
+-- a number of a width; without a width, any number
+abbrev pub is_within : Option Width → ℤ → Bool
+is_within None z = true
+is_within (Some width) z = fits width z
 
--- the first of n items that is not a whole number of a width
-unfoldable pub first_unfit : Width → Data → ℕ → Option ℕ
+-- item i of a list is not a whole number, or not of the width
+unfoldable pub is_unfit : Option Width → Data → ℕ → Bool
+is_unfit width list i = not (option_map_or (is_within width) (option_and_then as_integer (at i list)) false)
+
+-- the first of n items that is not a whole number, or not of the width
+unfoldable pub first_unfit : Option Width → Data → ℕ → Option ℕ
 first_unfit width list n = find (is_unfit width list) (range_with_len 0 n)
 
--- the range of a width
-abbrev pub width_text : Width → List ℕ
-width_text Bits16 = codes "-32768..32767"
-width_text Bits32 = codes "-2147483648..2147483647"
+-- the range of a width; without a width, the type
+abbrev pub width_text : Option Width → List ℕ
+width_text None = codes "a whole number"
+width_text (Some Bits16) = codes "-32768..32767"
+width_text (Some Bits32) = codes "-2147483648..2147483647"
 
--- the index of a value, and the range that it needs
+-- the index of a value, and the range or the type that it needs
 unfoldable pub place_text : ℕ → List ℕ
 place_text i = codes "[" ++ decimal i ++ codes "] = "
 
-abbrev pub wants_text : Width → List ℕ
+abbrev pub wants_text : Option Width → List ℕ
 wants_text width = codes ", wants " ++ width_text width ++ end
 
 -- the line of a value, begun by a label of its list
-unfoldable pub value_line : List ℕ → Width → ℕ → Data → List ℕ
+unfoldable pub value_line : List ℕ → Option Width → ℕ → Data → List ℕ
 value_line label width i d = label ++ place_text i ++ value_text d ++ wants_text width
 
-unfoldable pub value_told : List ℕ → Width → Data → ℕ → List ℕ
+unfoldable pub value_told : List ℕ → Option Width → Data → ℕ → List ℕ
 value_told label width list i = lines_of (value_line label width i) (at i list)
 
 -- the first of the n items of a list that does not fit
-unfoldable pub unfit_told : List ℕ → Width → Data → ℕ → List ℕ
+unfoldable pub unfit_told : List ℕ → Option Width → Data → ℕ → List ℕ
 unfit_told label width list n = lines_of (value_told label width list) (first_unfit width list n)
 
 -- ---- the list at a key of a table
@@ -47,10 +54,10 @@ unfit_told label width list n = lines_of (value_told label width list) (first_un
 unfoldable pub key_label : List ℕ → List ℕ
 key_label key = codes "  " ++ key
 
-unfoldable pub own_list : List ℕ → Width → Data → List ℕ
-own_list key width list =
+unfoldable pub unfit_in_list : List ℕ → Option Width → Data → List ℕ
+unfit_in_list key width list =
     lines_of (λ (ds : Items). unfit_told (key_label key) width list (item_count ds)) (as_array list)
 
 -- the first value that does not fit in the list at a key
-unfoldable pub own_told : List ℕ → Width → Data → List ℕ
-own_told key width d = lines_of (own_list key width) (get key d)
+unfoldable pub unfit_at_key : List ℕ → Option Width → Data → List ℕ
+unfit_at_key key width d = lines_of (unfit_in_list key width) (get key d)

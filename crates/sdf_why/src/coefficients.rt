@@ -8,11 +8,11 @@ ghost use Rattle.sdf_document.specs.Lists.{files_view};
 ghost use Rattle.sdf_why.specs.Actors.{lines_of};
 ghost use Rattle.sdf_why.specs.Coefficients.{file_key, values_in, count_text, most_text, count_line, items_told};
 ghost use Rattle.sdf_why.specs.Coefficients.{list_told, file_told, named_told, list_of, table_told, listed_told};
-ghost use Rattle.sdf_why.specs.Coefficients.{actor_values, file_values, values_told};
+ghost use Rattle.sdf_why.specs.Coefficients.{actor_values, values_told};
 
 use crate::limits::kind_limits;
 use crate::tables::{Source, entry, root, text_at, value_at};
-use crate::values::{push_own, push_unfit};
+use crate::values::{push_unfit, push_unfit_at_key};
 use crate::words::{push_key, push_quoted};
 use sdf_document::{Limits, Place, file_named};
 use sdf_kinds::Width;
@@ -97,7 +97,7 @@ fn push_items(
     if count < 1 || count > limits.most {
         return push_count_line(text, label, count, limits.most);
     }
-    push_unfit(alloc, text, label, limits.width, list, count)
+    push_unfit(alloc, text, label, Some(limits.width), list, count)
 }
 
 #[tactic(auto, unfolding(crate::specs::Coefficients::list_told), using(crate::proofs::Items::item_count_view))]
@@ -202,7 +202,7 @@ fn push_listed(alloc: Global, text: &mut String, key: &str, actor: &Value) -> Re
         ++ listed_told key.now (view actor.now)) }
 {
     match limits_of(actor) {
-        Some(limits) => push_own(alloc, text, key, limits.width, actor),
+        Some(limits) => push_unfit_at_key(alloc, text, key, Some(limits.width), actor),
         None => Ok(()),
     }
 }
@@ -225,26 +225,6 @@ fn push_actor_values(
     }
 }
 
-/// Adds the first value that does not fit in the list at `key` of the file `name`.
-fn push_file_values(
-    alloc: Global,
-    text: &mut String,
-    files: &[(String, Vec<u8>)],
-    name: &str,
-    key: &str,
-) -> Result<(), AllocError>
-    ensures { OnOk result (string_bytes text.new ≡ string_bytes text.old
-        ++ file_values name.now key.now (files_view files.now)) }
-{
-    let Some(bytes) = file_named(name, files) else {
-        return Ok(());
-    };
-    match root(alloc, bytes)? {
-        Some(table) => push_own(alloc, text, key, Width::Bits32, &table),
-        None => Ok(()),
-    }
-}
-
 /// Adds what is outside the limits in the list at `key` of `place`, or in the file that an actor's key `file` names.
 pub(crate) fn push_values(
     alloc: Global,
@@ -257,15 +237,14 @@ pub(crate) fn push_values(
         (place_view place.now) key.now (view source.entry.graph.now) (files_view source.entry.files.now)) }
 {
     match place {
-        Place::Top => Ok(()),
+        Place::Top | Place::File(_) => Ok(()),
         Place::Actor(number) => match entry(source.graph, "actor", *number) {
             Some(actor) => push_actor_values(alloc, text, source.files, key, actor),
             None => Ok(()),
         },
         Place::Link(number) => match entry(source.graph, "link", *number) {
-            Some(link) => push_own(alloc, text, key, Width::Bits32, link),
+            Some(link) => push_unfit_at_key(alloc, text, key, Some(Width::Bits32), link),
             None => Ok(()),
         },
-        Place::File(name) => push_file_values(alloc, text, source.files, name.as_str(), key),
     }
 }

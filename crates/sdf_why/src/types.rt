@@ -1,18 +1,22 @@
 //! The type that a key needs, for a value of another type.
 
-ghost use Rattle.std.specs.Prelude.{◌≡◌, ◌++◌, IfOk, OnOk, option_map, string_bytes};
+ghost use Rattle.std.specs.Prelude.{◌≡◌, ◌++◌, IfOk, OnOk, None, option_map, option_and_then, string_bytes};
 ghost use Rattle.toml.specs.View.{view};
 ghost use Rattle.sdf_document.specs.Fault.{place_view};
-ghost use Rattle.sdf_document.specs.Lists.{files_view};
+ghost use Rattle.sdf_document.specs.Lists.{files_view, file_named};
+ghost use Rattle.sdf_why.specs.Tables.{root};
+ghost use Rattle.sdf_why.specs.Actors.{lines_of};
+ghost use Rattle.sdf_why.specs.Values.{unfit_at_key};
 ghost use Rattle.sdf_why.specs.Types.{is_text_key, is_list_key, type_of, limits_behind, type_within};
-ghost use Rattle.sdf_why.specs.Types.{actor_type, place_type, type_told};
+ghost use Rattle.sdf_why.specs.Types.{actor_type, place_type, unwhole_told, type_told};
 
 use crate::actors::{actor_limits, push_actor_table, push_first};
-use crate::coefficients::{push_file_key, push_values};
+use crate::coefficients::push_file_key;
 use crate::links::push_link_key;
-use crate::tables::{Source, entry, value_at};
+use crate::tables::{Source, entry, root, value_at};
+use crate::values::push_unfit_at_key;
 use crate::words::push_key;
-use sdf_document::Place;
+use sdf_document::{Place, file_named};
 use std::alloc::{AllocError, Global};
 use toml::Value;
 
@@ -118,7 +122,63 @@ fn push_place(
     }
 }
 
-/// Adds the line of a `key` of another type, and for a list the first value that does not fit.
+/// Adds the first value that is not a whole number in the list at `key` of `table`, if there is a table.
+fn push_unwhole_at(
+    alloc: Global,
+    text: &mut String,
+    key: &str,
+    table: Option<&Value>,
+) -> Result<(), AllocError>
+    ensures { OnOk result (string_bytes text.new ≡ string_bytes text.old
+        ++ lines_of (unfit_at_key key.now None) (option_map (λ t. view t.now) table.entry)) }
+{
+    match table {
+        Some(table) => push_unfit_at_key(alloc, text, key, None, table),
+        None => Ok(()),
+    }
+}
+
+/// Adds the first value that is not a whole number in the list at `key` of the file `name`.
+fn push_unwhole_in_file(
+    alloc: Global,
+    text: &mut String,
+    files: &[(String, Vec<u8>)],
+    name: &str,
+    key: &str,
+) -> Result<(), AllocError>
+    ensures { OnOk result (string_bytes text.new ≡ string_bytes text.old ++ lines_of (unfit_at_key key.now None)
+        (option_and_then root (file_named name.now (files_view files.now)))) }
+{
+    let Some(bytes) = file_named(name, files) else {
+        return Ok(());
+    };
+    match root(alloc, bytes)? {
+        Some(table) => push_unfit_at_key(alloc, text, key, None, &table),
+        None => Ok(()),
+    }
+}
+
+/// Adds the first value that is not a whole number in the list at `key` of `place`.
+fn push_unwhole(
+    alloc: Global,
+    text: &mut String,
+    source: Source<'_>,
+    place: &Place,
+    key: &str,
+) -> Result<(), AllocError>
+    ensures { OnOk result (string_bytes text.new ≡ string_bytes text.old ++ unwhole_told
+        (place_view place.now) key.now (view source.entry.graph.now) (files_view source.entry.files.now)) }
+{
+    let graph = source.graph;
+    match place {
+        Place::Top => push_unwhole_at(alloc, text, key, Some(graph)),
+        Place::Actor(number) => push_unwhole_at(alloc, text, key, entry(graph, "actor", *number)),
+        Place::Link(number) => push_unwhole_at(alloc, text, key, entry(graph, "link", *number)),
+        Place::File(name) => push_unwhole_in_file(alloc, text, source.files, name.as_str(), key),
+    }
+}
+
+/// Adds the line of a `key` of another type, and for a list the first value that is not a whole number.
 pub(crate) fn push_type(
     alloc: Global,
     text: &mut String,
@@ -131,7 +191,7 @@ pub(crate) fn push_type(
 {
     push_place(alloc, text, source, place, key)?;
     if is_list_key(key) {
-        push_values(alloc, text, source, place, key)
+        push_unwhole(alloc, text, source, place, key)
     } else {
         Ok(())
     }

@@ -3,8 +3,8 @@
 ghost use Rattle.std.specs.Prelude.{◌≡◌, ◌++◌, IfOk, OnOk, option_and_then, string_bytes};
 ghost use Rattle.toml.specs.Data.{at, as_integer};
 ghost use Rattle.toml.specs.View.{view};
-ghost use Rattle.sdf_why.specs.Values.{is_unfit, first_unfit, width_text, place_text, wants_text, value_line};
-ghost use Rattle.sdf_why.specs.Values.{value_told, unfit_told, key_label, own_list, own_told};
+ghost use Rattle.sdf_why.specs.Values.{is_within, is_unfit, first_unfit, width_text, place_text, wants_text};
+ghost use Rattle.sdf_why.specs.Values.{value_line, value_told, unfit_told, key_label, unfit_in_list, unfit_at_key};
 
 use crate::tables::value_at;
 use crate::words::push_value;
@@ -20,31 +20,43 @@ fn number_at(list: &Value, place: usize) -> Option<i64>
     list.get(place)?.as_integer()
 }
 
-/// Checks whether the item at the index `place` of `list` is not a whole number of this `width`.
-#[tactic(auto, unfolding(crate::specs::Values::is_unfit))]
-fn is_unfit(width: Width, list: &Value, place: usize) -> bool
-    ensures { result ≡ is_unfit width (view list.now) place }
+/// Checks whether `number` is of this `width`. Without a width, each number is.
+fn is_within(width: Option<Width>, number: i64) -> bool
+    ensures { result ≡ is_within width number }
 {
-    match number_at(list, place) {
-        Some(number) => fitting(width, number).is_none(),
+    match width {
+        Some(width) => fitting(width, number).is_some(),
         None => true,
     }
 }
 
-/// Returns the first index below `count` whose item in `list` is not a whole number of this `width`.
+/// Checks whether the item at the index `place` of `list` is not a whole number, or not of this `width`.
+#[tactic(auto, unfolding(crate::specs::Values::is_unfit))]
+fn is_unfit(width: Option<Width>, list: &Value, place: usize) -> bool
+    ensures { result ≡ is_unfit width (view list.now) place }
+{
+    match number_at(list, place) {
+        Some(number) => !is_within(width, number),
+        None => true,
+    }
+}
+
+/// Returns the first index below `count` whose item in `list` is not a whole number, or not of this `width`.
 #[tactic(auto, unfolding(crate::specs::Values::first_unfit))]
-fn first_unfit(width: Width, list: &Value, count: usize) -> Option<usize>
+fn first_unfit(width: Option<Width>, list: &Value, count: usize) -> Option<usize>
     ensures { result ≡ first_unfit width (view list.now) count }
 {
     (0..count).find(|place| is_unfit(width, list, *place))
 }
 
-fn width_text(width: Width) -> &'static str
+/// Returns the range of `width`. Without a width, returns the type.
+fn width_text(width: Option<Width>) -> &'static str
     ensures { result.now ≡ width_text width }
 {
     match width {
-        Width::Bits16 => "-32768..32767",
-        Width::Bits32 => "-2147483648..2147483647",
+        None => "a whole number",
+        Some(Width::Bits16) => "-32768..32767",
+        Some(Width::Bits32) => "-2147483648..2147483647",
     }
 }
 
@@ -55,7 +67,7 @@ fn push_place(text: &mut String, place: usize) -> Result<(), AllocError>
     write!(text, "[{place}] = ")
 }
 
-fn push_wants(text: &mut String, width: Width) -> Result<(), AllocError>
+fn push_wants(text: &mut String, width: Option<Width>) -> Result<(), AllocError>
     ensures { OnOk result (string_bytes text.new ≡ string_bytes text.old ++ wants_text width) }
 {
     let wanted = width_text(width);
@@ -68,7 +80,7 @@ fn push_line(
     alloc: Global,
     text: &mut String,
     label: &str,
-    width: Width,
+    width: Option<Width>,
     place: usize,
     value: &Value,
 ) -> Result<(), AllocError>
@@ -87,7 +99,7 @@ fn push_value_at(
     alloc: Global,
     text: &mut String,
     label: &str,
-    width: Width,
+    width: Option<Width>,
     list: &Value,
     place: usize,
 ) -> Result<(), AllocError>
@@ -100,13 +112,13 @@ fn push_value_at(
     }
 }
 
-/// Adds the first of the `count` items of `list` that is not a whole number of this `width`.
+/// Adds the first of the `count` items of `list` that is not a whole number, or not of this `width`.
 #[tactic(auto, unfolding(crate::specs::Values::unfit_told))]
 pub(crate) fn push_unfit(
     alloc: Global,
     text: &mut String,
     label: &str,
-    width: Width,
+    width: Option<Width>,
     list: &Value,
     count: usize,
 ) -> Result<(), AllocError>
@@ -127,16 +139,16 @@ fn key_label(alloc: Global, key: &str) -> Result<String, AllocError>
     format!(in alloc; "  {key}")
 }
 
-#[tactic(auto, unfolding(crate::specs::Values::own_list), using(crate::proofs::Items::item_count_view))]
-fn push_own_list(
+#[tactic(auto, unfolding(crate::specs::Values::unfit_in_list), using(crate::proofs::Items::item_count_view))]
+fn push_unfit_in_list(
     alloc: Global,
     text: &mut String,
     key: &str,
-    width: Width,
+    width: Option<Width>,
     list: &Value,
 ) -> Result<(), AllocError>
     ensures { OnOk result (string_bytes text.new ≡ string_bytes text.old
-        ++ own_list key.now width (view list.now)) }
+        ++ unfit_in_list key.now width (view list.now)) }
 {
     let Some(items) = list.as_array() else {
         return Ok(());
@@ -145,20 +157,20 @@ fn push_own_list(
     push_unfit(alloc, text, label.as_str(), width, list, items.len())
 }
 
-/// Adds the first value that is not a whole number of this `width` in the list at `key` of `table`.
-#[tactic(auto, unfolding(crate::specs::Values::own_told))]
-pub(crate) fn push_own(
+/// Adds the first value that is not a whole number, or not of this `width`, in the list at `key` of `table`.
+#[tactic(auto, unfolding(crate::specs::Values::unfit_at_key))]
+pub(crate) fn push_unfit_at_key(
     alloc: Global,
     text: &mut String,
     key: &str,
-    width: Width,
+    width: Option<Width>,
     table: &Value,
 ) -> Result<(), AllocError>
     ensures { OnOk result (string_bytes text.new ≡ string_bytes text.old
-        ++ own_told key.now width (view table.now)) }
+        ++ unfit_at_key key.now width (view table.now)) }
 {
     match value_at(table, key) {
-        Some(list) => push_own_list(alloc, text, key, width, list),
+        Some(list) => push_unfit_in_list(alloc, text, key, width, list),
         None => Ok(()),
     }
 }

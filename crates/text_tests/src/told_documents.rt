@@ -150,7 +150,7 @@ static ROWS: [Row; 24] = [
 ];
 
 /// Lists with a value that does not fit, values of a wrong type, and words that are not kinds of the file's format.
-static OTHERS: [Row; 18] = [
+static OTHERS: [Row; 21] = [
     Row {
         graph: "format = 1\nlink = []\n[[actor]]\nname = \"h\"\nkind = \"fir\"\nshift = 0\ntaps = [1, 40000]\n",
         told: "28 KitValue actor 0 key taps\n  \
@@ -175,13 +175,31 @@ static OTHERS: [Row; 18] = [
         graph: "format = 1\nlink = []\n[[actor]]\nname = \"h\"\nkind = \"fir\"\nshift = 0\ntaps = [1, 2.5]\n",
         told: "53 WrongType actor 0 key taps\n  \
             actor 0 is \"h\", a fir\n  taps = a list of 2, wants a list of whole numbers, 1..1024 values of \
-            -32768..32767\n  taps[1] = a float, wants -32768..32767\n",
+            -32768..32767\n  taps[1] = a float, wants a whole number\n",
+    },
+    Row {
+        graph: "format = 1\nlink = []\n[[actor]]\nname = \"h\"\nkind = \"fir\"\nshift = 0\ntaps = [40000, 2.5]\n",
+        told: "53 WrongType actor 0 key taps\n  \
+            actor 0 is \"h\", a fir\n  taps = a list of 2, wants a list of whole numbers, 1..1024 values of \
+            -32768..32767\n  taps[1] = a float, wants a whole number\n",
+    },
+    Row {
+        graph: "format = 1\nlink = []\n[[actor]]\nname = \"h\"\nkind = \"fir\"\nshift = 0\ntaps = 3\n",
+        told: "53 WrongType actor 0 key taps\n  \
+            actor 0 is \"h\", a fir\n  taps = 3, wants a list of whole numbers, 1..1024 values of -32768..32767\n",
+    },
+    Row {
+        graph: "format = 1\nactor = [{ name = \"a\", kind = \"delay\", length = 1 }]\n\
+            link = [{ from = \"a\", to = \"a\", initial = [0.5] }]\n",
+        told: "53 WrongType link 0 key initial\n  \
+            link 0 is a:0 -> a:0\n  initial = a list of 1, wants a list of whole numbers\n  \
+            initial[0] = a float, wants a whole number\n",
     },
     Row {
         graph: "format = 1\nlink = []\n[[actor]]\nname = \"h\"\nkind = \"fir\"\nshift = 0\nfile = \"d.toml\"\n",
         told: "53 WrongType file d.toml key values\n  \
             actor 0 is \"h\", a fir\n  values = a list of 2, wants a list of whole numbers\n  \
-            values[1] = a float, wants -2147483648..2147483647\n",
+            values[1] = a float, wants a whole number\n",
     },
     Row {
         graph: "format = 1\nlink = []\n[[actor]]\nname = \"i\"\nkind = \"input\"\nchannel = 0\nprocessor = \"1\"\n",
