@@ -5,4 +5,5 @@ mod Lines
 mod Roots
 mod Edges
 mod Grown
+mod Forms
 pub mod Theorems

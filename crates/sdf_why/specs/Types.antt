@@ -11,7 +11,7 @@ use Rattle.sdf_why.specs.Links.{link_key}
 use Rattle.sdf_why.specs.Values.{unfit_at_key}
 use Rattle.sdf_why.specs.Coefficients.{file_user, file_key}
 
--- keys of texts, and of lists
+-- keys of texts, and of lists; `types_of_rows` compares them with the forms of rows
 abbrev pub is_text_key : List ℕ → Bool
 is_text_key key = bytes_eq key (codes "name") || (bytes_eq key (codes "kind") || (bytes_eq key (codes "file")
     || (bytes_eq key (codes "from") || bytes_eq key (codes "to"))))
