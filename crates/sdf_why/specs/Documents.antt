@@ -11,7 +11,7 @@ use Rattle.sdf_document.specs.Lists.{Files}
 use Rattle.sdf_why.specs.Limits.{keys_of}
 use Rattle.sdf_why.specs.Words.{end, key_line}
 use Rattle.sdf_why.specs.Tables.{root, text_at, entry, actor_text, first_saying}
-use Rattle.sdf_why.specs.Actors.{lines_of, actor_told, actor_key, actor_value, first_told}
+use Rattle.sdf_why.specs.Actors.{lines_of, actor_told, actor_key, actor_value}
 use Rattle.sdf_why.specs.Links.{link_key}
 use Rattle.sdf_why.specs.Coefficients.{file_user, file_key, values_told}
 use Rattle.sdf_why.specs.Types.{type_told}

@@ -1,5 +1,5 @@
 -- The diagnostic for the actors at the ends of a link: their numbers of ports.
-use Rattle.std.specs.Prelude.{ℕ, ◌==◌, List, ◌++◌, codes, decimal, slice_get, if◌then◌else◌}
+use Rattle.std.specs.Prelude.{ℕ, ◌==◌, List, [], ◌++◌, codes, decimal, slice_get, if◌then◌else◌}
 use Rattle.sdf_actor.specs.Nets.{inputs_of, outputs_of}
 use Rattle.sdf_kit.specs.Kit.{kit_steps}
 use Rattle.sdf_document.specs.Actors.{ActorValue}
@@ -12,7 +12,7 @@ use Rattle.sdf_why.specs.Actors.{lines_of}
 -- the number of ports on a side, with the noun for one
 unfoldable pub count_text : ℕ → List ℕ → List ℕ
 count_text n word = if n == 0 then codes "no " ++ word
-    else (if n == 1 then codes "1 " ++ word else decimal n ++ codes " " ++ word ++ codes "s")
+    else decimal n ++ codes " " ++ word ++ (if n == 1 then [] else codes "s")
 
 unfoldable pub counts_text : ℕ → ℕ → List ℕ
 counts_text inputs outputs = count_text inputs (codes "input") ++ codes " and " ++ count_text outputs (codes "output")

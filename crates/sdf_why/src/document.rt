@@ -2,7 +2,8 @@
 
 ghost use Rattle.std.specs.Prelude.{◌≡◌, ◌++◌, IfOk, OnOk, option_map, string_bytes};
 ghost use Rattle.toml.specs.View.{view};
-ghost use Rattle.sdf_document.specs.Fault.{place_view, fault_view};
+ghost use Rattle.sdf_document.specs.Fault.{place_view, fault_view, kit_value, unknown_key, bad_name, unknown_kind};
+ghost use Rattle.sdf_document.specs.Fault.{bad_port};
 ghost use Rattle.sdf_document.specs.Lists.{files_view};
 ghost use Rattle.sdf_why.specs.Documents.{place_key, place_value, place_format, beside_is, listed_at, row_is};
 ghost use Rattle.sdf_why.specs.Documents.{keys_are, known_keys, same_name, twice, counted, name_rule, told};
@@ -225,6 +226,85 @@ fn push_name_rule(text: &mut String, key: &str) -> Result<(), AllocError>
     }
 }
 
+/// Adds the lines of `28 KitValue`.
+fn push_bad_value(
+    alloc: Global,
+    text: &mut String,
+    source: Source<'_>,
+    place: &Place,
+    key: &str,
+) -> Result<(), AllocError>
+    ensures { OnOk result (string_bytes text.new ≡ string_bytes text.old
+        ++ told (kit_value (place_view place.now) key.now) (view source.entry.graph.now)
+        (files_view source.entry.files.now)) }
+{
+    push_place(alloc, text, source, place, key)?;
+    push_values(alloc, text, source, place, key)
+}
+
+/// Adds the lines of `51 UnknownKey`.
+fn push_unknown_key(
+    alloc: Global,
+    text: &mut String,
+    source: Source<'_>,
+    place: &Place,
+    key: &str,
+) -> Result<(), AllocError>
+    ensures { OnOk result (string_bytes text.new ≡ string_bytes text.old
+        ++ told (unknown_key (place_view place.now) key.now) (view source.entry.graph.now)
+        (files_view source.entry.files.now)) }
+{
+    push_place(alloc, text, source, place, key)?;
+    push_near_key(alloc, text, source.graph, place, key)?;
+    push_known(alloc, text, source.graph, place, key)
+}
+
+/// Adds the lines of `54 BadName`.
+fn push_bad_name(
+    alloc: Global,
+    text: &mut String,
+    source: Source<'_>,
+    place: &Place,
+    key: &str,
+) -> Result<(), AllocError>
+    ensures { OnOk result (string_bytes text.new ≡ string_bytes text.old
+        ++ told (bad_name (place_view place.now) key.now) (view source.entry.graph.now)
+        (files_view source.entry.files.now)) }
+{
+    push_place_value(alloc, text, source, place, key)?;
+    push_name_rule(text, key)
+}
+
+/// Adds the lines of `56 UnknownKind` at the actor `number`.
+fn push_unknown_kind(
+    alloc: Global,
+    text: &mut String,
+    source: Source<'_>,
+    number: usize,
+) -> Result<(), AllocError>
+    ensures { OnOk result (string_bytes text.new ≡ string_bytes text.old
+        ++ told (unknown_kind number) (view source.entry.graph.now) (files_view source.entry.files.now)) }
+{
+    push_actor_of(alloc, text, source.graph, number)?;
+    push_kind(alloc, text, source.graph, number)
+}
+
+/// Adds the lines of `57 BadPort` at the end `key` of the link `number`.
+fn push_bad_port(
+    alloc: Global,
+    text: &mut String,
+    source: Source<'_>,
+    number: usize,
+    key: &str,
+) -> Result<(), AllocError>
+    ensures { OnOk result (string_bytes text.new ≡ string_bytes text.old
+        ++ told (bad_port number key.now) (view source.entry.graph.now) (files_view source.entry.files.now)) }
+{
+    let wanted = Some("NAME or NAME:PORT, a port of 0..15");
+    push_link_key(alloc, text, source.graph, number, key, wanted)?;
+    push_near_end(alloc, text, source.graph, number, key)
+}
+
 /// Adds the lines of a fault.
 fn push_told(
     alloc: Global,
@@ -240,39 +320,18 @@ fn push_told(
     match fault {
         DocumentFault::ActorCount => push_counted(alloc, text, graph, "actor", 1, MOST_ACTORS),
         DocumentFault::ChannelCount => push_counted(alloc, text, graph, "link", 0, MOST_LINKS),
-        DocumentFault::KitValue(place, key) => {
-            push_place(alloc, text, source, place, key)?;
-            push_values(alloc, text, source, place, key)
-        }
+        DocumentFault::KitValue(place, key) => push_bad_value(alloc, text, source, place, key),
         DocumentFault::MissingKey(place, key) => push_place(alloc, text, source, place, key),
         DocumentFault::WrongType(place, key) => push_type(alloc, text, source, place, key),
-        DocumentFault::BadName(place, key) => {
-            push_place_value(alloc, text, source, place, key)?;
-            push_name_rule(text, key)
-        }
+        DocumentFault::BadName(place, key) => push_bad_name(alloc, text, source, place, key),
         DocumentFault::NotToml(_) => Ok(()),
         DocumentFault::Format(place) => push_format(alloc, text, source, place),
         DocumentFault::UnknownKey(place, key) => {
-            push_place(alloc, text, source, place, key.as_str())?;
-            push_near_key(alloc, text, graph, place, key.as_str())?;
-            push_known(alloc, text, graph, place, key.as_str())
+            push_unknown_key(alloc, text, source, place, key.as_str())
         }
         DocumentFault::NameTwice(number) => push_twice(alloc, text, graph, *number),
-        DocumentFault::UnknownKind(number) => {
-            push_actor_of(alloc, text, graph, *number)?;
-            push_kind(alloc, text, graph, *number)
-        }
-        DocumentFault::BadPort(number, key) => {
-            push_link_key(
-                alloc,
-                text,
-                graph,
-                *number,
-                key,
-                Some("NAME or NAME:PORT, a port of 0..15"),
-            )?;
-            push_near_end(alloc, text, graph, *number, key)
-        }
+        DocumentFault::UnknownKind(number) => push_unknown_kind(alloc, text, source, *number),
+        DocumentFault::BadPort(number, key) => push_bad_port(alloc, text, source, *number, key),
         DocumentFault::NoFile(name) => push_first(alloc, text, graph, "file", name.as_str()),
     }
 }

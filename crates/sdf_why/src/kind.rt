@@ -67,7 +67,7 @@ fn push_kind_format(
     push_key(alloc, text, "format", format, Some(wanted.as_str()))
 }
 
-/// Adds the format that the kind `meant` needs if format 1 does not have it, or all kinds that need format 2.
+/// Adds the format that `meant` needs, unless format 1 has it. Without a kind, adds all kinds that need format 2.
 fn push_format_for(
     alloc: Global,
     text: &mut String,

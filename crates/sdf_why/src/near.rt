@@ -20,7 +20,7 @@ use sdf_similar::nearest;
 use std::alloc::{AllocError, Global};
 use toml::Value;
 
-/// Adds `name`, if there is one and it is not `word` itself.
+/// Adds the question whether `name` was meant, unless it is `word` itself.
 pub(crate) fn push_other(
     alloc: Global,
     text: &mut String,

@@ -10,6 +10,7 @@ ghost use Rattle.sdf_why.specs.Ports.{ports_told};
 use crate::channels::ports_of;
 use crate::words::push_quoted;
 use sdf_document::{ActorEntry, Document, LinkEntry};
+use sdf_options::plural::plural;
 use std::alloc::{AllocError, Global};
 
 /// Adds the number of ports on one side. `word` is the noun for one of them.
@@ -19,10 +20,9 @@ fn push_count(text: &mut String, count: usize, word: &str) -> Result<(), AllocEr
 {
     if count == 0 {
         write!(text, "no {word}")
-    } else if count == 1 {
-        write!(text, "1 {word}")
     } else {
-        write!(text, "{count} {word}s")
+        let s = plural(count as u64);
+        write!(text, "{count} {word}{s}")
     }
 }
 
