@@ -55,7 +55,7 @@ WholeCyclesMove = (xs : List ℕ) (k : ℕ) → sum_to (rate_at xs) (k * length 
 abbrev pub OneCycleMoves : Type 0
 OneCycleMoves = (xs : List ℕ) → sum_to (rate_at xs) (length xs) ≡ sum xs
 
--- at a constant rate each firing moves as much
+-- at a constant rate `n` firings move `n` times that rate
 abbrev pub ConstantRatesMove : Type 0
 ConstantRatesMove = (xs : List ℕ) → length xs ≡ 1 → (n : ℕ) → sum_to (rate_at xs) n ≡ n * slice_index xs 0
 

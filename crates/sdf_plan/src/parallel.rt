@@ -41,8 +41,8 @@ pub struct Paced {
     pub pace: Pace,
 }
 
-/// Makes the plan for one thread by the order of `period`, cut into a part of the sound for each worker, with a warm-up
-/// of `periods` periods.
+/// Makes the plan that cuts the sound into a part for each worker. Each part is run by the order of `period`, after a
+/// warm-up of `periods` periods.
 #[tactic(auto, using(crate::proofs::Alone::is_in_parts, crate::proofs::Alone::parts_suit))]
 fn by_parts(design: &Design, workers: usize, periods: u32, period: Period) -> Paced
     requires by_policy { IsScheduleBy Round (graph_of kit_steps design.now.net) period }

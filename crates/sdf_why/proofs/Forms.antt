@@ -1,4 +1,4 @@
--- The rows of kinds have no list under a name that `type_of` does not know, and no other value under the name of a list.
+-- The rows of kinds have no list under a name that `type_of` does not know, and no other value under a list's name.
 use Rattle.std.proofs.Common.{◌≡◌, ℕ, List, ◌++◌, map, refl}
 use Rattle.std.specs.Prelude.{codes, if◌then◌else◌}
 use Rattle.std.specs.List.{flat_map}
