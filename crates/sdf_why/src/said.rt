@@ -18,19 +18,28 @@ pub fn device_text(alloc: Global, name: &str, said: &str) -> Result<String, Allo
     Ok(text)
 }
 
-/// Returns the line and the column of `error`, and its message.
-fn said_of(alloc: Global, error: &Error) -> Result<String, AllocError> {
+/// Returns the end of the message about a header that stands twice in `bytes`: actors and links have double brackets.
+fn brackets(bytes: &[u8], error: &Error) -> &'static str {
+    match error.span().and_then(|span| bytes.get(span)) {
+        Some(b"[actor]" | b"[[actor]]") => ", each actor has double brackets: [[actor]]",
+        Some(b"[link]" | b"[[link]]") => ", each link has double brackets: [[link]]",
+        _ => "",
+    }
+}
+
+/// Returns the line and the column of `error` in `bytes`, and its message.
+fn said_of(alloc: Global, bytes: &[u8], error: &Error) -> Result<String, AllocError> {
     let whole = format!(in alloc; "{error}")?;
     let place = before(whole.as_str(), '\n');
     let message = error.message();
-    format!(in alloc; "{place}: {message}")
+    format!(in alloc; "{place}: {message}{}", brackets(bytes, error))
 }
 
-/// Returns the diagnostic for the file `name` with the `error` of the TOML parser.
-fn error_text(alloc: Global, name: &str, error: &Error) -> Result<String, AllocError>
+/// Returns the diagnostic for the file `name` of these `bytes`, with the `error` of the TOML parser.
+fn error_text(alloc: Global, name: &str, bytes: &[u8], error: &Error) -> Result<String, AllocError>
     ensures { IfOk result (λ text. IsSaid name.now (string_bytes text)) }
 {
-    let said = said_of(alloc, error)?;
+    let said = said_of(alloc, bytes, error)?;
     let text = device_text(alloc, name, said.as_str())?;
     Ok(text)
 }
@@ -42,6 +51,6 @@ pub fn toml_text(alloc: Global, name: &str, bytes: &[u8]) -> Result<String, Allo
     match toml::table_from_slice(alloc, bytes) {
         Ok(_) => Ok(String::new(alloc)),
         Err(error) if error.is_memory() => Err(AllocError),
-        Err(error) => error_text(alloc, name, &error),
+        Err(error) => error_text(alloc, name, bytes, &error),
     }
 }

@@ -57,6 +57,24 @@ fn where_toml_stops(alloc: Global) -> Result<String, Fail> {
     Ok(told)
 }
 
+/// Documents in which something stands twice: a header of lists without double brackets, or a key.
+const TWICE: &[(&str, &str)] = &[
+    (
+        "[actor]\n[actor]\n",
+        "  \"a.toml\": TOML parse error at line 2, column 1: duplicate key, each actor has double brackets: \
+         [[actor]]\n",
+    ),
+    (
+        "[[link]]\n[link]\n",
+        "  \"a.toml\": TOML parse error at line 2, column 1: duplicate key, each link has double brackets: \
+         [[link]]\n",
+    ),
+    (
+        "format = 1\nformat = 2\n",
+        "  \"a.toml\": TOML parse error at line 2, column 1: duplicate key\n",
+    ),
+];
+
 /// The links of the loop, on which each actor waits for the other, and the link that the output waits for.
 const CYCLE: &str =
     "  link 3 is fork:1 -> add:1, holds 0, wants 1\n  link 1 is add:0 -> fork:0, holds 0, wants 1\n  link 2 is fork:0 -> out:0\n";
@@ -138,5 +156,9 @@ fn sounds_are_told(rt: HostRuntime) -> Result<(), Fail> {
         "  \"a\\u{7}.toml\": not found\n",
     )?;
     says(told(toml_text(alloc, "a.toml", b"format = 1\n")), "")?;
-    says(where_toml_stops(alloc), "at its line and column")
+    says(where_toml_stops(alloc), "at its line and column")?;
+    for (text, wanted) in TWICE {
+        says(told(toml_text(alloc, "a.toml", text.as_bytes())), wanted)?;
+    }
+    Ok(())
 }
