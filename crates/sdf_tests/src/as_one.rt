@@ -93,15 +93,17 @@ const HELD_BLOCKS: Row = Row {
     ..SMALL
 };
 
-const HELD_LOOP: Row = Row {
+const BLOCKS_HELD: &[Row] = &[HELD_BLOCKS];
+
+const LOOP_HELD: &[Row] = &[Row {
     net: Worked::Looped,
     ..HELD_BLOCKS
-};
+}];
 
-const HELD_FORK: Row = Row {
+const FORK_HELD: &[Row] = &[Row {
     net: Worked::Forked,
     ..HELD_BLOCKS
-};
+}];
 
 /// Two periods of the converter, without holds.
 const CONVERTER: Row = Row {
@@ -198,8 +200,24 @@ fn in_each_mode<R: Threads + AllocGlobal + Sync, A: Actor<Token = i32>>(
     Ok(())
 }
 
-/// Checks runs with each number of workers of `row`: each processor is held up in turn, and then all are. Processors
-/// beyond the number of actors have no firings.
+/// Checks runs of `table` with each of the first `held` processors held up in turn, and then with all of them.
+/// Processors beyond the number of actors have no firings.
+fn by_one_crew<R: Threads + AllocGlobal + Sync, A: Actor<Token = i32>>(
+    rt: &R,
+    net: &Net<A>,
+    table: &BlockTable,
+    row: &Row,
+    held: usize,
+) -> Result<(), Fail>
+    requires fits { IsBlockTableOf (rates (graph_of A.steps net.now)) table.now }
+{
+    for processor in 0..net.len().min(held) {
+        in_each_mode(rt, net, table, row, Some(processor))?;
+    }
+    in_each_mode(rt, net, table, row, None)
+}
+
+/// Checks runs with each number of workers of `row`. Each processor is held up in turn, unless `row.turns` is 0.
 fn by_each_crew<R: Threads + AllocGlobal + Sync, A: Actor<Token = i32>>(
     rt: &R,
     net: &Net<A>,
@@ -208,10 +226,7 @@ fn by_each_crew<R: Threads + AllocGlobal + Sync, A: Actor<Token = i32>>(
     for workers in row.workers {
         let table = planned(rt.alloc(), net, row.factor, *workers, true)?;
         let held = if row.turns == 0 { 0 } else { *workers };
-        for processor in 0..net.len().min(held) {
-            in_each_mode(rt, net, &table, row, Some(processor))?;
-        }
-        in_each_mode(rt, net, &table, row, None)?;
+        by_one_crew(rt, net, &table, row, held)?;
     }
     Ok(())
 }
@@ -220,35 +235,36 @@ fn are_as_one<R: Threads + AllocGlobal + Sync>(rt: &R, row: &Row) -> Result<(), 
     by_each_crew(rt, &row.net.net(rt.alloc())?, row)
 }
 
+fn all_are_as_one<R: Threads + AllocGlobal + Sync>(rt: &R, rows: &[Row]) -> Result<(), Fail> {
+    for row in rows {
+        are_as_one(rt, row)?;
+    }
+    Ok(())
+}
+
 #[test]
 fn blocks(rt: HostRuntime) -> Result<(), Fail> {
-    are_as_one(&rt, &HELD_BLOCKS)
+    all_are_as_one(&rt, BLOCKS_HELD)
 }
 
 #[test]
 fn a_loop(rt: HostRuntime) -> Result<(), Fail> {
-    are_as_one(&rt, &HELD_LOOP)
+    all_are_as_one(&rt, LOOP_HELD)
 }
 
 #[test]
 fn a_fork(rt: HostRuntime) -> Result<(), Fail> {
-    are_as_one(&rt, &HELD_FORK)
+    all_are_as_one(&rt, FORK_HELD)
 }
 
 /// Tests small nets and the largest one. Refuses also out-of-memory faults when memory is plentiful, for over 60 actors
 /// or for 16 workers: from `Sizes::new`, `places`, `seats`, `make_jobs` or `make_works`.
 #[test]
 fn nets(rt: HostRuntime) -> Result<(), Fail> {
-    for row in NETS {
-        are_as_one(&rt, row)?;
-    }
-    Ok(())
+    all_are_as_one(&rt, NETS)
 }
 
 #[test]
 fn the_converter(rt: HostRuntime) -> Result<(), Fail> {
-    for row in CONVERTERS {
-        are_as_one(&rt, row)?;
-    }
-    Ok(())
+    all_are_as_one(&rt, CONVERTERS)
 }

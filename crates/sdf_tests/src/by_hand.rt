@@ -1,5 +1,6 @@
 //! Rounds by hand over rings, mostly with a source that puts two samples and a sink that takes three.
 
+ghost use Rattle.std.specs.Prelude.{◌≡◌};
 ghost use Rattle.sdf_rings.specs.Rests.{HaveMet};
 
 use crate::kits::{BLOCKS, Worked};
@@ -8,7 +9,7 @@ use crate::patience::{Held, Hold, LATE, PAUSE, SHORT};
 use sdf_actor::{Actor, Net};
 use sdf_node::NoGate;
 use sdf_rings::{Rings, Workers};
-use std::alloc::Global;
+use std::alloc::{AllocError, Global};
 use std::process::Abort;
 use std::sync::atomic::Ordering;
 use std::test::Fail;
@@ -49,8 +50,38 @@ fn both_and_meet<A: Actor>(rt: &impl Abort, rings: &mut Rings<A>, turn: [usize; 
     rings.meet().unwrap();
 }
 
+/// Prepares rings for `blocks` blocks of one period, on `inputs`, with a table for `workers` workers.
+fn prepared<'a, A: Actor<Token = i32>>(
+    alloc: Global,
+    net: &'a Net<A>,
+    workers: usize,
+    blocks: u32,
+    inputs: &'a [Vec<i32>],
+) -> Result<Rings<'a, A>, Fail> {
+    let table = planned(alloc, net, 1, workers, true)?;
+    Ok(Rings::prepare(alloc, net, &table, blocks, inputs)?)
+}
+
 /// Works the sink's seat, then the source's, and a second round. Reports the firings left before, each seat's firings,
 /// the channel's samples after the first round, and the firings left at the end.
+fn work_seats<A: Actor<Token = i32>>(
+    rt: &(impl Abort + AllocGlobal),
+    net: &Net<A>,
+    rings: &mut Rings<A>,
+) -> Result<String, Fail>
+    requires same { rings.old.net ≡ net.now }
+{
+    let left = rings.left();
+    assert!(rt; rings.seats() == 2 && net.channels() == 1);
+    let sunk = rings.work_one(1, 0, &NoGate);
+    let put = rings.work_one(0, 0, &NoGate);
+    rings.meet()?;
+    let held = rings.held(0);
+    both_and_meet(rt, rings, [1, 0]);
+    Ok(format!(in rt.alloc(); "{left} {sunk} {put} {held} {}", rings.left())?)
+}
+
+/// Prepares rings for one block of six samples, and calls `work_seats`.
 fn seats<A: Actor<Token = i32>>(
     rt: &(impl Abort + AllocGlobal),
     net: &Net<A>,
@@ -58,14 +89,34 @@ fn seats<A: Actor<Token = i32>>(
     let table = planned(rt.alloc(), net, 1, 2, true)?;
     let inputs = ramp(rt.alloc(), 1, 7, 0)?;
     let mut rings = Rings::prepare(rt.alloc(), net, &table, 1, &inputs)?;
-    let left = rings.left();
-    assert!(rt; rings.seats() == 2 && net.channels() == 1);
-    let sunk = rings.work_one(1, 0, &NoGate);
-    let put = rings.work_one(0, 0, &NoGate);
-    rings.meet()?;
-    let held = rings.held(0);
-    both_and_meet(rt, &mut rings, [1, 0]);
-    Ok(format!(in rt.alloc(); "{left} {sunk} {put} {held} {}", rings.left())?)
+    work_seats(rt, net, &mut rings)
+}
+
+/// Works `rounds` rounds, and returns the firings left after each.
+fn left_after_each<A: Actor<Token = i32>>(
+    rt: &(impl Abort + AllocGlobal),
+    rings: &mut Rings<A>,
+    rounds: u32,
+    turn: [usize; 2],
+) -> Result<Vec<u64>, AllocError> {
+    let mut left = Vec::new(rt.alloc());
+    for _ in 0..rounds {
+        both_and_meet(rt, rings, turn);
+        left.push(rings.left())?;
+    }
+    Ok(left)
+}
+
+/// Works `rounds` rounds, after which nothing may be left. Returns the firings left after each, and the output lists.
+fn work_rounds<A: Actor<Token = i32>>(
+    rt: &(impl Abort + AllocGlobal),
+    mut rings: Rings<'_, A>,
+    rounds: u32,
+    turn: [usize; 2],
+) -> Result<String, Fail> {
+    let left = left_after_each(rt, &mut rings, rounds, turn)?;
+    assert!(rt; rings.left() == 0);
+    Ok(format!(in rt.alloc(); "{left:?} {:?}", rings.finish())?)
 }
 
 /// Returns the firings left after each of `rounds` rounds, and the output lists; or the fault if `prepare` refuses.
@@ -78,17 +129,10 @@ fn rounds<A: Actor<Token = i32>>(
 ) -> Result<String, Fail> {
     let table = planned(rt.alloc(), net, 1, 2, homed)?;
     let inputs = ramp(rt.alloc(), 1, 13, 0)?;
-    let mut rings = match Rings::prepare(rt.alloc(), net, &table, blocks, &inputs) {
-        Ok(rings) => rings,
-        Err(fault) => return Ok(fault.to_string(rt.alloc())?),
-    };
-    let mut left = Vec::new(rt.alloc());
-    for _ in 0..rounds {
-        both_and_meet(rt, &mut rings, turn);
-        left.push(rings.left())?;
+    match Rings::prepare(rt.alloc(), net, &table, blocks, &inputs) {
+        Ok(rings) => work_rounds(rt, rings, rounds, turn),
+        Err(fault) => Ok(fault.to_string(rt.alloc())?),
     }
-    assert!(rt; rings.left() == 0);
-    Ok(format!(in rt.alloc(); "{left:?} {:?}", rings.finish())?)
 }
 
 /// Returns how many firings passed of the source on processor 0, of the sink on processor 1, and out of turn.
@@ -98,14 +142,11 @@ fn counts(watch: &Watch) -> (u64, u64, u64) {
 
 /// Reports `counts` after the sink's seat, which finds nothing, after the source's seat, which fills the ring, and
 /// after the sink's seat again.
-fn passed<A: Actor<Token = i32>>(
+fn work_gated<A: Actor<Token = i32>>(
     rt: &(impl Abort + AllocGlobal),
-    net: &Net<A>,
+    rings: &mut Rings<A>,
 ) -> Result<String, Fail> {
-    let table = planned(rt.alloc(), net, 1, 2, true)?;
-    let inputs = ramp(rt.alloc(), 1, 13, 0)?;
     let watch = Watch::new(rt.alloc(), 2, 2, gates::Hold::NONE)?;
-    let mut rings = Rings::prepare(rt.alloc(), net, &table, 2, &inputs)?;
     assert!(rt; rings.seats() == 2);
     rings.work_one(1, 7, &watch);
     let first = counts(&watch);
@@ -113,6 +154,23 @@ fn passed<A: Actor<Token = i32>>(
     let second = counts(&watch);
     rings.work_one(1, 7, &watch);
     Ok(format!(in rt.alloc(); "{first:?} {second:?} {:?}", counts(&watch))?)
+}
+
+/// Prepares rings for two blocks, and calls `work_gated`.
+fn passed<A: Actor<Token = i32>>(
+    rt: &(impl Abort + AllocGlobal),
+    net: &Net<A>,
+) -> Result<String, Fail> {
+    let inputs = ramp(rt.alloc(), 1, 13, 0)?;
+    let mut rings = prepared(rt.alloc(), net, 2, 2, &inputs)?;
+    work_gated(rt, &mut rings)
+}
+
+/// Reports `left`, whether the awaited actor began, and whether it was awaited in vain.
+fn state(alloc: Global, left: u64, held: &Held) -> Result<String, Fail> {
+    let begun = held.begun.load(Ordering::SeqCst);
+    let missed = held.missed.load(Ordering::SeqCst);
+    Ok(format!(in alloc; "{left} left, {begun}, {missed}")?)
 }
 
 /// Reports how many of four firings are left after one round of both seats at once. Then it reports whether the sink
@@ -123,44 +181,61 @@ fn at_once<R: Abort + Threads + AllocGlobal + Sync, A: Actor<Token = i32>>(
     patience: u32,
     turns: u32,
 ) -> Result<String, Fail> {
-    let table = planned(rt.alloc(), net, 1, 2, true)?;
     let inputs = ramp(rt.alloc(), 1, 3, 0)?;
     let held = Held::new(Hold { turns, ..LATE });
-    let mut rings = Rings::prepare(rt.alloc(), net, &table, 2, &inputs)?;
+    let mut rings = prepared(rt.alloc(), net, 2, 2, &inputs)?;
     rings.work_all(Workers {
         rt,
         gate: &held,
         patience,
     });
-    let begun = held.begun.load(Ordering::SeqCst);
-    let missed = held.missed.load(Ordering::SeqCst);
-    Ok(format!(in rt.alloc(); "{} left, {begun}, {missed}", rings.left())?)
+    state(rt.alloc(), rings.left(), &held)
 }
 
 /// Returns the number of firings that the seat of one worker has for `blocks` blocks.
-fn many<A: Actor<Token = i32>>(alloc: Global, net: &Net<A>, blocks: u32) -> Result<String, Fail> {
-    let table = planned(alloc, net, 1, 1, true)?;
+fn firings<A: Actor<Token = i32>>(alloc: Global, net: &Net<A>, blocks: u32) -> Result<u64, Fail> {
     let inputs = ramp(alloc, 0, 0, blocks as usize)?;
-    let rings = Rings::prepare(alloc, net, &table, blocks, &inputs)?;
-    Ok(format!(in alloc; "{}", rings.left())?)
+    Ok(prepared(alloc, net, 1, blocks, &inputs)?.left())
 }
 
-fn told<R: Abort + Threads + AllocGlobal + Sync>(rt: &R, by_hand: ByHand) -> Result<String, Fail> {
-    let alloc = rt.alloc();
+/// Reports what `firings` returns.
+fn many<A: Actor<Token = i32>>(alloc: Global, net: &Net<A>, blocks: u32) -> Result<String, Fail> {
+    Ok(format!(in alloc; "{}", firings(alloc, net, blocks)?)?)
+}
+
+/// Returns the net on which `by_hand` works.
+fn net_of(by_hand: ByHand) -> Worked {
     match by_hand {
-        ByHand::Seats => seats(rt, &BLOCKS.net(alloc)?),
+        ByHand::AtOnce(..) => Worked::Pair(1, 1, &[7]),
+        ByHand::Many(_) => Worked::Wide,
+        _ => BLOCKS,
+    }
+}
+
+fn told<R: Abort + Threads + AllocGlobal + Sync, A: Actor<Token = i32>>(
+    rt: &R,
+    net: &Net<A>,
+    by_hand: ByHand,
+) -> Result<String, Fail> {
+    match by_hand {
+        ByHand::Seats => seats(rt, net),
         ByHand::Rounds {
             homed,
             blocks,
             rounds: many,
             turn,
-        } => rounds(rt, &BLOCKS.net(alloc)?, homed, (blocks, many), turn),
-        ByHand::Gate => passed(rt, &BLOCKS.net(alloc)?),
-        ByHand::AtOnce(patience, turns) => {
-            at_once(rt, &Worked::Pair(1, 1, &[7]).net(alloc)?, patience, turns)
-        }
-        ByHand::Many(blocks) => many(alloc, &Worked::Wide.net(alloc)?, blocks),
+        } => rounds(rt, net, homed, (blocks, many), turn),
+        ByHand::Gate => passed(rt, net),
+        ByHand::AtOnce(patience, turns) => at_once(rt, net, patience, turns),
+        ByHand::Many(blocks) => many(rt.alloc(), net, blocks),
     }
+}
+
+fn told_of<R: Abort + Threads + AllocGlobal + Sync>(
+    rt: &R,
+    by_hand: ByHand,
+) -> Result<String, Fail> {
+    told(rt, &net_of(by_hand).net(rt.alloc())?, by_hand)
 }
 
 /// Names, work and wanted reports. For two blocks, too, the ring has room for one block: three firings of the source.
@@ -245,7 +320,7 @@ const ROWS: &[(&str, ByHand, &str)] = &[
 #[test]
 fn rounds_by_hand(rt: HostRuntime) -> Result<(), Fail> {
     for (name, by_hand, wanted) in ROWS {
-        row_says(name, told(&rt, *by_hand), wanted)?;
+        row_says(name, told_of(&rt, *by_hand), wanted)?;
     }
     Ok(())
 }

@@ -12,26 +12,41 @@ fn told<F: Display + Drop>(alloc: Global, fault: F) -> Result<String, Fail> {
     Ok(format!(in alloc; "{fault}")?)
 }
 
+/// Checks that the text of `fault` is `wanted`.
+fn is_told<F: Display + Drop>(alloc: Global, fault: F, wanted: &str) -> Result<(), Fail> {
+    says(told(alloc, fault), wanted)
+}
+
+/// Checks the text of each fault of `rows`.
+fn are_told<F: Display + Copy>(alloc: Global, rows: &[(F, &str)]) -> Result<(), Fail> {
+    for (fault, wanted) in rows {
+        is_told(alloc, *fault, wanted)?;
+    }
+    Ok(())
+}
+
+const OF_RUNS: &[(RunFault, &str)] = &[
+    (RunFault::InputLength, "29 InputLength"),
+    (RunFault::NotHomed, "30 NotHomed"),
+    (RunFault::Patience, "31 Patience"),
+    (RunFault::NoWorker, "32 NoWorker"),
+    (RunFault::SessionFailed, "33 SessionFailed"),
+];
+
+const OF_PLANS: &[(PrecFault, &str)] = &[
+    (PrecFault::BlockingFactor, "11 BlockingFactor"),
+    (PrecFault::WorkerCount, "12 WorkerCount"),
+    (PrecFault::BlockTooLong, "13 BlockTooLong"),
+    (PrecFault::BadHome { actor: 3 }, "19 BadHome actor 3"),
+    (PrecFault::BadCost { actor: 4 }, "62 BadCost actor 4"),
+];
+
 #[test]
 fn of_runs_plans_and_files(rt: HostRuntime) -> Result<(), Fail> {
     let alloc = rt.alloc();
-    says(told(alloc, RunFault::from(AllocError)), "1 OutOfMemory")?;
-    says(told(alloc, RunFault::InputLength), "29 InputLength")?;
-    says(told(alloc, RunFault::NotHomed), "30 NotHomed")?;
-    says(told(alloc, RunFault::Patience), "31 Patience")?;
-    says(told(alloc, RunFault::NoWorker), "32 NoWorker")?;
-    says(told(alloc, RunFault::SessionFailed), "33 SessionFailed")?;
-    says(told(alloc, PrecFault::from(AllocError)), "1 OutOfMemory")?;
-    says(told(alloc, PrecFault::BlockingFactor), "11 BlockingFactor")?;
-    says(told(alloc, PrecFault::WorkerCount), "12 WorkerCount")?;
-    says(told(alloc, PrecFault::BlockTooLong), "13 BlockTooLong")?;
-    says(
-        told(alloc, PrecFault::BadHome { actor: 3 }),
-        "19 BadHome actor 3",
-    )?;
-    says(
-        told(alloc, PrecFault::BadCost { actor: 4 }),
-        "62 BadCost actor 4",
-    )?;
-    says(told(alloc, FileFault::from(AllocError)), "1 OutOfMemory")
+    is_told(alloc, RunFault::from(AllocError), "1 OutOfMemory")?;
+    are_told(alloc, OF_RUNS)?;
+    is_told(alloc, PrecFault::from(AllocError), "1 OutOfMemory")?;
+    are_told(alloc, OF_PLANS)?;
+    is_told(alloc, FileFault::from(AllocError), "1 OutOfMemory")
 }

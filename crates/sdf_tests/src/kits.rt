@@ -1,8 +1,8 @@
 //! Nets of kit actors, for workers: the rate converter, and nets whose firings are held up by gates of the tests.
 
-use sdf_actor::{Net, Node};
-use sdf_kit::Kit;
-use std::alloc::Global;
+use sdf_actor::{Link, Net, Node};
+use sdf_kit::{Kit, KitFault};
+use std::alloc::{AllocError, Global};
 use std::test::Fail;
 use test_actors::nets::{links, sink, source};
 
@@ -23,19 +23,27 @@ enum Part {
 
 use Part::{Add, Deal, Fork, Gain, Gather, In, Ones, Out};
 
+fn inner(made: Result<Kit, KitFault>) -> Result<Node<Kit>, Fail> {
+    Ok(Node::Inner(made?))
+}
+
+/// Returns an FIR filter whose taps are ones.
+fn ones(alloc: Global, up: u32, down: u32) -> Result<Node<Kit>, Fail> {
+    let taps = vec![in alloc; 1i32; up as usize]?;
+    inner(Kit::fir(up, down, taps, 0))
+}
+
 fn kit(alloc: Global, part: Part) -> Result<Node<Kit>, Fail> {
-    Ok(match part {
-        In(block) => source(0, block),
-        Out(ext, block) => sink(ext, block),
-        Add(ways) => Node::Inner(Kit::add(ways)?),
-        Deal(ways, run) => Node::Inner(Kit::deal(ways, run)?),
-        Fork(ways) => Node::Inner(Kit::fork(ways)?),
-        Gain(factor, shift) => Node::Inner(Kit::gain(factor, shift)?),
-        Gather(ways, run) => Node::Inner(Kit::gather(ways, run)?),
-        Ones(up, down) => {
-            Node::Inner(Kit::fir(up, down, vec![in alloc; 1i32; up as usize]?, 0)?)
-        }
-    })
+    match part {
+        In(block) => Ok(source(0, block)),
+        Out(ext, block) => Ok(sink(ext, block)),
+        Add(ways) => inner(Kit::add(ways)),
+        Deal(ways, run) => inner(Kit::deal(ways, run)),
+        Fork(ways) => inner(Kit::fork(ways)),
+        Gain(factor, shift) => inner(Kit::gain(factor, shift)),
+        Gather(ways, run) => inner(Kit::gather(ways, run)),
+        Ones(up, down) => ones(alloc, up, down),
+    }
 }
 
 fn nodes(alloc: Global, parts: &[Part]) -> Result<Vec<Node<Kit>>, Fail> {
@@ -46,6 +54,21 @@ fn nodes(alloc: Global, parts: &[Part]) -> Result<Vec<Node<Kit>>, Fail> {
     Ok(nodes)
 }
 
+/// Returns links between `ends`, which begin with the samples that `begun` gives by the number of their link.
+fn begun_links(
+    alloc: Global,
+    ends: &[[usize; 4]],
+    begun: &[(usize, &[i32])],
+) -> Result<Vec<Link<i32>>, AllocError> {
+    let mut links = links(alloc, ends)?;
+    for (number, initial) in begun {
+        if let Some(link) = links.get_mut(*number) {
+            link.initial.extend_from_slice(initial)?;
+        }
+    }
+    Ok(links)
+}
+
 /// Builds a net of `parts` with links between `ends`. `begun` gives initial samples by the number of their link.
 fn joined(
     alloc: Global,
@@ -54,13 +77,7 @@ fn joined(
     begun: &[(usize, &[i32])],
 ) -> Result<Net<Kit>, Fail> {
     let nodes = nodes(alloc, parts)?;
-    let mut links = links(alloc, ends)?;
-    for (number, initial) in begun {
-        if let Some(link) = links.get_mut(*number) {
-            link.initial.extend_from_slice(initial)?;
-        }
-    }
-    Ok(Net::new(alloc, nodes, links)?)
+    Ok(Net::new(alloc, nodes, begun_links(alloc, ends, begun)?)?)
 }
 
 /// A source that puts two samples a firing, and a sink that takes three.
@@ -191,43 +208,87 @@ const WIDE_ENDS: &[[usize; 4]] = &[
 /// The initial samples of a link that begins with one zero.
 const ZERO: &[i32] = &[0];
 
-/// Builds a fork and an adder with `ways` branches between them. Each branch has a link in, which begins with a zero,
-/// and a link out. The links from the source and to the sink are the last.
-fn branches(alloc: Global, ways: usize) -> Result<Net<Kit>, Fail> {
-    let mut parts = Vec::from_slice(alloc, &[In(1), Fork(ways)])?;
-    let mut ends = Vec::new(alloc);
-    let mut begun = Vec::new(alloc);
-    let adder = ways.wrapping_add(2);
-    for way in 0..ways {
-        let branch = way.wrapping_add(2);
-        parts.push(Gain(1, 0))?;
-        ends.extend_from_slice(&[[1, way, branch, 0], [branch, 0, adder, way]])?;
-        begun.push((way.wrapping_mul(2), ZERO))?;
-    }
-    parts.extend_from_slice(&[Add(ways), Out(0, 1)])?;
-    ends.extend_from_slice(&[[0, 0, 1, 0], [adder, 0, adder.wrapping_add(1), 0]])?;
-    joined(alloc, &parts, &ends, &begun)
+/// Parts, and the links between them.
+#[derive(Drop)]
+struct Plan {
+    parts: Vec<Part>,
+    ends: Vec<[usize; 4]>,
 }
 
-/// Builds thirteen pairs of a fork and an adder in a line, then 36 gains. A pair is joined by 16 links, the maximum
-/// number of ports, and the first pair by 14.
-fn large(alloc: Global) -> Result<Net<Kit>, Fail> {
-    let mut parts = Vec::from_slice(alloc, &[In(1)])?;
-    let mut ends = Vec::new(alloc);
+/// Adds the branches from a fork, which is node 1, to `adder`.
+fn add_branches(plan: &mut Plan, adder: usize) -> Result<(), AllocError> {
+    for branch in 2..adder {
+        let way = branch - 2;
+        plan.parts.push(Gain(1, 0))?;
+        plan.ends
+            .extend_from_slice(&[[1, way, branch, 0], [branch, 0, adder, way]])?;
+    }
+    Ok(())
+}
+
+/// Returns a zero for each of `ways` branches, on the link in.
+fn zeros(alloc: Global, ways: usize) -> Result<Vec<(usize, &'static [i32])>, AllocError> {
+    let mut begun = Vec::new(alloc);
+    for way in 0..ways {
+        begun.push((way.wrapping_mul(2), ZERO))?;
+    }
+    Ok(begun)
+}
+
+/// Returns the plan of a source, a fork, `ways` branches, an adder and a sink. Each branch has a link in and a link
+/// out. The links from the source and to the sink are the last.
+fn branched(alloc: Global, ways: usize) -> Result<Plan, AllocError> {
+    let adder = ways.wrapping_add(2);
+    let mut plan = Plan {
+        parts: Vec::from_slice(alloc, &[In(1), Fork(ways)])?,
+        ends: Vec::new(alloc),
+    };
+    add_branches(&mut plan, adder)?;
+    plan.parts.extend_from_slice(&[Add(ways), Out(0, 1)])?;
+    let last = [[0, 0, 1, 0], [adder, 0, adder.wrapping_add(1), 0]];
+    plan.ends.extend_from_slice(&last)?;
+    Ok(plan)
+}
+
+/// Builds a fork and an adder with `ways` branches between them. The link in to each branch begins with a zero.
+fn branches(alloc: Global, ways: usize) -> Result<Net<Kit>, Fail> {
+    let plan = branched(alloc, ways)?;
+    joined(alloc, &plan.parts, &plan.ends, &zeros(alloc, ways)?)
+}
+
+/// Adds thirteen pairs of a fork and an adder in a line. A pair is joined by 16 links, the maximum number of ports, and
+/// the first pair by 14.
+fn add_pairs(plan: &mut Plan) -> Result<(), AllocError> {
     for pair in 0..13usize {
         let fork = 2 * pair + 1;
         let ways = if pair == 0 { 14 } else { 16 };
-        parts.extend_from_slice(&[Fork(ways), Add(ways)])?;
-        ends.push([fork - 1, 0, fork, 0])?;
+        plan.parts.extend_from_slice(&[Fork(ways), Add(ways)])?;
+        plan.ends.push([fork - 1, 0, fork, 0])?;
         for way in 0..ways {
-            ends.push([fork, way, fork + 1, way])?;
+            plan.ends.push([fork, way, fork + 1, way])?;
         }
     }
+    Ok(())
+}
+
+/// Adds 36 gains in a line, which are nodes 27 to 62.
+fn add_gains(plan: &mut Plan) -> Result<(), AllocError> {
     for gain in 27..63usize {
-        parts.push(Gain(1, 0))?;
-        ends.push([gain - 1, 0, gain, 0])?;
+        plan.parts.push(Gain(1, 0))?;
+        plan.ends.push([gain - 1, 0, gain, 0])?;
     }
-    parts.push(Out(0, 1))?;
-    ends.push([62, 0, 63, 0])?;
-    joined(alloc, &parts, &ends, &[])
+    Ok(())
+}
+
+/// Builds thirteen pairs of a fork and an adder in a line, then 36 gains.
+fn large(alloc: Global) -> Result<Net<Kit>, Fail> {
+    let mut plan = Plan {
+        parts: Vec::from_slice(alloc, &[In(1)])?,
+        ends: Vec::new(alloc),
+    };
+    add_pairs(&mut plan)?;
+    add_gains(&mut plan)?;
+    plan.parts.push(Out(0, 1))?;
+    plan.ends.push([62, 0, 63, 0])?;
+    joined(alloc, &plan.parts, &plan.ends, &[])
 }

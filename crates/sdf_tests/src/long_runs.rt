@@ -1,9 +1,16 @@
 //! Tests of runs with more firings than 16 bits count: each passes the gate with its number, and memory suffices.
 
+ghost use Rattle.sdf_graph.specs.Rates.{rates};
+ghost use Rattle.sdf_sched.specs.Period.{IsPeriodOf};
+ghost use Rattle.sdf_actor.specs.Graphs.{graph_of};
+ghost use Rattle.sdf_answer.specs.Rows.{IsBlockTableOf};
+
 use crate::kits::{PLAIN, Worked};
 use crate::nets::{planned, ramp};
 use sdf_actor::{Actor, Net};
+use sdf_answer::BlockTable;
 use sdf_run::{Mode, Session, feed_one, resume_one};
+use sdf_sched::Period;
 use std::alloc::Global;
 use std::test::Fail;
 use std::thread::Threads;
@@ -56,44 +63,87 @@ fn first_len(lists: &[Vec<i32>]) -> usize {
     }
 }
 
+/// Feeds all blocks at once to a session with `table` and the gate `watch`. Returns the number of samples made.
+fn made_by<R: Threads + AllocGlobal + Sync, A: Actor<Token = i32>>(
+    rt: &R,
+    net: &Net<A>,
+    table: &BlockTable,
+    mode: Mode,
+    watch: &Watch,
+) -> Result<usize, Fail>
+    requires fits { IsBlockTableOf (rates (graph_of A.steps net.now)) table.now }
+{
+    let inputs = ramp(rt.alloc(), 0, 70_000, 0)?;
+    let mut session = Session::open(rt.alloc(), net, table, mode)?;
+    Ok(first_len(&session.feed(rt, &inputs, watch)?.outputs))
+}
+
+/// Makes a table for one worker, and calls `made_by`.
+fn made<R: Threads + AllocGlobal + Sync, A: Actor<Token = i32>>(
+    rt: &R,
+    net: &Net<A>,
+    mode: Mode,
+    watch: &Watch,
+) -> Result<usize, Fail> {
+    let table = planned(rt.alloc(), net, 1, 1, true)?;
+    made_by(rt, net, &table, mode, watch)
+}
+
 /// Feeds all blocks at once to a session of one worker, and reports as a row says.
 fn fed<R: Threads + AllocGlobal + Sync, A: Actor<Token = i32>>(
     rt: &R,
     net: &Net<A>,
     mode: Mode,
 ) -> Result<String, Fail> {
-    let table = planned(rt.alloc(), net, 1, 1, true)?;
-    let inputs = ramp(rt.alloc(), 0, 70_000, 0)?;
     let watch = Watch::new(rt.alloc(), 1, 2, Hold::NONE)?;
-    let mut session = Session::open(rt.alloc(), net, &table, mode)?;
-    let made = first_len(&session.feed(rt, &inputs, &watch)?.outputs);
+    let made = made(rt, net, mode, &watch)?;
     let (source, sink) = (watch.passed(0, 0), watch.passed(0, 1));
     Ok(format!(in rt.alloc(); "{made} {source} {sink} {}", watch.odd())?)
 }
 
 /// Resumes a run of no periods on one thread, for all periods, and returns the number of samples made.
-fn resumed<A: Actor<Token = i32>>(alloc: Global, net: &Net<A>) -> Result<String, Fail> {
-    let table = planned(alloc, net, 1, 1, true)?;
+fn resumed_by<A: Actor<Token = i32>>(
+    alloc: Global,
+    net: &Net<A>,
+    period: &Period,
+) -> Result<usize, Fail>
+    requires { IsPeriodOf (rates (graph_of A.steps net.now)) period.now }
+{
     let inputs = ramp(alloc, 0, 70_000, 0)?;
-    let (_, rest) = feed_one(alloc, net, &table.period, 0, &inputs)?;
-    let (ran, _) = resume_one(alloc, net, &table.period, &rest, 70_000, &inputs)?;
-    Ok(format!(in alloc; "{}", first_len(&ran.outputs))?)
+    let (_, rest) = feed_one(alloc, net, period, 0, &inputs)?;
+    let (ran, _) = resume_one(alloc, net, period, &rest, 70_000, &inputs)?;
+    Ok(first_len(&ran.outputs))
 }
 
-fn told<R: Threads + AllocGlobal + Sync>(
+/// Reports what `resumed_by` returns.
+fn resumed<A: Actor<Token = i32>>(alloc: Global, net: &Net<A>) -> Result<String, Fail> {
+    let table = planned(alloc, net, 1, 1, true)?;
+    let made = resumed_by(alloc, net, &table.period)?;
+    Ok(format!(in alloc; "{made}")?)
+}
+
+fn told<R: Threads + AllocGlobal + Sync, A: Actor<Token = i32>>(
+    rt: &R,
+    net: &Net<A>,
+    mode: Option<Mode>,
+) -> Result<String, Fail> {
+    match mode {
+        Some(mode) => fed(rt, net, mode),
+        None => resumed(rt.alloc(), net),
+    }
+}
+
+fn told_of<R: Threads + AllocGlobal + Sync>(
     rt: &R,
     worked: Worked,
     mode: Option<Mode>,
 ) -> Result<String, Fail> {
-    match mode {
-        Some(mode) => fed(rt, &worked.net(rt.alloc())?, mode),
-        None => resumed(rt.alloc(), &worked.net(rt.alloc())?),
-    }
+    told(rt, &worked.net(rt.alloc())?, mode)
 }
 
 fn are_told<R: Threads + AllocGlobal + Sync>(rt: &R, rows: &[Row]) -> Result<(), Fail> {
     for (name, worked, mode, wanted) in rows {
-        row_says(name, told(rt, *worked, *mode), wanted)?;
+        row_says(name, told_of(rt, *worked, *mode), wanted)?;
     }
     Ok(())
 }

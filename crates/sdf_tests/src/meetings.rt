@@ -1,9 +1,14 @@
 //! Tests of firings that overlap: a gate holds a firing until others have begun. They show how far a worker runs ahead
 //! of its neighbour, and that it runs no further.
 
+ghost use Rattle.sdf_graph.specs.Rates.{rates};
+ghost use Rattle.sdf_actor.specs.Graphs.{graph_of};
+ghost use Rattle.sdf_answer.specs.Rows.{IsBlockTableOf};
+
 use crate::kits::{PLAIN, Worked};
 use crate::nets::{Times, feed_twice, make_as_one, planned, ramp};
 use sdf_actor::{Actor, Net};
+use sdf_answer::BlockTable;
 use sdf_node::{ActorId, Gate};
 use sdf_run::Mode;
 use std::test::Fail;
@@ -306,15 +311,41 @@ impl<'a> Gate for Slow<'a> {
     }
 }
 
-/// Runs `row` and compares the output with one thread's, or feeds it twice. Reports how many firings were held in vain,
-/// and how many were out of turn.
+/// Runs `table` with `gate` and compares the output with one thread's, or feeds it twice, as `row` says.
+fn run_by_table<R: Threads + AllocGlobal + Sync, A: Actor<Token = i32>>(
+    rt: &R,
+    net: &Net<A>,
+    table: &BlockTable,
+    row: &Row,
+    gate: &Slow,
+) -> Result<(), Fail>
+    requires fits { IsBlockTableOf (rates (graph_of A.steps net.now)) table.now }
+{
+    let inputs = ramp(rt.alloc(), row.samples.0, row.samples.1, 0)?;
+    let mode = row.mode;
+    match row.blocks {
+        Some(blocks) => make_as_one(rt, net, table, Times { blocks, mode }, &inputs, gate),
+        None => Ok(feed_twice(rt, net, table, mode, &inputs, &gate.watch)?),
+    }
+}
+
+/// Makes the table of `row`, and runs it with `gate`.
+fn run<R: Threads + AllocGlobal + Sync, A: Actor<Token = i32>>(
+    rt: &R,
+    net: &Net<A>,
+    row: &Row,
+    gate: &Slow,
+) -> Result<(), Fail> {
+    let table = planned(rt.alloc(), net, row.factor, row.workers, true)?;
+    run_by_table(rt, net, &table, row, gate)
+}
+
+/// Runs `row` with its hold. Reports how many firings were held in vain, and how many were out of turn.
 fn told<R: Threads + AllocGlobal + Sync, A: Actor<Token = i32>>(
     rt: &R,
     net: &Net<A>,
     row: &Row,
 ) -> Result<String, Fail> {
-    let table = planned(rt.alloc(), net, row.factor, row.workers, true)?;
-    let inputs = ramp(rt.alloc(), row.samples.0, row.samples.1, 0)?;
     let hold = if row.in_vain {
         row.hold.in_vain()
     } else {
@@ -324,11 +355,7 @@ fn told<R: Threads + AllocGlobal + Sync, A: Actor<Token = i32>>(
         watch: Watch::new(rt.alloc(), row.workers, net.len(), hold)?,
         pause: row.pause,
     };
-    let mode = row.mode;
-    match row.blocks {
-        Some(blocks) => make_as_one(rt, net, &table, Times { blocks, mode }, &inputs, &gate)?,
-        None => feed_twice(rt, net, &table, mode, &inputs, &gate.watch)?,
-    }
+    run(rt, net, row, &gate)?;
     let watch = &gate.watch;
     Ok(format!(in rt.alloc(); "{} in vain, {} odd", watch.missed(), watch.odd())?)
 }

@@ -22,11 +22,16 @@ use test_actors::gates::Watch;
 use test_actors::nets::{links, sink, source};
 use test_texts::says;
 
+/// Returns one list, which is `samples`.
+pub(crate) fn only<T: Drop>(alloc: Global, samples: Vec<T>) -> Result<Vec<Vec<T>>, AllocError> {
+    let mut lists = Vec::new(alloc);
+    lists.push(samples)?;
+    Ok(lists)
+}
+
 /// Returns one list, with a copy of `samples`.
 pub(crate) fn list<T: Copy>(alloc: Global, samples: &[T]) -> Result<Vec<Vec<T>>, AllocError> {
-    let mut lists = Vec::new(alloc);
-    lists.push(Vec::from_slice(alloc, samples)?)?;
-    Ok(lists)
+    only(alloc, Vec::from_slice(alloc, samples)?)
 }
 
 /// Returns one list: the numbers of `from..to`, then `zeros` zeros.
@@ -43,9 +48,16 @@ pub(crate) fn ramp(
     for _ in 0..zeros {
         samples.push(0)?;
     }
-    let mut lists = Vec::new(alloc);
-    lists.push(samples)?;
-    Ok(lists)
+    only(alloc, samples)
+}
+
+/// Returns the length of each list.
+pub(crate) fn lengths<T>(alloc: Global, lists: &[Vec<T>]) -> Result<Vec<usize>, AllocError> {
+    let mut lengths = Vec::new(alloc);
+    for list in lists {
+        lengths.push(list.len())?;
+    }
+    Ok(lengths)
 }
 
 /// Returns links between `ends`, of which link `number` begins with the samples `initial`.

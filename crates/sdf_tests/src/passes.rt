@@ -105,22 +105,35 @@ fn table<A: Actor>(alloc: Global, net: &Net<A>, kind: Kind) -> Result<BlockTable
     }
 }
 
-/// Checks that each firing passes once: in a run of two blocks, and then in two feeds of two. A block is two periods.
+/// Checks that each firing passes once: in a run of two blocks, and then in two feeds of two.
+fn all_pass_by<R: Abort + Threads + AllocGlobal + Sync, A: Actor<Token = i64>>(
+    rt: &R,
+    net: &Net<A>,
+    table: &BlockTable,
+    row: &Row,
+    watch: &Watch,
+) -> Result<(), Fail>
+    requires fits { IsBlockTableOf (rates (graph_of A.steps net.now)) table.now }
+{
+    let (name, _, mode) = *row;
+    let inputs = list(rt.alloc(), &[7; 16])?;
+    run_by(rt, net, table, Times { blocks: 2, mode }, &inputs, watch)?;
+    all_passed(rt, name, watch, &table.table, 2);
+    watch.anew();
+    feed_twice(rt, net, table, mode, &inputs, watch)?;
+    all_passed(rt, name, watch, &table.table, 6);
+    Ok(())
+}
+
+/// Calls `all_pass_by` with the table of `row`. A block is two periods.
 fn all_pass<R: Abort + Threads + AllocGlobal + Sync, A: Actor<Token = i64>>(
     rt: &R,
     net: &Net<A>,
-    (name, kind, mode): &Row,
+    row: &Row,
     watch: &Watch,
 ) -> Result<(), Fail> {
-    let mode = *mode;
-    let table = table(rt.alloc(), net, *kind)?;
-    let inputs = list(rt.alloc(), &[7; 16])?;
-    run_by(rt, net, &table, Times { blocks: 2, mode }, &inputs, watch)?;
-    all_passed(rt, name, watch, &table.table, 2);
-    watch.anew();
-    feed_twice(rt, net, &table, mode, &inputs, watch)?;
-    all_passed(rt, name, watch, &table.table, 6);
-    Ok(())
+    let table = table(rt.alloc(), net, row.1)?;
+    all_pass_by(rt, net, &table, row, watch)
 }
 
 fn all_pass_on<R: Abort + Threads + AllocGlobal + Sync>(rt: &R, row: &Row) -> Result<(), Fail> {
@@ -194,6 +207,20 @@ impl Gate for Elsewhere {
     }
 }
 
+/// Runs two blocks over rings with a table of this `kind`, and with `gate`.
+fn run_over_rings<R: Threads + AllocGlobal + Sync, A: Actor<Token = i64>, G: Gate>(
+    rt: &R,
+    net: &Net<A>,
+    kind: Kind,
+    gate: &G,
+) -> Result<(), Fail> {
+    let table = table(rt.alloc(), net, kind)?;
+    let inputs = list(rt.alloc(), &[7; 24])?;
+    let (blocks, mode) = (2, IMPATIENT);
+    run_by(rt, net, &table, Times { blocks, mode }, &inputs, gate)?;
+    Ok(())
+}
+
 /// Returns whether all firings of two blocks pass in the caller's thread, over rings with a table of this `kind`.
 fn stays<R: Threads + AllocGlobal + Sync, A: Actor<Token = i64>>(
     rt: &R,
@@ -201,15 +228,12 @@ fn stays<R: Threads + AllocGlobal + Sync, A: Actor<Token = i64>>(
     net: &Net<A>,
     kind: Kind,
 ) -> Result<String, Fail> {
-    let table = table(rt.alloc(), net, kind)?;
-    let inputs = list(rt.alloc(), &[7; 24])?;
     let gate = Elsewhere {
         host,
         caller: own_thread(host)?,
         elsewhere: AtomicU64::new(0),
     };
-    let (blocks, mode) = (2, IMPATIENT);
-    run_by(rt, net, &table, Times { blocks, mode }, &inputs, &gate)?;
+    run_over_rings(rt, net, kind, &gate)?;
     let stays = gate.elsewhere.load(Ordering::SeqCst) == 0;
     Ok(format!(in rt.alloc(); "{stays}")?)
 }

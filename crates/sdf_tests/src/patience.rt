@@ -1,10 +1,15 @@
 //! Tests of what runs make and in how many rounds: how often a worker tests again, the tries of a round, and refusals.
 
+ghost use Rattle.sdf_graph.specs.Rates.{rates};
+ghost use Rattle.sdf_actor.specs.Graphs.{graph_of};
+ghost use Rattle.sdf_answer.specs.Rows.{IsBlockTableOf};
+
 use crate::kits::{BLOCKS, PLAIN, Worked};
-use crate::nets::{Times, planned, ramp, run_by};
+use crate::nets::{Times, lengths, planned, ramp, run_by};
 use sdf_actor::{Actor, Net};
+use sdf_answer::BlockTable;
 use sdf_node::{ActorId, Gate};
-use sdf_run::{Mode, Ran};
+use sdf_run::{Mode, Ran, RunFault};
 use std::alloc::Global;
 use std::sync::atomic::{AtomicBool, Ordering};
 use std::test::Fail;
@@ -334,22 +339,57 @@ const ROWS: &[Row] = &[
     },
 ];
 
-/// Returns the report on a run: the lengths of its output lists and the start of the first. Adds the rounds if they are
-/// outside `row.rounds` or a hold was in vain.
-fn made(alloc: Global, row: &Row, ran: &Ran<i32>, held: &Held) -> Result<String, Fail> {
-    let mut lengths = Vec::new(alloc);
-    for made in &ran.outputs {
-        lengths.push(made.len())?;
-    }
-    let begins = match ran.outputs.first() {
+/// Returns the lengths of the lists `outputs` and the start of the first, as text.
+fn lengths_and_start(alloc: Global, outputs: &[Vec<i32>]) -> Result<String, Fail> {
+    let lengths = lengths(alloc, outputs)?;
+    let begins = match outputs.first() {
         Some(made) => &made[..made.len().min(12)],
         None => &[],
     };
+    Ok(format!(in alloc; "{lengths:?} {begins:?}")?)
+}
+
+/// Returns the report on a run: the lengths of its output lists and the start of the first. Adds the rounds if they are
+/// outside `row.rounds` or a hold was in vain.
+fn made(alloc: Global, row: &Row, ran: &Ran<i32>, held: &Held) -> Result<String, Fail> {
+    let told = lengths_and_start(alloc, &ran.outputs)?;
     let rounds = ran.rounds;
     if rounds < row.rounds.0 || rounds > row.rounds.1 || held.missed.load(Ordering::SeqCst) {
-        return Ok(format!(in alloc; "{lengths:?} {begins:?} in {rounds} rounds, or missed")?);
+        return Ok(format!(in alloc; "{told} in {rounds} rounds, or missed")?);
     }
-    Ok(format!(in alloc; "{lengths:?} {begins:?}")?)
+    Ok(told)
+}
+
+/// Returns the report on `answer`, or its fault as text.
+fn report(
+    alloc: Global,
+    row: &Row,
+    answer: &Result<Ran<i32>, RunFault>,
+    held: &Held,
+) -> Result<String, Fail> {
+    match answer {
+        Ok(ran) => made(alloc, row, ran, held),
+        Err(fault) => Ok(fault.to_string(alloc)?),
+    }
+}
+
+/// Runs `row` by `table`, and returns the report or the fault.
+fn told_by<R: Threads + AllocGlobal + Sync, A: Actor<Token = i32>>(
+    rt: &R,
+    net: &Net<A>,
+    table: &BlockTable,
+    row: &Row,
+) -> Result<String, Fail>
+    requires fits { IsBlockTableOf (rates (graph_of A.steps net.now)) table.now }
+{
+    let inputs = ramp(rt.alloc(), row.samples.0, row.samples.1, row.zeros)?;
+    let times = Times {
+        blocks: row.blocks,
+        mode: row.mode,
+    };
+    let held = Held::new(row.hold);
+    let answer = run_by(rt, net, table, times, &inputs, &held);
+    report(rt.alloc(), row, &answer, &held)
 }
 
 /// Runs `row` on `net`, and returns the report or the fault.
@@ -359,16 +399,7 @@ fn told<R: Threads + AllocGlobal + Sync, A: Actor<Token = i32>>(
     row: &Row,
 ) -> Result<String, Fail> {
     let table = planned(rt.alloc(), net, row.factor, row.workers, row.homed)?;
-    let inputs = ramp(rt.alloc(), row.samples.0, row.samples.1, row.zeros)?;
-    let times = Times {
-        blocks: row.blocks,
-        mode: row.mode,
-    };
-    let held = Held::new(row.hold);
-    match run_by(rt, net, &table, times, &inputs, &held) {
-        Ok(ran) => made(rt.alloc(), row, &ran, &held),
-        Err(fault) => Ok(fault.to_string(rt.alloc())?),
-    }
+    told_by(rt, net, &table, row)
 }
 
 fn told_of<R: Threads + AllocGlobal + Sync>(rt: &R, row: &Row) -> Result<String, Fail> {

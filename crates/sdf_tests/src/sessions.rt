@@ -1,16 +1,44 @@
 //! Tests of sessions that are fed in pieces.
 
+ghost use Rattle.sdf_graph.specs.Rates.{rates};
+ghost use Rattle.sdf_actor.specs.Graphs.{graph_of};
+ghost use Rattle.sdf_answer.specs.Rows.{IsBlockTableOf};
+
 use crate::kits::Worked;
-use crate::nets::{by_one, chain, pair, planned, ramp};
+use crate::nets::{by_one, chain, only, pair, planned, ramp};
 use crate::patience::{Held, LATE};
 use sdf_actor::{Actor, Net};
-use sdf_run::{Mode, NoGate, Session};
-use std::alloc::Global;
+use sdf_answer::BlockTable;
+use sdf_run::{Mode, NoGate, Ran, RunFault, Session};
+use std::alloc::{AllocError, Global};
 use std::test::Fail;
 use std::thread::Threads;
 use test_actors::Watched;
 use test_actors::gates::{Hold, Watch};
 use test_texts::row_says;
+
+/// Appends the samples of `lists` to `joined`.
+fn append(joined: &mut Vec<i32>, lists: &[Vec<i32>]) -> Result<(), AllocError> {
+    for list in lists {
+        joined.extend_from_slice(list)?;
+    }
+    Ok(())
+}
+
+/// Appends the output of `answer` to `joined`, and its new length, or the fault, to `told`.
+fn add(
+    answer: &Result<Ran<i32>, RunFault>,
+    joined: &mut Vec<i32>,
+    told: &mut String,
+) -> Result<(), Fail> {
+    match answer {
+        Ok(ran) => {
+            append(joined, &ran.outputs)?;
+            Ok(write!(told, "{} ", joined.len())?)
+        }
+        Err(fault) => Ok(write!(told, "{fault} ")?),
+    }
+}
 
 /// Feeds the numbers of `from..to`. Appends the output to `joined`, and its new length, or the fault, to `told`.
 fn feed<R: Threads + AllocGlobal + Sync, A: Actor<Token = i32>>(
@@ -21,20 +49,42 @@ fn feed<R: Threads + AllocGlobal + Sync, A: Actor<Token = i32>>(
     told: &mut String,
 ) -> Result<(), Fail> {
     let inputs = ramp(rt.alloc(), from, to, 0)?;
-    match session.feed(rt, &inputs, &NoGate) {
-        Ok(ran) => {
-            for made in &ran.outputs {
-                joined.extend_from_slice(made)?;
-            }
-            Ok(write!(told, "{} ", joined.len())?)
-        }
-        Err(fault) => Ok(write!(told, "{fault} ")?),
-    }
+    let answer = session.feed(rt, &inputs, &NoGate);
+    add(&answer, joined, told)
 }
 
 /// Pieces of two blocks of the converter, with an empty piece and a short one between them. A feed that is not a block
 /// leaves a session as it was.
 const PIECES: &[(i32, i32)] = &[(0, 147), (147, 147), (147, 293), (147, 294)];
+
+/// Feeds `PIECES` one after another, as `feed` does.
+fn feed_all<R: Threads + AllocGlobal + Sync, A: Actor<Token = i32>>(
+    rt: &R,
+    session: &mut Session<A>,
+    joined: &mut Vec<i32>,
+    told: &mut String,
+) -> Result<(), Fail> {
+    for piece in PIECES {
+        feed(rt, session, *piece, joined, told)?;
+    }
+    Ok(())
+}
+
+/// Feeds `PIECES` to a session with `table`, appends as `feed` does, and returns the number of blocks run.
+fn blocks_fed<R: Threads + AllocGlobal + Sync, A: Actor<Token = i32>>(
+    rt: &R,
+    net: &Net<A>,
+    table: &BlockTable,
+    mode: Mode,
+    joined: &mut Vec<i32>,
+    told: &mut String,
+) -> Result<u64, Fail>
+    requires fits { IsBlockTableOf (rates (graph_of A.steps net.now)) table.now }
+{
+    let mut session = Session::open(rt.alloc(), net, table, mode)?;
+    feed_all(rt, &mut session, joined, told)?;
+    Ok(session.close()?.blocks)
+}
 
 /// Feeds `PIECES`, and reports the length of the output after each, the number of blocks run, and the output.
 fn fed<R: Threads + AllocGlobal + Sync, A: Actor<Token = i32>>(
@@ -43,13 +93,9 @@ fn fed<R: Threads + AllocGlobal + Sync, A: Actor<Token = i32>>(
     mode: Mode,
 ) -> Result<String, Fail> {
     let table = planned(rt.alloc(), net, 1, 2, true)?;
-    let mut session = Session::open(rt.alloc(), net, &table, mode)?;
     let mut joined = Vec::new(rt.alloc());
     let mut told = String::new(rt.alloc());
-    for piece in PIECES {
-        feed(rt, &mut session, *piece, &mut joined, &mut told)?;
-    }
-    let blocks = session.close()?.blocks;
+    let blocks = blocks_fed(rt, net, &table, mode, &mut joined, &mut told)?;
     Ok(format!(in rt.alloc(); "{told}{blocks} [{joined:?}]")?)
 }
 
@@ -77,18 +123,29 @@ fn pieces_are_one<R: Threads + AllocGlobal + Sync, A: Actor<Token = i32>>(
     Ok(())
 }
 
-/// Feeds two blocks while the source's first firing is held up. Reports the rounds of the feed, and the rounds that its
-/// session sums.
+/// Feeds two blocks by `table` while the source's first firing is held up. Returns the rounds of the feed, and the
+/// rounds that its session sums.
+fn rounds_by<R: Threads + AllocGlobal + Sync, A: Actor<Token = i32>>(
+    rt: &R,
+    net: &Net<A>,
+    table: &BlockTable,
+) -> Result<(u64, u64), Fail>
+    requires fits { IsBlockTableOf (rates (graph_of A.steps net.now)) table.now }
+{
+    let inputs = ramp(rt.alloc(), 1, 3, 0)?;
+    let mut session = Session::open(rt.alloc(), net, table, RINGS)?;
+    let rounds = session.feed(rt, &inputs, &Held::new(LATE))?.rounds;
+    Ok((rounds, session.close()?.rounds))
+}
+
+/// Reports what `rounds_by` returns.
 fn rounds_of_a_feed<R: Threads + AllocGlobal + Sync, A: Actor<Token = i32>>(
     rt: &R,
     net: &Net<A>,
 ) -> Result<String, Fail> {
     let table = planned(rt.alloc(), net, 1, 2, true)?;
-    let inputs = ramp(rt.alloc(), 1, 3, 0)?;
-    let mut session = Session::open(rt.alloc(), net, &table, RINGS)?;
-    let ran = session.feed(rt, &inputs, &Held::new(LATE))?;
-    let closed = session.close()?;
-    Ok(format!(in rt.alloc(); "{} {}", ran.rounds, closed.rounds)?)
+    let (fed, summed) = rounds_by(rt, net, &table)?;
+    Ok(format!(in rt.alloc(); "{fed} {summed}")?)
 }
 
 /// Tests feeds in pieces. Refuses a feed over rings that reports one round whatever it did, which no contract can.
@@ -102,8 +159,37 @@ fn fed_in_pieces(rt: HostRuntime) -> Result<(), Fail> {
     )
 }
 
-/// Feeds a block of `factor` periods, all ones, to a session of `workers` workers. Reports the number of samples made,
-/// the first of them, and the rounds.
+/// Returns `many` ones, in one list.
+fn ones(alloc: Global, many: usize) -> Result<Vec<Vec<i64>>, AllocError> {
+    only(alloc, vec![in alloc; 1i64; many]?)
+}
+
+/// Returns the number of samples in the first of `lists`, the first of them, and `rounds`, as text.
+fn report(alloc: Global, lists: &[Vec<i64>], rounds: u64) -> Result<String, Fail> {
+    match lists.first() {
+        Some(made) => Ok(format!(in alloc; "{} {:?} {rounds}", made.len(), made.first())?),
+        None => Ok(String::new(alloc)),
+    }
+}
+
+/// Feeds a block of ones to a session with `table`. Reports the number of samples made, the first of them, and the
+/// rounds.
+fn made_by<R: Threads + AllocGlobal + Sync, A: Actor<Token = i64>>(
+    rt: &R,
+    net: &Net<A>,
+    table: &BlockTable,
+    mode: Mode,
+) -> Result<String, Fail>
+    requires fits { IsBlockTableOf (rates (graph_of A.steps net.now)) table.now }
+{
+    let many = net.samples_in().wrapping_mul(table.factor as usize);
+    let inputs = ones(rt.alloc(), many)?;
+    let mut session = Session::open(rt.alloc(), net, table, mode)?;
+    let ran = session.feed(rt, &inputs, &NoGate)?;
+    report(rt.alloc(), &ran.outputs, session.close()?.rounds)
+}
+
+/// Calls `made_by` for a block of `factor` periods and a session of `workers` workers.
 fn made_of_a_block<R: Threads + AllocGlobal + Sync, A: Actor<Token = i64>>(
     rt: &R,
     net: &Net<A>,
@@ -111,18 +197,8 @@ fn made_of_a_block<R: Threads + AllocGlobal + Sync, A: Actor<Token = i64>>(
     workers: usize,
     mode: Mode,
 ) -> Result<String, Fail> {
-    let alloc = rt.alloc();
-    let table = planned(alloc, net, factor, workers, true)?;
-    let many = net.samples_in().wrapping_mul(factor as usize);
-    let mut inputs = Vec::new(alloc);
-    inputs.push(vec![in alloc; 1i64; many]?)?;
-    let mut session = Session::open(alloc, net, &table, mode)?;
-    let ran = session.feed(rt, &inputs, &NoGate)?;
-    let rounds = session.close()?.rounds;
-    match ran.outputs.first() {
-        Some(made) => Ok(format!(in alloc; "{} {:?} {rounds}", made.len(), made.first())?),
-        None => Ok(String::new(alloc)),
-    }
+    let table = planned(rt.alloc(), net, factor, workers, true)?;
+    made_by(rt, net, &table, mode)
 }
 
 /// A name, the samples that source and sink move a firing, the periods of a block, the mode, and the wanted report.

@@ -5,12 +5,12 @@ ghost use Rattle.sdf_graph.specs.Rates.{rates};
 ghost use Rattle.sdf_actor.specs.Graphs.{graph_of};
 ghost use Rattle.sdf_sched.specs.Period.{IsPeriodOf};
 
-use crate::nets::{chain, list, pair, two_sums};
+use crate::nets::{chain, lengths, list, only, pair, two_sums};
 use sdf_actor::{Actor, Net};
 use sdf_run::{feed_one, resume_one, run_one};
 use sdf_sched::class_s::class_s;
 use sdf_sched::{Lean, Period, Round};
-use std::alloc::Global;
+use std::alloc::{AllocError, Global};
 use std::test::Fail;
 use test_actors::{Sum, Swap, Twice};
 use test_texts::row_says;
@@ -176,6 +176,14 @@ fn run_told<A: Actor<Token = i64>>(
     }
 }
 
+/// Returns both lists, in one list.
+fn both<T: Drop>(alloc: Global, first: T, second: T) -> Result<Vec<T>, Fail> {
+    let mut lists = Vec::new(alloc);
+    lists.push(first)?;
+    lists.push(second)?;
+    Ok(lists)
+}
+
 /// Runs `periods.0` periods on `first`, resumes for `periods.1` on `later`, and returns the outputs of both.
 fn in_pieces<A: Actor>(
     alloc: Global,
@@ -187,10 +195,20 @@ fn in_pieces<A: Actor>(
     let period = class_s(alloc, net.graph(), net.repetitions(), &mut Round::new())?;
     let (ran, rest) = feed_one(alloc, net, &period, periods.0, first)?;
     let (more, _last) = resume_one(alloc, net, &period, &rest, periods.1, later)?;
-    let mut made = Vec::new(alloc);
-    made.push(ran.outputs)?;
-    made.push(more.outputs)?;
-    Ok(made)
+    both(alloc, ran.outputs, more.outputs)
+}
+
+/// Calls `in_pieces`, and returns the outputs as text.
+fn pieces_told<A: Actor<Token = i64>>(
+    alloc: Global,
+    net: &Net<A>,
+    periods: (u32, u32),
+    first: &[Vec<i64>],
+    later: &[i64],
+) -> Result<String, Fail> {
+    let later = list(alloc, later)?;
+    let made = in_pieces(alloc, net, periods, first, &later)?;
+    Ok(format!(in alloc; "{made:?}")?)
 }
 
 /// Runs a row's net and returns the report.
@@ -201,9 +219,7 @@ fn told<A: Actor<Token = i64>>(alloc: Global, net: &Net<A>, row: &Row) -> Result
     };
     match row.later {
         Some((periods, later)) => {
-            let later = list(alloc, later)?;
-            let made = in_pieces(alloc, net, (row.periods, periods), &inputs, &later)?;
-            Ok(format!(in alloc; "{made:?}")?)
+            pieces_told(alloc, net, (row.periods, periods), &inputs, later)
         }
         None => run_told(alloc, net, row, &inputs),
     }
@@ -237,22 +253,30 @@ fn outputs_of<A: Actor>(
     Ok(ran.outputs)
 }
 
-/// Returns the length of each output list of `periods` periods of a net with cyclic rates. 4,096 periods are one block.
-fn lengths(alloc: Global, periods: u32) -> Result<String, Fail> {
+/// Returns the output lists of `periods` periods of a net with cyclic rates. 4,096 periods are one block.
+fn doubled(alloc: Global, periods: u32) -> Result<Vec<Vec<i64>>, Fail> {
     let net = chain(alloc, Twice)?;
     let inputs = list(alloc, &[7; 10_000])?;
-    let mut lengths = Vec::new(alloc);
-    for made in &outputs_of(alloc, &net, periods, &inputs)? {
-        lengths.push(made.len())?;
-    }
+    outputs_of(alloc, &net, periods, &inputs)
+}
+
+/// Returns the length of each of the lists that `doubled` returns.
+fn doubled_lengths(alloc: Global, periods: u32) -> Result<String, Fail> {
+    let outputs = doubled(alloc, periods)?;
+    let lengths = lengths(alloc, &outputs)?;
     Ok(format!(in alloc; "{lengths:?}")?)
 }
 
 /// Returns what a run makes of a pair: `Swap` exchanges its two values.
-fn turned(alloc: Global) -> Result<String, Fail> {
+fn swapped(alloc: Global) -> Result<Vec<Vec<[u8; 2]>>, Fail> {
     let net = chain(alloc, Swap)?;
     let inputs = list(alloc, &[[1, 2]])?;
-    let outputs = outputs_of(alloc, &net, 1, &inputs)?;
+    outputs_of(alloc, &net, 1, &inputs)
+}
+
+/// Returns what `swapped` returns, as text.
+fn turned(alloc: Global) -> Result<String, Fail> {
+    let outputs = swapped(alloc)?;
     Ok(format!(in alloc; "{outputs:?}")?)
 }
 
@@ -275,14 +299,25 @@ fn pyramids(samples: &[i64]) -> Result<usize, Fail> {
     Ok(samples.len())
 }
 
-/// Runs two sums on 1, 2, 3 .. over many blocks, and counts the output lists and the samples, which must be pyramids.
-fn sums_of_sums(alloc: Global) -> Result<String, Fail> {
-    let net = two_sums(alloc)?;
+/// Returns one list: 1, 2, 3 .. 12,000.
+fn naturals(alloc: Global) -> Result<Vec<Vec<i64>>, AllocError> {
     let mut samples = Vec::new(alloc);
     for sample in 1..12_001 {
         samples.push(sample)?;
     }
-    let outputs = outputs_of(alloc, &net, 2000, &list(alloc, &samples)?)?;
+    only(alloc, samples)
+}
+
+/// Runs two sums on 1, 2, 3 .. over many blocks, and returns the output lists.
+fn two_sums_made(alloc: Global) -> Result<Vec<Vec<i64>>, Fail> {
+    let net = two_sums(alloc)?;
+    let inputs = naturals(alloc)?;
+    outputs_of(alloc, &net, 2000, &inputs)
+}
+
+/// Counts the output lists of two sums and the samples of the first, which must be pyramids.
+fn sums_of_sums(alloc: Global) -> Result<String, Fail> {
+    let outputs = two_sums_made(alloc)?;
     match outputs.first() {
         Some(made) => Ok(format!(in alloc; "{} {}", outputs.len(), pyramids(made)?)?),
         None => Ok(String::new(alloc)),
@@ -292,8 +327,8 @@ fn sums_of_sums(alloc: Global) -> Result<String, Fail> {
 #[test]
 fn what_larger_runs_make(rt: HostRuntime) -> Result<(), Fail> {
     let alloc = rt.alloc();
-    row_says("a short run", lengths(alloc, 1), "[2]")?;
-    row_says("a long run", lengths(alloc, 10_000), "[20000]")?;
+    row_says("a short run", doubled_lengths(alloc, 1), "[2]")?;
+    row_says("a long run", doubled_lengths(alloc, 10_000), "[20000]")?;
     row_says("sums of sums", sums_of_sums(alloc), "1 12000")?;
     row_says("samples need not be numbers", turned(alloc), "[[[2, 1]]]")
 }

@@ -2,8 +2,8 @@
 
 use crate::kits::{BLOCKS, PLAIN, Worked};
 use crate::nets::ramp;
-use sdf_actor::{Actor, Net};
-use sdf_run::{Passage, Spares, feed_one, resume_one, resume_one_in};
+use sdf_actor::{Actor, Net, Rest};
+use sdf_run::{Passage, Ran, RunFault, Spares, feed_one, resume_one, resume_one_in};
 use sdf_sched::Round;
 use sdf_sched::class_s::class_s;
 use std::alloc::Global;
@@ -27,7 +27,24 @@ const ROWS: &[Row] = &[
     ("longer than before", Worked::Converter, 130, "alike"),
 ];
 
-/// Resumes a run in new memory and in `spares`, and compares the outputs and the samples on the channels.
+/// Compares the outputs of two resumed runs, and the samples that they leave on the channels.
+fn report<S>(
+    alloc: Global,
+    reused: &Result<(Ran<i32>, Rest<i32, S>), RunFault>,
+    apart: &Result<(Ran<i32>, Rest<i32, S>), RunFault>,
+) -> Result<String, Fail> {
+    match (reused, apart) {
+        (Ok((made, left)), Ok((ran, last))) => {
+            let alike = made.outputs == ran.outputs && left.held == last.held;
+            Ok(if alike { "alike" } else { "other samples" }.to_string(alloc)?)
+        }
+        (Err(fault), Err(_)) => Ok(fault.to_string(alloc)?),
+        _ => Ok("one was refused".to_string(alloc)?),
+    }
+}
+
+/// Resumes a run in new memory and in `spares`, and reports whether both made the same. Gives back the outputs of the
+/// second.
 fn compare<A: Actor<Token = i32>>(
     alloc: Global,
     net: &Net<A>,
@@ -44,26 +61,28 @@ fn compare<A: Actor<Token = i32>>(
         inputs: &inputs,
     };
     let apart = resume_one(alloc, net, &period, &rest, periods, &inputs);
-    let text = match (resume_one_in(alloc, passage, &rest, spares), apart) {
-        (Ok((made, left)), Ok((ran, last))) => {
-            let alike = made.outputs == ran.outputs && left.held == last.held;
-            spares.give_back(made.outputs);
-            if alike { "alike" } else { "other samples" }.to_string(alloc)?
-        }
-        (Err(fault), Err(_)) => fault.to_string(alloc)?,
-        _ => "one was refused".to_string(alloc)?,
-    };
-    Ok(text)
+    let reused = resume_one_in(alloc, passage, &rest, spares);
+    let text = report(alloc, &reused, &apart);
+    if let Ok((made, _left)) = reused {
+        spares.give_back(made.outputs);
+    }
+    text
+}
+
+/// Compares the runs of a row twice, in the same memory.
+fn compare_twice(alloc: Global, row: &Row, spares: &mut Spares<i32>) -> Result<(), Fail> {
+    let (name, worked, periods, wanted) = row;
+    let net = worked.net(alloc)?;
+    row_says(name, compare(alloc, &net, *periods, spares), wanted)?;
+    row_says(name, compare(alloc, &net, *periods, spares), wanted)
 }
 
 #[test]
 fn runs_in_the_memory_of_others(rt: HostRuntime) -> Result<(), Fail> {
     let alloc = rt.alloc();
     let mut spares = Spares::none(alloc);
-    for (name, worked, periods, wanted) in ROWS {
-        let net = worked.net(alloc)?;
-        row_says(name, compare(alloc, &net, *periods, &mut spares), wanted)?;
-        row_says(name, compare(alloc, &net, *periods, &mut spares), wanted)?;
+    for row in ROWS {
+        compare_twice(alloc, row, &mut spares)?;
     }
     Ok(())
 }

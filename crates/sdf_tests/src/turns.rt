@@ -188,11 +188,16 @@ fn done_by_workers<A: Actor<Token = i32>>(
     Ok(())
 }
 
+/// Checks each order with each number of workers, for the net `worked`.
+fn done_on(rt: &(impl Abort + AllocGlobal), worked: Worked, periods: u32) -> Result<(), Fail> {
+    done_by_workers(rt, &worked.net(rt.alloc())?, periods)
+}
+
 /// Tests seats worked in any order. Refuses rings that hold more than their table says: one sample more, or double.
 #[test]
 fn in_any_order(rt: HostRuntime) -> Result<(), Fail> {
-    done_by_workers(&rt, &BLOCKS.net(rt.alloc())?, 2)?;
-    done_by_workers(&rt, &Worked::Looped.net(rt.alloc())?, 2)?;
-    done_by_workers(&rt, &Worked::Branches(2).net(rt.alloc())?, 2)?;
-    done_by_workers(&rt, &Worked::Converter.net(rt.alloc())?, 1)
+    done_on(&rt, BLOCKS, 2)?;
+    done_on(&rt, Worked::Looped, 2)?;
+    done_on(&rt, Worked::Branches(2), 2)?;
+    done_on(&rt, Worked::Converter, 1)
 }

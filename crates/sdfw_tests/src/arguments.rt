@@ -1,7 +1,8 @@
 //! Tests of the words that a program is started with.
 
-use sdf_faults::{Fault, status};
-use sdf_words::arguments::arguments;
+use crate::running::status_told;
+use sdf_faults::Fault;
+use sdf_words::arguments::{Given, arguments};
 use std::alloc::Global;
 use std::env::{Env, FillError};
 use std::test::Fail;
@@ -37,15 +38,18 @@ impl Env for Environment<'_> {
 }
 
 /// Reports how many words are read, the first, whether all are as they were given, and the first that is not UTF-8.
+fn read_told(alloc: Global, read: &Given, words: &[&[u8]]) -> Result<String, Fail> {
+    let first = read.words.first();
+    let same = are_read(&read.words, words);
+    let unread = read.unread;
+    format!(in alloc; "{} {first:?} {same} {unread:?}", read.words.len()).map_err(Fail::from)
+}
+
+/// Reports on the words that are read of `words`, or returns the exit status.
 fn told<'a>(alloc: Global, words: &'a [&'a [u8]]) -> Result<String, Fail> {
     match arguments(&Environment { words }, alloc) {
-        Ok(read) => {
-            let first = read.words.first();
-            let same = are_read(&read.words, words);
-            let unread = read.unread;
-            Ok(format!(in alloc; "{} {first:?} {same} {unread:?}", read.words.len())?)
-        }
-        Err(fault) => Ok(format!(in alloc; "{}", status(&Fault::from(fault)))?),
+        Ok(read) => read_told(alloc, &read, words),
+        Err(fault) => status_told(alloc, Fault::from(fault)),
     }
 }
 

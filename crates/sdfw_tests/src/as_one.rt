@@ -250,6 +250,25 @@ const OTHERS: &[Row] = &[
     },
 ];
 
+/// Checks that a run of `row` makes of `input` the file `one`.
+fn run_makes<T: Threads + AllocGlobal + Sync>(
+    rt: &T,
+    row: &Row,
+    (runner, workers, blocking, patience): By,
+    input: &[u8],
+    one: &[u8],
+) -> Result<(), Fail> {
+    let options = Options {
+        runner,
+        workers,
+        blocking,
+        patience,
+        ..row.options
+    };
+    let made = run_file(rt, row.graph, &options, input);
+    row_makes(row.name, &options, made, one)
+}
+
 /// Checks that each run of `row` makes of `input` what one thread makes of it.
 fn make_as_one<T: Threads + AllocGlobal + Sync>(
     rt: &T,
@@ -260,16 +279,8 @@ fn make_as_one<T: Threads + AllocGlobal + Sync>(
     if one.len() != row.len {
         return Err(Fail::new(format_args!("{}: {} bytes", row.name, one.len())));
     }
-    for (runner, workers, blocking, patience) in row.by {
-        let options = Options {
-            runner: *runner,
-            workers: *workers,
-            blocking: *blocking,
-            patience: *patience,
-            ..row.options
-        };
-        let made = run_file(rt, row.graph, &options, input);
-        row_makes(row.name, &options, made, &one)?;
+    for by in row.by {
+        run_makes(rt, row, *by, input, &one)?;
     }
     Ok(())
 }

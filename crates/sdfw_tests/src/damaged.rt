@@ -1,13 +1,12 @@
 //! Tests of WAV files that are cut, and of sizes that lie, with each runner.
 
 use crate::designs::HALF;
-use crate::devices::seen;
+use crate::devices::seen_moving;
 use crate::running::half_of;
 use sdf_options::Runner;
 use std::alloc::Global;
 use std::test::Fail;
 use std::thread::Threads;
-use test_devices::Faulty;
 use test_devices::files::{Answer, FILES, LIES, Whole};
 use test_texts::row_says;
 
@@ -27,12 +26,9 @@ fn told<T: Threads + AllocGlobal + Sync>(
     (runner, most): By,
     bytes: &[u8],
 ) -> Result<String, Fail> {
-    let alloc = rt.alloc();
-    let input = Faulty::moving(alloc, bytes, most);
-    let output = Faulty::moving(alloc, Vec::new(alloc), most);
-    let seen = seen(rt, graph, runner, input, output)?;
+    let seen = seen_moving(rt, graph, runner, bytes, most)?;
     if seen.end.as_str() == "no fault" {
-        return Ok(format!(in alloc; "{:?}", seen.output.as_slice())?);
+        return format!(in rt.alloc(); "{:?}", seen.output.as_slice()).map_err(Fail::from);
     }
     Ok(seen.end)
 }
@@ -40,8 +36,11 @@ fn told<T: Threads + AllocGlobal + Sync>(
 /// Returns the wanted text: the file of the halves of the samples, or the fault.
 fn wanted(alloc: Global, answer: Answer) -> Result<String, Fail> {
     match answer {
-        Ok(samples) => Ok(format!(in alloc; "{:?}", half_of(alloc, samples)?.as_slice())?),
-        Err(fault) => Ok(format!(in alloc; "4 sdfw: {fault}\n")?),
+        Ok(samples) => {
+            let half = half_of(alloc, samples)?;
+            format!(in alloc; "{:?}", half.as_slice()).map_err(Fail::from)
+        }
+        Err(fault) => format!(in alloc; "4 sdfw: {fault}\n").map_err(Fail::from),
     }
 }
 

@@ -22,7 +22,7 @@ pub(crate) struct Trace {
 }
 
 /// Runs a design by `runner` over `input` and `output`, and returns the trace.
-pub(crate) fn seen<T: Threads + AllocGlobal + Sync>(
+fn seen<T: Threads + AllocGlobal + Sync>(
     rt: &T,
     graph: &str,
     runner: Runner,
@@ -44,6 +44,19 @@ pub(crate) fn seen<T: Threads + AllocGlobal + Sync>(
         output: writer.device,
         end,
     })
+}
+
+/// Runs a design by `runner` over `bytes` and an output, whose calls move at most `most` bytes, and returns the trace.
+pub(crate) fn seen_moving<T: Threads + AllocGlobal + Sync>(
+    rt: &T,
+    graph: &str,
+    runner: Runner,
+    bytes: &[u8],
+    most: usize,
+) -> Result<Trace, Fail> {
+    let input = Faulty::moving(rt.alloc(), bytes, most);
+    let output = Faulty::moving(rt.alloc(), Vec::new(rt.alloc()), most);
+    seen(rt, graph, runner, input, output)
 }
 
 /// A file, how many bytes a call moves at most, and the numbers of calls: of the reader before the output is begun, of
@@ -110,8 +123,33 @@ const SLIPS: &[(Side, Slip)] = &[
     (Writer, Slip::MovesNothing),
 ];
 
-/// Runs a trip whose device slips at call `at`. Reports how often that device is called, whether a prefix of `whole` is
-/// written, its length, and the end of the run.
+/// How often the device that slips is called, whether a prefix of the whole output is written, its length, and the end
+/// of the run.
+#[derive(Clone, Copy)]
+struct Report<'a> {
+    calls: usize,
+    front: bool,
+    len: usize,
+    end: &'a str,
+}
+
+/// Returns the text of a report on a device that slips at call `at`.
+fn report_text(
+    alloc: Global,
+    (side, slip): (Side, Slip),
+    at: usize,
+    report: &Report,
+) -> Result<String, Fail> {
+    let Report {
+        calls,
+        front,
+        len,
+        end,
+    } = report;
+    format!(in alloc; "{side:?} {slip:?} at {at}: {calls} {front} {len} {end}").map_err(Fail::from)
+}
+
+/// Runs a trip whose device slips at call `at`, and reports on it.
 fn told<T: Threads + AllocGlobal + Sync>(
     rt: &T,
     runner: Runner,
@@ -132,9 +170,13 @@ fn told<T: Threads + AllocGlobal + Sync>(
         Reader => seen.read.len(),
         Writer => seen.written.len(),
     };
-    let front = whole.starts_with(&seen.output);
-    let (len, end) = (seen.output.len(), seen.end.as_str());
-    Ok(format!(in alloc; "{side:?} {slip:?} at {at}: {calls} {front} {len} {end}")?)
+    let report = Report {
+        calls,
+        front: whole.starts_with(&seen.output),
+        len: seen.output.len(),
+        end: seen.end.as_str(),
+    };
+    report_text(alloc, (side, slip), at, &report)
 }
 
 /// Returns the wanted report. A device that slips is blamed, and not called again. The header is written if the content
@@ -158,9 +200,13 @@ fn wanted(
         Writer if at == 2 => 44,
         _ => 48,
     };
-    let end = if at <= calls { fault } else { "no fault" };
-    let calls = calls.min(at);
-    Ok(format!(in alloc; "{side:?} {slip:?} at {at}: {calls} true {len} {end}")?)
+    let report = Report {
+        calls: calls.min(at),
+        front: true,
+        len,
+        end: if at <= calls { fault } else { "no fault" },
+    };
+    report_text(alloc, (side, slip), at, &report)
 }
 
 /// Checks a slip at each call of a device, and at two calls past the last.

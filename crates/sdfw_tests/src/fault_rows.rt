@@ -66,7 +66,7 @@ const FIRING: Firing = Firing {
 };
 
 /// Faults of graphs and nets.
-const NETS: &[Row] = &[
+pub(crate) const NETS: &[Row] = &[
     (
         Net(NetFault::Graph(GraphFault::ActorCount)),
         3,
@@ -168,7 +168,7 @@ const NETS: &[Row] = &[
 ];
 
 /// Faults of tables.
-const TABLES: &[Row] = &[
+pub(crate) const TABLES: &[Row] = &[
     (Table(PrecFault::BlockingFactor), 3, "11 BlockingFactor"),
     (Table(PrecFault::WorkerCount), 3, "12 WorkerCount"),
     (Table(PrecFault::BlockTooLong), 3, "13 BlockTooLong"),
@@ -216,7 +216,7 @@ const TABLES: &[Row] = &[
 ];
 
 /// Faults of WAV files.
-const SOUNDS: &[Row] = &[
+pub(crate) const SOUNDS: &[Row] = &[
     (Sound(FormatFault::NotRiff), 4, "34 NotRiff"),
     (Sound(FormatFault::NotWave), 4, "35 NotWave"),
     (Sound(FormatFault::NoFormat), 4, "36 NoFormat"),
@@ -233,7 +233,7 @@ const SOUNDS: &[Row] = &[
 ];
 
 /// Faults of runs.
-const RUNS: &[Row] = &[
+pub(crate) const RUNS: &[Row] = &[
     (Run(RunFault::OutOfMemory), 6, "1 OutOfMemory"),
     (Run(RunFault::InputLength), 3, "29 InputLength"),
     (Run(RunFault::NotHomed), 3, "30 NotHomed"),
@@ -243,7 +243,7 @@ const RUNS: &[Row] = &[
 ];
 
 /// Faults of documents.
-const DOCUMENTS: &[Row] = &[
+pub(crate) const DOCUMENTS: &[Row] = &[
     (
         Document(Wrong::KitValue(At::Top), "format"),
         3,
@@ -367,7 +367,7 @@ const DOCUMENTS: &[Row] = &[
 ];
 
 /// The program's own faults, faults of devices, and deadlocks with no actors and with two.
-const OWN: &[Row] = &[
+pub(crate) const OWN: &[Row] = &[
     (Given::Memory, 6, "1 OutOfMemory"),
     (Given::Words, 6, "1 OutOfMemory"),
     (Given::BlockingFactor, 3, "11 BlockingFactor"),
@@ -384,6 +384,3 @@ const OWN: &[Row] = &[
         "10 Deadlock\nin 2 of 2\nadd 0 of 2 short link 4",
     ),
 ];
-
-/// The rows of all faults.
-pub(crate) const ALL: &[&[Row]] = &[NETS, TABLES, SOUNDS, RUNS, DOCUMENTS, OWN];

@@ -1,9 +1,8 @@
 //! Tests of how runs end, by the bytes of a sound, the options and the length of a design.
 
 use crate::designs::HALF;
-use crate::running::{end_of, file_of, run_file, run_with};
+use crate::running::{end_of, file_of, run_file, run_to_end};
 use sdf_options::{Options, Runner};
-use sdf_wav::{FromRead, ToWrite};
 use std::alloc::Global;
 use std::test::Fail;
 use std::thread::Threads;
@@ -205,22 +204,23 @@ fn file_with(alloc: Global, row: &Row) -> Result<Vec<u8>, Fail> {
 }
 
 fn told<T: Threads + AllocGlobal + Sync>(rt: &T, row: &Row) -> Result<String, Fail> {
-    let alloc = rt.alloc();
-    let file = file_with(alloc, row)?;
-    let mut reader = FromRead::new(file.as_slice());
-    let mut writer = ToWrite::new(Vec::new(alloc));
-    let run = run_with(rt, row.graph, &row.options, &mut reader, &mut writer);
-    let end = end_of(alloc, run)?;
-    Ok(format!(in alloc; "{} {end}", writer.into_inner().len())?)
+    let file = file_with(rt.alloc(), row)?;
+    let run = run_to_end(rt, row.graph, &row.options, &file)?;
+    format!(in rt.alloc(); "{} {}", run.output.len(), run.end).map_err(Fail::from)
+}
+
+/// Checks the report on each row.
+fn are_told<T: Threads + AllocGlobal + Sync>(rt: &T, rows: &[Row]) -> Result<(), Fail> {
+    for row in rows {
+        row_says(row.name, told(rt, row), row.told)?;
+    }
+    Ok(())
 }
 
 /// Tests what is written before a fault: the header or nothing. Refuses a run that writes more, or less.
 #[test]
 fn faults_leave_the_header_or_nothing(rt: HostRuntime) -> Result<(), Fail> {
-    for row in ROWS {
-        row_says(row.name, told(&rt, row), row.told)?;
-    }
-    Ok(())
+    are_told(&rt, ROWS)
 }
 
 /// Returns a design of `links` empty links.

@@ -2,11 +2,11 @@
 
 use crate::running::{fault_told, file_of};
 use sdf_faults::Fault;
-use sdf_file::read_design;
+use sdf_file::{Design, read_design};
 use sdf_options::Options;
 use sdf_plan::planning::plan;
 use sdf_process::process::process;
-use sdf_wav::{FromRead, ToWrite, Wav, read_wav};
+use sdf_wav::{FromRead, ToWrite, Wav, Writer, read_wav};
 use std::alloc::{AllocError, Global};
 use std::test::Fail;
 use std::thread::Threads;
@@ -148,48 +148,78 @@ const ROWS: &[Row] = &[
     },
 ];
 
-/// Returns what a row's design makes.
-fn run_long<T: Threads + AllocGlobal + Sync>(rt: &T, row: &Row) -> Result<Wav, Fault> {
-    let alloc = rt.alloc();
+/// Returns the coefficient file with `values` values, and its name.
+fn coefficients(alloc: Global, values: usize) -> Result<(String, Vec<u8>), AllocError> {
+    let list = with_list(alloc, "format = 1\nvalues = [LIST]", values)?;
+    Ok((String::from_str(alloc, "list.toml")?, list.into_bytes()))
+}
+
+/// Returns a row's design, which may read the coefficient file.
+fn design_of(alloc: Global, row: &Row) -> Result<Design, Fault> {
     let graph = with_list(alloc, row.graph, row.values)?;
-    let list = with_list(alloc, "format = 1\nvalues = [LIST]", row.values)?;
-    let mut files = Vec::new(alloc);
-    files.push((String::from_str(alloc, "list.toml")?, list.into_bytes()))?;
-    let design = read_design(alloc, graph.as_bytes(), &files)?;
-    let plan = plan(alloc, &design, &Options::DEFAULT)?;
+    let files = [coefficients(alloc, row.values)?];
+    Ok(read_design(alloc, graph.as_bytes(), &files)?)
+}
+
+/// Returns the WAV file of a row's samples.
+fn sound_of(alloc: Global, row: &Row) -> Result<Vec<u8>, Fault> {
     let mut samples = vec![in alloc; 0i16; row.frames]?;
     if let Some(first) = samples.first_mut() {
         *first = row.first;
     }
-    let input = file_of(alloc, 8000, 1, &samples)?;
-    let mut writer = ToWrite::new(Vec::new(alloc));
-    process(
-        rt,
-        &mut FromRead::new(input.as_slice()),
-        &mut writer,
-        &design,
-        &plan,
-    )?;
+    file_of(alloc, 8000, 1, &samples)
+}
+
+/// Runs `design` on `input`, as the program does.
+fn run_design<T: Threads + AllocGlobal + Sync, W: Writer>(
+    rt: &T,
+    design: &Design,
+    input: &[u8],
+    writer: &mut W,
+) -> Result<(), Fault> {
+    let plan = plan(rt.alloc(), design, &Options::DEFAULT)?;
+    process(rt, &mut FromRead::new(input), writer, design, &plan)
+}
+
+fn run_row<T: Threads + AllocGlobal + Sync, W: Writer>(
+    rt: &T,
+    row: &Row,
+    writer: &mut W,
+) -> Result<(), Fault> {
+    let input = sound_of(rt.alloc(), row)?;
+    let design = design_of(rt.alloc(), row)?;
+    run_design(rt, &design, &input, writer)
+}
+
+/// Returns what a row's design makes.
+fn run_long<T: Threads + AllocGlobal + Sync>(rt: &T, row: &Row) -> Result<Wav, Fault> {
+    let mut writer = ToWrite::new(Vec::new(rt.alloc()));
+    run_row(rt, row, &mut writer)?;
     let made = writer.into_inner();
-    Ok(read_wav(alloc, &mut FromRead::new(made.as_slice()))?)
+    Ok(read_wav(rt.alloc(), &mut FromRead::new(made.as_slice()))?)
 }
 
 fn told<T: Threads + AllocGlobal + Sync>(rt: &T, row: &Row) -> Result<String, Fail> {
     match run_long(rt, row) {
         Ok(made) => {
             let samples = made.samples();
-            Ok(format!(in rt.alloc(); "{} {:?}", samples.len(), samples.last())?)
+            format!(in rt.alloc(); "{} {:?}", samples.len(), samples.last()).map_err(Fail::from)
         }
-        Err(fault) => fault_told(rt.alloc(), &fault),
+        Err(fault) => fault_told(rt.alloc(), fault),
     }
+}
+
+/// Checks the report on each row.
+fn are_told<T: Threads + AllocGlobal + Sync>(rt: &T, rows: &[Row]) -> Result<(), Fail> {
+    for row in rows {
+        row_says(row.name, told(rt, row), row.told)?;
+    }
+    Ok(())
 }
 
 /// Tests lists of the maximum length. Refuses an out-of-memory fault when memory is plentiful, a list that is cut,
 /// and a longer one that is taken.
 #[test]
 fn as_long_as_they_may_be(rt: HostRuntime) -> Result<(), Fail> {
-    for row in ROWS {
-        row_says(row.name, told(&rt, row), row.told)?;
-    }
-    Ok(())
+    are_told(&rt, ROWS)
 }

@@ -8,6 +8,7 @@ use crate::running::{Samples, end_of, file_of, row_makes, run_file, sound};
 use sdf_faults::Fault;
 use sdf_options::{Options, Placement, Runner};
 use sdf_wav::{FromRead, Wav, read_wav};
+use std::alloc::Global;
 use std::test::Fail;
 use std::thread::Threads;
 use test_texts::{row_says, says};
@@ -287,17 +288,20 @@ fn are_made<T: Threads + AllocGlobal + Sync>(rt: &T, rows: &[Row]) -> Result<(),
     Ok(())
 }
 
+/// Returns the file that a row's design makes of its sound.
+fn run_row<T: Threads + AllocGlobal + Sync>(rt: &T, row: &Row) -> Result<Vec<u8>, Fault> {
+    let input = file_of(rt.alloc(), row.rate, row.channels, row.samples)?;
+    run_file(rt, row.graph, &row.options, &input)
+}
+
 fn is_made<T: Threads + AllocGlobal + Sync>(rt: &T, row: &Row) -> Result<(), Fail> {
-    let alloc = rt.alloc();
-    let input = file_of(alloc, row.rate, row.channels, row.samples)?;
-    let run = run_file(rt, row.graph, &row.options, &input);
     match row.wanted {
         Sound(rate, channels, samples) => {
-            let wanted = file_of(alloc, rate, channels, samples)?;
-            row_makes(row.name, &row.options, run, &wanted)
+            let wanted = file_of(rt.alloc(), rate, channels, samples)?;
+            row_makes(row.name, &row.options, run_row(rt, row), &wanted)
         }
-        Bytes(bytes) => row_makes(row.name, &row.options, run, bytes),
-        Ends(end) => row_says(row.name, end_of(alloc, run), end),
+        Bytes(bytes) => row_makes(row.name, &row.options, run_row(rt, row), bytes),
+        Ends(end) => row_says(row.name, end_of(rt.alloc(), run_row(rt, row)), end),
     }
 }
 
@@ -331,20 +335,25 @@ fn is_filled_up(part: &[i16], whole: &[i16]) -> bool {
     part.len() == 320 && whole.len() == 320
 }
 
-/// Runs `CHAIN` on 294 samples and on the first 148. Reports the rate, the number and some samples of the first output,
-/// and whether the second is filled up.
-fn converted_told<T: Threads + AllocGlobal + Sync>(rt: &T) -> Result<String, Fail> {
-    let whole = converted(rt, 294)?;
-    let part = converted(rt, 148)?;
+/// Reports the rate, the number and some samples of `whole`, and whether `part` is filled up.
+fn sounds_told(alloc: Global, whole: &Wav, part: &Wav) -> Result<String, Fail> {
     let samples = whole.samples();
     let begins = samples.starts_with(&[0, 0, 0, 2, 3, 4, 5, 5, 6, 7]);
     let (middle, next, last) = (samples.get(159), samples.get(160), samples.get(319));
     let filled = is_filled_up(part.samples(), samples);
-    Ok(format!(in rt.alloc();
+    format!(in alloc;
         "{} {} {begins} {middle:?} {next:?} {last:?} {filled}",
         whole.rate(),
         samples.len()
-    )?)
+    )
+    .map_err(Fail::from)
+}
+
+/// Runs `CHAIN` on 294 samples and on the first 148, and reports on the outputs.
+fn converted_told<T: Threads + AllocGlobal + Sync>(rt: &T) -> Result<String, Fail> {
+    let whole = converted(rt, 294)?;
+    let part = converted(rt, 148)?;
+    sounds_told(rt.alloc(), &whole, &part)
 }
 
 #[test]

@@ -2,16 +2,16 @@
 //! a time, and what is written of a sound that is cut off.
 
 use crate::designs::{CHAIN, HALF, SUM};
-use crate::devices::seen;
+use crate::devices::seen_moving;
 use crate::running::Samples::Counted;
-use crate::running::{end_of, file_of, half_of, run_file, run_gated, run_with, samples_of, sound};
+use crate::running::{file_of, half_of, run_file, run_gated, run_to_end, samples_of, sound};
+use sdf_faults::Fault;
 use sdf_options::{Options, Placement, Policy, Runner};
 use sdf_run::{ActorId, Gate};
-use sdf_wav::{FromRead, ToWrite};
+use std::alloc::{AllocError, Global};
 use std::sync::atomic::{AtomicU64, Ordering};
 use std::test::Fail;
 use std::thread::Threads;
-use test_devices::Faulty;
 use test_texts::row_says;
 
 /// The name of a row, the runner of `HALF`, the samples that it reads, and the bytes that the calls of the reader and
@@ -60,21 +60,29 @@ const ASKED: &[(&str, Runner, usize, &str)] = &[
     ),
 ];
 
+/// Reports how many bytes the calls ask for while `file` is halved, and whether the output is `half`.
+fn half_told<T: Threads + AllocGlobal + Sync>(
+    rt: &T,
+    runner: Runner,
+    file: &[u8],
+    half: &[u8],
+) -> Result<String, Fail> {
+    let seen = seen_moving(rt, HALF, runner, file, usize::MAX)?;
+    let same = seen.output.as_slice() == half;
+    let (read, written) = (seen.read.as_slice(), seen.written.as_slice());
+    format!(in rt.alloc(); "{read:?} {written:?} {same}").map_err(Fail::from)
+}
+
 /// Reports how many bytes the calls ask for, and whether the samples are halved.
 fn asked_told<T: Threads + AllocGlobal + Sync>(
     rt: &T,
     runner: Runner,
     many: usize,
 ) -> Result<String, Fail> {
-    let alloc = rt.alloc();
-    let samples = samples_of(alloc, Counted(many))?;
-    let file = file_of(alloc, 44_100, 1, &samples)?;
-    let input = Faulty::moving(alloc, file.as_slice(), usize::MAX);
-    let output = Faulty::moving(alloc, Vec::new(alloc), usize::MAX);
-    let seen = seen(rt, HALF, runner, input, output)?;
-    let same = seen.output.as_slice() == half_of(alloc, &samples)?.as_slice();
-    let (read, written) = (seen.read.as_slice(), seen.written.as_slice());
-    Ok(format!(in alloc; "{read:?} {written:?} {same}")?)
+    let samples = samples_of(rt.alloc(), Counted(many))?;
+    let file = file_of(rt.alloc(), 44_100, 1, &samples)?;
+    let half = half_of(rt.alloc(), &samples)?;
+    half_told(rt, runner, &file, &half)
 }
 
 /// Tests what device calls ask for: workers write 4,096 frames at a time. Refuses workers that read all frames at a
@@ -108,34 +116,55 @@ impl Gate for Starts {
     }
 }
 
-/// Returns how often each of `NUMBERS` is begun while 5,000 frames are run.
-fn begun_told<T: Threads + AllocGlobal + Sync>(rt: &T, runner: Runner) -> Result<String, Fail> {
-    let alloc = rt.alloc();
+/// Returns a gate that has counted nothing.
+fn no_starts(alloc: Global) -> Result<Starts, AllocError> {
     let mut begun = Vec::new(alloc);
     for _ in NUMBERS {
         begun.push(AtomicU64::new(0))?;
     }
-    let gate = Starts { begun };
+    Ok(Starts { begun })
+}
+
+/// Returns what the gate `starts` has counted.
+fn counts_told(alloc: Global, starts: &Starts) -> Result<String, Fail> {
+    let mut told = Vec::new(alloc);
+    for count in &starts.begun {
+        told.push(count.load(Ordering::SeqCst))?;
+    }
+    format!(in alloc; "{told:?}").map_err(Fail::from)
+}
+
+/// Runs `CHAIN` on 5,000 frames, with the gate `starts`.
+fn run_chain<T: Threads + AllocGlobal + Sync>(
+    rt: &T,
+    runner: Runner,
+    starts: &Starts,
+) -> Result<Vec<u8>, Fault> {
+    let input = sound(rt.alloc(), 1, Counted(5000))?;
     let options = Options {
         runner,
         ..Options::DEFAULT
     };
-    run_gated(rt, CHAIN, &options, &sound(alloc, 1, Counted(5000))?, &gate)?;
-    let mut told = Vec::new(alloc);
-    for count in &gate.begun {
-        told.push(count.load(Ordering::SeqCst))?;
-    }
-    Ok(format!(in alloc; "{told:?}")?)
+    run_gated(rt, CHAIN, &options, &input, starts)
+}
+
+/// Returns how often each of `NUMBERS` is begun while 5,000 frames are run.
+fn begun_told<T: Threads + AllocGlobal + Sync>(rt: &T, runner: Runner) -> Result<String, Fail> {
+    let starts = no_starts(rt.alloc())?;
+    run_chain(rt, runner, &starts)?;
+    counts_told(rt.alloc(), &starts)
 }
 
 /// Tests how many blocks are fed: 4,096 frames hold 27 blocks. The 127 frames left and 904 more hold 7, and the last 2
 /// are filled up to one.
 #[test]
 fn how_many_blocks_are_fed(rt: HostRuntime) -> Result<(), Fail> {
-    for (name, runner) in [("rows", Runner::Rows), ("rings", Runner::Rings)] {
-        row_says(name, begun_told(&rt, runner), "[3, 2, 2, 1, 1, 0]")?;
-    }
-    Ok(())
+    row_says("rows", begun_told(&rt, Runner::Rows), "[3, 2, 2, 1, 1, 0]")?;
+    row_says(
+        "rings",
+        begun_told(&rt, Runner::Rings),
+        "[3, 2, 2, 1, 1, 0]",
+    )
 }
 
 /// A design, and how it is run on a sound that is cut after `kept` bytes. `told` gives how many bytes are written,
@@ -265,25 +294,30 @@ fn cut_told<T: Threads + AllocGlobal + Sync>(
     cut: &[u8],
     whole: &[u8],
 ) -> Result<String, Fail> {
-    let alloc = rt.alloc();
-    let mut writer = ToWrite::new(Vec::new(alloc));
-    let mut reader = FromRead::new(cut);
-    let run = run_with(rt, row.graph, &row.options, &mut reader, &mut writer);
-    let end = end_of(alloc, run)?;
-    let output = writer.into_inner();
-    let front = whole.starts_with(&output);
-    Ok(format!(in alloc; "{} {front} {end}", output.len())?)
+    let run = run_to_end(rt, row.graph, &row.options, cut)?;
+    let front = whole.starts_with(&run.output);
+    format!(in rt.alloc(); "{} {front} {}", run.output.len(), run.end).map_err(Fail::from)
+}
+
+/// Runs a row on its sound, and reports on it.
+fn row_told<T: Threads + AllocGlobal + Sync>(rt: &T, row: &Cut) -> Result<String, Fail> {
+    let mut sound = sound(rt.alloc(), row.channels, Counted(row.samples))?;
+    let whole = run_file(rt, row.graph, &Options::DEFAULT, &sound)?;
+    sound.truncate(row.kept);
+    cut_told(rt, row, &sound, &whole)
+}
+
+/// Checks the report on each row.
+fn are_told<T: Threads + AllocGlobal + Sync>(rt: &T, rows: &[Cut]) -> Result<(), Fail> {
+    for row in rows {
+        row_says(row.name, row_told(rt, row), row.told)?;
+    }
+    Ok(())
 }
 
 /// Tests that each piece is run and written before more is read. Refuses another value of `FRAMES`, and one thread in
 /// place of workers.
 #[test]
 fn what_was_read_is_written(rt: HostRuntime) -> Result<(), Fail> {
-    for row in CUTS {
-        let mut sound = sound(rt.alloc(), row.channels, Counted(row.samples))?;
-        let whole = run_file(&rt, row.graph, &Options::DEFAULT, &sound)?;
-        sound.truncate(row.kept);
-        row_says(row.name, cut_told(&rt, row, &sound, &whole), row.told)?;
-    }
-    Ok(())
+    are_told(&rt, CUTS)
 }

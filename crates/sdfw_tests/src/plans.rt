@@ -30,15 +30,27 @@ actor = [{ name = "in", kind = "input", channel = 0 }, { name = "add", kind = "a
 link = [{ from = "in", to = "add:0" }, { from = "add", to = "fork" }, { from = "fork:0", to = "out" },
     { from = "fork:1", to = "add:1", initial = [0] }]"#;
 
-/// Reports what runs a design in parallel, in how many parts at once, and why.
+/// Reports what runs a design by its plan, in how many parts at once, and why.
+fn paced_told(alloc: Global, paced: &Paced) -> Result<String, Fail> {
+    let pace = paced.pace;
+    let told = match paced.plan.way() {
+        Way::One { .. } => format!(in alloc; "one {pace:?}"),
+        Way::Parts { parts, .. } => format!(in alloc; "parts {parts} {pace:?}"),
+        Way::Rows(_) | Way::Rings { .. } => format!(in alloc; "workers {pace:?}"),
+    };
+    told.map_err(Fail::from)
+}
+
+/// Reports what runs `design` in parallel.
+fn parallel_told(alloc: Global, design: &Design) -> Result<String, Fail> {
+    let paced = parallel_plan(alloc, design, 3)?;
+    paced_told(alloc, &paced)
+}
+
+/// Reports what runs the design `text` in parallel.
 fn parts_told(alloc: Global, text: &str) -> Result<String, Fail> {
     let design = read_design(alloc, text.as_bytes(), &[])?;
-    let Paced { plan, pace } = parallel_plan(alloc, &design, 3)?;
-    Ok(match plan.way() {
-        Way::One { .. } => format!(in alloc; "one {pace:?}")?,
-        Way::Parts { parts, .. } => format!(in alloc; "parts {parts} {pace:?}")?,
-        Way::Rows(_) | Way::Rings { .. } => format!(in alloc; "workers {pace:?}")?,
-    })
+    parallel_told(alloc, &design)
 }
 
 /// Returns the fault of a run of two periods of `CHAIN` whose input is one sample short.
@@ -48,14 +60,18 @@ fn short_told(alloc: Global, design: &Design, plan: &Plan) -> Result<String, Fai
     let short = vec![in alloc; vec![in alloc; 0i32; 293]?]?;
     match run_one(alloc, design.net(), plan.period(), 2, &short) {
         Ok(_) => Ok(String::new(alloc)),
-        Err(fault) => Ok(format!(in alloc; "{fault:?}")?),
+        Err(fault) => format!(in alloc; "{fault:?}").map_err(Fail::from),
     }
+}
+
+fn short_run(alloc: Global, design: &Design) -> Result<String, Fail> {
+    let plan = plan(alloc, design, &Options::DEFAULT)?;
+    short_told(alloc, design, &plan)
 }
 
 fn short_chain(alloc: Global) -> Result<String, Fail> {
     let design = read_design(alloc, CHAIN.as_bytes(), &[])?;
-    let plan = plan(alloc, &design, &Options::DEFAULT)?;
-    short_told(alloc, &design, &plan)
+    short_run(alloc, &design)
 }
 
 /// Tests plans. Refuses a warm-up other than the least: seven samples of the sum come from before, and the first four
@@ -63,24 +79,21 @@ fn short_chain(alloc: Global) -> Result<String, Fail> {
 /// a loop that is cut.
 #[test]
 fn plans_and_what_they_want(rt: HostRuntime) -> Result<(), Fail> {
+    let alloc = rt.alloc();
     row_says(
         "parts begin warm",
-        parts_told(rt.alloc(), KEPT),
+        parts_told(alloc, KEPT),
         "parts 3 Parts { workers: 3, periods: 6, samples: 12 }",
     )?;
     row_says(
         "a loop keeps its samples",
-        parts_told(rt.alloc(), LASTING),
+        parts_told(alloc, LASTING),
         "one Lasting",
     )?;
     row_says(
         "a chain that keeps no sample is warm at once",
-        parts_told(rt.alloc(), CHAIN),
+        parts_told(alloc, CHAIN),
         "parts 3 Parts { workers: 3, periods: 0, samples: 0 }",
     )?;
-    row_says(
-        "runs want whole periods",
-        short_chain(rt.alloc()),
-        "InputLength",
-    )
+    row_says("runs want whole periods", short_chain(alloc), "InputLength")
 }

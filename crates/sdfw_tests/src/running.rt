@@ -1,7 +1,7 @@
 //! Runs of designs over memory, from bytes to bytes, and reports on them.
 
 use sdf_faults::{Fault, fault_text, status};
-use sdf_file::read_design;
+use sdf_file::{Design, read_design};
 use sdf_options::Options;
 use sdf_plan::planning::plan;
 use sdf_process::process::process_with;
@@ -59,6 +59,32 @@ pub(crate) fn half_of(alloc: Global, samples: &[i16]) -> Result<Vec<u8>, Fault> 
     file_of(alloc, 44_100, 1, &halves)
 }
 
+/// Runs `design` with `options`, from `reader` to `writer`, with the gate `gate`.
+fn run_design<T: Threads + AllocGlobal + Sync, R: Reader, W: Writer, G: Gate>(
+    rt: &T,
+    design: &Design,
+    options: &Options,
+    reader: &mut R,
+    writer: &mut W,
+    gate: &G,
+) -> Result<(), Fault> {
+    let plan = plan(rt.alloc(), design, options)?;
+    process_with(rt, reader, writer, design, &plan, gate)
+}
+
+/// Runs the design `graph` with `options`, from `reader` to `writer`, with the gate `gate`.
+fn run_through<T: Threads + AllocGlobal + Sync, R: Reader, W: Writer, G: Gate>(
+    rt: &T,
+    graph: &str,
+    options: &Options,
+    reader: &mut R,
+    writer: &mut W,
+    gate: &G,
+) -> Result<(), Fault> {
+    let design = read_design(rt.alloc(), graph.as_bytes(), &[])?;
+    run_design(rt, &design, options, reader, writer, gate)
+}
+
 /// Runs the design `graph` with `options`, from `reader` to `writer`.
 pub(crate) fn run_with<T: Threads + AllocGlobal + Sync, R: Reader, W: Writer>(
     rt: &T,
@@ -67,9 +93,7 @@ pub(crate) fn run_with<T: Threads + AllocGlobal + Sync, R: Reader, W: Writer>(
     reader: &mut R,
     writer: &mut W,
 ) -> Result<(), Fault> {
-    let design = read_design(rt.alloc(), graph.as_bytes(), &[])?;
-    let plan = plan(rt.alloc(), &design, options)?;
-    process_with(rt, reader, writer, &design, &plan, &NoGate)
+    run_through(rt, graph, options, reader, writer, &NoGate)
 }
 
 /// Returns the file that the design `graph` makes of `input`.
@@ -79,9 +103,7 @@ pub(crate) fn run_file<T: Threads + AllocGlobal + Sync>(
     options: &Options,
     input: &[u8],
 ) -> Result<Vec<u8>, Fault> {
-    let mut writer = ToWrite::new(Vec::new(rt.alloc()));
-    run_with(rt, graph, options, &mut FromRead::new(input), &mut writer)?;
-    Ok(writer.into_inner())
+    run_gated(rt, graph, options, input, &NoGate)
 }
 
 /// Returns the file that the design `graph` makes of `input`, with the gate `gate`.
@@ -92,25 +114,70 @@ pub(crate) fn run_gated<T: Threads + AllocGlobal + Sync, G: Gate>(
     input: &[u8],
     gate: &G,
 ) -> Result<Vec<u8>, Fault> {
-    let design = read_design(rt.alloc(), graph.as_bytes(), &[])?;
-    let plan = plan(rt.alloc(), &design, options)?;
     let mut reader = FromRead::new(input);
     let mut writer = ToWrite::new(Vec::new(rt.alloc()));
-    process_with(rt, &mut reader, &mut writer, &design, &plan, gate)?;
+    run_through(rt, graph, options, &mut reader, &mut writer, gate)?;
     Ok(writer.into_inner())
 }
 
-/// Returns the exit status of a fault and its line, as text.
-pub(crate) fn fault_told(alloc: Global, fault: &Fault) -> Result<String, Fail> {
+/// What a run writes, and how it ends.
+#[derive(Drop)]
+pub(crate) struct Outcome {
+    pub(crate) output: Vec<u8>,
+    pub(crate) end: String,
+}
+
+/// Runs the design `graph` with `options` on the file `input`, which may end with a fault.
+pub(crate) fn run_to_end<T: Threads + AllocGlobal + Sync>(
+    rt: &T,
+    graph: &str,
+    options: &Options,
+    input: &[u8],
+) -> Result<Outcome, Fail> {
+    let mut reader = FromRead::new(input);
+    let mut writer = ToWrite::new(Vec::new(rt.alloc()));
+    let run = run_with(rt, graph, options, &mut reader, &mut writer);
+    let end = end_of(rt.alloc(), run)?;
+    Ok(Outcome {
+        output: writer.into_inner(),
+        end,
+    })
+}
+
+/// Marks the size of the data of `file` as not filled in.
+pub(crate) fn leave_open(file: &mut [u8]) {
+    if file.len() >= 44 {
+        file[40..44].fill(0xFF);
+    }
+}
+
+fn line_told(alloc: Global, fault: &Fault) -> Result<String, Fail> {
     let text = fault_text(alloc, fault)?;
-    Ok(format!(in alloc; "{} {text}", status(fault))?)
+    format!(in alloc; "{} {text}", status(fault)).map_err(Fail::from)
+}
+
+/// Returns the exit status of a fault and its line, as text.
+pub(crate) fn fault_told(alloc: Global, fault: Fault) -> Result<String, Fail> {
+    let told = line_told(alloc, &fault);
+    drop(fault);
+    told
+}
+
+/// Returns the exit status of a fault, as text.
+pub(crate) fn status_told(alloc: Global, fault: Fault) -> Result<String, Fail> {
+    let status = status(&fault);
+    drop(fault);
+    format!(in alloc; "{status}").map_err(Fail::from)
 }
 
 /// Returns the exit status and the line of the fault that a run ends with, or `no fault`.
 pub(crate) fn end_of<T: Drop>(alloc: Global, run: Result<T, Fault>) -> Result<String, Fail> {
     match run {
-        Ok(_) => Ok(String::from_str(alloc, "no fault")?),
-        Err(fault) => fault_told(alloc, &fault),
+        Ok(made) => {
+            drop(made);
+            String::from_str(alloc, "no fault").map_err(Fail::from)
+        }
+        Err(fault) => fault_told(alloc, fault),
     }
 }
 

@@ -2,10 +2,10 @@
 
 use crate::designs::{BLOCKS, CHAIN, INITIAL, PAIR, SECOND_DOUBLED};
 use crate::running::fault_told;
-use sdf_file::{check_text, read_design};
+use sdf_file::{Design, check_text, read_design};
 use sdf_options::{Options, Placement, Policy};
 use sdf_plan::schedule::schedule;
-use std::alloc::Global;
+use std::alloc::{AllocError, Global};
 use std::test::Fail;
 use test_texts::{row_says, says};
 
@@ -211,30 +211,47 @@ const ROWS: &[Row] = &[
     },
 ];
 
-/// Returns what `schedule` prints for a row's design, or the exit status and the line of the fault.
-fn printed(alloc: Global, row: &Row) -> Result<String, Fail> {
+/// Returns the text of a row's design, with the changes made.
+fn graph_of(alloc: Global, row: &Row) -> Result<String, AllocError> {
     let mut graph = String::from_str(alloc, row.graph)?;
     for (old, new) in row.changes {
         graph = graph.replace(alloc, *old, new)?;
     }
-    let design = read_design(alloc, graph.as_bytes(), &[])?;
-    match schedule(alloc, &design, &row.options) {
+    Ok(graph)
+}
+
+/// Returns what `schedule` prints for `design`, or the exit status and the line of the fault.
+fn schedule_told(alloc: Global, design: &Design, options: &Options) -> Result<String, Fail> {
+    match schedule(alloc, design, options) {
         Ok(text) => Ok(text),
-        Err(fault) => fault_told(alloc, &fault),
+        Err(fault) => fault_told(alloc, fault),
     }
+}
+
+/// Returns what `schedule` prints for a row's design.
+fn printed(alloc: Global, row: &Row) -> Result<String, Fail> {
+    let graph = graph_of(alloc, row)?;
+    let design = read_design(alloc, graph.as_bytes(), &[])?;
+    schedule_told(alloc, &design, &row.options)
+}
+
+/// Checks what is printed for each row.
+fn are_printed(alloc: Global, rows: &[Row]) -> Result<(), Fail> {
+    for row in rows {
+        row_says(row.name, printed(alloc, row), row.printed)?;
+    }
+    Ok(())
 }
 
 /// Returns what `check` prints for a design.
 fn checked(alloc: Global, graph: &str) -> Result<String, Fail> {
     let design = read_design(alloc, graph.as_bytes(), &[])?;
-    Ok(check_text(alloc, &design)?)
+    check_text(alloc, &design).map_err(Fail::from)
 }
 
 #[test]
 fn what_is_printed(rt: HostRuntime) -> Result<(), Fail> {
-    for row in ROWS {
-        row_says(row.name, printed(rt.alloc(), row), row.printed)?;
-    }
+    are_printed(rt.alloc(), ROWS)?;
     says(
         checked(rt.alloc(), CHAIN),
         "actors 6\nlinks 5\nperiod 612\nq in 147\nq a 147\nq b 98\nq c 28\nq d 32\nq out 160\n\

@@ -1,9 +1,11 @@
 //! Tests of runs over rings with low and high spin limits, seen by gates. With any limit a worker is in the next block
 //! while another is in this one. With a high limit a worker waits for its neighbour.
 
-use crate::running::{file_of, run_gated};
+use crate::running::{file_of, leave_open, run_gated};
+use sdf_faults::Fault;
 use sdf_options::{Options, Placement, Runner};
 use sdf_run::{ActorId, Gate};
+use std::alloc::Global;
 use std::sync::atomic::{AtomicBool, AtomicU64, Ordering};
 use std::test::Fail;
 use std::thread;
@@ -107,6 +109,14 @@ const LATE: &[Wait] = &[
     },
 ];
 
+/// Two workers over rings, with homes by the file.
+const OVER_RINGS: Options = Options {
+    runner: Runner::Rings,
+    placement: Placement::File,
+    workers: 2,
+    ..Options::DEFAULT
+};
+
 /// The name of a row, the initial samples of `half`, the spin limit, the waits, and the samples that are made.
 type Row = (
     &'static str,
@@ -140,6 +150,15 @@ const ROWS: &[Row] = &[
     ),
 ];
 
+/// Returns the WAV file of two samples, with its size filled in or not.
+fn two_samples(alloc: Global, filled: bool) -> Result<Vec<u8>, Fault> {
+    let mut file = file_of(alloc, 8000, 1, &[2, 4])?;
+    if !filled {
+        leave_open(&mut file);
+    }
+    Ok(file)
+}
+
 /// Returns what a row's design makes of two samples, with the gate `order`. `filled` says whether the sound's size is
 /// filled in.
 fn run_patient<T: Threads + AllocGlobal + Sync>(
@@ -147,20 +166,24 @@ fn run_patient<T: Threads + AllocGlobal + Sync>(
     (_, begun, patience, _, _): &Row,
     filled: bool,
     order: &Order,
-) -> Result<Vec<u8>, Fail> {
+) -> Result<Vec<u8>, Fault> {
+    let input = two_samples(rt.alloc(), filled)?;
     let options = Options {
-        runner: Runner::Rings,
-        placement: Placement::File,
-        workers: 2,
         patience: *patience,
-        ..Options::DEFAULT
+        ..OVER_RINGS
     };
     let graph = SPLIT.replace(rt.alloc(), "BEGUN", begun)?;
-    let mut input = file_of(rt.alloc(), 8000, 1, &[2, 4])?;
-    if !filled && input.len() >= 44 {
-        input[40..44].fill(0xFF);
+    run_gated(rt, &graph, &options, &input, order)
+}
+
+/// Reports on the gate `order` of a run. `same` says whether its file is the wanted one.
+fn order_told(alloc: Global, order: &Order, same: bool) -> Result<String, Fail> {
+    let mut begun = [0u64; 5];
+    for (slot, count) in begun.iter_mut().zip(&order.begun) {
+        *slot = count.load(Ordering::SeqCst);
     }
-    Ok(run_gated(rt, &graph, &options, &input, order)?)
+    let missed = order.missed.load(Ordering::SeqCst);
+    format!(in alloc; "{same} {begun:?} {missed}").map_err(Fail::from)
 }
 
 /// Reports whether the file is `wanted`, how many firings each actor has begun, and whether a firing waited in vain.
@@ -182,12 +205,17 @@ fn told<T: Threads + AllocGlobal + Sync>(
         missed: AtomicBool::new(false),
     };
     let same = run_patient(rt, row, filled, &order)?.as_slice() == wanted;
-    let mut begun = [0u64; 5];
-    for (slot, count) in begun.iter_mut().zip(&order.begun) {
-        *slot = count.load(Ordering::SeqCst);
-    }
-    let missed = order.missed.load(Ordering::SeqCst);
-    Ok(format!(in rt.alloc(); "{same} {begun:?} {missed}")?)
+    order_told(rt.alloc(), &order, same)
+}
+
+/// Checks that a row makes its samples, that each actor begins two firings, and that none waits in vain.
+fn makes<T: Threads + AllocGlobal + Sync>(rt: &T, row: &Row, filled: bool) -> Result<(), Fail> {
+    let wanted = file_of(rt.alloc(), 8000, 2, row.4)?;
+    row_says(
+        row.0,
+        told(rt, row, filled, &wanted),
+        "true [2, 2, 2, 2, 2] false",
+    )
 }
 
 /// Tests rings with several spin limits. Refuses rows, or one thread, in place of workers over rings with a low limit.
@@ -195,17 +223,8 @@ fn told<T: Threads + AllocGlobal + Sync>(
 #[test]
 fn with_any_patience(rt: HostRuntime) -> Result<(), Fail> {
     for row in ROWS {
-        let wanted = file_of(rt.alloc(), 8000, 2, row.4)?;
-        row_says(
-            row.0,
-            told(&rt, row, true, &wanted),
-            "true [2, 2, 2, 2, 2] false",
-        )?;
-        row_says(
-            row.0,
-            told(&rt, row, false, &wanted),
-            "true [2, 2, 2, 2, 2] false",
-        )?;
+        makes(&rt, row, true)?;
+        makes(&rt, row, false)?;
     }
     Ok(())
 }

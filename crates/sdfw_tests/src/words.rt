@@ -1,10 +1,11 @@
 //! Tests of the command line: the field that each word sets, words that one command has and another does not, and words
 //! after the last one of a command.
 
-use sdf_faults::{Fault, status};
+use crate::running::status_told;
+use sdf_faults::Fault;
 use sdf_options::Options;
-use sdf_words::{Run, Task, Why, Words, words};
-use std::alloc::Global;
+use sdf_words::{Crew, Run, Task, Why, Words, words};
+use std::alloc::{AllocError, Global};
 use std::test::Fail;
 use test_texts::{row_says, says};
 
@@ -246,34 +247,49 @@ const HELP: &[Row] = &[
     ("a version", "--version", "0"),
 ];
 
+/// Returns a run's options and parallel workers.
+fn run_told(
+    alloc: Global,
+    options: &Options,
+    parallel: Option<Crew>,
+) -> Result<String, AllocError> {
+    format!(in alloc;
+        "{} {} {:?} {:?} {:?} {} {parallel:?}",
+        options.blocking,
+        options.workers,
+        options.policy,
+        options.placement,
+        options.runner,
+        options.patience
+    )
+}
+
+/// Returns a run's options and parallel workers, or another command in full.
+fn command_told(alloc: Global, read: &Words) -> Result<String, Fail> {
+    let told = match read {
+        Words::Design {
+            graph: "g",
+            task: Task::Run(
+                Run {
+                    input: "i",
+                    output: "o",
+                    options,
+                    parallel,
+                    open_ended: false,
+                },
+            ),
+            why: Why::AtTerminal,
+        } => run_told(alloc, options, *parallel),
+        _ => format!(in alloc; "{read:?}"),
+    };
+    told.map_err(Fail::from)
+}
+
 /// Returns what is read of a line: a run's options and parallel workers, another command in full, or the exit status.
 fn told<'a>(alloc: Global, line: &'a [&'a str]) -> Result<String, Fail> {
     match words(alloc, line) {
-        Ok(
-            Words::Design {
-                graph: "g",
-                task: Task::Run(
-                    Run {
-                        input: "i",
-                        output: "o",
-                        options,
-                        parallel,
-                        open_ended: false,
-                    },
-                ),
-                why: Why::AtTerminal,
-            },
-        ) => Ok(format!(in alloc;
-            "{} {} {:?} {:?} {:?} {} {parallel:?}",
-            options.blocking,
-            options.workers,
-            options.policy,
-            options.placement,
-            options.runner,
-            options.patience
-        )?),
-        Ok(read) => Ok(format!(in alloc; "{read:?}")?),
-        Err(fault) => Ok(format!(in alloc; "{}", status(&Fault::from(fault)))?),
+        Ok(read) => command_told(alloc, &read),
+        Err(fault) => status_told(alloc, Fault::from(fault)),
     }
 }
 
@@ -315,7 +331,7 @@ fn other_lines_and_defaults(rt: HostRuntime) -> Result<(), Fail> {
          placement: Homed, runner: One, patience: 1000 }, json: false }, why: AtTerminal }",
     )?;
     says(
-        Ok(format!(in alloc; "{:?}", Options::DEFAULT)?),
+        format!(in alloc; "{:?}", Options::DEFAULT).map_err(Fail::from),
         "Options { blocking: 1, workers: 1, policy: Round, placement: Homed, runner: One, patience: 1000 }",
     )
 }
