@@ -1,6 +1,8 @@
-//! Designs that are read from files.
+//! Designs that are made or read from files.
 
 use anyhow::Result;
+use bench_inputs::graphs::Graph;
+use bench_inputs::numbers::Numbers;
 use sdf_file::{Design, design_files, read_design};
 use std::alloc::Global;
 use std::fs;
@@ -43,6 +45,12 @@ pub(crate) fn design_in(
     files: &[(String, Vec<u8>)],
 ) -> Result<Design> {
     Ok(read_design(alloc, graph, files)?)
+}
+
+/// Makes a design, with numbers of a seed.
+pub(crate) fn design_of(alloc: Global, graph: Graph, numbers: &mut Numbers) -> Result<Design> {
+    let text = graph.text(alloc, numbers)?;
+    design_in(alloc, text.as_bytes(), &[])
 }
 
 /// Reads the design of a graph file in a folder of `designs`.

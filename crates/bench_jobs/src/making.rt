@@ -1,12 +1,13 @@
 //! Filters, converters and long documents.
 
+use crate::files::design_in;
 use crate::playing::{Playing, Source, Way};
 use anyhow::{Result, bail};
 use bench_inputs::graphs::Graph;
 use bench_inputs::long::{same_costs, same_files};
 use bench_inputs::noise::Level;
 use bench_inputs::numbers::{Numbers, show};
-use sdf_file::{Design, check_text, read_design};
+use sdf_file::{Design, check_text};
 use sdf_filters::{Band, ConverterTexts, StageFile, Wanted, converter_texts, filter_texts};
 use sdf_profile::costed_text;
 use std::alloc::Global;
@@ -157,7 +158,7 @@ pub(crate) fn converter_design(alloc: Global, texts: &ConverterTexts) -> Result<
     for stage in &texts.files {
         push_stage(alloc, &mut files, stage)?;
     }
-    Ok(read_design(alloc, texts.graph.as_bytes(), &files)?)
+    design_in(alloc, texts.graph.as_bytes(), &files)
 }
 
 /// Prints the digest of what `check` prints of a converter.

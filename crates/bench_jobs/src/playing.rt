@@ -3,7 +3,7 @@
 ghost use Rattle.std.specs.Prelude.{IfOk};
 ghost use Rattle.sdf_plan.specs.Plans.{Suits};
 
-use crate::files::{design_at, design_in};
+use crate::files::{design_at, design_in, design_of};
 use anyhow::Result;
 use bench_inputs::graphs::Graph;
 use bench_inputs::noise::{Length, Level, Noise};
@@ -139,16 +139,10 @@ impl<'a, R: AllocGlobal + Files + Print + Sync + Threads> Playing<'a, R> {
     /// Makes or reads a design.
     fn design(&mut self, source: Source<'_>) -> Result<Design> {
         match source {
-            Source::Made(graph) => self.made(graph),
+            Source::Made(graph) => design_of(self.rt.alloc(), graph, &mut self.numbers),
             Source::Shipped(folder, graph) => design_at(self.rt, folder, graph),
             Source::Text(graph, files) => design_in(self.rt.alloc(), graph, files),
         }
-    }
-
-    /// Makes a design.
-    fn made(&mut self, graph: Graph) -> Result<Design> {
-        let text = graph.text(self.rt.alloc(), &mut self.numbers)?;
-        design_in(self.rt.alloc(), text.as_bytes(), &[])
     }
 
     /// Makes or reads a design, and runs it.

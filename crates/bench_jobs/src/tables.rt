@@ -2,13 +2,14 @@
 
 ghost use Rattle.sdf_plan.specs.Plans.{AreSizes};
 
+use crate::files::design_of;
 use crate::making::converter_design;
 use anyhow::Result;
 use bench_inputs::graphs::Graph;
 use bench_inputs::numbers::{Numbers, show};
 use sdf_analyze::{analyze, compare};
 use sdf_draw::svg;
-use sdf_file::{Design, read_design};
+use sdf_file::Design;
 use sdf_filters::converter_texts;
 use sdf_json::schedule_json;
 use sdf_options::{Options, Placement, Policy};
@@ -28,15 +29,10 @@ impl Input {
     /// Returns the design.
     fn design(self, alloc: Global, numbers: &mut Numbers) -> Result<Design> {
         match self {
-            Input::Staged { firings } => staged(alloc, numbers, firings),
+            Input::Staged { firings } => design_of(alloc, Graph::Staged { firings }, numbers),
             Input::Converter { attenuation } => converter(alloc, attenuation),
         }
     }
-}
-
-fn staged(alloc: Global, numbers: &mut Numbers, firings: u32) -> Result<Design> {
-    let text = Graph::Staged { firings }.text(alloc, numbers)?;
-    Ok(read_design(alloc, text.as_bytes(), &[])?)
 }
 
 fn converter(alloc: Global, attenuation: u32) -> Result<Design> {

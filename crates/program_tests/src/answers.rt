@@ -1,6 +1,7 @@
 //! Tests of what commands print, over files in memory.
 
 use crate::commands::{Row, are_told, told};
+use std::fmt::Display;
 use std::test::Fail;
 use std::thread::Threads;
 use std::time::Clock;
@@ -48,7 +49,7 @@ runs   spread          1     1024        *2048    *1.00   *2048          *1026
 --
 ";
 
-/// Commands on standard output. Refuses a program that schedules by the default options, or takes help for a fault.
+/// Commands on standard output. Refuses a program that schedules by the default options.
 const ANSWERS: &[Row] = &[
     (
         "a check",
@@ -81,6 +82,15 @@ const ANSWERS: &[Row] = &[
     ),
     ("a version", "--version", "0\nsdfw 0.1.0\n--\n--\n"),
     (
+        "schedules compared",
+        "analyze begun.toml --compare",
+        COMPARED,
+    ),
+];
+
+/// Help, and the kinds of actors, on standard output. Refuses a program that takes help for a fault.
+const HELP: &[Row] = &[
+    (
         "help",
         "check -h",
         "0\nChecks a graph file and prints its period\n\nUsage: sdfw check [OPTIONS] <GRAPH>\n\nArguments:\n  \
@@ -93,20 +103,16 @@ const ANSWERS: &[Row] = &[
         "longer help",
         "help kinds",
         "0\nLists the kinds of actors, their keys and limits: a line for each kind, and a last one for the keys\n\
-         that every actor may have. A number in parentheses stands where the key is absent.\n\nUsage: sdfw kinds [OPTIONS]\n\
-         \nOptions:\n      --json\n          Answers in JSON, with the ports of each kind: one value on one line. A fault is \
-         one too, on standard error\n\n  -h, --help\n          Print help (see a summary with '-h')\n\nExamples:\n  \
+         that every actor may have. A number in parentheses stands where the key is absent.\n\n\
+         Usage: sdfw kinds [OPTIONS]\n\nOptions:\n      --json\n          Answers in JSON, with the ports of each \
+         kind: one value on one line. A fault is one too, on standard error\n\n  -h, --help\n          \
+         Print help (see a summary with '-h')\n\nExamples:\n  \
          sdfw kinds\n  sdfw kinds | grep fir\n  sdfw kinds --json\n--\n--\n",
     ),
     (
         "longer help of an option",
         "draw --help",
         "0\nDraws a graph and its schedule as one SVG…Which worker does a firing, and in which row of the table:…",
-    ),
-    (
-        "schedules compared",
-        "analyze begun.toml --compare",
-        COMPARED,
     ),
     ("kinds", "kinds", KINDS),
 ];
@@ -209,7 +215,8 @@ const VIEWS: &[Row] = &[
 const RUNS: &[Row] = &[
     (
         "all options",
-        "run begun.toml in.wav out.wav --blocking 3 --workers 2 --policy lean --placement file --runner rings --patience 7",
+        "run begun.toml in.wav out.wav --blocking 3 --workers 2 --policy lean --placement file --runner rings \
+         --patience 7",
         "0\n--\n--\n<7 8>",
     ),
     (
@@ -252,6 +259,7 @@ const RUNS: &[Row] = &[
 #[test]
 fn what_commands_answer(rt: HostRuntime) -> Result<(), Fail> {
     are_told(&rt, ANSWERS)?;
+    are_told(&rt, HELP)?;
     are_told(&rt, IN_JSON)?;
     are_told(&rt, VIEWS)?;
     are_told(&rt, RUNS)
@@ -299,21 +307,12 @@ fn how_often(rt: HostRuntime) -> Result<(), Fail> {
     Ok(())
 }
 
-/// Returns what is said of a fault by its number.
-fn by_number<T: Threads + AllocGlobal + Clock + Clone + Drop + Sync>(
+/// Returns what is said of a fault by its name or its number.
+fn explained<T: Threads + AllocGlobal + Clock + Clone + Drop + Sync>(
     rt: &T,
-    number: u32,
+    fault: impl Display + Drop,
 ) -> Result<String, Fail> {
-    let line = format!(in rt.alloc(); "explain {number}")?;
-    told(rt, &line)
-}
-
-/// Returns what is said of a fault by its name.
-fn by_name<T: Threads + AllocGlobal + Clock + Clone + Drop + Sync>(
-    rt: &T,
-    name: &str,
-) -> Result<String, Fail> {
-    let line = format!(in rt.alloc(); "explain {name}")?;
+    let line = format!(in rt.alloc(); "explain {fault}")?;
     told(rt, &line)
 }
 
@@ -333,9 +332,9 @@ fn is_named<T: Threads + AllocGlobal + Clock + Clone + Drop + Sync>(
     rt: &T,
     number: u32,
 ) -> Result<(), Fail> {
-    let text = by_number(rt, number)?;
+    let text = explained(rt, number)?;
     let name = name_in(&text);
-    row_says(name, by_name(rt, name), text.as_str())
+    row_says(name, explained(rt, name), text.as_str())
 }
 
 /// Tests that each fault is explained by name. Refuses a program that does not look names up.

@@ -1,9 +1,9 @@
 //! Tests of runs of several files into a folder.
 
 use crate::commands;
-use crate::commands::{Around, OPEN, Row, Served, are_told_around, is_told, told_around};
+use crate::commands::{Around, FREE, Row, are_told_around};
 use crate::files::{
-    HALVES, PLAIN, are_told, folder, has_bytes, path_in, put, served, told, with_files,
+    HALVES, PLAIN, are_told, folder, has_bytes, is_gone, path_in, put, served, told, with_files,
 };
 use crate::shelf::{HEADER, SOUND};
 use sdf_files::storage::Disk;
@@ -16,15 +16,15 @@ use std::time::Clock;
 use test_texts::says;
 
 /// Standard error is a terminal.
-const TERMINAL: Around<'static> = Around {
+const TERMINAL: &Around<'static> = &Around {
     terminal: true,
-    ..OPEN
+    ..FREE
 };
 
 /// Standard output is refused.
-const MUTE: Around<'static> = Around {
+const MUTE: &Around<'static> = &Around {
     output: Some(ErrorKind::BrokenPipe),
-    ..OPEN
+    ..FREE
 };
 
 /// Batches over files in memory. Refuses a program that stops at a file that fails, or keeps what it has written for
@@ -161,21 +161,25 @@ const SAID: &[Row] = &[
     ),
 ];
 
+/// Batches whose lines are not printed. Refuses a program that goes on after the first.
+const UNPRINTED: &[Row] = &[
+    (
+        "run plain.toml --into made in.wav",
+        "run plain.toml --into made in.wav",
+        "5\n--\nsdfw: 48 Write\n--\n<5 -5>",
+    ),
+    (
+        "run plain.toml --into made in.wav silence.wav --parallel 1",
+        "run plain.toml --into made in.wav silence.wav --parallel 1",
+        "5\n--\nsdfw: 48 Write\n--\n<5 -5>",
+    ),
+];
+
 #[test]
 fn what_batches_tell(rt: HostRuntime) -> Result<(), Fail> {
     commands::are_told(&rt, BATCHES)?;
-    are_told_around(&rt, &TERMINAL, SAID)?;
-    for line in [
-        "run plain.toml --into made in.wav",
-        "run plain.toml --into made in.wav silence.wav --parallel 1",
-    ] {
-        is_told(
-            line,
-            told_around(&rt, &MUTE, line),
-            "5\n--\nsdfw: 48 Write\n--\n<5 -5>",
-        )?;
-    }
-    Ok(())
+    are_told_around(&rt, TERMINAL, SAID)?;
+    are_told_around(&rt, MUTE, UNPRINTED)
 }
 
 /// Lines that would write over a file while it is read, and their reports.
@@ -202,10 +206,7 @@ fn put_old(rt: &HostRuntime, into: &str) -> Result<(), Fail> {
 /// Fails if the part of `cut.wav` is left in the folder `into`.
 fn has_no_part(rt: &HostRuntime, into: &str) -> Result<(), Fail> {
     let part = path_in(rt.alloc(), into, "cut.wav.part")?;
-    if fs::metadata(rt, part.as_str()).is_ok() {
-        return Err(Fail::new(format_args!("a part of cut.wav is left")));
-    }
-    Ok(())
+    is_gone(rt, &part)
 }
 
 /// Runs a batch in the folder `above`, and compares the files that it leaves there and in the folder `into`.
@@ -320,9 +321,8 @@ fn lines_told<T: Threads + AllocGlobal + Clock + Clone + Drop + Sync>(
     takes: Takes<'_>,
     words: &str,
 ) -> Result<String, Fail> {
-    let Served { status, out, .. } = served(&Disk { rt }, threads, takes.above, words)?;
-    let out = String::from_utf8(out)?;
-    Ok(format!(in rt.alloc(); "{status}\n{out}")?)
+    let served = served(&Disk { rt }, threads, takes.above, words)?;
+    served.lines(rt.alloc())
 }
 
 /// Compares the status and the lines of a batch with the wanted ones.

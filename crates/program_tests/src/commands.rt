@@ -43,14 +43,25 @@ impl Write for Stream {
 /// Returns the program's name and the words of `line`, with `folder` in place of `@`.
 pub(crate) fn given_of(alloc: Global, line: &str, folder: &str) -> Result<Given, AllocError> {
     let mut words = Vec::new(alloc);
-    words.push(String::from_str(alloc, "sdfw")?)?;
+    push_word(alloc, &mut words, "sdfw", folder)?;
     for word in line.split(' ') {
-        words.push(word.replace(alloc, "@", folder)?)?;
+        push_word(alloc, &mut words, word, folder)?;
     }
     Ok(Given {
         words,
         unread: None,
     })
+}
+
+/// Appends `word` to `words`, with `folder` in place of `@`.
+fn push_word(
+    alloc: Global,
+    words: &mut Vec<String>,
+    word: &str,
+    folder: &str,
+) -> Result<(), AllocError> {
+    words.push(word.replace(alloc, "@", folder)?)?;
+    Ok(())
 }
 
 /// The surroundings of a command: standard input, the maximum length of files, the errors of standard output and of
@@ -64,14 +75,17 @@ pub(crate) struct Around<'a> {
     pub(crate) terminal: bool,
 }
 
-/// Surroundings in which nothing is refused.
-pub(crate) const OPEN: Around<'static> = Around {
+/// Surroundings in which nothing is refused, for constants that differ from them.
+pub(crate) const FREE: Around<'static> = Around {
     stdin: b"",
     most: MOST_BYTES,
     output: None,
     error: None,
     terminal: false,
 };
+
+/// Surroundings in which nothing is refused, as a reference: a function that lends them builds no copy.
+pub(crate) const OPEN: &Around<'static> = &FREE;
 
 /// Returns a text, or the name of a sound of the tests by its samples.
 fn text_of(bytes: &[u8]) -> &str {
@@ -90,6 +104,12 @@ fn text_of(bytes: &[u8]) -> &str {
     }
 }
 
+/// Returns an exit status and the text `bytes`, with `between` between them.
+fn behind(alloc: Global, status: u8, between: char, bytes: &[u8]) -> Result<String, Fail> {
+    let text = str::from_utf8(bytes)?;
+    Ok(format!(in alloc; "{status}{between}{text}")?)
+}
+
 /// The result of a command: its exit status, what it prints on standard output and on standard error, and the files
 /// that it writes in memory, one after the other.
 #[derive(Drop)]
@@ -103,8 +123,20 @@ pub(crate) struct Served {
 impl Served {
     /// Returns the result as text.
     fn text(&self, alloc: Global) -> Result<String, AllocError> {
-        let (out, err, file) = (text_of(&self.out), text_of(&self.err), text_of(&self.file));
+        let out = text_of(&self.out);
+        let err = text_of(&self.err);
+        let file = text_of(&self.file);
         format!(in alloc; "{}\n{out}--\n{err}--\n{file}", self.status)
+    }
+
+    /// Returns the exit status and what is printed on standard error.
+    pub(crate) fn errors(&self, alloc: Global) -> Result<String, Fail> {
+        behind(alloc, self.status, ' ', &self.err)
+    }
+
+    /// Returns the exit status and the lines on standard output.
+    pub(crate) fn lines(&self, alloc: Global) -> Result<String, Fail> {
+        behind(alloc, self.status, '\n', &self.out)
     }
 }
 
@@ -185,7 +217,7 @@ pub(crate) fn told<T: Threads + AllocGlobal + Clock + Clone + Drop + Sync>(
     rt: &T,
     line: &str,
 ) -> Result<String, Fail> {
-    told_around(rt, &OPEN, line)
+    told_around(rt, OPEN, line)
 }
 
 /// Checks whether `text` has the parts of `wanted`, which is split at each `…`, one after the other.
@@ -232,5 +264,5 @@ pub(crate) fn are_told<T: Threads + AllocGlobal + Clock + Clone + Drop + Sync>(
     rt: &T,
     rows: &[Row],
 ) -> Result<(), Fail> {
-    are_told_around(rt, &OPEN, rows)
+    are_told_around(rt, OPEN, rows)
 }

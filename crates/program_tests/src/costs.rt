@@ -130,12 +130,9 @@ fn texts_with_costs(rt: HostRuntime) -> Result<(), Fail> {
 /// Calls `told` on a graph of two actors and a link. `first` is the head of the first actor, `more` are lines of the
 /// second, and `link` is the head of the link.
 fn told_of(rt: &(impl AllocGlobal), first: &str, more: &str, link: &str) -> Result<String, Fail> {
-    let head = "format = 1\n";
-    let input = "\nname = \"in\"\nkind = \"input\"\nchannel = 0\n";
-    let output = "[[actor]]\nname = \"out\"\nkind = \"output\"\n";
-    let ends = "\nfrom = \"in\"\nto = \"out\"\n";
     let graph = format!(in rt.alloc();
-        "{head}{first}{input}{output}{more}channel = 0\n{link}{ends}"
+        "format = 1\n{first}\nname = \"in\"\nkind = \"input\"\nchannel = 0\n[[actor]]\nname = \"out\"\n\
+         kind = \"output\"\n{more}channel = 0\n{link}\nfrom = \"in\"\nto = \"out\"\n"
     )?;
     told(rt, graph.as_str(), &[4, 5])
 }
@@ -190,13 +187,14 @@ fn other_forms(rt: HostRuntime) -> Result<(), Fail> {
 fn masked(rt: &(impl AllocGlobal), text: &str) -> Result<String, Fail> {
     let mut masked = String::new(rt.alloc());
     for line in text.lines() {
-        match line.strip_prefix("cost = ") {
-            Some(cost) => {
-                let rest = cost.trim_start_matches(|digit: char| digit.is_ascii_digit());
-                writeln!(masked, "cost = N{rest}")?;
-            }
-            None => writeln!(masked, "{line}")?,
-        }
+        let (head, rest) = match line.strip_prefix("cost = ") {
+            Some(cost) => (
+                "cost = N",
+                cost.trim_start_matches(|digit: char| digit.is_ascii_digit()),
+            ),
+            None => ("", line),
+        };
+        writeln!(masked, "{head}{rest}")?;
     }
     Ok(masked)
 }

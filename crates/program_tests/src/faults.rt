@@ -134,7 +134,8 @@ const WHY: &[Row] = &[
     (
         "a rate that is not whole",
         "run eighth.toml in.wav out.wav --why",
-        "4\n--\nsdfw: 60 RateNotWhole\n  \"in.wav\": has 44100 samples a second in 1 channel\n  44100 * 1 / 8 = 5512 and 4/8\n--\n",
+        "4\n--\nsdfw: 60 RateNotWhole\n  \"in.wav\": has 44100 samples a second in 1 channel\n  44100 * 1 / 8 = \
+         5512 and 4/8\n--\n",
     ),
 ];
 

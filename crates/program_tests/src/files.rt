@@ -54,11 +54,21 @@ pub(crate) fn put(rt: &HostRuntime, folder: &str, name: &str, bytes: &[u8]) -> R
     Ok(fs::write(rt, path.as_str(), bytes)?)
 }
 
+/// Writes texts into a folder, each with its name before it.
+fn put_texts(rt: &HostRuntime, folder: &str, texts: &[(&str, &str)]) -> Result<(), Fail> {
+    for (name, text) in texts {
+        put(rt, folder, name, text.as_bytes())?;
+    }
+    Ok(())
+}
+
+/// The design of a run, and its coefficient file.
+const DESIGN: &[(&str, &str)] = &[("graph.toml", FILTERED), ("one.toml", TAPS)];
+
 /// Makes a folder with the files of a run, and returns its path.
 pub(crate) fn with_files(rt: &HostRuntime, name: &str) -> Result<String, Fail> {
     let folder = folder(rt, name)?;
-    put(rt, &folder, "graph.toml", FILTERED.as_bytes())?;
-    put(rt, &folder, "one.toml", TAPS.as_bytes())?;
+    put_texts(rt, &folder, DESIGN)?;
     put(rt, &folder, "in.wav", SOUND)?;
     Ok(folder)
 }
@@ -84,6 +94,14 @@ pub(crate) fn has_bytes(
     are_bytes(name, &bytes, wanted, line)
 }
 
+/// Fails if there is a file or a folder at `path`.
+pub(crate) fn is_gone(rt: &HostRuntime, path: &str) -> Result<(), Fail> {
+    if fs::metadata(rt, path).is_ok() {
+        return Err(Fail::new(format_args!("{path} is left")));
+    }
+    Ok(())
+}
+
 /// Checks that the files of a run are as they were put there.
 pub(crate) fn stand(rt: &(impl Files + AllocGlobal), folder: &str, line: &str) -> Result<(), Fail> {
     has_bytes(rt, folder, "graph.toml", FILTERED.as_bytes(), line)?;
@@ -99,7 +117,7 @@ pub(crate) fn served<S: Storage, T: Threads + AllocGlobal + Clock + Clone + Drop
     line: &str,
 ) -> Result<Served, Fail> {
     let given = given_of(threads.alloc(), line, folder)?;
-    Ok(serve_over(storage, threads, &OPEN, Ok(given)))
+    Ok(serve_over(storage, threads, OPEN, Ok(given)))
 }
 
 /// Runs the command `line` as `served` does, and returns its exit status and what it prints on standard error.
@@ -109,9 +127,8 @@ pub(crate) fn told<S: Storage, T: Threads + AllocGlobal + Clock + Clone + Drop +
     folder: &str,
     line: &str,
 ) -> Result<String, Fail> {
-    let Served { status, err, .. } = served(storage, threads, folder, line)?;
-    let err = String::from_utf8(err)?;
-    Ok(format!(in threads.alloc(); "{status} {err}")?)
+    let served = served(storage, threads, folder, line)?;
+    served.errors(threads.alloc())
 }
 
 /// The name of a row, a line of words, and the report.
@@ -179,16 +196,21 @@ const LACKING: &[Row] = &[
     ),
 ];
 
+/// Files beside those that are not there: designs, and a file that no run writes.
+const WITHOUT_TAPS: &[(&str, &str)] = &[
+    ("graph.toml", FILTERED),
+    ("plain.toml", PLAIN),
+    ("old.wav", "old"),
+];
+
 /// Runs the lines of `LACKING` in `folder`, and checks that the old file is as it was.
 fn are_lacking<T: Threads + AllocGlobal + Clock + Clone + Drop + Sync>(
     rt: &HostRuntime,
     threads: &T,
     folder: &str,
 ) -> Result<(), Fail> {
-    put(rt, folder, "graph.toml", FILTERED.as_bytes())?;
-    put(rt, folder, "plain.toml", PLAIN.as_bytes())?;
+    put_texts(rt, folder, WITHOUT_TAPS)?;
     put(rt, folder, "in.wav", SOUND)?;
-    put(rt, folder, "old.wav", b"old")?;
     are_told(&Disk { rt }, threads, folder, LACKING)?;
     has_bytes(rt, folder, "old.wav", b"old", "all")
 }

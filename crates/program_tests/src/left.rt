@@ -1,7 +1,7 @@
 //! Tests of what `resample` leaves on a disk that is full: nothing, or files that it names.
 
-use crate::commands::{Around, OPEN, Served, given_of, is_told, serve_over};
-use crate::files::{folder, has_bytes, path_in, put, told};
+use crate::commands::{Around, FREE, given_of, is_told, serve_over};
+use crate::files::{folder, has_bytes, is_gone, path_in, put, told};
 use sdf_files::storage::{Disk, Storage};
 use std::alloc::Global;
 use std::fs::{self, File};
@@ -115,48 +115,38 @@ const ROWS: &[(&str, Option<usize>)] = &[
     ("graph.toml", Some(40)),
 ];
 
-/// Fails if there is a file or a folder at `path`.
-fn is_gone(rt: &HostRuntime, path: &str) -> Result<(), Fail> {
-    if fs::metadata(rt, path).is_ok() {
-        return Err(Fail::new(format_args!("{path} is left")));
-    }
-    Ok(())
+/// Checks that a converter is refused if it is written into `path` on the full disk. `name` is the name of the check.
+fn is_refused<T: Threads + AllocGlobal + Clock + Clone + Drop + Sync>(
+    full: &Full<'_>,
+    threads: &T,
+    name: &str,
+    path: &str,
+) -> Result<(), Fail> {
+    is_told(name, told(full, threads, path, LINE), "5 …sdfw: 48 Write\n")
 }
 
 /// Writes a converter into `path` on the full disk, and then on one with room.
 fn is_tried_again<T: Threads + AllocGlobal + Clock + Clone + Drop + Sync>(
-    full: Full<'_>,
+    full: &Full<'_>,
     threads: &T,
     path: &str,
 ) -> Result<(), Fail> {
-    is_told(
-        full.ending,
-        told(&full, threads, path, LINE),
-        "5 …sdfw: 48 Write\n",
-    )?;
+    is_refused(full, threads, full.ending, path)?;
     is_told("again", told(&full.disk(), threads, path, LINE), "0 …")
 }
 
 /// Checks that a refused converter leaves nothing: no folder that it made, an empty folder that was there before, and
 /// only the old file in one that has a file.
 fn leaves_nothing<T: Threads + AllocGlobal + Clock + Clone + Drop + Sync>(
-    full: Full<'_>,
+    full: &Full<'_>,
     threads: &T,
     path: &str,
 ) -> Result<(), Fail> {
     let _ = fs::remove_dir_all(full.host, path);
-    is_told(
-        full.ending,
-        told(&full, threads, path, LINE),
-        "5 …sdfw: 48 Write\n",
-    )?;
+    is_refused(full, threads, full.ending, path)?;
     is_gone(full.host, path)?;
     fs::create_dir(full.host, path)?;
-    is_told(
-        "an empty folder",
-        told(&full, threads, path, LINE),
-        "5 …sdfw: 48 Write\n",
-    )?;
+    is_refused(full, threads, "an empty folder", path)?;
     // This fails if the folder is no longer there.
     put(full.host, path, "notes", b"kept")?;
     is_tried_again(full, threads, path)?;
@@ -164,21 +154,20 @@ fn leaves_nothing<T: Threads + AllocGlobal + Clock + Clone + Drop + Sync>(
 }
 
 /// Standard error is a terminal.
-const TERMINAL: Around<'static> = Around {
+const TERMINAL: &Around<'static> = &Around {
     terminal: true,
-    ..OPEN
+    ..FREE
 };
 
 /// Returns the report at a terminal of a converter that is written into the folder `path`.
 fn told_at_terminal<T: Threads + AllocGlobal + Clock + Clone + Drop + Sync>(
-    full: Full<'_>,
+    full: &Full<'_>,
     threads: &T,
     path: &str,
 ) -> Result<String, Fail> {
     let given = given_of(threads.alloc(), LINE, path)?;
-    let Served { status, err, .. } = serve_over(&full, threads, &TERMINAL, Ok(given));
-    let err = String::from_utf8(err)?;
-    Ok(format!(in threads.alloc(); "{status} {err}")?)
+    let served = serve_over(full, threads, TERMINAL, Ok(given));
+    served.errors(threads.alloc())
 }
 
 /// Tests a converter on a disk from which nothing can be removed, and that it names what is left.
@@ -196,7 +185,7 @@ fn names_what_is_left<T: Threads + AllocGlobal + Clock + Clone + Drop + Sync>(
     };
     is_told(
         "what is left",
-        told_at_terminal(full, threads, path),
+        told_at_terminal(&full, threads, path),
         "5 …sdfw: 48 Write\n  \"…/graph.toml\": no storage space\n  \"…/graph.toml\": is left, since it can't be \
          removed: permission denied\n  \"…/stage1.toml\": is left, since it can't be removed: permission denied\n  \
          \"…/new\": is left, since it can't be removed: permission denied\n",
@@ -216,7 +205,7 @@ fn what_a_refused_converter_leaves(rt: HostRuntime) -> Result<(), Fail> {
             room: *room,
             keeps: false,
         };
-        leaves_nothing(full, &rt, &path)?;
+        leaves_nothing(&full, &rt, &path)?;
     }
     names_what_is_left(&rt, &rt, &path)
 }

@@ -4,7 +4,6 @@ use crate::commands::is_told;
 use crate::files::{HALVES, has_bytes, make_folder, path_in, put, stand, told, with_files};
 use sdf_files::storage::Disk;
 use std::fs;
-use std::io::ErrorKind;
 use std::os::unix::fs::symlink;
 use std::test::Fail;
 use std::thread::Threads;
@@ -13,11 +12,25 @@ use std::time::Clock;
 /// Puts a symbolic link `link` to `file` into a folder.
 fn put_link(rt: &HostRuntime, folder: &str, file: &str, link: &str) -> Result<(), Fail> {
     let path = path_in(rt.alloc(), folder, link)?;
-    match fs::remove_file(rt, path.as_str()) {
-        Err(error) if error.kind() != ErrorKind::NotFound => return Err(Fail::from(error)),
-        _ => {}
-    }
+    // A link is refused if another one is still there.
+    let _ = fs::remove_file(rt, path.as_str());
     Ok(symlink(rt, file, path.as_str())?)
+}
+
+/// Files and their symbolic links.
+const LINKS: &[(&str, &str)] = &[
+    ("in.wav", "in-link.wav"),
+    ("in-link.wav", "link-link.wav"),
+    ("one.toml", "taps-link.toml"),
+    (".", "folder-link"),
+];
+
+/// Puts the links of `LINKS` into a folder.
+fn put_links(rt: &HostRuntime, folder: &str) -> Result<(), Fail> {
+    for (file, link) in LINKS {
+        put_link(rt, folder, file, link)?;
+    }
+    Ok(())
 }
 
 /// Runs whose OUT is a file that they read, and the reports. Refuses a program that makes OUT before it compares, or
@@ -75,10 +88,7 @@ fn are_kept<T: Threads + AllocGlobal + Clock + Clone + Drop + Sync>(
     threads: &T,
     folder: &str,
 ) -> Result<(), Fail> {
-    put_link(rt, folder, "in.wav", "in-link.wav")?;
-    put_link(rt, folder, "in-link.wav", "link-link.wav")?;
-    put_link(rt, folder, "one.toml", "taps-link.toml")?;
-    put_link(rt, folder, ".", "folder-link")?;
+    put_links(rt, folder)?;
     for (line, wanted) in READ {
         is_told(line, told(&Disk { rt }, threads, folder, line), wanted)?;
         stand(rt, folder, line)?;

@@ -1,6 +1,6 @@
 //! Tests of how far a run has come, at a terminal, by a clock of their own.
 
-use crate::commands::{Around, OPEN, is_told, told_around};
+use crate::commands::{Around, FREE, is_told, told_around};
 use std::alloc::Global;
 use std::io;
 use std::sync::atomic::{AtomicU64, Ordering};
@@ -10,19 +10,21 @@ use std::time::{Clock, Duration};
 
 /// A sound of six samples at 2 Hz.
 const SLOW: &[u8] =
-    b"RIFF\x30\0\0\0WAVEfmt \x10\0\0\0\x01\0\x01\0\x02\0\0\0\x04\0\0\0\x02\0\x10\0data\x0C\0\0\0\x01\0\x02\0\x03\0\x04\0\x05\0\x06\0";
+    b"RIFF\x30\0\0\0WAVEfmt \x10\0\0\0\x01\0\x01\0\x02\0\0\0\x04\0\0\0\x02\0\x10\0data\x0C\0\0\0\
+    \x01\0\x02\0\x03\0\x04\0\x05\0\x06\0";
 
 /// Standard error is a terminal.
-const TERMINAL: Around<'static> = Around {
+const TERMINAL: &Around<'static> = &Around {
     stdin: SLOW,
     terminal: true,
-    ..OPEN
+    ..FREE
 };
 
 /// Standard error is a pipe.
-const PIPED: Around<'static> = Around {
+const PIPED: &Around<'static> = &Around {
+    stdin: SLOW,
     terminal: false,
-    ..TERMINAL
+    ..FREE
 };
 
 /// Threads with a clock that goes on by a fixed number of milliseconds before each reading.
@@ -105,11 +107,11 @@ const SHOWN: &[Row] = &[
 #[test]
 fn long_runs_are_shown(rt: HostRuntime) -> Result<(), Fail> {
     for (name, step, line, wanted) in SHOWN {
-        is_told(name, told_at(&rt, *step, &TERMINAL, line), wanted)?;
+        is_told(name, told_at(&rt, *step, TERMINAL, line), wanted)?;
     }
     is_told(
         "a run that is no terminal's",
-        told_at(&rt, 4_000, &PIPED, "run plain.toml - out.wav --why"),
+        told_at(&rt, 4_000, PIPED, "run plain.toml - out.wav --why"),
         "0\n--\noutput 0: 6 frames, …",
     )
 }

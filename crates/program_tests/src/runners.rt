@@ -3,7 +3,7 @@
 //! has written all its whole pieces except the last, which it runs while it reads on. For each worker, the first piece
 //! has 65,536 frames, and each other one 131,072.
 
-use crate::commands::{Around, OPEN, Served, serve_line};
+use crate::commands::{OPEN, Served, serve_line};
 use std::alloc::{AllocError, Global};
 use std::test::Fail;
 use std::thread::Threads;
@@ -48,10 +48,8 @@ fn told<T: Threads + AllocGlobal + Clock + Clone + Drop + Sync>(
     line: &str,
 ) -> Result<String, Fail> {
     let input = cut(rt.alloc(), frames)?;
-    let around = Around {
-        stdin: &input,
-        ..OPEN
-    };
+    let mut around = *OPEN;
+    around.stdin = &input;
     let served = serve_line(rt, &around, line)?;
     report(rt.alloc(), &served, &input)
 }

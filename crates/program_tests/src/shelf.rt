@@ -85,7 +85,8 @@ link = [{ from = "in", to = "first" }, { from = "first", to = "second" }, { from
 /// A filter that keeps five inputs and passes the newest on.
 const KEPT: &str = r#"format = 1
 actor = [{ name = "in", kind = "input", channel = 0 },
-    { name = "same", kind = "fir", shift = 0, taps = [1, 0, 0, 0, 0, 0] }, { name = "out", kind = "output", channel = 0 }]
+    { name = "same", kind = "fir", shift = 0, taps = [1, 0, 0, 0, 0, 0] },
+    { name = "out", kind = "output", channel = 0 }]
 link = [{ from = "in", to = "same" }, { from = "same", to = "out" }]"#;
 
 /// A loop that begins with one sample and adds nothing to the input.
@@ -214,6 +215,15 @@ pub(crate) const PADDED: &str = "format = 1
 values = [1]
 ";
 
+/// Sounds, and the front of one.
+const SOUNDS: &[(&str, &[u8])] = &[
+    ("in.wav", SOUND),
+    ("./-", SOUND),
+    ("locked.wav", SOUND),
+    ("silence.wav", SILENCE),
+    ("cut.wav", HEADER),
+];
+
 /// Graph files that name no other file.
 const DESIGNS: &[(&str, &str)] = &[
     ("plain.toml", PLAIN),
@@ -223,6 +233,10 @@ const DESIGNS: &[(&str, &str)] = &[
     ("both.toml", BOTH),
     ("blocks.toml", BLOCKS),
     ("long.toml", LONG),
+];
+
+/// Graph files that commands refuse, or that one of them refuses.
+const REFUSED: &[(&str, &str)] = &[
     ("stuck.toml", STUCK),
     ("broken.toml", BROKEN),
     ("lacking.toml", LACKING),
@@ -272,11 +286,11 @@ const BESIDE: &[(&str, &str)] = &[
     ("padded/one.toml", PADDED),
 ];
 
-/// Returns the text at `path` in `texts`, if there is one.
-fn text_at(texts: &[(&str, &'static str)], path: &str) -> Option<&'static str> {
-    for (name, text) in texts {
+/// Returns the value at `path` in `files`, if there is one.
+fn value_at<V: Copy>(files: &[(&str, V)], path: &str) -> Option<V> {
+    for (name, value) in files {
         if path == *name {
-            return Some(*text);
+            return Some(*value);
         }
     }
     None
@@ -284,40 +298,38 @@ fn text_at(texts: &[(&str, &'static str)], path: &str) -> Option<&'static str> {
 
 /// Returns the text of a graph file or a coefficient file.
 fn text_of(path: &str) -> Option<&'static str> {
-    for texts in [DESIGNS, PARALLEL, BESIDE] {
-        if let Some(text) = text_at(texts, path) {
-            return Some(text);
-        }
-    }
-    None
+    value_at(DESIGNS, path)
+        .or(value_at(REFUSED, path))
+        .or(value_at(PARALLEL, path))
+        .or(value_at(BESIDE, path))
 }
 
 /// Returns the bytes of a file of the tests.
 fn bytes_of(path: &str) -> Option<&'static [u8]> {
-    match path {
-        "in.wav" | "./-" | "locked.wav" => Some(SOUND),
-        "silence.wav" => Some(SILENCE),
-        "cut.wav" => Some(HEADER),
-        _ => Some(text_of(path)?.as_bytes()),
+    match value_at(SOUNDS, path) {
+        Some(sound) => Some(sound),
+        None => Some(text_of(path)?.as_bytes()),
     }
 }
 
-/// Files with a place of their own, since they are written at the same time.
-const PARTS: [&str; 3] = [
-    "made/in.wav.part",
-    "made/cut.wav.part",
-    "made/one.toml.part",
+/// Files, and the indices of their places. Parts have a place of their own, since they are written at the same time.
+const PLACES: &[(&str, usize)] = &[
+    ("made/in.wav.part", 0),
+    ("made/cut.wav.part", 1),
+    ("made/one.toml.part", 2),
+    ("out.wav", SHARED),
 ];
+
+/// The index of the place of all other files that can be made.
+const SHARED: usize = 3;
 
 /// Returns the index of the place of a file that can be made.
 fn place_of(path: &str) -> Option<usize> {
-    for (place, part) in PARTS.iter().enumerate() {
-        if path == *part {
-            return Some(place);
-        }
+    if let Some(place) = value_at(PLACES, path) {
+        return Some(place);
     }
-    if path == "out.wav" || path.starts_with("made/") {
-        Some(PARTS.len())
+    if path.starts_with("made/") {
+        Some(SHARED)
     } else {
         None
     }
@@ -326,7 +338,7 @@ fn place_of(path: &str) -> Option<usize> {
 /// Returns places in which nothing is written.
 pub(crate) fn places(alloc: Global) -> Result<Vec<Mutex<Vec<u8>>>, AllocError> {
     let mut places = Vec::new(alloc);
-    for _ in 0..=PARTS.len() {
+    for _ in 0..=SHARED {
         places.push(Mutex::new(Vec::new(alloc)))?;
     }
     Ok(places)

@@ -1,221 +1,194 @@
 //! Tests of standard input and output, of closed streams, and of the length limit of files, over files in memory.
 
-use crate::commands::{Around, OPEN, given_of, is_told, serve_given, told_around};
+use crate::commands::{
+    Around, FREE, OPEN, Row, Served, are_told, are_told_around, given_of, is_told, serve_given,
+    told_around,
+};
 use crate::files::{FILTERED, TAPS};
 use crate::shelf::{PADDED, SOUND};
 use sdf_files::files::MOST_BYTES;
 use sdf_options::WordFault;
 use sdf_words::arguments::Given;
+use std::alloc::Global;
 use std::io::ErrorKind;
 use std::test::Fail;
 use std::thread::Threads;
 use std::time::Clock;
 
-/// The name of a row, the surroundings of a command, the words after the program's name, and the report.
-type Row = (&'static str, Around<'static>, &'static str, &'static str);
-
 /// A sound on standard input.
-const HEARD: Around<'static> = Around {
+const HEARD: &Around<'static> = &Around {
     stdin: SOUND,
-    ..OPEN
+    ..FREE
 };
 
 /// A sound on standard input, with its last byte missing.
-const CUT: Around<'static> = Around {
-    stdin: b"RIFF\x28\0\0\0WAVEfmt \x10\0\0\0\x01\0\x01\0\x44\xAC\0\0\x88\x58\x01\0\x02\0\x10\0data\x04\0\0\0\x05\0\xFB",
-    ..OPEN
+const CUT: &Around<'static> = &Around {
+    stdin: b"RIFF\x28\0\0\0WAVEfmt \x10\0\0\0\x01\0\x01\0\x44\xAC\0\0\x88\x58\x01\0\x02\0\x10\0\
+        data\x04\0\0\0\x05\0\xFB",
+    ..FREE
 };
 
 /// Standard output is closed.
-const MUTE: Around<'static> = Around {
+const MUTE: &Around<'static> = &Around {
     output: Some(ErrorKind::BrokenPipe),
-    ..OPEN
+    ..FREE
 };
 
 /// Standard output is out of memory.
-const POOR: Around<'static> = Around {
+const POOR: &Around<'static> = &Around {
     output: Some(ErrorKind::OutOfMemory),
-    ..OPEN
+    ..FREE
 };
 
 /// Standard error is closed.
-const UNTOLD: Around<'static> = Around {
+const UNTOLD: &Around<'static> = &Around {
     error: Some(ErrorKind::BrokenPipe),
-    ..OPEN
+    ..FREE
 };
 
 const UNWRITTEN: &str = "5\n--\nsdfw: 48 Write\n--\n";
 
 const NO_MEMORY: &str = "6\n--\nsdfw: 1 OutOfMemory\n--\n";
 
-/// Commands with streams. A sound for standard output is written there and nowhere else, and a sound for a file in the
-/// file alone. The file `-` is not looked at, but `./-` is. After a fault, standard output has what was written before,
-/// and not the fault's line. Output that is refused is a fault, and a fault that can't be printed keeps its status.
-const ROWS: &[Row] = &[
+/// Runs of a sound on standard input. A sound for standard output is written there and nowhere else, and a sound for a
+/// file in the file alone. `./-` is a file.
+const FROM_STREAM: &[Row] = &[
     (
         "from stream to stream",
-        HEARD,
         "run plain.toml - -",
         "0\n<5 -5>--\n--\n",
     ),
     (
         "the same over rings",
-        HEARD,
         "run plain.toml - - --runner rings",
         "0\n<5 -5>--\n--\n",
     ),
     (
         "from a stream to a file",
-        HEARD,
         "run plain.toml - out.wav",
         "0\n--\n--\n<5 -5>",
     ),
     (
-        "from a file to a stream",
-        OPEN,
-        "run plain.toml in.wav -",
-        "0\n<5 -5>--\n--\n",
-    ),
-    (
-        "from a file that is no stream",
-        OPEN,
-        "run plain.toml ./- out.wav",
-        "0\n--\n--\n<5 -5>",
-    ),
-    (
         "from a stream to the graph file",
-        HEARD,
         "run plain.toml - plain.toml",
         "2\n--\nerror: OUT is the same file as GRAPH\n…",
     ),
     (
         "to a file that is no stream",
-        HEARD,
         "run plain.toml - ./-",
         UNWRITTEN,
     ),
     (
-        "nothing to read",
-        OPEN,
-        "run plain.toml - -",
-        "4\n--\nsdfw: 43 Truncated\n--\n",
-    ),
-    (
-        "a byte too few",
-        CUT,
-        "run plain.toml - -",
-        "4\n<5 -5 to come>--\nsdfw: 43 Truncated\n--\n",
-    ),
-    (
         "a profile, for one that reads the file `-`",
-        HEARD,
         "profile plain.toml -",
         "0\nshare in …--\n--\n",
     ),
+];
+
+/// Runs of files, with nothing on standard input. The file `-` is not looked at, but `./-` is.
+const FROM_FILE: &[Row] = &[
     (
-        "a check that is not printed",
-        MUTE,
-        "check plain.toml",
-        UNWRITTEN,
+        "from a file to a stream",
+        "run plain.toml in.wav -",
+        "0\n<5 -5>--\n--\n",
     ),
     (
+        "from a file that is no stream",
+        "run plain.toml ./- out.wav",
+        "0\n--\n--\n<5 -5>",
+    ),
+    (
+        "nothing to read",
+        "run plain.toml - -",
+        "4\n--\nsdfw: 43 Truncated\n--\n",
+    ),
+];
+
+/// A run of a sound on standard input that ends too early. After a fault, standard output has what was written before,
+/// and not the fault's line.
+const FROM_CUT: &[Row] = &[(
+    "a byte too few",
+    "run plain.toml - -",
+    "4\n<5 -5 to come>--\nsdfw: 43 Truncated\n--\n",
+)];
+
+/// Commands whose output is refused, which is a fault.
+const NOT_PRINTED: &[Row] = &[
+    ("a check that is not printed", "check plain.toml", UNWRITTEN),
+    (
         "a schedule that is not printed",
-        MUTE,
         "schedule plain.toml",
         UNWRITTEN,
     ),
-    ("kinds that are not printed", MUTE, "kinds", UNWRITTEN),
+    ("kinds that are not printed", "kinds", UNWRITTEN),
     (
         "kinds in JSON that are not printed",
-        MUTE,
         "kinds --json",
         "5\n--\n{\"fault\":48,\"name\":\"Write\"}\n--\n",
     ),
-    (
-        "an explanation that is not printed",
-        MUTE,
-        "explain 5",
-        UNWRITTEN,
-    ),
-    ("help that is not printed", MUTE, "--help", UNWRITTEN),
+    ("an explanation that is not printed", "explain 5", UNWRITTEN),
+    ("help that is not printed", "--help", UNWRITTEN),
     (
         "help of a command that is not printed",
-        MUTE,
         "run --help",
         UNWRITTEN,
     ),
-    (
-        "a version that is not printed",
-        MUTE,
-        "--version",
-        UNWRITTEN,
-    ),
-    (
-        "a check without memory",
-        POOR,
-        "check plain.toml",
-        NO_MEMORY,
-    ),
-    (
-        "a schedule without memory",
-        POOR,
-        "schedule plain.toml",
-        NO_MEMORY,
-    ),
-    ("kinds without memory", POOR, "kinds", NO_MEMORY),
-    (
-        "an explanation without memory",
-        POOR,
-        "explain 5",
-        NO_MEMORY,
-    ),
-    ("help without memory", POOR, "--help", NO_MEMORY),
-    (
-        "help of a command without memory",
-        POOR,
-        "run --help",
-        NO_MEMORY,
-    ),
-    ("a version without memory", POOR, "--version", NO_MEMORY),
+    ("a version that is not printed", "--version", UNWRITTEN),
     (
         "a filter that is not printed",
-        MUTE,
         "fir lowpass --rate 8000 --pass 1000 --stop 3000",
         "5\n--\n… dB down\nsdfw: 48 Write\n--\n",
     ),
+];
+
+/// Commands whose output has no memory, which is a fault of its own.
+const NOT_STORED: &[Row] = &[
+    ("a check without memory", "check plain.toml", NO_MEMORY),
+    (
+        "a schedule without memory",
+        "schedule plain.toml",
+        NO_MEMORY,
+    ),
+    ("kinds without memory", "kinds", NO_MEMORY),
+    ("an explanation without memory", "explain 5", NO_MEMORY),
+    ("help without memory", "--help", NO_MEMORY),
+    ("help of a command without memory", "run --help", NO_MEMORY),
+    ("a version without memory", "--version", NO_MEMORY),
+];
+
+/// Commands whose faults can't be printed. They keep their status.
+const NOT_TOLD: &[Row] = &[
     (
         "a filter whose taps can't be told of",
-        UNTOLD,
         "fir lowpass --rate 8000 --pass 1000 --stop 3000",
         "5\n--\n--\n",
     ),
     (
         "a converter whose taps can't be told of, of which nothing is left",
-        UNTOLD,
         "resample 8000 16000 made --attenuation 40",
         "5\n--\n--\n",
     ),
     (
         "a run in parallel that can't tell how it goes",
-        UNTOLD,
         "run plain.toml in.wav out.wav --parallel 2 --why",
         "0\n--\n--\n<5 -5>",
     ),
     (
         "a mistake that can't be told of, for a program that takes each for help",
-        UNTOLD,
         "play",
         "2\n--\n--\n",
     ),
-    ("another such mistake", UNTOLD, "check", "2\n--\n--\n"),
+    ("another such mistake", "check", "2\n--\n--\n"),
 ];
 
 #[test]
 fn what_stands_on_which_stream(rt: HostRuntime) -> Result<(), Fail> {
-    for (name, around, line, wanted) in ROWS {
-        is_told(name, told_around(&rt, around, line), wanted)?;
-    }
-    Ok(())
+    are_told_around(&rt, HEARD, FROM_STREAM)?;
+    are_told(&rt, FROM_FILE)?;
+    are_told_around(&rt, CUT, FROM_CUT)?;
+    are_told_around(&rt, MUTE, NOT_PRINTED)?;
+    are_told_around(&rt, POOR, NOT_STORED)?;
+    are_told_around(&rt, UNTOLD, NOT_TOLD)
 }
 
 /// The report on a check of a design with its coefficient file.
@@ -235,6 +208,17 @@ const LIMITS: &[(&str, &str, &str)] = &[
     ),
 ];
 
+/// Returns the report on `line` if files may have `most` bytes.
+fn told_within<T: Threads + AllocGlobal + Clock + Clone + Drop + Sync>(
+    rt: &T,
+    most: u32,
+    line: &str,
+) -> Result<String, Fail> {
+    let mut around = *OPEN;
+    around.most = most;
+    told_around(rt, &around, line)
+}
+
 /// Checks that `line` reports `wanted` if `longest` is as long as the limit, and `47 Read` if the limit is a byte less.
 fn fits<T: Threads + AllocGlobal + Clock + Clone + Drop + Sync>(
     rt: &T,
@@ -243,17 +227,18 @@ fn fits<T: Threads + AllocGlobal + Clock + Clone + Drop + Sync>(
     wanted: &str,
 ) -> Result<(), Fail> {
     let most = u32::try_from(longest.len()).unwrap_or(0);
-    let within = Around { most, ..OPEN };
-    let beyond = Around {
-        most: most.saturating_sub(1),
-        ..OPEN
-    };
-    is_told(line, told_around(rt, &within, line), wanted)?;
+    is_told(line, told_within(rt, most, line), wanted)?;
     is_told(
         line,
-        told_around(rt, &beyond, line),
+        told_within(rt, most.saturating_sub(1), line),
         "5\n--\nsdfw: 47 Read\n--\n",
     )
+}
+
+/// Reports the exit status, how many bytes are on standard output, and standard error.
+fn unread_text(alloc: Global, served: &Served) -> Result<String, Fail> {
+    let err = str::from_utf8(&served.err)?;
+    Ok(format!(in alloc; "{} {} {err}", served.status, served.out.len())?)
 }
 
 /// Serves the words `given`. Reports the exit status, how many bytes are on standard output, and standard error.
@@ -261,9 +246,8 @@ fn unread_given<T: Threads + AllocGlobal + Clock + Clone + Drop + Sync>(
     rt: &T,
     given: Result<Given, WordFault>,
 ) -> Result<String, Fail> {
-    let served = serve_given(rt, &OPEN, given)?;
-    let err = str::from_utf8(&served.err)?;
-    Ok(format!(in rt.alloc(); "{} {} {err}", served.status, served.out.len())?)
+    let served = serve_given(rt, OPEN, given)?;
+    unread_text(rt.alloc(), &served)
 }
 
 /// Serves the words of `line` and a last one that is not UTF-8, and returns the report.
@@ -276,27 +260,37 @@ fn without_last<T: Threads + AllocGlobal + Clock + Clone + Drop + Sync>(
     unread_given(rt, Ok(given))
 }
 
+/// Words of which the last is not UTF-8: a name, the words before it, and the report. Refuses a mistake that is not in
+/// JSON although another word asks for that.
+const UNREAD: &[Row] = &[
+    ("no UTF-8", "check", "2 0 error: argument 2 is no UTF-8\n"),
+    (
+        "no UTF-8 with JSON",
+        "check --json",
+        "2 0 {\"fault\":0,\"name\":\"Usage\",\"text\":\"error: argument 3 is no UTF-8…\"}\n",
+    ),
+];
+
+/// Compares what is reported of words that are not read with the wanted text.
+fn are_unread<T: Threads + AllocGlobal + Clock + Clone + Drop + Sync>(rt: &T) -> Result<(), Fail> {
+    is_told(
+        "words",
+        unread_given(rt, Err(WordFault::OutOfMemory)),
+        "6 0 sdfw: 1 OutOfMemory\n",
+    )?;
+    for (name, line, wanted) in UNREAD {
+        is_told(name, without_last(rt, line), wanted)?;
+    }
+    Ok(())
+}
+
 /// Tests files and words that are not read. Refuses a limit other than in `docs/FORMATS.md`, and a program that does
-/// nothing if its words can't be read. Refuses also a mistake that is not in JSON although another word asks for that.
+/// nothing if its words can't be read.
 #[test]
 fn files_and_words_that_are_not_read(rt: HostRuntime) -> Result<(), Fail> {
     assert_eq!(rt; MOST_BYTES, 1_073_741_824);
     assert!(rt; TAPS.len() < FILTERED.len() && FILTERED.len() < PADDED.len());
-    is_told(
-        "words",
-        unread_given(&rt, Err(WordFault::OutOfMemory)),
-        "6 0 sdfw: 1 OutOfMemory\n",
-    )?;
-    is_told(
-        "no UTF-8",
-        without_last(&rt, "check"),
-        "2 0 error: argument 2 is no UTF-8\n",
-    )?;
-    is_told(
-        "no UTF-8 with JSON",
-        without_last(&rt, "check --json"),
-        "2 0 {\"fault\":0,\"name\":\"Usage\",\"text\":\"error: argument 3 is no UTF-8…\"}\n",
-    )?;
+    are_unread(&rt)?;
     for (longest, line, wanted) in LIMITS {
         fits(&rt, longest, line, wanted)?;
     }

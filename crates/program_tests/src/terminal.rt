@@ -1,24 +1,27 @@
 //! Tests of diagnostics at a terminal and by `--why`, over files in memory.
 
-use crate::commands::{Around, OPEN, Row, are_told_around, is_told, told_around};
+use crate::commands::{Around, FREE, OPEN, Row, are_told_around, is_told, told_around};
 use crate::shelf::SOUND;
 use std::alloc::{AllocError, Global};
 use std::test::Fail;
+use std::thread::Threads;
+use std::time::Clock;
 
 /// Standard error is a terminal.
-const TERMINAL: Around<'static> = Around {
+const TERMINAL: &Around<'static> = &Around {
     terminal: true,
-    ..OPEN
+    ..FREE
 };
 
 /// Standard error is a terminal, and a sound is on standard input.
-const HEARD: Around<'static> = Around {
+const HEARD: &Around<'static> = &Around {
     stdin: SOUND,
-    ..TERMINAL
+    terminal: true,
+    ..FREE
 };
 
-/// Diagnostics at a terminal. Refuses a program that prints no more there, ignores `--no-why`, prints more beside JSON,
-/// or names a fault for each schedule.
+/// Diagnostics of designs at a terminal. Refuses a program that prints no more there, ignores `--no-why`, prints more
+/// beside JSON, or names a fault for each schedule.
 const AT_TERMINAL: &[Row] = &[
     (
         "a design that is not there",
@@ -60,6 +63,11 @@ const AT_TERMINAL: &[Row] = &[
         "draw far.toml --placement file --workers 3",
         "3\n--\nsdfw: 19 BadHome actor 0\n  actor 0 is \"in\", an input\n  processor = 3, wants 0..2\n--\n",
     ),
+];
+
+/// Diagnostics of sounds and of files at a terminal. Refuses a program that prints no more there, ignores `--no-why`,
+/// or prints more beside JSON.
+const FILES_AT_TERMINAL: &[Row] = &[
     (
         "a profile of a sound that is not there",
         "profile plain.toml none.wav",
@@ -80,6 +88,10 @@ const AT_TERMINAL: &[Row] = &[
         "check none.toml --json",
         "5\n--\n{\"fault\":47,\"name\":\"Read\"}\n--\n",
     ),
+];
+
+/// Runs and mistakes at a terminal. Refuses a program that prints no more there, or ignores `--no-why`.
+const RUNS_AT_TERMINAL: &[Row] = &[
     (
         "a run that ends well",
         "run plain.toml in.wav out.wav",
@@ -137,19 +149,27 @@ const AT_TERMINAL: &[Row] = &[
     ),
 ];
 
+/// A run of standard input at a terminal.
+const HEARD_AT_TERMINAL: &[Row] = &[(
+    "a sound on standard input",
+    "run plain.toml - out.wav",
+    "0\n--\noutput 0: 2 frames, peak -76.3 dB, 0 samples at full scale\n--\n<5 -5>",
+)];
+
 #[test]
 fn what_is_told_at_a_terminal(rt: HostRuntime) -> Result<(), Fail> {
-    are_told_around(&rt, &TERMINAL, AT_TERMINAL)?;
-    is_told(
-        "a sound on standard input",
-        told_around(&rt, &HEARD, "run plain.toml - out.wav"),
-        "0\n--\noutput 0: 2 frames, peak -76.3 dB, 0 samples at full scale\n--\n<5 -5>",
-    )
+    are_told_around(&rt, TERMINAL, AT_TERMINAL)?;
+    are_told_around(&rt, TERMINAL, FILES_AT_TERMINAL)?;
+    are_told_around(&rt, TERMINAL, RUNS_AT_TERMINAL)?;
+    are_told_around(&rt, HEARD, HEARD_AT_TERMINAL)
 }
 
-/// Faults of a sound on standard input: its bytes, and the report. Refuses a program that prints what is at another
-/// place of the sound, or that takes the number after a size for the size. Refuses also one thing in the plural.
-const SOUNDS: &[(&[u8], &str)] = &[
+/// The bytes of a sound on standard input, and the report.
+type Sound = (&'static [u8], &'static str);
+
+/// Faults of a sound before its samples are read. Refuses a program that prints what is at another place of the sound,
+/// or that takes the number after a size for the size. Refuses also one thing in the plural.
+const FORMATS: &[Sound] = &[
     (
         b"R",
         "4\n--\nsdfw: 43 Truncated\n  \"-\": ends after 1 byte\n--\n",
@@ -187,6 +207,11 @@ const SOUNDS: &[(&[u8], &str)] = &[
         "4\n--\nsdfw: 38 NotPcm16\n  \"-\": has samples of 32 bits in format 3 (floating point), wants 16 bits in \
          format 1\n--\n",
     ),
+];
+
+/// Faults of the numbers, the frames and the samples of a sound. Refuses a program that prints what is at another place
+/// of the sound, or that takes the number after a size for the size. Refuses also one thing in the plural.
+const SOUNDS: &[Sound] = &[
     (
         b"RIFF\x28\0\0\0WAVEfmt \x10\0\0\0\x01\0\x09\0\x44\xAC\0\0\x88\x58\x01\0\x12\0\x10\0data\0\0\0\0",
         "4\n--\nsdfw: 39 Channels\n  \"-\": has 44100 samples a second in 9 channels, wants 1 to 8 channels\n--\n",
@@ -229,12 +254,14 @@ const SOUNDS: &[(&[u8], &str)] = &[
         "4\n--\nsdfw: 44 PartialFrame\n  \"-\": has 1 byte of samples, wants frames of 2 bytes\n--\n",
     ),
     (
-        b"RIFF\x28\0\0\0WAVEfmt \x10\0\0\0\x01\0\x01\0\xFF\xFF\xFF\xFF\x88\x58\x01\0\x02\0\x10\0data\x04\0\0\0\x05\0\xFB\xFF",
+        b"RIFF\x28\0\0\0WAVEfmt \x10\0\0\0\x01\0\x01\0\xFF\xFF\xFF\xFF\x88\x58\x01\0\x02\0\x10\0\
+         data\x04\0\0\0\x05\0\xFB\xFF",
         "4\n--\nsdfw: 46 RateTooLarge\n  \"-\": has 4294967295 samples a second in 1 channel, and \
          an output has at most 4294967295 bytes a second\n--\n",
     ),
     (
-        b"RIFF\x28\0\0\0WAVEfmt \x10\0\0\0\x01\0\x01\0\x44\xAC\0\0\x88\x58\x01\0\x02\0\x10\0data\xFC\xFF\xFF\xFF\x05\0\xFB\xFF",
+        b"RIFF\x28\0\0\0WAVEfmt \x10\0\0\0\x01\0\x01\0\x44\xAC\0\0\x88\x58\x01\0\x02\0\x10\0\
+         data\xFC\xFF\xFF\xFF\x05\0\xFB\xFF",
         "4\n--\nsdfw: 45 TooLong\n  \"-\": has 4294967292 bytes of samples, and an output has at most \
          4294967259\n--\n",
     ),
@@ -249,24 +276,39 @@ fn parted(alloc: Global) -> Result<Vec<u8>, AllocError> {
     Ok(sound)
 }
 
+/// Serves `line` with the sound `stdin` on standard input, and returns the result as text.
+fn told_of<T: Threads + AllocGlobal + Clock + Clone + Drop + Sync>(
+    rt: &T,
+    stdin: &[u8],
+    line: &str,
+) -> Result<String, Fail> {
+    let mut around = *OPEN;
+    around.stdin = stdin;
+    told_around(rt, &around, line)
+}
+
+/// A run of standard input, with more said of a fault.
+const WHY: &str = "run plain.toml - out.wav --why";
+
+/// Compares what a run prints for each of these sounds with the wanted text.
+fn are_told_of<T: Threads + AllocGlobal + Clock + Clone + Drop + Sync>(
+    rt: &T,
+    sounds: &[Sound],
+) -> Result<(), Fail> {
+    for (stdin, wanted) in sounds {
+        is_told(wanted, told_of(rt, stdin, WHY), wanted)?;
+    }
+    Ok(())
+}
+
 #[test]
 fn what_is_told_of_sounds(rt: HostRuntime) -> Result<(), Fail> {
-    for (stdin, wanted) in SOUNDS {
-        let around = Around { stdin, ..OPEN };
-        is_told(
-            wanted,
-            told_around(&rt, &around, "run plain.toml - out.wav --why"),
-            wanted,
-        )?;
-    }
+    are_told_of(&rt, FORMATS)?;
+    are_told_of(&rt, SOUNDS)?;
     let parted = parted(rt.alloc())?;
-    let around = Around {
-        stdin: &parted,
-        ..OPEN
-    };
     is_told(
         "a sound of too many parts",
-        told_around(&rt, &around, "run plain.toml - out.wav --why"),
+        told_of(&rt, &parted, WHY),
         "4\n--\nsdfw: 45 TooLong\n  \"-\": has too many bytes of samples, or over 65,536 parts before them\n--\n",
     )
 }
@@ -280,17 +322,20 @@ const OPEN_ENDED: &[(&[u8], &str, &str)] = &[
         "0\n--\n--\n<5 -5>",
     ),
     (
-        b"RIFF\x28\0\0\0WAVEfmt \x10\0\0\0\x01\0\x01\0\x44\xAC\0\0\x88\x58\x01\0\x02\0\x10\0data\0\xF0\xFF\x7F\x05\0\xFB\xFF",
+        b"RIFF\x28\0\0\0WAVEfmt \x10\0\0\0\x01\0\x01\0\x44\xAC\0\0\x88\x58\x01\0\x02\0\x10\0\
+         data\0\xF0\xFF\x7F\x05\0\xFB\xFF",
         "run plain.toml - out.wav --open-ended --runner rings",
         "0\n--\n--\n<5 -5>",
     ),
     (
-        b"RIFF\x28\0\0\0WAVEJUNK\x01\0\0\0\0\0fmt \x10\0\0\0\x01\0\x01\0\x44\xAC\0\0\x88\x58\x01\0\x02\0\x10\0data\0\0\0\x80\x05\0\xFB\xFF",
+        b"RIFF\x28\0\0\0WAVEJUNK\x01\0\0\0\0\0fmt \x10\0\0\0\x01\0\x01\0\x44\xAC\0\0\x88\x58\x01\0\x02\0\x10\0\
+         data\0\0\0\x80\x05\0\xFB\xFF",
         "run plain.toml - out.wav --open-ended --parallel 2",
         "0\n--\n--\n<5 -5>",
     ),
     (
-        b"RIFF\x28\0\0\0WAVEfmt \x10\0\0\0\x01\0\x01\0\x44\xAC\0\0\x88\x58\x01\0\x02\0\x10\0data\0\xF0\xFF\x7F\x05\0\xFB\xFF",
+        b"RIFF\x28\0\0\0WAVEfmt \x10\0\0\0\x01\0\x01\0\x44\xAC\0\0\x88\x58\x01\0\x02\0\x10\0\
+         data\0\xF0\xFF\x7F\x05\0\xFB\xFF",
         "run plain.toml - out.wav --why",
         "4\n--\nsdfw: 43 Truncated\n  \"-\": ends after 48 bytes, wants 2147479596; `run --open-ended` reads to the \
          end\n--\n<another sound>",
@@ -300,26 +345,22 @@ const OPEN_ENDED: &[(&[u8], &str, &str)] = &[
 #[test]
 fn sounds_to_the_end(rt: HostRuntime) -> Result<(), Fail> {
     for (stdin, line, wanted) in OPEN_ENDED {
-        let around = Around { stdin, ..OPEN };
-        is_told(line, told_around(&rt, &around, line), wanted)?;
+        is_told(line, told_of(&rt, stdin, line), wanted)?;
     }
     Ok(())
 }
 
 /// Two frames of two channels: 32,767 and -32,768, then 5 and 32,767.
 const LOUD: &[u8] =
-    b"RIFF\x2C\0\0\0WAVEfmt \x10\0\0\0\x01\0\x02\0\x44\xAC\0\0\x10\xB1\x02\0\x04\0\x10\0data\x08\0\0\0\xFF\x7F\0\x80\x05\0\xFF\x7F";
+    b"RIFF\x2C\0\0\0WAVEfmt \x10\0\0\0\x01\0\x02\0\x44\xAC\0\0\x10\xB1\x02\0\x04\0\x10\0\
+     data\x08\0\0\0\xFF\x7F\0\x80\x05\0\xFF\x7F";
 
 /// Tests counts of samples at full scale. Refuses a program that counts none, all outputs together, or one sign alone.
 #[test]
 fn samples_at_full_scale(rt: HostRuntime) -> Result<(), Fail> {
-    let around = Around {
-        stdin: LOUD,
-        ..OPEN
-    };
     is_told(
         "levels",
-        told_around(&rt, &around, "run both.toml - out.wav --why"),
+        told_of(&rt, LOUD, "run both.toml - out.wav --why"),
         "0\n--\noutput 0: 2 frames, peak 0.0 dB, 1 sample at full scale\n\
          output 1: 2 frames, peak 0.0 dB, 2 samples at full scale\n--\n<another sound>",
     )
