@@ -6,8 +6,8 @@ ghost use Rattle.sdf_kit.specs.Kit.{kit_steps};
 ghost use Rattle.sdf_answer.specs.Rows.{IsBlockTableOf};
 ghost use Rattle.sdf_rings.specs.Rests.{HaveMet};
 
-use crate::TURNS;
 use crate::runs::{BLOCKS, inputs_of};
+use crate::{TURNS, print_turn};
 use anyhow::Result;
 use sdf_actor::Net;
 use sdf_answer::BlockTable;
@@ -52,7 +52,7 @@ pub(crate) fn finish_twice<R: AllocGlobal + Print>(
     let inputs = inputs_of(rt.alloc(), net, BLOCKS.saturating_mul(table.factor))?;
     for turn in TURNS {
         let rings = Rings::prepare(rt.alloc(), net, table, BLOCKS, &inputs)?;
-        println!(rt; "{turn}")?;
+        print_turn(rt, turn)?;
         show_lists(rt, finish(rings))?;
     }
     Ok(())

@@ -63,6 +63,20 @@ fn make_planned<R: AllocGlobal + Files + Print + Sync + Threads>(
     }
 }
 
+/// Makes the call named `call` on `design`, which it plans by `options`.
+fn make_on<R: AllocGlobal + Files + Print + Sync + Threads>(
+    rt: &R,
+    call: &str,
+    design: &Design,
+    input: &str,
+    options: &Options,
+) -> Result<()> {
+    let plan = plan(rt.alloc(), design, options)?;
+    let made = make_planned(rt, call, design, &plan, input);
+    drop(plan);
+    made
+}
+
 /// Makes the call named `call` with the files and the options of a run.
 pub(crate) fn make<R: AllocGlobal + Files + Print + Sync + Threads>(
     rt: &R,
@@ -78,6 +92,7 @@ pub(crate) fn make<R: AllocGlobal + Files + Print + Sync + Threads>(
         _ => {}
     }
     let design = read_design(rt.alloc(), &sources.graph, &sources.beside)?;
-    let plan = plan(rt.alloc(), &design, options)?;
-    make_planned(rt, call, &design, &plan, input)
+    let made = make_on(rt, call, &design, input, options);
+    drop(design);
+    made
 }

@@ -1,16 +1,22 @@
 //! One run in memory of a chain of all kinds of actors, or one schedule, between the lines `begin` and `end`. The
 //! memory that is requested between them is the run's own. `scripts/allocations` counts it.
 
+ghost use Rattle.sdf_graph.specs.Rates.{rates};
+ghost use Rattle.sdf_actor.specs.Graphs.{graph_of};
+ghost use Rattle.sdf_kit.specs.Kit.{kit_steps};
+ghost use Rattle.sdf_answer.specs.Rows.{IsBlockTableOf};
+
 use anyhow::{Context, Result};
 use sdf_actor::Net;
 use sdf_answer::BlockTable;
-use sdf_file::read_design;
+use sdf_file::{Design, read_design};
 use sdf_kit::Kit;
 use sdf_prec::hu::hu;
 use sdf_prec::{Costs, Team};
-use sdf_run::{NoGate, Workers, run_one, run_rings, run_rows};
+use sdf_run::{NoGate, Ran, RunFault, Workers, run_one, run_rings, run_rows};
 use sdf_sched::class_s::class_s;
 use sdf_sched::{Lean, Pick, Round, Runs};
+use std::alloc::Global;
 use std::thread::Threads;
 
 /// A chain of actors of all kinds, with filters between different rates.
@@ -62,7 +68,69 @@ struct Sizes {
     blocks: u32,
 }
 
-/// Runs `net` by the runner `what`, and returns the number of samples in its first output.
+/// Runs `net` by the runner `what` on `inputs`.
+fn run_by<R: AllocGlobal + Sync + Threads>(
+    rt: &R,
+    what: &str,
+    net: &Net<Kit>,
+    table: &BlockTable,
+    blocks: u32,
+    inputs: &[Vec<i32>],
+) -> Result<Ran<i32>, RunFault>
+    requires fits { IsBlockTableOf (rates (graph_of kit_steps net.now)) table.now }
+{
+    match what {
+        "one" => {
+            let periods = table.factor.saturating_mul(blocks);
+            run_one(rt.alloc(), net, &table.period, periods, inputs)
+        }
+        "rows" => run_rows(rt, net, table, blocks, inputs, &NoGate),
+        _ => {
+            let workers = Workers {
+                rt,
+                gate: &NoGate,
+                patience: 1000,
+            };
+            run_rings(workers, net, table, blocks, inputs)
+        }
+    }
+}
+
+/// Runs `net` by the runner `what` between the lines, and returns the number of samples in its first output.
+fn run_counted<R: AllocGlobal + Print + Sync + Threads>(
+    rt: &R,
+    what: &str,
+    net: &Net<Kit>,
+    table: &BlockTable,
+    blocks: u32,
+    inputs: &[Vec<i32>],
+) -> Result<usize>
+    requires fits { IsBlockTableOf (rates (graph_of kit_steps net.now)) table.now }
+{
+    println!(rt; "begin")?;
+    let ran = run_by(rt, what, net, table, blocks, inputs)?;
+    println!(rt; "end")?;
+    Ok(ran.outputs.first().context("an output")?.len())
+}
+
+/// Makes the inputs of `blocks` blocks of `table`, and runs `net` on them by the runner `what`.
+fn run_blocks<R: AllocGlobal + Print + Sync + Threads>(
+    rt: &R,
+    what: &str,
+    net: &Net<Kit>,
+    table: &BlockTable,
+    blocks: u32,
+) -> Result<usize>
+    requires fits { IsBlockTableOf (rates (graph_of kit_steps net.now)) table.now }
+{
+    let alloc = rt.alloc();
+    let periods = table.factor.saturating_mul(blocks);
+    let samples = net.samples_in().saturating_mul(periods as usize);
+    let inputs = vec![in alloc; vec![in alloc; 7; samples]?]?;
+    run_counted(rt, what, net, table, blocks, &inputs)
+}
+
+/// Schedules `net` on homed workers, and runs it by the runner `what`.
 fn run<R: AllocGlobal + Print + Sync + Threads>(
     rt: &R,
     what: &str,
@@ -84,30 +152,25 @@ fn run<R: AllocGlobal + Print + Sync + Threads>(
         factor: j,
         table,
     };
-    let periods = j.saturating_mul(blocks);
-    let samples = net.samples_in().saturating_mul(periods as usize);
-    let inputs = vec![in alloc; vec![in alloc; 7; samples]?]?;
-    println!(rt; "begin")?;
-    let ran = match what {
-        "one" => run_one(alloc, net, &table.period, periods, &inputs)?,
-        "rows" => run_rows(rt, net, &table, blocks, &inputs, &NoGate)?,
-        _ => {
-            let workers = Workers {
-                rt,
-                gate: &NoGate,
-                patience: 1000,
-            };
-            run_rings(workers, net, &table, blocks, &inputs)?
-        }
-    };
-    println!(rt; "end")?;
-    Ok(ran.outputs.first().context("an output")?.len())
+    let made = run_blocks(rt, what, net, &table, blocks);
+    drop(table);
+    made
 }
 
-/// Schedules a chain whose second actor fires `blocks` times for each firing of the first. Returns the length of its
-/// period.
-fn schedule<R: AllocGlobal + Print, P: Pick>(rt: &R, blocks: u32, pick: &mut P) -> Result<usize> {
-    let alloc = rt.alloc();
+/// Reads the chain and runs it by the runner `what`.
+fn run_chain<R: AllocGlobal + Print + Sync + Threads>(
+    rt: &R,
+    what: &str,
+    sizes: Sizes,
+) -> Result<usize> {
+    let design = read_design(rt.alloc(), CHAIN.as_bytes(), &[])?;
+    let made = run(rt, what, design.net(), sizes);
+    drop(design);
+    made
+}
+
+/// Returns the design of a chain whose second actor fires `blocks` times for each firing of the first.
+fn widening(alloc: Global, blocks: u32) -> Result<Design> {
     let text = format!(in alloc;
         "format = 1
 actor = [{{ name = \"in\", kind = \"input\", channel = 0, block = {blocks} }},
@@ -115,16 +178,37 @@ actor = [{{ name = \"in\", kind = \"input\", channel = 0, block = {blocks} }},
 link = [{{ from = \"in\", to = \"up\" }}, {{ from = \"up\", to = \"out\" }}]
 "
     )?;
-    let design = read_design(alloc, text.as_bytes(), &[])?;
+    Ok(read_design(alloc, text.as_bytes(), &[])?)
+}
+
+/// Schedules `net` between the lines, and returns the length of its period.
+fn schedule_counted<R: AllocGlobal + Print, P: Pick>(
+    rt: &R,
+    net: &Net<Kit>,
+    pick: &mut P,
+) -> Result<usize> {
     println!(rt; "begin")?;
-    let period = class_s(
-        alloc,
-        design.net().graph(),
-        design.net().repetitions(),
-        pick,
-    )?;
+    let period = class_s(rt.alloc(), net.graph(), net.repetitions(), pick)?;
     println!(rt; "end")?;
     Ok(period.order().len())
+}
+
+/// Schedules a chain whose second actor fires `blocks` times for each firing of the first. Returns the length of its
+/// period.
+fn schedule<R: AllocGlobal + Print, P: Pick>(rt: &R, blocks: u32, pick: &mut P) -> Result<usize> {
+    let design = widening(rt.alloc(), blocks)?;
+    let made = schedule_counted(rt, design.net(), pick);
+    drop(design);
+    made
+}
+
+/// Reads the numbers of workers, of periods in a block, and of blocks.
+fn sizes_of([workers, j, blocks]: [&str; 3]) -> Result<Sizes> {
+    Ok(Sizes {
+        workers: workers.parse::<usize>().context("workers")?,
+        j: j.parse::<u32>().context("periods")?,
+        blocks: blocks.parse::<u32>().context("blocks")?,
+    })
 }
 
 /// Makes what `what` names: a run by a runner, or a schedule by a policy. `words` are the numbers of workers, of
@@ -134,20 +218,12 @@ pub(crate) fn count<R: AllocGlobal + Print + Sync + Threads>(
     what: &str,
     words: [&str; 3],
 ) -> Result<()> {
-    let [workers, j, blocks] = words;
-    let sizes = Sizes {
-        workers: workers.parse::<usize>().context("workers")?,
-        j: j.parse::<u32>().context("periods")?,
-        blocks: blocks.parse::<u32>().context("blocks")?,
-    };
+    let sizes = sizes_of(words)?;
     let made = match what {
-        "round" => schedule(rt, sizes.blocks, &mut Round::new())?,
-        "lean" => schedule(rt, sizes.blocks, &mut Lean)?,
-        "runs" => schedule(rt, sizes.blocks, &mut Runs::new())?,
-        _ => {
-            let design = read_design(rt.alloc(), CHAIN.as_bytes(), &[])?;
-            run(rt, what, design.net(), sizes)?
-        }
-    };
+        "round" => schedule(rt, sizes.blocks, &mut Round::new()),
+        "lean" => schedule(rt, sizes.blocks, &mut Lean),
+        "runs" => schedule(rt, sizes.blocks, &mut Runs::new()),
+        _ => run_chain(rt, what, sizes),
+    }?;
     Ok(println!(rt; "{made}")?)
 }

@@ -1,7 +1,7 @@
 //! Calls that return a design or a plan.
 
-use crate::TURNS;
 use crate::files::Sources;
+use crate::{TURNS, print_turn};
 use anyhow::Result;
 use indexmap::IndexSet;
 use sdf_faults::Fault;
@@ -10,29 +10,41 @@ use sdf_options::Options;
 use sdf_plan::Plan;
 use sdf_plan::planning::plan;
 use sdf_prec::Table;
+use std::fmt::Display;
 
-fn show_names(rt: &impl Print, answer: Result<IndexSet<String>, FileFault>) -> Result<()> {
-    match answer {
-        Ok(names) => {
-            for name in &names {
-                println!(rt; "file {name}")?;
-            }
-        }
-        Err(fault) => println!(rt; "{fault}")?,
+fn print_fault(rt: &impl Print, fault: &impl Display) -> Result<()> {
+    Ok(println!(rt; "{fault}")?)
+}
+
+fn print_names(rt: &impl Print, names: &IndexSet<String>) -> Result<()> {
+    for name in names {
+        println!(rt; "file {name}")?;
     }
     Ok(())
 }
 
+fn show_names(rt: &impl Print, answer: Result<IndexSet<String>, FileFault>) -> Result<()> {
+    let shown = match &answer {
+        Ok(names) => print_names(rt, names),
+        Err(fault) => print_fault(rt, fault),
+    };
+    drop(answer);
+    shown
+}
+
+fn print_design<R: AllocGlobal + Print>(rt: &R, design: &Design) -> Result<()> {
+    println!(rt; "design")?;
+    let text = check_text(rt.alloc(), design)?;
+    Ok(print!(rt; "{text}")?)
+}
+
 fn show_design<R: AllocGlobal + Print>(rt: &R, answer: Result<Design, FileFault>) -> Result<()> {
-    match answer {
-        Ok(design) => {
-            println!(rt; "design")?;
-            let text = check_text(rt.alloc(), &design)?;
-            print!(rt; "{text}")?;
-        }
-        Err(fault) => println!(rt; "{fault}")?,
-    }
-    Ok(())
+    let shown = match &answer {
+        Ok(design) => print_design(rt, design),
+        Err(fault) => print_fault(rt, fault),
+    };
+    drop(answer);
+    shown
 }
 
 fn show_table(rt: &impl Print, table: &Table) -> Result<()> {
@@ -43,24 +55,28 @@ fn show_table(rt: &impl Print, table: &Table) -> Result<()> {
     Ok(())
 }
 
-fn show_plan(rt: &impl Print, answer: Result<Plan, Fault>) -> Result<()> {
-    match answer {
-        Ok(plan) => {
-            let order = plan.period().order();
-            println!(rt; "order {order:?}")?;
-            if let Some(table) = plan.table() {
-                show_table(rt, &table.table)?;
-            }
-        }
-        Err(fault) => println!(rt; "{fault}")?,
+fn print_plan(rt: &impl Print, plan: &Plan) -> Result<()> {
+    let order = plan.period().order();
+    println!(rt; "order {order:?}")?;
+    match plan.table() {
+        Some(table) => show_table(rt, &table.table),
+        None => Ok(()),
     }
-    Ok(())
+}
+
+fn show_plan(rt: &impl Print, answer: Result<Plan, Fault>) -> Result<()> {
+    let shown = match &answer {
+        Ok(plan) => print_plan(rt, plan),
+        Err(fault) => print_fault(rt, fault),
+    };
+    drop(answer);
+    shown
 }
 
 /// Prints the names of the coefficient files, twice.
 pub(crate) fn files_twice<R: AllocGlobal + Print>(rt: &R, sources: &Sources) -> Result<()> {
     for turn in TURNS {
-        println!(rt; "{turn}")?;
+        print_turn(rt, turn)?;
         show_names(rt, design_files(rt.alloc(), &sources.graph))?;
     }
     Ok(())
@@ -69,22 +85,29 @@ pub(crate) fn files_twice<R: AllocGlobal + Print>(rt: &R, sources: &Sources) -> 
 /// Reads the design and prints it, twice.
 pub(crate) fn read_twice<R: AllocGlobal + Print>(rt: &R, sources: &Sources) -> Result<()> {
     for turn in TURNS {
-        println!(rt; "{turn}")?;
+        print_turn(rt, turn)?;
         show_design(rt, read_design(rt.alloc(), &sources.graph, &sources.beside))?;
     }
     Ok(())
 }
 
-/// Plans the design and prints the plan, twice.
+/// Reads the design, and then plans it and prints the plan, twice.
 pub(crate) fn plan_twice<R: AllocGlobal + Print>(
     rt: &R,
     sources: &Sources,
     options: &Options,
 ) -> Result<()> {
     let design = read_design(rt.alloc(), &sources.graph, &sources.beside)?;
+    let shown = show_plans(rt, &design, options);
+    drop(design);
+    shown
+}
+
+/// Plans `design` and prints the plan, twice.
+fn show_plans<R: AllocGlobal + Print>(rt: &R, design: &Design, options: &Options) -> Result<()> {
     for turn in TURNS {
-        println!(rt; "{turn}")?;
-        show_plan(rt, plan(rt.alloc(), &design, options))?;
+        print_turn(rt, turn)?;
+        show_plan(rt, plan(rt.alloc(), design, options))?;
     }
     Ok(())
 }

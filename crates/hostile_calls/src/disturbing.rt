@@ -4,6 +4,7 @@ ghost use Rattle.sdf_graph.specs.Rates.{rates};
 ghost use Rattle.sdf_actor.specs.Graphs.{graph_of};
 ghost use Rattle.sdf_kit.specs.Kit.{kit_steps};
 ghost use Rattle.sdf_answer.specs.Rows.{IsBlockTableOf};
+ghost use Rattle.sdf_plan.specs.Plans.{Suits};
 
 use crate::files::design_at;
 use crate::runs::{BLOCKS, inputs_of};
@@ -15,6 +16,7 @@ use sdf_answer::BlockTable;
 use sdf_file::Design;
 use sdf_kit::Kit;
 use sdf_options::{Options, Runner};
+use sdf_plan::Plan;
 use sdf_plan::planning::plan;
 use sdf_run::{ActorId, Gate, Ran, RunFault, Workers, run_one, run_rings, run_rows};
 use std::rt::Files;
@@ -201,22 +203,41 @@ fn disturb_table<R: AllocGlobal + Sync + Threads>(
     Ok(counts)
 }
 
-/// Runs a design `runs` times on `workers` workers, and prints a line with the counts.
-fn disturb_on<R: AllocGlobal + Print + Sync + Threads>(
+/// Runs a net `runs` times by the table of `plan`.
+fn disturb_plan<R: AllocGlobal + Sync + Threads>(
     rt: &R,
-    (graph, design): (&str, &Design),
+    net: &Net<Kit>,
+    plan: &Plan,
+    runs: usize,
+    holds: &mut Holds,
+) -> Result<Counts>
+    requires { Suits net.now plan.now }
+{
+    let table = plan.table().context("a plan of workers has a table")?;
+    disturb_table(rt, net, table, runs, holds)
+}
+
+/// Runs a design `runs` times on `workers` workers.
+fn disturb_design<R: AllocGlobal + Sync + Threads>(
+    rt: &R,
+    design: &Design,
     workers: usize,
     runs: usize,
     holds: &mut Holds,
-) -> Result<()> {
+) -> Result<Counts> {
     let options = Options {
         runner: Runner::Rings,
         workers,
         ..Options::DEFAULT
     };
     let plan = plan(rt.alloc(), design, &options)?;
-    let table = plan.table().context("a plan of workers has a table")?;
-    let counts = disturb_table(rt, design.net(), table, runs, holds)?;
+    let counts = disturb_plan(rt, design.net(), &plan, runs, holds);
+    drop(plan);
+    counts
+}
+
+/// Prints the counts of the runs on `workers` workers.
+fn print_counts(rt: &impl Print, graph: &str, workers: usize, counts: Counts) -> Result<()> {
     let Counts {
         runs,
         same,
@@ -228,6 +249,44 @@ fn disturb_on<R: AllocGlobal + Print + Sync + Threads>(
     )?)
 }
 
+/// Runs a design `runs` times on `workers` workers, and prints a line with the counts.
+fn disturb_on<R: AllocGlobal + Print + Sync + Threads>(
+    rt: &R,
+    (graph, design): (&str, &Design),
+    workers: usize,
+    runs: usize,
+    holds: &mut Holds,
+) -> Result<()> {
+    let counts = disturb_design(rt, design, workers, runs, holds)?;
+    print_counts(rt, graph, workers, counts)
+}
+
+/// Runs a design `runs` times on each number of workers from 1 to 16.
+fn disturb_each<R: AllocGlobal + Print + Sync + Threads>(
+    rt: &R,
+    (graph, design): (&str, &Design),
+    runs: usize,
+    holds: &mut Holds,
+) -> Result<()> {
+    for workers in 1..17 {
+        disturb_on(rt, (graph, design), workers, runs, holds)?;
+    }
+    Ok(())
+}
+
+/// Reads the design of the graph file `graph`, and runs it `runs` times on each number of workers from 1 to 16.
+fn disturb_at<R: AllocGlobal + Files + Print + Sync + Threads>(
+    rt: &R,
+    graph: &str,
+    runs: usize,
+    holds: &mut Holds,
+) -> Result<()> {
+    let design = design_at(rt, graph)?;
+    let disturbed = disturb_each(rt, (graph, &design), runs, holds);
+    drop(design);
+    disturbed
+}
+
 /// Runs each design `runs` times on each number of workers from 1 to 16.
 pub(crate) fn disturb<R: AllocGlobal + Files + Print + Sync + Threads>(
     rt: &R,
@@ -237,12 +296,30 @@ pub(crate) fn disturb<R: AllocGlobal + Files + Print + Sync + Threads>(
 ) -> Result<()> {
     let mut holds = Holds::Seeded(SplitMix64::seed_from_u64(seed));
     for graph in graphs {
-        let design = design_at(rt, graph)?;
-        for workers in 1..17 {
-            disturb_on(rt, (*graph, &design), workers, runs, &mut holds)?;
-        }
+        disturb_at(rt, graph, runs, &mut holds)?;
     }
     Ok(())
+}
+
+/// Runs a design on 1, 2, 3 and 16 workers, with the delays of `Holds::OneByOne`.
+fn hold_workers<R: AllocGlobal + Print + Sync + Threads>(
+    rt: &R,
+    (graph, design): (&str, &Design),
+) -> Result<()> {
+    for workers in [1usize, 2, 3, 16] {
+        let runs = PATIENCES.len().saturating_mul(workers.saturating_add(1));
+        let mut holds = Holds::OneByOne(workers);
+        disturb_on(rt, (graph, design), workers, runs, &mut holds)?;
+    }
+    Ok(())
+}
+
+/// Reads the design of the graph file `graph`, and runs it with the delays of `Holds::OneByOne`.
+fn hold_at<R: AllocGlobal + Files + Print + Sync + Threads>(rt: &R, graph: &str) -> Result<()> {
+    let design = design_at(rt, graph)?;
+    let held = hold_workers(rt, (graph, &design));
+    drop(design);
+    held
 }
 
 /// Runs each design on 1, 2, 3 and 16 workers. One worker at a time is delayed before all of its firings, and then each
@@ -252,12 +329,7 @@ pub(crate) fn hold_each<R: AllocGlobal + Files + Print + Sync + Threads>(
     graphs: &[&str],
 ) -> Result<()> {
     for graph in graphs {
-        let design = design_at(rt, graph)?;
-        for workers in [1usize, 2, 3, 16] {
-            let runs = PATIENCES.len().saturating_mul(workers.saturating_add(1));
-            let mut holds = Holds::OneByOne(workers);
-            disturb_on(rt, (*graph, &design), workers, runs, &mut holds)?;
-        }
+        hold_at(rt, graph)?;
     }
     Ok(())
 }

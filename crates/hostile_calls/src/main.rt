@@ -36,6 +36,7 @@ use disturbing::{disturb, hold_each};
 use files::load;
 use sdf_words::arguments::arguments;
 use sdf_words::{Run, Task, Words, words};
+use std::alloc::{AllocError, Global};
 use std::rt::Files;
 use std::thread::Threads;
 
@@ -46,27 +47,72 @@ const USAGE: &str =
 /// The lines before a call and before its repetition.
 pub(crate) const TURNS: [&str; 2] = ["call", "again"];
 
+/// Prints the line before a call or before its repetition.
+pub(crate) fn print_turn(rt: &impl Print, turn: &str) -> Result<()> {
+    Ok(println!(rt; "{turn}")?)
+}
+
+/// Disturbs runs of `graphs`, with the numbers that the words `runs` and `seed` give.
+fn obey_disturb<R: AllocGlobal + Files + Print + Sync + Threads>(
+    rt: &R,
+    runs: &str,
+    seed: &str,
+    graphs: &[&str],
+) -> Result<()> {
+    let runs = runs.parse::<usize>().context("the number of runs")?;
+    let seed = seed.parse::<u64>().context("the seed")?;
+    disturb(rt, runs, seed, graphs)
+}
+
+/// Makes the call named `call` with the files and the options of the run that `words` describe.
+fn make_by<R: AllocGlobal + Files + Print + Sync + Threads>(
+    rt: &R,
+    call: &str,
+    words: &Words<'_>,
+) -> Result<()> {
+    match words {
+        Words::Design {
+            graph,
+            task: Task::Run(Run { input, options, .. }),
+            ..
+        } => make(rt, call, &load(rt, graph)?, input, options),
+        _ => bail!("these are no words of a run"),
+    }
+}
+
+/// Makes the call named `call`, which is the first word of `line`.
+fn obey_call<R: AllocGlobal + Files + Print + Sync + Threads>(
+    rt: &R,
+    call: &str,
+    line: &[&str],
+) -> Result<()> {
+    let words = words(rt.alloc(), line)?;
+    let made = make_by(rt, call, &words);
+    drop(words);
+    made
+}
+
 /// Does what the words of `line` ask for. The first word is the name of a call.
 fn obey<R: AllocGlobal + Files + Print + Sync + Threads>(rt: &R, line: &[&str]) -> Result<()> {
-    match line {
-        ["disturb", runs, seed, graphs @ ..] => {
-            let runs = runs.parse::<usize>().context("the number of runs")?;
-            let seed = seed.parse::<u64>().context("the seed")?;
-            disturb(rt, runs, seed, graphs)
-        }
-        ["hold", graphs @ ..] => hold_each(rt, graphs),
-        ["count", what, workers, j, blocks] => count(rt, what, [workers, j, blocks]),
-        ["--help"] => Ok(println!(rt; "{USAGE}")?),
-        [call, ..] => match words(rt.alloc(), line)? {
-            Words::Design {
-                graph,
-                task: Task::Run(Run { input, options, .. }),
-                ..
-            } => make(rt, call, &load(rt, graph)?, input, &options),
-            _ => bail!("these are no words of a run"),
-        },
-        [] => bail!("no call is named"),
+    let [call, rest @ ..] = line else {
+        bail!("no call is named");
+    };
+    match (*call, rest) {
+        ("disturb", [runs, seed, graphs @ ..]) => obey_disturb(rt, runs, seed, graphs),
+        ("hold", graphs) => hold_each(rt, graphs),
+        ("count", [what, workers, j, blocks]) => count(rt, what, [workers, j, blocks]),
+        ("--help", []) => Ok(println!(rt; "{USAGE}")?),
+        _ => obey_call(rt, call, line),
     }
+}
+
+/// Returns the words of `given` behind the program's name as a line.
+fn line_of(alloc: Global, given: &[String]) -> Result<Vec<&str>, AllocError> {
+    let mut line = Vec::new(alloc);
+    for word in given.iter().skip(1) {
+        line.push(word.as_str())?;
+    }
+    Ok(line)
 }
 
 fn main(rt: HostRuntime) -> Result<()> {
@@ -74,9 +120,5 @@ fn main(rt: HostRuntime) -> Result<()> {
     if given.unread.is_some() {
         bail!("a word is not UTF-8");
     }
-    let mut line = Vec::new(rt.alloc());
-    for word in given.words.iter().skip(1) {
-        line.push(word.as_str())?;
-    }
-    obey(&rt, line.as_slice())
+    obey(&rt, &line_of(rt.alloc(), &given.words)?)
 }

@@ -6,7 +6,7 @@ ghost use Rattle.sdf_kit.specs.Kit.{kit_steps};
 ghost use Rattle.sdf_answer.specs.Rows.{IsBlockTableOf};
 ghost use Rattle.sdf_plan.specs.Plans.{Suits};
 
-use crate::TURNS;
+use crate::{TURNS, print_turn};
 use anyhow::Result;
 use sdf_actor::Net;
 use sdf_answer::BlockTable;
@@ -94,7 +94,7 @@ pub(crate) fn run_twice<R: AllocGlobal + Print + Sync + Threads>(
     let periods = BLOCKS.saturating_mul(blocking(plan));
     let inputs = inputs_of(rt.alloc(), net, periods)?;
     for turn in TURNS {
-        println!(rt; "{turn}")?;
+        print_turn(rt, turn)?;
         match plan.table() {
             Some(table) => show_ran(rt, run_blocks(rt, net, plan, table, &inputs, &NoGate))?,
             None => show_ran(

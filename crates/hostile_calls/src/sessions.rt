@@ -5,8 +5,8 @@ ghost use Rattle.sdf_actor.specs.Graphs.{graph_of};
 ghost use Rattle.sdf_kit.specs.Kit.{kit_steps};
 ghost use Rattle.sdf_answer.specs.Rows.{IsBlockTableOf};
 
-use crate::TURNS;
 use crate::runs::{BLOCKS, inputs_of, show_ran};
+use crate::{TURNS, print_turn};
 use anyhow::Result;
 use sdf_actor::Net;
 use sdf_answer::BlockTable;
@@ -62,10 +62,24 @@ pub(crate) fn open_twice<R: AllocGlobal + Print>(
     requires fits { IsBlockTableOf (rates (graph_of kit_steps net.now)) table.now }
 {
     for turn in TURNS {
-        println!(rt; "{turn}")?;
+        print_turn(rt, turn)?;
         show_session(rt, open(rt.alloc(), net, plan, table))?;
     }
     Ok(())
+}
+
+/// Prints the line `turn`. Feeds `session` with `inputs` twice, and then with `none`.
+fn feed<R: AllocGlobal + Print + Sync + Threads>(
+    rt: &R,
+    turn: &str,
+    session: &mut Session<'_, Kit>,
+    inputs: &[Vec<i32>],
+    none: &[Vec<i32>],
+) -> io::Result<()> {
+    println!(rt; "{turn}")?;
+    show_ran(rt, session.feed(rt, inputs, &NoGate))?;
+    show_ran(rt, session.feed(rt, inputs, &NoGate))?;
+    show_ran(rt, session.feed(rt, none, &NoGate))
 }
 
 /// Opens a session before the line, and then feeds it: the same samples twice, and then none. Closes it, and does all
@@ -82,10 +96,7 @@ pub(crate) fn feed_twice<R: AllocGlobal + Print + Sync + Threads>(
     let none = inputs_of(rt.alloc(), net, 0)?;
     for turn in TURNS {
         let mut session = open(rt.alloc(), net, plan, table)?;
-        println!(rt; "{turn}")?;
-        show_ran(rt, session.feed(rt, &inputs, &NoGate))?;
-        show_ran(rt, session.feed(rt, &inputs, &NoGate))?;
-        show_ran(rt, session.feed(rt, &none, &NoGate))?;
+        feed(rt, turn, &mut session, &inputs, &none)?;
         show_closed(rt, session)?;
     }
     Ok(())

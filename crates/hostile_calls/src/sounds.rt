@@ -2,7 +2,7 @@
 
 ghost use Rattle.sdf_plan.specs.Plans.{Suits};
 
-use crate::TURNS;
+use crate::{TURNS, print_turn};
 use anyhow::Result;
 use sdf_faults::Fault;
 use sdf_file::Design;
@@ -15,12 +15,18 @@ use std::thread::Threads;
 /// The capacity for what is written, so that the writer does not request memory.
 const MOST_WRITTEN: usize = 65_536;
 
-fn show_end(rt: &impl Print, answer: Result<(), Fault>, written: &[u8]) -> io::Result<()> {
+fn print_end(rt: &impl Print, answer: &Result<(), Fault>, written: &[u8]) -> io::Result<()> {
     match answer {
         Ok(()) => println!(rt; "done")?,
         Err(fault) => println!(rt; "{fault}")?,
     }
     println!(rt; "wrote {written:?}")
+}
+
+fn show_end(rt: &impl Print, answer: Result<(), Fault>, written: &[u8]) -> io::Result<()> {
+    let shown = print_end(rt, &answer, written);
+    drop(answer);
+    shown
 }
 
 /// Runs a design from one WAV file in memory to another, twice.
@@ -35,7 +41,7 @@ pub(crate) fn process_twice<R: AllocGlobal + Print + Sync + Threads>(
     for turn in TURNS {
         let mut reader = FromRead::new(sound);
         let mut writer = ToWrite::new(Vec::with_capacity(rt.alloc(), MOST_WRITTEN)?);
-        println!(rt; "{turn}")?;
+        print_turn(rt, turn)?;
         let ended = process(rt, &mut reader, &mut writer, design, plan);
         show_end(rt, ended, writer.into_inner().as_slice())?;
     }
