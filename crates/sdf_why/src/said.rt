@@ -18,11 +18,11 @@ pub fn device_text(alloc: Global, name: &str, said: &str) -> Result<String, Allo
     Ok(text)
 }
 
-/// Returns the end of the message about a header that stands twice in `bytes`: actors and links have double brackets.
+/// Returns the end of the message about `error` in `bytes`. At a header with single brackets it asks for double ones.
 fn brackets(bytes: &[u8], error: &Error) -> &'static str {
     match error.span().and_then(|span| bytes.get(span)) {
-        Some(b"[actor]" | b"[[actor]]") => ", each actor has double brackets: [[actor]]",
-        Some(b"[link]" | b"[[link]]") => ", each link has double brackets: [[link]]",
+        Some(b"[actor]") => ", each actor has double brackets: [[actor]]",
+        Some(b"[link]") => ", each link has double brackets: [[link]]",
         _ => "",
     }
 }

@@ -57,7 +57,7 @@ fn where_toml_stops(alloc: Global) -> Result<String, Fail> {
     Ok(told)
 }
 
-/// Documents in which something stands twice: a header of lists without double brackets, or a key.
+/// Documents in which something is there twice: a header with single brackets, one with double brackets, or a key.
 const TWICE: &[(&str, &str)] = &[
     (
         "[actor]\n[actor]\n",
@@ -68,6 +68,10 @@ const TWICE: &[(&str, &str)] = &[
         "[[link]]\n[link]\n",
         "  \"a.toml\": TOML parse error at line 2, column 1: duplicate key, each link has double brackets: \
          [[link]]\n",
+    ),
+    (
+        "actor = []\n[[actor]]\n",
+        "  \"a.toml\": TOML parse error at line 2, column 1: duplicate key\n",
     ),
     (
         "format = 1\nformat = 2\n",
