@@ -1,7 +1,7 @@
 //! Tests of runs of several files into a folder.
 
 use crate::commands;
-use crate::commands::{Around, FREE, Row, are_told_around};
+use crate::commands::{Around, OPEN_AROUND, Row, are_told_around};
 use crate::files::{
     HALVES, PLAIN, are_told, folder, has_bytes, is_gone, path_in, put, served, told, with_files,
 };
@@ -18,13 +18,13 @@ use test_texts::says;
 /// Standard error is a terminal.
 const TERMINAL: &Around<'static> = &Around {
     terminal: true,
-    ..FREE
+    ..OPEN_AROUND
 };
 
 /// Standard output is refused.
 const MUTE: &Around<'static> = &Around {
     output: Some(ErrorKind::BrokenPipe),
-    ..FREE
+    ..OPEN_AROUND
 };
 
 /// Batches over files in memory. Refuses a program that stops at a file that fails, or keeps what it has written for

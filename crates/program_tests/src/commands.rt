@@ -76,7 +76,7 @@ pub(crate) struct Around<'a> {
 }
 
 /// Surroundings in which nothing is refused, for constants that differ from them.
-pub(crate) const FREE: Around<'static> = Around {
+pub(crate) const OPEN_AROUND: Around<'static> = Around {
     stdin: b"",
     most: MOST_BYTES,
     output: None,
@@ -85,7 +85,7 @@ pub(crate) const FREE: Around<'static> = Around {
 };
 
 /// Surroundings in which nothing is refused, as a reference: a function that lends them builds no copy.
-pub(crate) const OPEN: &Around<'static> = &FREE;
+pub(crate) const OPEN: &Around<'static> = &OPEN_AROUND;
 
 /// Returns a text, or the name of a sound of the tests by its samples.
 fn text_of(bytes: &[u8]) -> &str {
@@ -105,7 +105,7 @@ fn text_of(bytes: &[u8]) -> &str {
 }
 
 /// Returns an exit status and the text `bytes`, with `between` between them.
-fn behind(alloc: Global, status: u8, between: char, bytes: &[u8]) -> Result<String, Fail> {
+fn status_and_text(alloc: Global, status: u8, between: char, bytes: &[u8]) -> Result<String, Fail> {
     let text = str::from_utf8(bytes)?;
     Ok(format!(in alloc; "{status}{between}{text}")?)
 }
@@ -131,12 +131,12 @@ impl Served {
 
     /// Returns the exit status and what is printed on standard error.
     pub(crate) fn errors(&self, alloc: Global) -> Result<String, Fail> {
-        behind(alloc, self.status, ' ', &self.err)
+        status_and_text(alloc, self.status, ' ', &self.err)
     }
 
     /// Returns the exit status and the lines on standard output.
     pub(crate) fn lines(&self, alloc: Global) -> Result<String, Fail> {
-        behind(alloc, self.status, '\n', &self.out)
+        status_and_text(alloc, self.status, '\n', &self.out)
     }
 }
 

@@ -54,7 +54,7 @@ pub(crate) fn put(rt: &HostRuntime, folder: &str, name: &str, bytes: &[u8]) -> R
     Ok(fs::write(rt, path.as_str(), bytes)?)
 }
 
-/// Writes texts into a folder, each with its name before it.
+/// Writes each of `texts` into `folder`, under its name.
 fn put_texts(rt: &HostRuntime, folder: &str, texts: &[(&str, &str)]) -> Result<(), Fail> {
     for (name, text) in texts {
         put(rt, folder, name, text.as_bytes())?;
@@ -196,7 +196,7 @@ const LACKING: &[Row] = &[
     ),
 ];
 
-/// Files beside those that are not there: designs, and a file that no run writes.
+/// Two designs, one without its coefficient file, and a file that no run writes.
 const WITHOUT_TAPS: &[(&str, &str)] = &[
     ("graph.toml", FILTERED),
     ("plain.toml", PLAIN),

@@ -4,6 +4,7 @@ use crate::commands::is_told;
 use crate::files::{HALVES, has_bytes, make_folder, path_in, put, stand, told, with_files};
 use sdf_files::storage::Disk;
 use std::fs;
+use std::io::ErrorKind;
 use std::os::unix::fs::symlink;
 use std::test::Fail;
 use std::thread::Threads;
@@ -12,8 +13,10 @@ use std::time::Clock;
 /// Puts a symbolic link `link` to `file` into a folder.
 fn put_link(rt: &HostRuntime, folder: &str, file: &str, link: &str) -> Result<(), Fail> {
     let path = path_in(rt.alloc(), folder, link)?;
-    // A link is refused if another one is still there.
-    let _ = fs::remove_file(rt, path.as_str());
+    match fs::remove_file(rt, path.as_str()) {
+        Err(error) if error.kind() != ErrorKind::NotFound => return Err(Fail::from(error)),
+        _ => {}
+    }
     Ok(symlink(rt, file, path.as_str())?)
 }
 

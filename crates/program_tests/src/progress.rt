@@ -1,6 +1,6 @@
 //! Tests of how far a run has come, at a terminal, by a clock of their own.
 
-use crate::commands::{Around, FREE, is_told, told_around};
+use crate::commands::{Around, OPEN_AROUND, is_told, told_around};
 use std::alloc::Global;
 use std::io;
 use std::sync::atomic::{AtomicU64, Ordering};
@@ -17,14 +17,14 @@ const SLOW: &[u8] =
 const TERMINAL: &Around<'static> = &Around {
     stdin: SLOW,
     terminal: true,
-    ..FREE
+    ..OPEN_AROUND
 };
 
 /// Standard error is a pipe.
 const PIPED: &Around<'static> = &Around {
     stdin: SLOW,
     terminal: false,
-    ..FREE
+    ..OPEN_AROUND
 };
 
 /// Threads with a clock that goes on by a fixed number of milliseconds before each reading.

@@ -235,8 +235,8 @@ const DESIGNS: &[(&str, &str)] = &[
     ("long.toml", LONG),
 ];
 
-/// Graph files that commands refuse, or that one of them refuses.
-const REFUSED: &[(&str, &str)] = &[
+/// More graph files that name no other file. Each is refused by a command of the tests.
+const MORE_DESIGNS: &[(&str, &str)] = &[
     ("stuck.toml", STUCK),
     ("broken.toml", BROKEN),
     ("lacking.toml", LACKING),
@@ -299,7 +299,7 @@ fn value_at<V: Copy>(files: &[(&str, V)], path: &str) -> Option<V> {
 /// Returns the text of a graph file or a coefficient file.
 fn text_of(path: &str) -> Option<&'static str> {
     value_at(DESIGNS, path)
-        .or(value_at(REFUSED, path))
+        .or(value_at(MORE_DESIGNS, path))
         .or(value_at(PARALLEL, path))
         .or(value_at(BESIDE, path))
 }

@@ -1,8 +1,8 @@
 //! Tests of standard input and output, of closed streams, and of the length limit of files, over files in memory.
 
 use crate::commands::{
-    Around, FREE, OPEN, Row, Served, are_told, are_told_around, given_of, is_told, serve_given,
-    told_around,
+    Around, OPEN, OPEN_AROUND, Row, Served, are_told, are_told_around, given_of, is_told,
+    serve_given, told_around,
 };
 use crate::files::{FILTERED, TAPS};
 use crate::shelf::{PADDED, SOUND};
@@ -18,32 +18,32 @@ use std::time::Clock;
 /// A sound on standard input.
 const HEARD: &Around<'static> = &Around {
     stdin: SOUND,
-    ..FREE
+    ..OPEN_AROUND
 };
 
 /// A sound on standard input, with its last byte missing.
 const CUT: &Around<'static> = &Around {
     stdin: b"RIFF\x28\0\0\0WAVEfmt \x10\0\0\0\x01\0\x01\0\x44\xAC\0\0\x88\x58\x01\0\x02\0\x10\0\
         data\x04\0\0\0\x05\0\xFB",
-    ..FREE
+    ..OPEN_AROUND
 };
 
 /// Standard output is closed.
 const MUTE: &Around<'static> = &Around {
     output: Some(ErrorKind::BrokenPipe),
-    ..FREE
+    ..OPEN_AROUND
 };
 
 /// Standard output is out of memory.
 const POOR: &Around<'static> = &Around {
     output: Some(ErrorKind::OutOfMemory),
-    ..FREE
+    ..OPEN_AROUND
 };
 
 /// Standard error is closed.
 const UNTOLD: &Around<'static> = &Around {
     error: Some(ErrorKind::BrokenPipe),
-    ..FREE
+    ..OPEN_AROUND
 };
 
 const UNWRITTEN: &str = "5\n--\nsdfw: 48 Write\n--\n";
@@ -85,7 +85,7 @@ const FROM_STREAM: &[Row] = &[
     ),
 ];
 
-/// Runs of files, with nothing on standard input. The file `-` is not looked at, but `./-` is.
+/// Runs with nothing on standard input. The file `-` is not looked at, but `./-` is.
 const FROM_FILE: &[Row] = &[
     (
         "from a file to a stream",
@@ -156,7 +156,7 @@ const NOT_STORED: &[Row] = &[
     ("a version without memory", "--version", NO_MEMORY),
 ];
 
-/// Commands whose faults can't be printed. They keep their status.
+/// Commands for which standard error is closed. They keep their status.
 const NOT_TOLD: &[Row] = &[
     (
         "a filter whose taps can't be told of",

@@ -1,6 +1,6 @@
 //! Tests of diagnostics at a terminal and by `--why`, over files in memory.
 
-use crate::commands::{Around, FREE, OPEN, Row, are_told_around, is_told, told_around};
+use crate::commands::{Around, OPEN, OPEN_AROUND, Row, are_told_around, is_told, told_around};
 use crate::shelf::SOUND;
 use std::alloc::{AllocError, Global};
 use std::test::Fail;
@@ -10,14 +10,14 @@ use std::time::Clock;
 /// Standard error is a terminal.
 const TERMINAL: &Around<'static> = &Around {
     terminal: true,
-    ..FREE
+    ..OPEN_AROUND
 };
 
 /// Standard error is a terminal, and a sound is on standard input.
 const HEARD: &Around<'static> = &Around {
     stdin: SOUND,
     terminal: true,
-    ..FREE
+    ..OPEN_AROUND
 };
 
 /// Diagnostics of designs at a terminal. Refuses a program that prints no more there, ignores `--no-why`, prints more
@@ -167,8 +167,8 @@ fn what_is_told_at_a_terminal(rt: HostRuntime) -> Result<(), Fail> {
 /// The bytes of a sound on standard input, and the report.
 type Sound = (&'static [u8], &'static str);
 
-/// Faults of a sound before its samples are read. Refuses a program that prints what is at another place of the sound,
-/// or that takes the number after a size for the size. Refuses also one thing in the plural.
+/// Faults of the first chunks and of the format of the samples. Refuses a program that prints what is at another place
+/// of the sound, or that takes the number after a size for the size. Refuses also one thing in the plural.
 const FORMATS: &[Sound] = &[
     (
         b"R",
@@ -209,8 +209,7 @@ const FORMATS: &[Sound] = &[
     ),
 ];
 
-/// Faults of the numbers, the frames and the samples of a sound. Refuses a program that prints what is at another place
-/// of the sound, or that takes the number after a size for the size. Refuses also one thing in the plural.
+/// Faults of channels, rate, frames and data, and an empty sound. Refuses what the faults of `FORMATS` refuse.
 const SOUNDS: &[Sound] = &[
     (
         b"RIFF\x28\0\0\0WAVEfmt \x10\0\0\0\x01\0\x09\0\x44\xAC\0\0\x88\x58\x01\0\x12\0\x10\0data\0\0\0\0",
