@@ -130,7 +130,8 @@ fn run_blocks<R: AllocGlobal + Print + Sync + Threads>(
     run_counted(rt, what, net, table, blocks, &inputs)
 }
 
-/// Schedules `net` on homed workers, and runs it by the runner `what`.
+/// Schedules `net` on homed workers, and runs it by the runner `what`. Returns the number of samples in its first
+/// output.
 fn run<R: AllocGlobal + Print + Sync + Threads>(
     rt: &R,
     what: &str,
@@ -170,7 +171,7 @@ fn run_chain<R: AllocGlobal + Print + Sync + Threads>(
 }
 
 /// Returns the design of a chain whose second actor fires `blocks` times for each firing of the first.
-fn widening(alloc: Global, blocks: u32) -> Result<Design> {
+fn widening_chain(alloc: Global, blocks: u32) -> Result<Design> {
     let text = format!(in alloc;
         "format = 1
 actor = [{{ name = \"in\", kind = \"input\", channel = 0, block = {blocks} }},
@@ -196,7 +197,7 @@ fn schedule_counted<R: AllocGlobal + Print, P: Pick>(
 /// Schedules a chain whose second actor fires `blocks` times for each firing of the first. Returns the length of its
 /// period.
 fn schedule<R: AllocGlobal + Print, P: Pick>(rt: &R, blocks: u32, pick: &mut P) -> Result<usize> {
-    let design = widening(rt.alloc(), blocks)?;
+    let design = widening_chain(rt.alloc(), blocks)?;
     let made = schedule_counted(rt, design.net(), pick);
     drop(design);
     made

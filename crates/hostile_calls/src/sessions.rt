@@ -68,15 +68,13 @@ pub(crate) fn open_twice<R: AllocGlobal + Print>(
     Ok(())
 }
 
-/// Prints the line `turn`. Feeds `session` with `inputs` twice, and then with `none`.
+/// Feeds `session` with `inputs` twice, and then with `none`.
 fn feed<R: AllocGlobal + Print + Sync + Threads>(
     rt: &R,
-    turn: &str,
     session: &mut Session<'_, Kit>,
     inputs: &[Vec<i32>],
     none: &[Vec<i32>],
 ) -> io::Result<()> {
-    println!(rt; "{turn}")?;
     show_ran(rt, session.feed(rt, inputs, &NoGate))?;
     show_ran(rt, session.feed(rt, inputs, &NoGate))?;
     show_ran(rt, session.feed(rt, none, &NoGate))
@@ -96,7 +94,8 @@ pub(crate) fn feed_twice<R: AllocGlobal + Print + Sync + Threads>(
     let none = inputs_of(rt.alloc(), net, 0)?;
     for turn in TURNS {
         let mut session = open(rt.alloc(), net, plan, table)?;
-        feed(rt, turn, &mut session, &inputs, &none)?;
+        print_turn(rt, turn)?;
+        feed(rt, &mut session, &inputs, &none)?;
         show_closed(rt, session)?;
     }
     Ok(())

@@ -87,22 +87,22 @@ const NETS: &[Row] = &[
 ];
 
 /// One period of a small net, with long holds of all firings.
-const HELD_BLOCKS: Row = Row {
+const HELD: Row = Row {
     blocks: 1,
     turns: 1_000_000,
     ..SMALL
 };
 
-const BLOCKS_HELD: &[Row] = &[HELD_BLOCKS];
+const BLOCKS_HELD: &[Row] = &[HELD];
 
 const LOOP_HELD: &[Row] = &[Row {
     net: Worked::Looped,
-    ..HELD_BLOCKS
+    ..HELD
 }];
 
 const FORK_HELD: &[Row] = &[Row {
     net: Worked::Forked,
-    ..HELD_BLOCKS
+    ..HELD
 }];
 
 /// Two periods of the converter, without holds.
@@ -120,7 +120,7 @@ const CONVERTERS: &[Row] = &[
     Row {
         net: Worked::Converter,
         every: 128,
-        ..HELD_BLOCKS
+        ..HELD
     },
     CONVERTER,
     Row {

@@ -208,7 +208,7 @@ fn net_of(by_hand: ByHand) -> Worked {
     match by_hand {
         ByHand::AtOnce(..) => Worked::Pair(1, 1, &[7]),
         ByHand::Many(_) => Worked::Wide,
-        _ => BLOCKS,
+        ByHand::Seats | ByHand::Rounds { .. } | ByHand::Gate => BLOCKS,
     }
 }
 

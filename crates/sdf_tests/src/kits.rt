@@ -210,17 +210,18 @@ const ZERO: &[i32] = &[0];
 
 /// Parts, and the links between them.
 #[derive(Drop)]
-struct Plan {
+struct Layout {
     parts: Vec<Part>,
     ends: Vec<[usize; 4]>,
 }
 
 /// Adds the branches from a fork, which is node 1, to `adder`.
-fn add_branches(plan: &mut Plan, adder: usize) -> Result<(), AllocError> {
+fn add_branches(layout: &mut Layout, adder: usize) -> Result<(), AllocError> {
     for branch in 2..adder {
         let way = branch - 2;
-        plan.parts.push(Gain(1, 0))?;
-        plan.ends
+        layout.parts.push(Gain(1, 0))?;
+        layout
+            .ends
             .extend_from_slice(&[[1, way, branch, 0], [branch, 0, adder, way]])?;
     }
     Ok(())
@@ -235,60 +236,60 @@ fn zeros(alloc: Global, ways: usize) -> Result<Vec<(usize, &'static [i32])>, All
     Ok(begun)
 }
 
-/// Returns the plan of a source, a fork, `ways` branches, an adder and a sink. Each branch has a link in and a link
+/// Returns the layout of a source, a fork, `ways` branches, an adder and a sink. Each branch has a link in and a link
 /// out. The links from the source and to the sink are the last.
-fn branched(alloc: Global, ways: usize) -> Result<Plan, AllocError> {
+fn branched(alloc: Global, ways: usize) -> Result<Layout, AllocError> {
     let adder = ways.wrapping_add(2);
-    let mut plan = Plan {
+    let mut layout = Layout {
         parts: Vec::from_slice(alloc, &[In(1), Fork(ways)])?,
         ends: Vec::new(alloc),
     };
-    add_branches(&mut plan, adder)?;
-    plan.parts.extend_from_slice(&[Add(ways), Out(0, 1)])?;
+    add_branches(&mut layout, adder)?;
+    layout.parts.extend_from_slice(&[Add(ways), Out(0, 1)])?;
     let last = [[0, 0, 1, 0], [adder, 0, adder.wrapping_add(1), 0]];
-    plan.ends.extend_from_slice(&last)?;
-    Ok(plan)
+    layout.ends.extend_from_slice(&last)?;
+    Ok(layout)
 }
 
 /// Builds a fork and an adder with `ways` branches between them. The link in to each branch begins with a zero.
 fn branches(alloc: Global, ways: usize) -> Result<Net<Kit>, Fail> {
-    let plan = branched(alloc, ways)?;
-    joined(alloc, &plan.parts, &plan.ends, &zeros(alloc, ways)?)
+    let layout = branched(alloc, ways)?;
+    joined(alloc, &layout.parts, &layout.ends, &zeros(alloc, ways)?)
 }
 
 /// Adds thirteen pairs of a fork and an adder in a line. A pair is joined by 16 links, the maximum number of ports, and
 /// the first pair by 14.
-fn add_pairs(plan: &mut Plan) -> Result<(), AllocError> {
+fn add_pairs(layout: &mut Layout) -> Result<(), AllocError> {
     for pair in 0..13usize {
         let fork = 2 * pair + 1;
         let ways = if pair == 0 { 14 } else { 16 };
-        plan.parts.extend_from_slice(&[Fork(ways), Add(ways)])?;
-        plan.ends.push([fork - 1, 0, fork, 0])?;
+        layout.parts.extend_from_slice(&[Fork(ways), Add(ways)])?;
+        layout.ends.push([fork - 1, 0, fork, 0])?;
         for way in 0..ways {
-            plan.ends.push([fork, way, fork + 1, way])?;
+            layout.ends.push([fork, way, fork + 1, way])?;
         }
     }
     Ok(())
 }
 
 /// Adds 36 gains in a line, which are nodes 27 to 62.
-fn add_gains(plan: &mut Plan) -> Result<(), AllocError> {
+fn add_gains(layout: &mut Layout) -> Result<(), AllocError> {
     for gain in 27..63usize {
-        plan.parts.push(Gain(1, 0))?;
-        plan.ends.push([gain - 1, 0, gain, 0])?;
+        layout.parts.push(Gain(1, 0))?;
+        layout.ends.push([gain - 1, 0, gain, 0])?;
     }
     Ok(())
 }
 
 /// Builds thirteen pairs of a fork and an adder in a line, then 36 gains.
 fn large(alloc: Global) -> Result<Net<Kit>, Fail> {
-    let mut plan = Plan {
+    let mut layout = Layout {
         parts: Vec::from_slice(alloc, &[In(1)])?,
         ends: Vec::new(alloc),
     };
-    add_pairs(&mut plan)?;
-    add_gains(&mut plan)?;
-    plan.parts.push(Out(0, 1))?;
-    plan.ends.push([62, 0, 63, 0])?;
-    joined(alloc, &plan.parts, &plan.ends, &[])
+    add_pairs(&mut layout)?;
+    add_gains(&mut layout)?;
+    layout.parts.push(Out(0, 1))?;
+    layout.ends.push([62, 0, 63, 0])?;
+    joined(alloc, &layout.parts, &layout.ends, &[])
 }

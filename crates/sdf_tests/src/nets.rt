@@ -22,8 +22,8 @@ use test_actors::gates::Watch;
 use test_actors::nets::{links, sink, source};
 use test_texts::says;
 
-/// Returns one list, which is `samples`.
-pub(crate) fn only<T: Drop>(alloc: Global, samples: Vec<T>) -> Result<Vec<Vec<T>>, AllocError> {
+/// Returns a list whose only element is `samples`.
+pub(crate) fn one_list<T: Drop>(alloc: Global, samples: Vec<T>) -> Result<Vec<Vec<T>>, AllocError> {
     let mut lists = Vec::new(alloc);
     lists.push(samples)?;
     Ok(lists)
@@ -31,7 +31,7 @@ pub(crate) fn only<T: Drop>(alloc: Global, samples: Vec<T>) -> Result<Vec<Vec<T>
 
 /// Returns one list, with a copy of `samples`.
 pub(crate) fn list<T: Copy>(alloc: Global, samples: &[T]) -> Result<Vec<Vec<T>>, AllocError> {
-    only(alloc, Vec::from_slice(alloc, samples)?)
+    one_list(alloc, Vec::from_slice(alloc, samples)?)
 }
 
 /// Returns one list: the numbers of `from..to`, then `zeros` zeros.
@@ -48,7 +48,7 @@ pub(crate) fn ramp(
     for _ in 0..zeros {
         samples.push(0)?;
     }
-    only(alloc, samples)
+    one_list(alloc, samples)
 }
 
 /// Returns the length of each list.

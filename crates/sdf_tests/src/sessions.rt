@@ -5,7 +5,7 @@ ghost use Rattle.sdf_actor.specs.Graphs.{graph_of};
 ghost use Rattle.sdf_answer.specs.Rows.{IsBlockTableOf};
 
 use crate::kits::Worked;
-use crate::nets::{by_one, chain, only, pair, planned, ramp};
+use crate::nets::{by_one, chain, one_list, pair, planned, ramp};
 use crate::patience::{Held, LATE};
 use sdf_actor::{Actor, Net};
 use sdf_answer::BlockTable;
@@ -161,7 +161,7 @@ fn fed_in_pieces(rt: HostRuntime) -> Result<(), Fail> {
 
 /// Returns `many` ones, in one list.
 fn ones(alloc: Global, many: usize) -> Result<Vec<Vec<i64>>, AllocError> {
-    only(alloc, vec![in alloc; 1i64; many]?)
+    one_list(alloc, vec![in alloc; 1i64; many]?)
 }
 
 /// Returns the number of samples in the first of `lists`, the first of them, and `rounds`, as text.

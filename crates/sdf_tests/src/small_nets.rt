@@ -5,7 +5,7 @@ ghost use Rattle.sdf_graph.specs.Rates.{rates};
 ghost use Rattle.sdf_actor.specs.Graphs.{graph_of};
 ghost use Rattle.sdf_sched.specs.Period.{IsPeriodOf};
 
-use crate::nets::{chain, lengths, list, only, pair, two_sums};
+use crate::nets::{chain, lengths, list, one_list, pair, two_sums};
 use sdf_actor::{Actor, Net};
 use sdf_run::{feed_one, resume_one, run_one};
 use sdf_sched::class_s::class_s;
@@ -305,7 +305,7 @@ fn naturals(alloc: Global) -> Result<Vec<Vec<i64>>, AllocError> {
     for sample in 1..12_001 {
         samples.push(sample)?;
     }
-    only(alloc, samples)
+    one_list(alloc, samples)
 }
 
 /// Runs two sums on 1, 2, 3 .. over many blocks, and returns the output lists.

@@ -123,8 +123,8 @@ const SLIPS: &[(Side, Slip)] = &[
     (Writer, Slip::MovesNothing),
 ];
 
-/// How often the device that slips is called, whether a prefix of the whole output is written, its length, and the end
-/// of the run.
+/// The number of calls of the device that slips, whether a prefix of the whole output is written, its length, and the
+/// end of the run.
 #[derive(Clone, Copy)]
 struct Report<'a> {
     calls: usize,

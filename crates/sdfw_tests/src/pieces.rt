@@ -155,16 +155,15 @@ fn begun_told<T: Threads + AllocGlobal + Sync>(rt: &T, runner: Runner) -> Result
     counts_told(rt.alloc(), &starts)
 }
 
+/// How often each of `NUMBERS` is begun.
+const BEGUN: &str = "[3, 2, 2, 1, 1, 0]";
+
 /// Tests how many blocks are fed: 4,096 frames hold 27 blocks. The 127 frames left and 904 more hold 7, and the last 2
 /// are filled up to one.
 #[test]
 fn how_many_blocks_are_fed(rt: HostRuntime) -> Result<(), Fail> {
-    row_says("rows", begun_told(&rt, Runner::Rows), "[3, 2, 2, 1, 1, 0]")?;
-    row_says(
-        "rings",
-        begun_told(&rt, Runner::Rings),
-        "[3, 2, 2, 1, 1, 0]",
-    )
+    row_says("rows", begun_told(&rt, Runner::Rows), BEGUN)?;
+    row_says("rings", begun_told(&rt, Runner::Rings), BEGUN)
 }
 
 /// A design, and how it is run on a sound that is cut after `kept` bytes. `told` gives how many bytes are written,

@@ -120,14 +120,14 @@ pub(crate) fn run_gated<T: Threads + AllocGlobal + Sync, G: Gate>(
     Ok(writer.into_inner())
 }
 
-/// What a run writes, and how it ends.
+/// The output of a run, and its end.
 #[derive(Drop)]
 pub(crate) struct Outcome {
     pub(crate) output: Vec<u8>,
     pub(crate) end: String,
 }
 
-/// Runs the design `graph` with `options` on the file `input`, which may end with a fault.
+/// Runs the design `graph` with `options` on the file `input`. Returns what is written and how the run ends.
 pub(crate) fn run_to_end<T: Threads + AllocGlobal + Sync>(
     rt: &T,
     graph: &str,
