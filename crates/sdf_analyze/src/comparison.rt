@@ -66,9 +66,9 @@ fn refusal(fault: Fault) -> Result<Outcome, Fault>
         (λ o. (p : PrecFault) × (fault ≡ faults.Table p) × (o ≡ Refused (number_of p)))
         (λ f. (f ≡ fault) × ((p : PrecFault) → fault ≡ faults.Table p → ⊥)) }
 {
-    match fault {
-        Fault::Table(fault) => Ok(Outcome::Refused(number_of(fault))),
-        fault => Err(fault),
+    match &fault {
+        Fault::Table(table) => Ok(Outcome::Refused(number_of(*table))),
+        _ => Err(fault),
     }
 }
 

@@ -55,7 +55,7 @@ impl fmt::Display for Stalled {
 }
 
 /// The reason why a command was not carried out. It prints its number and its name, then its place if it has one.
-#[derive(Debug, Drop, Error)]
+#[derive(Debug, Error)]
 pub enum Fault {
     #[error("1 OutOfMemory")]
     OutOfMemory,
@@ -105,6 +105,31 @@ pub enum Fault {
     /// The output's rate would not be a whole number.
     #[error("60 RateNotWhole")]
     RateNotWhole,
+}
+
+/// Not derived: a derived drop is expanded, with all that each fault holds, wherever a fault may be dropped.
+impl Drop for Fault {
+    fn drop(self) {
+        match self {
+            Fault::Words(_)
+            | Fault::File(_)
+            | Fault::Deadlock(_)
+            | Fault::Table(_)
+            | Fault::Wav(_) => {}
+            Fault::OutOfMemory
+            | Fault::BlockingFactor
+            | Fault::WorkerCount
+            | Fault::InputLength
+            | Fault::NotHomed
+            | Fault::Patience
+            | Fault::NoWorker
+            | Fault::SessionFailed
+            | Fault::Read
+            | Fault::Write
+            | Fault::ChannelsMissing
+            | Fault::RateNotWhole => {}
+        }
+    }
 }
 
 impl From<AllocError> for Fault {

@@ -180,7 +180,7 @@ fn read_beside<S: Storage>(
             Ok(bytes) => Ok(Some(bytes)),
             Err(error) => Err(refuse(alloc, refused, name, &error, Fault::Read)),
         },
-        Err(error) => match refuse(alloc, refused, name, &error, Fault::Read) {
+        Err(error) => match &refuse(alloc, refused, name, &error, Fault::Read) {
             Fault::OutOfMemory => Err(Fault::OutOfMemory),
             _ => Ok(None),
         },

@@ -37,11 +37,15 @@ percent part whole =
 abbrev pub time_text : ℕ → List ℕ
 time_text time = decimal (time / 1000) ++ codes "." ++ decimal (time / 100 % 10) ++ codes " ns"
 
+-- the number of an actor's firings
+abbrev pub firings_text : ℕ → List ℕ
+firings_text n = if n == 1 then codes ", 1 firing of " else codes ", " ++ decimal n ++ codes " firings of "
+
 -- an actor's share of the whole, the number of its firings and the time of one
 unfoldable pub share_line : List ℕ → ℕ → Spent → List ℕ
 share_line name whole s =
-    codes "share " ++ name ++ percent s.nanoseconds whole ++ codes ", " ++ decimal s.firings ++ codes " firings of "
-    ++ time_text (time_of s) ++ end
+    codes "share " ++ name ++ percent s.nanoseconds whole ++ firings_text s.firings ++ time_text (time_of s)
+    ++ end
 
 -- the cost of an actor's firing
 unfoldable pub cost_line : List ℕ → ℕ → List ℕ

@@ -1,8 +1,8 @@
 //! The lines of a profile.
 
 ghost use Rattle.std.specs.Prelude.{◌≡◌, ◌≤◌, ◌++◌, length, IfOk, OnOk, string_bytes};
-ghost use Rattle.sdf_profile.specs.Times.{whole, percent, time_text, share_line, cost_line, shares_to, costs_to};
-ghost use Rattle.sdf_profile.specs.Times.{profile_text};
+ghost use Rattle.sdf_profile.specs.Times.{whole, percent, time_text, firings_text, share_line, cost_line};
+ghost use Rattle.sdf_profile.specs.Times.{shares_to, costs_to, profile_text};
 
 use crate::costs::{quotient, time_of};
 use crate::stopwatch::Spent;
@@ -42,15 +42,24 @@ fn push_time(text: &mut String, time: u64) -> Result<(), AllocError>
     Ok(())
 }
 
+/// Adds the number of an actor's `firings`.
+fn push_firings(text: &mut String, firings: u64) -> Result<(), AllocError>
+    ensures { OnOk result (string_bytes text.new ≡ string_bytes text.old ++ firings_text firings) }
+{
+    match firings {
+        1 => text.push_str(", 1 firing of "),
+        _ => write!(text, ", {firings} firings of "),
+    }
+}
+
 /// Adds the line of an actor's share.
 #[tactic(auto, unfolding(crate::specs::Times::share_line))]
 fn push_actor(text: &mut String, name: &str, whole: u64, spent: Spent) -> Result<(), AllocError>
     ensures { OnOk result (string_bytes text.new ≡ string_bytes text.old ++ share_line name.now whole spent) }
 {
-    let firings = spent.firings;
     write!(text, "share {name}")?;
     push_share(text, spent.nanoseconds, whole)?;
-    write!(text, ", {firings} firings of ")?;
+    push_firings(text, spent.firings)?;
     push_time(text, time_of(spent))?;
     text.push_str("\n")
 }

@@ -78,6 +78,32 @@ fn is_part(items: &[Item<'_>], output: &str, part: &str) -> bool {
     false
 }
 
+/// Returns the item of `input`, whose output has this `name` in `folder`.
+fn item_of<'a>(
+    alloc: Global,
+    folder: &str,
+    input: &'a str,
+    name: &str,
+) -> Result<Item<'a>, AllocError> {
+    Ok(Item {
+        input,
+        part: format!(in alloc; "{folder}/{name}.part")?,
+        output: format!(in alloc; "{folder}/{name}")?,
+    })
+}
+
+/// Errs if the output or the part of `item`, whose output has this `name`, collides with one of `items`.
+fn keep_apart(alloc: Global, items: &[Item<'_>], item: &Item<'_>, name: &str) -> Result<(), Fault> {
+    let output = item.output.as_str();
+    if is_taken(items, output) {
+        return Err(named_twice(alloc, name)?);
+    }
+    if is_part(items, output, item.part.as_str()) {
+        return Err(named_as_a_part(alloc, name)?);
+    }
+    Ok(())
+}
+
 /// Adds the file `input`. Errs if it has no name, or if its output or its part collides with an earlier file.
 fn push_item<'a>(
     alloc: Global,
@@ -88,19 +114,9 @@ fn push_item<'a>(
     let Some(name) = name_of(input) else {
         return Err(unnamed(alloc, input)?);
     };
-    let output = format!(in alloc; "{folder}/{name}")?;
-    if is_taken(items, output.as_str()) {
-        return Err(named_twice(alloc, name)?);
-    }
-    let part = format!(in alloc; "{folder}/{name}.part")?;
-    if is_part(items, output.as_str(), part.as_str()) {
-        return Err(named_as_a_part(alloc, name)?);
-    }
-    Ok(items.push(Item {
-        input,
-        part,
-        output,
-    })?)
+    let item = item_of(alloc, folder, input, name)?;
+    keep_apart(alloc, items, &item, name)?;
+    Ok(items.push(item)?)
 }
 
 /// Returns the files of a batch.
