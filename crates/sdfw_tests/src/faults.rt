@@ -209,18 +209,13 @@ fn told<T: Threads + AllocGlobal + Sync>(rt: &T, row: &Row) -> Result<String, Fa
     format!(in rt.alloc(); "{} {}", run.output.len(), run.end).map_err(Fail::from)
 }
 
-/// Checks the report on each row.
-fn are_told<T: Threads + AllocGlobal + Sync>(rt: &T, rows: &[Row]) -> Result<(), Fail> {
-    for row in rows {
-        row_says(row.name, told(rt, row), row.told)?;
-    }
-    Ok(())
-}
-
 /// Tests what is written before a fault: the header or nothing. Refuses a run that writes more, or less.
 #[test]
 fn faults_leave_the_header_or_nothing(rt: HostRuntime) -> Result<(), Fail> {
-    are_told(&rt, ROWS)
+    for row in ROWS {
+        row_says(row.name, told(&rt, row), row.told)?;
+    }
+    Ok(())
 }
 
 /// Returns a design of `links` empty links.

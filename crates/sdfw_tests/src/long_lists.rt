@@ -209,17 +209,12 @@ fn told<T: Threads + AllocGlobal + Sync>(rt: &T, row: &Row) -> Result<String, Fa
     }
 }
 
-/// Checks the report on each row.
-fn are_told<T: Threads + AllocGlobal + Sync>(rt: &T, rows: &[Row]) -> Result<(), Fail> {
-    for row in rows {
-        row_says(row.name, told(rt, row), row.told)?;
-    }
-    Ok(())
-}
-
 /// Tests lists of the maximum length. Refuses an out-of-memory fault when memory is plentiful, a list that is cut,
 /// and a longer one that is taken.
 #[test]
 fn as_long_as_they_may_be(rt: HostRuntime) -> Result<(), Fail> {
-    are_told(&rt, ROWS)
+    for row in ROWS {
+        row_says(row.name, told(&rt, row), row.told)?;
+    }
+    Ok(())
 }

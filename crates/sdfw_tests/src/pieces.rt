@@ -306,17 +306,12 @@ fn row_told<T: Threads + AllocGlobal + Sync>(rt: &T, row: &Cut) -> Result<String
     cut_told(rt, row, &sound, &whole)
 }
 
-/// Checks the report on each row.
-fn are_told<T: Threads + AllocGlobal + Sync>(rt: &T, rows: &[Cut]) -> Result<(), Fail> {
-    for row in rows {
-        row_says(row.name, row_told(rt, row), row.told)?;
-    }
-    Ok(())
-}
-
 /// Tests that each piece is run and written before more is read. Refuses another value of `FRAMES`, and one thread in
 /// place of workers.
 #[test]
 fn what_was_read_is_written(rt: HostRuntime) -> Result<(), Fail> {
-    are_told(&rt, CUTS)
+    for row in CUTS {
+        row_says(row.name, row_told(&rt, row), row.told)?;
+    }
+    Ok(())
 }
