@@ -298,10 +298,16 @@ fn value_at<V: Copy>(files: &[(&str, V)], path: &str) -> Option<V> {
 
 /// Returns the text of a graph file or a coefficient file.
 fn text_of(path: &str) -> Option<&'static str> {
-    value_at(DESIGNS, path)
-        .or(value_at(MORE_DESIGNS, path))
-        .or(value_at(PARALLEL, path))
-        .or(value_at(BESIDE, path))
+    if let Some(text) = value_at(DESIGNS, path) {
+        return Some(text);
+    }
+    if let Some(text) = value_at(MORE_DESIGNS, path) {
+        return Some(text);
+    }
+    if let Some(text) = value_at(PARALLEL, path) {
+        return Some(text);
+    }
+    value_at(BESIDE, path)
 }
 
 /// Returns the bytes of a file of the tests.
@@ -320,7 +326,7 @@ const PLACES: &[(&str, usize)] = &[
     ("out.wav", SHARED),
 ];
 
-/// The index of the place of all other files that can be made.
+/// The index of the place of all other files that can be made. It is behind the places of the parts.
 const SHARED: usize = 3;
 
 /// Returns the index of the place of a file that can be made.
