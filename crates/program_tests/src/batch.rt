@@ -1,7 +1,7 @@
 //! Tests of runs of several files into a folder.
 
 use crate::commands;
-use crate::commands::{Around, OPEN_AROUND, Row, are_told_around};
+use crate::commands::{MUTE, Row, TERMINAL, are_told_around};
 use crate::files::{
     HALVES, PLAIN, are_told, folder, has_bytes, is_gone, path_in, put, served, told, with_files,
 };
@@ -9,23 +9,10 @@ use crate::shelf::{HEADER, SOUND};
 use sdf_files::storage::Disk;
 use std::alloc::{AllocError, Global};
 use std::fs;
-use std::io::ErrorKind;
 use std::test::Fail;
 use std::thread::Threads;
 use std::time::Clock;
 use test_texts::says;
-
-/// Standard error is a terminal.
-const TERMINAL: &Around<'static> = &Around {
-    terminal: true,
-    ..OPEN_AROUND
-};
-
-/// Standard output is refused.
-const MUTE: &Around<'static> = &Around {
-    output: Some(ErrorKind::BrokenPipe),
-    ..OPEN_AROUND
-};
 
 /// Batches over files in memory. Refuses a program that stops at a file that fails, or keeps what it has written for
 /// that file. Refuses also the least or the last exit status, and two files that are written in one place.
@@ -183,7 +170,7 @@ fn what_batches_tell(rt: HostRuntime) -> Result<(), Fail> {
 }
 
 /// Lines that would write over a file while it is read, and their reports.
-const ITSELF: &[crate::files::Row] = &[
+const ITSELF: &[Row] = &[
     (
         "a file that would be written over",
         "run @/graph.toml --into @ @/in.wav",

@@ -87,6 +87,18 @@ pub(crate) const OPEN_AROUND: Around<'static> = Around {
 /// Surroundings in which nothing is refused, as a reference: a function that lends them builds no copy.
 pub(crate) const OPEN: &Around<'static> = &OPEN_AROUND;
 
+/// Surroundings in which standard error is a terminal.
+pub(crate) const TERMINAL: &Around<'static> = &Around {
+    terminal: true,
+    ..OPEN_AROUND
+};
+
+/// Surroundings in which standard output is closed.
+pub(crate) const MUTE: &Around<'static> = &Around {
+    output: Some(ErrorKind::BrokenPipe),
+    ..OPEN_AROUND
+};
+
 /// Returns a text, or the name of a sound of the tests by its samples.
 fn text_of(bytes: &[u8]) -> &str {
     if bytes == SOUND {

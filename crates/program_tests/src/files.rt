@@ -1,6 +1,6 @@
 //! Commands over real files.
 
-use crate::commands::{OPEN, Served, given_of, is_told, serve_over};
+use crate::commands::{OPEN, Row, Served, given_of, is_told, serve_over};
 use crate::shelf::SOUND;
 use sdf_faults::{Fault, fault_text};
 use sdf_files::files::{MOST_BYTES, load, read_all};
@@ -130,9 +130,6 @@ pub(crate) fn told<S: Storage, T: Threads + AllocGlobal + Clock + Clone + Drop +
     let served = served(storage, threads, folder, line)?;
     served.errors(threads.alloc())
 }
-
-/// The name of a row, a line of words, and the report.
-pub(crate) type Row = (&'static str, &'static str, &'static str);
 
 /// Compares what the line of each row prints in a folder with the wanted text.
 pub(crate) fn are_told<S: Storage, T: Threads + AllocGlobal + Clock + Clone + Drop + Sync>(

@@ -1,6 +1,6 @@
 //! Tests of what `resample` leaves on a disk that is full: nothing, or files that it names.
 
-use crate::commands::{Around, OPEN_AROUND, given_of, is_told, serve_over};
+use crate::commands::{TERMINAL, given_of, is_told, serve_over};
 use crate::files::{folder, has_bytes, is_gone, path_in, put, told};
 use sdf_files::storage::{Disk, Storage};
 use std::alloc::Global;
@@ -152,12 +152,6 @@ fn leaves_nothing<T: Threads + AllocGlobal + Clock + Clone + Drop + Sync>(
     is_tried_again(full, threads, path)?;
     has_bytes(full.host, path, "notes", b"kept", LINE)
 }
-
-/// Standard error is a terminal.
-const TERMINAL: &Around<'static> = &Around {
-    terminal: true,
-    ..OPEN_AROUND
-};
 
 /// Returns the report at a terminal of a converter that is written into the folder `path`.
 fn told_at_terminal<T: Threads + AllocGlobal + Clock + Clone + Drop + Sync>(

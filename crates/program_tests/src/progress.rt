@@ -13,15 +13,15 @@ const SLOW: &[u8] =
     b"RIFF\x30\0\0\0WAVEfmt \x10\0\0\0\x01\0\x01\0\x02\0\0\0\x04\0\0\0\x02\0\x10\0data\x0C\0\0\0\
     \x01\0\x02\0\x03\0\x04\0\x05\0\x06\0";
 
-/// Standard error is a terminal.
-const TERMINAL: &Around<'static> = &Around {
+/// Standard error is a terminal, and `SLOW` is on standard input.
+const SLOW_AT_TERMINAL: &Around<'static> = &Around {
     stdin: SLOW,
     terminal: true,
     ..OPEN_AROUND
 };
 
-/// Standard error is a pipe.
-const PIPED: &Around<'static> = &Around {
+/// Standard error is a pipe, and `SLOW` is on standard input.
+const SLOW_PIPED: &Around<'static> = &Around {
     stdin: SLOW,
     terminal: false,
     ..OPEN_AROUND
@@ -107,11 +107,11 @@ const SHOWN: &[Row] = &[
 #[test]
 fn long_runs_are_shown(rt: HostRuntime) -> Result<(), Fail> {
     for (name, step, line, wanted) in SHOWN {
-        is_told(name, told_at(&rt, *step, TERMINAL, line), wanted)?;
+        is_told(name, told_at(&rt, *step, SLOW_AT_TERMINAL, line), wanted)?;
     }
     is_told(
         "a run that is no terminal's",
-        told_at(&rt, 4_000, PIPED, "run plain.toml - out.wav --why"),
+        told_at(&rt, 4_000, SLOW_PIPED, "run plain.toml - out.wav --why"),
         "0\n--\noutput 0: 6 frames, …",
     )
 }

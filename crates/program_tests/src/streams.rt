@@ -1,7 +1,7 @@
 //! Tests of standard input and output, of closed streams, and of the length limit of files, over files in memory.
 
 use crate::commands::{
-    Around, OPEN, OPEN_AROUND, Row, Served, are_told, are_told_around, given_of, is_told,
+    Around, MUTE, OPEN, OPEN_AROUND, Row, Served, are_told, are_told_around, given_of, is_told,
     serve_given, told_around,
 };
 use crate::files::{FILTERED, TAPS};
@@ -25,12 +25,6 @@ const HEARD: &Around<'static> = &Around {
 const CUT: &Around<'static> = &Around {
     stdin: b"RIFF\x28\0\0\0WAVEfmt \x10\0\0\0\x01\0\x01\0\x44\xAC\0\0\x88\x58\x01\0\x02\0\x10\0\
         data\x04\0\0\0\x05\0\xFB",
-    ..OPEN_AROUND
-};
-
-/// Standard output is closed.
-const MUTE: &Around<'static> = &Around {
-    output: Some(ErrorKind::BrokenPipe),
     ..OPEN_AROUND
 };
 

@@ -1,20 +1,16 @@
 //! Tests of diagnostics at a terminal and by `--why`, over files in memory.
 
-use crate::commands::{Around, OPEN, OPEN_AROUND, Row, are_told_around, is_told, told_around};
+use crate::commands::{
+    Around, OPEN, OPEN_AROUND, Row, TERMINAL, are_told_around, is_told, told_around,
+};
 use crate::shelf::SOUND;
 use std::alloc::{AllocError, Global};
 use std::test::Fail;
 use std::thread::Threads;
 use std::time::Clock;
 
-/// Standard error is a terminal.
-const TERMINAL: &Around<'static> = &Around {
-    terminal: true,
-    ..OPEN_AROUND
-};
-
 /// Standard error is a terminal, and a sound is on standard input.
-const HEARD: &Around<'static> = &Around {
+const SOUND_AT_TERMINAL: &Around<'static> = &Around {
     stdin: SOUND,
     terminal: true,
     ..OPEN_AROUND
@@ -161,7 +157,7 @@ fn what_is_told_at_a_terminal(rt: HostRuntime) -> Result<(), Fail> {
     are_told_around(&rt, TERMINAL, AT_TERMINAL)?;
     are_told_around(&rt, TERMINAL, FILES_AT_TERMINAL)?;
     are_told_around(&rt, TERMINAL, RUNS_AT_TERMINAL)?;
-    are_told_around(&rt, HEARD, HEARD_AT_TERMINAL)
+    are_told_around(&rt, SOUND_AT_TERMINAL, HEARD_AT_TERMINAL)
 }
 
 /// The bytes of a sound on standard input, and the report.
