@@ -296,7 +296,7 @@ fn times<T: Threads + AllocGlobal + Clock + Clone + Drop + Sync>(
 ) -> Result<String, Fail> {
     let told = told(rt, line)?;
     let parts = told.as_str().split(what).count();
-    Ok(format!(in rt.alloc(); "{}", parts.saturating_sub(1))?)
+    format!(in rt.alloc(); "{}", parts.saturating_sub(1)).map_err(Fail::from)
 }
 
 #[test]

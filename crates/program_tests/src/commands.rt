@@ -119,7 +119,7 @@ fn text_of(bytes: &[u8]) -> &str {
 /// Returns an exit status and the text `bytes`, with `between` between them.
 fn status_and_text(alloc: Global, status: u8, between: char, bytes: &[u8]) -> Result<String, Fail> {
     let text = str::from_utf8(bytes)?;
-    Ok(format!(in alloc; "{status}{between}{text}")?)
+    format!(in alloc; "{status}{between}{text}").map_err(Fail::from)
 }
 
 /// The result of a command: its exit status, what it prints on standard output and on standard error, and the files
@@ -221,7 +221,7 @@ pub(crate) fn told_around<T: Threads + AllocGlobal + Clock + Clone + Drop + Sync
     line: &str,
 ) -> Result<String, Fail> {
     let served = serve_line(rt, around, line)?;
-    Ok(served.text(rt.alloc())?)
+    served.text(rt.alloc()).map_err(Fail::from)
 }
 
 /// Serves `line` in surroundings in which nothing is refused, and returns the result as text.

@@ -103,7 +103,7 @@ fn told(rt: &(impl AllocGlobal), graph: &str, costs: &[u32]) -> Result<String, F
     let alloc = rt.alloc();
     match costed_text(alloc, graph.as_bytes(), &[], costs) {
         Ok(text) => Ok(String::from_utf8(text)?),
-        Err(fault) => Ok(format!(in alloc; "{fault:?}")?),
+        Err(fault) => format!(in alloc; "{fault:?}").map_err(Fail::from),
     }
 }
 

@@ -267,7 +267,7 @@ impl Read for Long {
 fn text_of(alloc: Global, fault: Fault) -> Result<String, Fail> {
     let text = fault_text(alloc, &fault);
     drop(fault);
-    Ok(text?)
+    text.map_err(Fail::from)
 }
 
 /// Returns the text of a file of which at most `most` bytes may be read, or the fault.
@@ -283,7 +283,7 @@ fn loaded(rt: &HostRuntime, path: &str, most: u32) -> Result<String, Fail> {
     match load(rt.alloc(), &Disk { rt }, path, most) {
         Ok(loaded) => {
             drop(loaded);
-            Ok(String::from_str(rt.alloc(), "loaded")?)
+            String::from_str(rt.alloc(), "loaded").map_err(Fail::from)
         }
         Err(fault) => text_of(rt.alloc(), fault),
     }
@@ -293,7 +293,7 @@ fn loaded(rt: &HostRuntime, path: &str, most: u32) -> Result<String, Fail> {
 fn long_told(alloc: Global) -> Result<String, Fail> {
     let file = vec![in alloc; b'x'; 1_000_000]?;
     let read = read_told(alloc, file.as_slice(), MOST_BYTES)?;
-    Ok(format!(in alloc; "{}", read.len())?)
+    format!(in alloc; "{}", read.len()).map_err(Fail::from)
 }
 
 /// How many bytes of `samples` may be read, and the result. Refuses a program that cuts a longer file.

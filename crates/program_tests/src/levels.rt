@@ -64,7 +64,7 @@ fn levels_of(rt: &HostRuntime, sound: &[u8], most: usize) -> Result<String, Fail
     let mut output = Output::new(&mut to, shown, true);
     output.write_all(sound)?;
     match &output.levels {
-        Some(levels) => Ok(levels.text(rt.alloc())?),
+        Some(levels) => levels.text(rt.alloc()).map_err(Fail::from),
         None => Err(Fail::new(format_args!("nothing is counted"))),
     }
 }

@@ -38,7 +38,7 @@ fn report(alloc: Global, served: &Served, input: &[u8]) -> Result<String, Fail> 
     let made = &served.out;
     let front = is_front(made, input);
     let err = str::from_utf8(&served.err)?;
-    Ok(format!(in alloc; "{} {} {front} {err}", served.status, made.len())?)
+    format!(in alloc; "{} {} {front} {err}", served.status, made.len()).map_err(Fail::from)
 }
 
 /// Serves `line` on `frames` frames, and returns the report. Each design of the rows copies its input.

@@ -232,7 +232,7 @@ fn fits<T: Threads + AllocGlobal + Clock + Clone + Drop + Sync>(
 /// Reports the exit status, how many bytes are on standard output, and standard error.
 fn unread_text(alloc: Global, served: &Served) -> Result<String, Fail> {
     let err = str::from_utf8(&served.err)?;
-    Ok(format!(in alloc; "{} {} {err}", served.status, served.out.len())?)
+    format!(in alloc; "{} {} {err}", served.status, served.out.len()).map_err(Fail::from)
 }
 
 /// Serves the words `given`. Reports the exit status, how many bytes are on standard output, and standard error.

@@ -75,7 +75,7 @@ fn told_by_clock<R: Threads + AllocGlobal + Sync>(rt: &R, line: &str) -> Result<
     };
     let told = told(&timed, line)?;
     let met = readings.met.load(Ordering::SeqCst);
-    Ok(format!(in rt.alloc(); "{told}{met}")?)
+    format!(in rt.alloc(); "{told}{met}").map_err(Fail::from)
 }
 
 /// Returns the report with the text of `commented.toml` and its costs by this clock.
