@@ -92,7 +92,5 @@ pub(crate) fn make<R: AllocGlobal + Files + Print + Sync + Threads>(
         _ => {}
     }
     let design = read_design(rt.alloc(), &sources.graph, &sources.beside)?;
-    let made = make_on(rt, call, &design, input, options);
-    drop(design);
-    made
+    make_on(rt, call, &design, input, options)
 }

@@ -165,9 +165,7 @@ fn run_chain<R: AllocGlobal + Print + Sync + Threads>(
     sizes: Sizes,
 ) -> Result<usize> {
     let design = read_design(rt.alloc(), CHAIN.as_bytes(), &[])?;
-    let made = run(rt, what, design.net(), sizes);
-    drop(design);
-    made
+    run(rt, what, design.net(), sizes)
 }
 
 /// Returns the design of a chain whose second actor fires `blocks` times for each firing of the first.
@@ -198,9 +196,7 @@ fn schedule_counted<R: AllocGlobal + Print, P: Pick>(
 /// period.
 fn schedule<R: AllocGlobal + Print, P: Pick>(rt: &R, blocks: u32, pick: &mut P) -> Result<usize> {
     let design = widening_chain(rt.alloc(), blocks)?;
-    let made = schedule_counted(rt, design.net(), pick);
-    drop(design);
-    made
+    schedule_counted(rt, design.net(), pick)
 }
 
 /// Reads the numbers of workers, of periods in a block, and of blocks.

@@ -98,9 +98,7 @@ pub(crate) fn plan_twice<R: AllocGlobal + Print>(
     options: &Options,
 ) -> Result<()> {
     let design = read_design(rt.alloc(), &sources.graph, &sources.beside)?;
-    let shown = show_plans(rt, &design, options);
-    drop(design);
-    shown
+    show_plans(rt, &design, options)
 }
 
 /// Plans `design` and prints the plan, twice.

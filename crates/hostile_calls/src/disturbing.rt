@@ -282,9 +282,7 @@ fn disturb_at<R: AllocGlobal + Files + Print + Sync + Threads>(
     holds: &mut Holds,
 ) -> Result<()> {
     let design = design_at(rt, graph)?;
-    let disturbed = disturb_each(rt, (graph, &design), runs, holds);
-    drop(design);
-    disturbed
+    disturb_each(rt, (graph, &design), runs, holds)
 }
 
 /// Runs each design `runs` times on each number of workers from 1 to 16.
@@ -317,9 +315,7 @@ fn hold_workers<R: AllocGlobal + Print + Sync + Threads>(
 /// Reads the design of the graph file `graph`, and runs it with the delays of `Holds::OneByOne`.
 fn hold_at<R: AllocGlobal + Files + Print + Sync + Threads>(rt: &R, graph: &str) -> Result<()> {
     let design = design_at(rt, graph)?;
-    let held = hold_workers(rt, (graph, &design));
-    drop(design);
-    held
+    hold_workers(rt, (graph, &design))
 }
 
 /// Runs each design on 1, 2, 3 and 16 workers. One worker at a time is delayed before all of its firings, and then each
