@@ -48,7 +48,8 @@ fn place(alloc: Global, at: At) -> Result<Place, AllocError> {
     }
 }
 
-/// Returns the fault `wrong` of a document, at `place` and with its key. All but the first five are `BadName`.
+/// Returns the fault `wrong` of a document, at `place` and with its key. `wrong` is one of the first six cases here:
+/// `document` makes the faults of the others itself.
 fn placed(wrong: Wrong, place: Place, key: &'static str) -> DocumentFault {
     match wrong {
         Wrong::KitValue(_) => DocumentFault::KitValue(place, key),
@@ -56,7 +57,14 @@ fn placed(wrong: Wrong, place: Place, key: &'static str) -> DocumentFault {
         Wrong::Format(_) => DocumentFault::Format(place),
         Wrong::MissingKey(_) => DocumentFault::MissingKey(place, key),
         Wrong::WrongType(_) => DocumentFault::WrongType(place, key),
-        _ => DocumentFault::BadName(place, key),
+        Wrong::BadName(_)
+        | Wrong::ActorCount
+        | Wrong::ChannelCount
+        | Wrong::UnknownKey(_)
+        | Wrong::NameTwice(_)
+        | Wrong::UnknownKind(_)
+        | Wrong::BadPort(_)
+        | Wrong::NoFile => DocumentFault::BadName(place, key),
     }
 }
 
