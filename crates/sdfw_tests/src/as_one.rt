@@ -2,7 +2,7 @@
 
 use crate::designs::{BLOCKS, CHAIN, INITIAL, LOOP, SECOND_DOUBLED, SWAP};
 use crate::running::Samples::{Counted, These};
-use crate::running::{Samples, row_makes, run_file, sound};
+use crate::running::{Samples, make_file, row_makes, sound};
 use sdf_options::Runner::{Rings, Rows};
 use sdf_options::{Options, Placement, Policy, Runner};
 use std::test::Fail;
@@ -265,7 +265,7 @@ fn run_makes<T: Threads + AllocGlobal + Sync>(
         patience,
         ..row.options
     };
-    let made = run_file(rt, row.graph, &options, input);
+    let made = make_file(rt, row.graph, &options, input);
     row_makes(row.name, &options, made, one)
 }
 
@@ -275,7 +275,7 @@ fn make_as_one<T: Threads + AllocGlobal + Sync>(
     row: &Row,
     input: &[u8],
 ) -> Result<(), Fail> {
-    let one = run_file(rt, row.graph, &Options::DEFAULT, input)?;
+    let one = make_file(rt, row.graph, &Options::DEFAULT, input)?;
     if one.len() != row.len {
         return Err(Fail::new(format_args!("{}: {} bytes", row.name, one.len())));
     }

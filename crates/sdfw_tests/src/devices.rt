@@ -1,7 +1,7 @@
 //! Tests of designs run over devices that fail at one call.
 
 use crate::designs::HALF;
-use crate::running::{end_of, run_file, run_with};
+use crate::running::{end_of, make_file, process_graph};
 use sdf_options::{Options, Runner};
 use sdf_wav::{FromRead, ToWrite};
 use std::alloc::Global;
@@ -35,7 +35,7 @@ fn seen<T: Threads + AllocGlobal + Sync>(
     };
     let mut reader = FromRead::new(input);
     let mut writer = ToWrite::new(output);
-    let run = run_with(rt, graph, &options, &mut reader, &mut writer);
+    let run = process_graph(rt, graph, &options, &mut reader, &mut writer);
     let end = end_of(rt.alloc(), run)?;
     let writer = writer.into_inner();
     Ok(Trace {
@@ -234,7 +234,7 @@ fn slips_are_seen<T: Threads + AllocGlobal + Sync>(
     runner: Runner,
     trip: &Trip,
 ) -> Result<(), Fail> {
-    let whole = run_file(rt, HALF, &Options::DEFAULT, trip.file.bytes)?;
+    let whole = make_file(rt, HALF, &Options::DEFAULT, trip.file.bytes)?;
     for slip in SLIPS {
         calls_are_seen(rt, runner, trip, *slip, &whole)?;
     }

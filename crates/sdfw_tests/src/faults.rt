@@ -1,7 +1,7 @@
 //! Tests of how runs end, by the bytes of a sound, the options and the length of a design.
 
 use crate::designs::HALF;
-use crate::running::{end_of, file_of, run_file, run_to_end};
+use crate::running::{end_of, file_of, make_file, run_to_outcome};
 use sdf_options::{Options, Runner};
 use std::alloc::Global;
 use std::test::Fail;
@@ -205,7 +205,7 @@ fn file_with(alloc: Global, row: &Row) -> Result<Vec<u8>, Fail> {
 
 fn told<T: Threads + AllocGlobal + Sync>(rt: &T, row: &Row) -> Result<String, Fail> {
     let file = file_with(rt.alloc(), row)?;
-    let run = run_to_end(rt, row.graph, &row.options, &file)?;
+    let run = run_to_outcome(rt, row.graph, &row.options, &file)?;
     format!(in rt.alloc(); "{} {}", run.output.len(), run.end).map_err(Fail::from)
 }
 
@@ -231,6 +231,6 @@ fn linked(alloc: Global, links: usize) -> Result<String, Fail> {
 #[test]
 fn designs_can_be_too_long(rt: HostRuntime) -> Result<(), Fail> {
     let graph = linked(rt.alloc(), 257)?;
-    let run = run_file(&rt, &graph, &Options::DEFAULT, b"");
+    let run = make_file(&rt, &graph, &Options::DEFAULT, b"");
     says(end_of(rt.alloc(), run), "3 sdfw: 3 ChannelCount\n")
 }

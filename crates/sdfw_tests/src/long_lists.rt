@@ -1,11 +1,10 @@
 //! Tests of lists of the maximum length, in a graph file or in a coefficient file, and of lists with one value more.
 
-use crate::running::{fault_told, file_of};
+use crate::running::{fault_told, file_of, process_design};
 use sdf_faults::Fault;
 use sdf_file::{Design, read_design};
 use sdf_options::Options;
-use sdf_plan::planning::plan;
-use sdf_process::process::process;
+use sdf_run::NoGate;
 use sdf_wav::{FromRead, ToWrite, Wav, Writer, read_wav};
 use std::alloc::{AllocError, Global};
 use std::test::Fail;
@@ -170,17 +169,7 @@ fn sound_of(alloc: Global, row: &Row) -> Result<Vec<u8>, Fault> {
     file_of(alloc, 8000, 1, &samples)
 }
 
-/// Runs `design` on `input`, as the program does.
-fn run_design<T: Threads + AllocGlobal + Sync, W: Writer>(
-    rt: &T,
-    design: &Design,
-    input: &[u8],
-    writer: &mut W,
-) -> Result<(), Fault> {
-    let plan = plan(rt.alloc(), design, &Options::DEFAULT)?;
-    process(rt, &mut FromRead::new(input), writer, design, &plan)
-}
-
+/// Runs a row's design on its sound, on one thread.
 fn run_row<T: Threads + AllocGlobal + Sync, W: Writer>(
     rt: &T,
     row: &Row,
@@ -188,7 +177,8 @@ fn run_row<T: Threads + AllocGlobal + Sync, W: Writer>(
 ) -> Result<(), Fault> {
     let input = sound_of(rt.alloc(), row)?;
     let design = design_of(rt.alloc(), row)?;
-    run_design(rt, &design, &input, writer)
+    let mut reader = FromRead::new(input.as_slice());
+    process_design(rt, &design, &Options::DEFAULT, &mut reader, writer, &NoGate)
 }
 
 /// Returns what a row's design makes.

@@ -4,7 +4,7 @@ use crate::designs::{
     BLOCKS, CHAIN, DELAYED, EARLY, HALF, INITIAL, LATER, LOOP, PAIR, PAIRS, SECOND, SECOND_DOUBLED,
     STUCK, SWAP, THREE_FOR_TWO, TURNED, TURNED_ORDER, TWICE, UNEVEN,
 };
-use crate::running::{Samples, end_of, file_of, row_makes, run_file, sound};
+use crate::running::{Samples, end_of, file_of, make_file, row_makes, sound};
 use sdf_faults::Fault;
 use sdf_options::{Options, Placement, Runner};
 use sdf_wav::{FromRead, Wav, read_wav};
@@ -291,7 +291,7 @@ fn are_made<T: Threads + AllocGlobal + Sync>(rt: &T, rows: &[Row]) -> Result<(),
 /// Returns the file that a row's design makes of its sound.
 fn run_row<T: Threads + AllocGlobal + Sync>(rt: &T, row: &Row) -> Result<Vec<u8>, Fault> {
     let input = file_of(rt.alloc(), row.rate, row.channels, row.samples)?;
-    run_file(rt, row.graph, &row.options, &input)
+    make_file(rt, row.graph, &row.options, &input)
 }
 
 fn is_made<T: Threads + AllocGlobal + Sync>(rt: &T, row: &Row) -> Result<(), Fail> {
@@ -315,7 +315,7 @@ fn what_designs_make(rt: HostRuntime) -> Result<(), Fail> {
 /// Returns what `CHAIN` makes of the first `many` samples.
 fn converted<T: Threads + AllocGlobal + Sync>(rt: &T, many: usize) -> Result<Wav, Fault> {
     let input = sound(rt.alloc(), 1, Samples::Counted(many))?;
-    let output = run_file(rt, CHAIN, &Options::DEFAULT, &input)?;
+    let output = make_file(rt, CHAIN, &Options::DEFAULT, &input)?;
     Ok(read_wav(rt.alloc(), &mut FromRead::new(output.as_slice()))?)
 }
 

@@ -3,7 +3,7 @@
 
 use crate::designs::{DEALT, LONG, PAIR, PLAIN, SUM};
 use crate::running::Samples::{Counted, These};
-use crate::running::{Samples, leave_open, row_makes, run_gated, sound};
+use crate::running::{Samples, leave_open, make_file_with_gate, row_makes, sound};
 use sdf_options::{Options, Placement, Policy, Runner};
 use std::alloc::Global;
 use std::test::Fail;
@@ -369,8 +369,8 @@ fn makes_as_one<T: Threads + AllocGlobal + Sync>(
     input: &[u8],
     watch: &Watch,
 ) -> Result<(), Fail> {
-    let made = run_gated(rt, row.graph, &row.options, input, watch)?;
-    let one = run_gated(rt, row.graph, &Options::DEFAULT, input, watch);
+    let made = make_file_with_gate(rt, row.graph, &row.options, input, watch)?;
+    let one = make_file_with_gate(rt, row.graph, &Options::DEFAULT, input, watch);
     row_makes(row.name, &row.options, one, &made)
 }
 

@@ -4,7 +4,9 @@
 use crate::designs::{CHAIN, HALF, SUM};
 use crate::devices::seen_moving;
 use crate::running::Samples::Counted;
-use crate::running::{file_of, half_of, run_file, run_gated, run_to_end, samples_of, sound};
+use crate::running::{
+    file_of, half_of, make_file, make_file_with_gate, run_to_outcome, samples_of, sound,
+};
 use sdf_faults::Fault;
 use sdf_options::{Options, Placement, Policy, Runner};
 use sdf_run::{ActorId, Gate};
@@ -145,7 +147,7 @@ fn run_chain<T: Threads + AllocGlobal + Sync>(
         runner,
         ..Options::DEFAULT
     };
-    run_gated(rt, CHAIN, &options, &input, starts)
+    make_file_with_gate(rt, CHAIN, &options, &input, starts)
 }
 
 /// Returns how often each of `NUMBERS` is begun while 5,000 frames are run.
@@ -293,7 +295,7 @@ fn cut_told<T: Threads + AllocGlobal + Sync>(
     cut: &[u8],
     whole: &[u8],
 ) -> Result<String, Fail> {
-    let run = run_to_end(rt, row.graph, &row.options, cut)?;
+    let run = run_to_outcome(rt, row.graph, &row.options, cut)?;
     let front = whole.starts_with(&run.output);
     format!(in rt.alloc(); "{} {front} {}", run.output.len(), run.end).map_err(Fail::from)
 }
@@ -301,7 +303,7 @@ fn cut_told<T: Threads + AllocGlobal + Sync>(
 /// Runs a row on its sound, and reports on it.
 fn row_told<T: Threads + AllocGlobal + Sync>(rt: &T, row: &Cut) -> Result<String, Fail> {
     let mut sound = sound(rt.alloc(), row.channels, Counted(row.samples))?;
-    let whole = run_file(rt, row.graph, &Options::DEFAULT, &sound)?;
+    let whole = make_file(rt, row.graph, &Options::DEFAULT, &sound)?;
     sound.truncate(row.kept);
     cut_told(rt, row, &sound, &whole)
 }

@@ -60,7 +60,7 @@ pub(crate) fn half_of(alloc: Global, samples: &[i16]) -> Result<Vec<u8>, Fault> 
 }
 
 /// Runs `design` with `options`, from `reader` to `writer`, with the gate `gate`.
-fn run_design<T: Threads + AllocGlobal + Sync, R: Reader, W: Writer, G: Gate>(
+pub(crate) fn process_design<T: Threads + AllocGlobal + Sync, R: Reader, W: Writer, G: Gate>(
     rt: &T,
     design: &Design,
     options: &Options,
@@ -73,7 +73,7 @@ fn run_design<T: Threads + AllocGlobal + Sync, R: Reader, W: Writer, G: Gate>(
 }
 
 /// Runs the design `graph` with `options`, from `reader` to `writer`, with the gate `gate`.
-fn run_through<T: Threads + AllocGlobal + Sync, R: Reader, W: Writer, G: Gate>(
+fn process_graph_with_gate<T: Threads + AllocGlobal + Sync, R: Reader, W: Writer, G: Gate>(
     rt: &T,
     graph: &str,
     options: &Options,
@@ -82,32 +82,32 @@ fn run_through<T: Threads + AllocGlobal + Sync, R: Reader, W: Writer, G: Gate>(
     gate: &G,
 ) -> Result<(), Fault> {
     let design = read_design(rt.alloc(), graph.as_bytes(), &[])?;
-    run_design(rt, &design, options, reader, writer, gate)
+    process_design(rt, &design, options, reader, writer, gate)
 }
 
 /// Runs the design `graph` with `options`, from `reader` to `writer`.
-pub(crate) fn run_with<T: Threads + AllocGlobal + Sync, R: Reader, W: Writer>(
+pub(crate) fn process_graph<T: Threads + AllocGlobal + Sync, R: Reader, W: Writer>(
     rt: &T,
     graph: &str,
     options: &Options,
     reader: &mut R,
     writer: &mut W,
 ) -> Result<(), Fault> {
-    run_through(rt, graph, options, reader, writer, &NoGate)
+    process_graph_with_gate(rt, graph, options, reader, writer, &NoGate)
 }
 
 /// Returns the file that the design `graph` makes of `input`.
-pub(crate) fn run_file<T: Threads + AllocGlobal + Sync>(
+pub(crate) fn make_file<T: Threads + AllocGlobal + Sync>(
     rt: &T,
     graph: &str,
     options: &Options,
     input: &[u8],
 ) -> Result<Vec<u8>, Fault> {
-    run_gated(rt, graph, options, input, &NoGate)
+    make_file_with_gate(rt, graph, options, input, &NoGate)
 }
 
 /// Returns the file that the design `graph` makes of `input`, with the gate `gate`.
-pub(crate) fn run_gated<T: Threads + AllocGlobal + Sync, G: Gate>(
+pub(crate) fn make_file_with_gate<T: Threads + AllocGlobal + Sync, G: Gate>(
     rt: &T,
     graph: &str,
     options: &Options,
@@ -116,7 +116,7 @@ pub(crate) fn run_gated<T: Threads + AllocGlobal + Sync, G: Gate>(
 ) -> Result<Vec<u8>, Fault> {
     let mut reader = FromRead::new(input);
     let mut writer = ToWrite::new(Vec::new(rt.alloc()));
-    run_through(rt, graph, options, &mut reader, &mut writer, gate)?;
+    process_graph_with_gate(rt, graph, options, &mut reader, &mut writer, gate)?;
     Ok(writer.into_inner())
 }
 
@@ -128,7 +128,7 @@ pub(crate) struct Outcome {
 }
 
 /// Runs the design `graph` with `options` on the file `input`. Returns what is written and how the run ends.
-pub(crate) fn run_to_end<T: Threads + AllocGlobal + Sync>(
+pub(crate) fn run_to_outcome<T: Threads + AllocGlobal + Sync>(
     rt: &T,
     graph: &str,
     options: &Options,
@@ -136,7 +136,7 @@ pub(crate) fn run_to_end<T: Threads + AllocGlobal + Sync>(
 ) -> Result<Outcome, Fail> {
     let mut reader = FromRead::new(input);
     let mut writer = ToWrite::new(Vec::new(rt.alloc()));
-    let run = run_with(rt, graph, options, &mut reader, &mut writer);
+    let run = process_graph(rt, graph, options, &mut reader, &mut writer);
     let end = end_of(rt.alloc(), run)?;
     Ok(Outcome {
         output: writer.into_inner(),

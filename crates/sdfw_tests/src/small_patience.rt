@@ -1,7 +1,7 @@
 //! Tests of runs over rings with low and high spin limits, seen by gates. With any limit a worker is in the next block
 //! while another is in this one. With a high limit a worker waits for its neighbour.
 
-use crate::running::{file_of, leave_open, run_gated};
+use crate::running::{file_of, leave_open, make_file_with_gate};
 use sdf_faults::Fault;
 use sdf_options::{Options, Placement, Runner};
 use sdf_run::{ActorId, Gate};
@@ -173,7 +173,7 @@ fn run_patient<T: Threads + AllocGlobal + Sync>(
         ..OVER_RINGS
     };
     let graph = SPLIT.replace(rt.alloc(), "BEGUN", begun)?;
-    run_gated(rt, &graph, &options, &input, order)
+    make_file_with_gate(rt, &graph, &options, &input, order)
 }
 
 /// Reports on the gate `order` of a run. `same` says whether its file is the wanted one.
