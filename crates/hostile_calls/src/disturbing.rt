@@ -7,7 +7,7 @@ ghost use Rattle.sdf_answer.specs.Rows.{IsBlockTableOf};
 ghost use Rattle.sdf_plan.specs.Plans.{Suits};
 
 use crate::files::design_at;
-use crate::runs::{BLOCKS, inputs_of};
+use crate::runs::{BLOCKS, inputs_of, run_blocks};
 use anyhow::{Context, Result};
 use rand_core::{Rng, SeedableRng};
 use rand_xoshiro::SplitMix64;
@@ -18,13 +18,13 @@ use sdf_kit::Kit;
 use sdf_options::{Options, Runner};
 use sdf_plan::Plan;
 use sdf_plan::planning::plan;
-use sdf_run::{ActorId, Gate, Ran, RunFault, Workers, run_one, run_rings, run_rows};
+use sdf_run::{ActorId, Gate, Ran, RunFault, run_one};
 use std::rt::Files;
 use std::sync::atomic::{AtomicU64, Ordering};
 use std::thread::Threads;
 
 /// The turns for which one worker is delayed, and the most for which each worker waits for another.
-const TURNS: u64 = 1_000_000;
+const MANY_TURNS: u64 = 1_000_000;
 
 /// The firings of a run that are delayed, and for how many turns. A turn reads a shared counter.
 #[derive(Clone, Copy)]
@@ -84,9 +84,9 @@ impl Gate for Holding {
             Hold::Seeded(seed) => {
                 self.wait(seeded_turns(seed, processor, actor, firing), u64::MAX);
             }
-            Hold::Processor(held) if held == processor => self.wait(TURNS, u64::MAX),
+            Hold::Processor(held) if held == processor => self.wait(MANY_TURNS, u64::MAX),
             Hold::Processor(_) => {}
-            Hold::UntilAnother => self.wait(TURNS, next),
+            Hold::UntilAnother => self.wait(MANY_TURNS, next),
         }
     }
 }
@@ -119,26 +119,6 @@ impl Holds {
 
 /// The runners in turn: by rows, or over rings with this spin limit.
 const PATIENCES: [Option<u32>; 4] = [None, Some(0), Some(1), Some(1_000_000)];
-
-/// Runs a net by rows, or over rings if `patience`, the spin limit, is given.
-fn run_held<R: AllocGlobal + Sync + Threads>(
-    rt: &R,
-    net: &Net<Kit>,
-    table: &BlockTable,
-    inputs: &[Vec<i32>],
-    patience: Option<u32>,
-    gate: &Holding,
-) -> Result<Ran<i32>, RunFault>
-    requires fits { IsBlockTableOf (rates (graph_of kit_steps net.now)) table.now }
-{
-    match patience {
-        Some(patience) => {
-            let workers = Workers { rt, gate, patience };
-            run_rings(workers, net, table, BLOCKS, inputs)
-        }
-        None => run_rows(rt, net, table, BLOCKS, inputs, gate),
-    }
-}
 
 /// Checks whether a run made `lists`, in at least one round and at most `firings` rounds.
 fn is_right(ran: &Ran<i32>, lists: &[Vec<i32>], firings: u64) -> bool {
@@ -196,7 +176,7 @@ fn disturb_table<R: AllocGlobal + Sync + Threads>(
     for number in 0..runs {
         let patience = PATIENCES[number % PATIENCES.len()];
         let gate = Holding::new(holds.of_run(number));
-        let ran = run_held(rt, net, table, &inputs, patience, &gate);
+        let ran = run_blocks(rt, net, table, &inputs, patience, &gate);
         counts.add(ran, &one, firings);
         counts.held = counts.held.saturating_add(gate.held.load(Ordering::SeqCst));
     }

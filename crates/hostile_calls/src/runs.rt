@@ -49,29 +49,31 @@ pub(crate) fn show_ran(rt: &impl Print, answer: Result<Ran<i32>, RunFault>) -> i
     }
 }
 
-/// Runs a net by workers as `plan` says: over rings, otherwise by rows.
+/// Returns the spin limit of a plan over rings. Other plans have none.
+pub(crate) fn patience_of(plan: &Plan) -> Option<u32> {
+    match plan.way() {
+        Way::Rings { patience, .. } => Some(*patience),
+        Way::One { .. } | Way::Parts { .. } | Way::Rows(_) => None,
+    }
+}
+
+/// Runs a net by rows, or over rings if `patience`, the spin limit, is given.
 pub(crate) fn run_blocks<R: AllocGlobal + Sync + Threads, G: Gate>(
     rt: &R,
     net: &Net<Kit>,
-    plan: &Plan,
     table: &BlockTable,
     inputs: &[Vec<i32>],
+    patience: Option<u32>,
     gate: &G,
 ) -> Result<Ran<i32>, RunFault>
     requires fits { IsBlockTableOf (rates (graph_of kit_steps net.now)) table.now }
 {
-    match plan.way() {
-        Way::Rings { patience, .. } => {
-            let workers = Workers {
-                rt,
-                gate,
-                patience: *patience,
-            };
+    match patience {
+        Some(patience) => {
+            let workers = Workers { rt, gate, patience };
             run_rings(workers, net, table, BLOCKS, inputs)
         }
-        Way::One { .. } | Way::Parts { .. } | Way::Rows(_) => {
-            run_rows(rt, net, table, BLOCKS, inputs, gate)
-        }
+        None => run_rows(rt, net, table, BLOCKS, inputs, gate),
     }
 }
 
@@ -92,11 +94,12 @@ pub(crate) fn run_twice<R: AllocGlobal + Print + Sync + Threads>(
     requires { Suits net.now plan.now }
 {
     let periods = BLOCKS.saturating_mul(blocking(plan));
+    let patience = patience_of(plan);
     let inputs = inputs_of(rt.alloc(), net, periods)?;
     for turn in TURNS {
         print_turn(rt, turn)?;
         match plan.table() {
-            Some(table) => show_ran(rt, run_blocks(rt, net, plan, table, &inputs, &NoGate))?,
+            Some(table) => show_ran(rt, run_blocks(rt, net, table, &inputs, patience, &NoGate))?,
             None => show_ran(
                 rt,
                 run_one(rt.alloc(), net, plan.period(), periods, &inputs),

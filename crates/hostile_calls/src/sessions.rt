@@ -5,13 +5,13 @@ ghost use Rattle.sdf_actor.specs.Graphs.{graph_of};
 ghost use Rattle.sdf_kit.specs.Kit.{kit_steps};
 ghost use Rattle.sdf_answer.specs.Rows.{IsBlockTableOf};
 
-use crate::runs::{BLOCKS, inputs_of, show_ran};
+use crate::runs::{BLOCKS, inputs_of, patience_of, show_ran};
 use crate::{TURNS, print_turn};
 use anyhow::Result;
 use sdf_actor::Net;
 use sdf_answer::BlockTable;
 use sdf_kit::Kit;
-use sdf_plan::{Plan, Way};
+use sdf_plan::Plan;
 use sdf_run::{Mode, NoGate, RunFault, Session};
 use std::alloc::Global;
 use std::io;
@@ -26,11 +26,9 @@ fn open<'a>(
 ) -> Result<Session<'a, Kit>, RunFault>
     requires fits { IsBlockTableOf (rates (graph_of kit_steps net.now)) table.now }
 {
-    let mode = match plan.way() {
-        Way::Rings { patience, .. } => Mode::Rings {
-            patience: *patience,
-        },
-        Way::One { .. } | Way::Parts { .. } | Way::Rows(_) => Mode::Rows,
+    let mode = match patience_of(plan) {
+        Some(patience) => Mode::Rings { patience },
+        None => Mode::Rows,
     };
     Session::open(alloc, net, table, mode)
 }
