@@ -6,7 +6,7 @@ ghost use Rattle.sdf_actor.specs.Graphs.{graph_of};
 ghost use Rattle.sdf_kit.specs.Kit.{kit_steps};
 ghost use Rattle.sdf_answer.specs.Rows.{IsBlockTableOf};
 
-use anyhow::{Context, Result};
+use anyhow::{Context, Result, bail};
 use sdf_actor::Net;
 use sdf_answer::BlockTable;
 use sdf_file::{Design, read_design};
@@ -153,6 +153,7 @@ fn run<R: AllocGlobal + Print + Sync + Threads>(
         factor: j,
         table,
     };
+    // The answer in `proofs/counting/run` names `made`.
     let made = run_blocks(rt, what, net, &table, blocks);
     drop(table);
     made
@@ -220,7 +221,8 @@ pub(crate) fn count<R: AllocGlobal + Print + Sync + Threads>(
         "round" => schedule(rt, sizes.blocks, &mut Round::new()),
         "lean" => schedule(rt, sizes.blocks, &mut Lean),
         "runs" => schedule(rt, sizes.blocks, &mut Runs::new()),
-        _ => run_chain(rt, what, sizes),
+        "one" | "rows" | "rings" => run_chain(rt, what, sizes),
+        _ => bail!("there is no such runner or policy"),
     }?;
     Ok(println!(rt; "{made}")?)
 }
