@@ -47,7 +47,7 @@ fn show_design<R: AllocGlobal + Print>(rt: &R, answer: Result<Design, FileFault>
     shown
 }
 
-fn show_table(rt: &impl Print, table: &Table) -> Result<()> {
+fn print_table(rt: &impl Print, table: &Table) -> Result<()> {
     for i in 0..table.rows() {
         let row = table.row(i);
         println!(rt; "row {row:?}")?;
@@ -59,7 +59,7 @@ fn print_plan(rt: &impl Print, plan: &Plan) -> Result<()> {
     let order = plan.period().order();
     println!(rt; "order {order:?}")?;
     match plan.table() {
-        Some(table) => show_table(rt, &table.table),
+        Some(table) => print_table(rt, &table.table),
         None => Ok(()),
     }
 }
