@@ -19,9 +19,9 @@ pub(crate) type Row = (&'static str, &'static str, &'static str);
 
 /// A stream that keeps what is written, or refuses it with an error of this kind.
 #[derive(Drop)]
-pub(crate) struct Stream {
-    pub(crate) refuses: Option<ErrorKind>,
-    pub(crate) written: Vec<u8>,
+struct Stream {
+    refuses: Option<ErrorKind>,
+    written: Vec<u8>,
 }
 
 impl Write for Stream {

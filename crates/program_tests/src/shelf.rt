@@ -235,7 +235,7 @@ const DESIGNS: &[(&str, &str)] = &[
     ("long.toml", LONG),
 ];
 
-/// More graph files that name no other file. Each is refused by a command of the tests.
+/// More graph files, each of which a command of the tests refuses. The coefficient file of `LACKING` is not there.
 const MORE_DESIGNS: &[(&str, &str)] = &[
     ("stuck.toml", STUCK),
     ("broken.toml", BROKEN),
