@@ -7,7 +7,7 @@ ghost use Rattle.sdf_answer.specs.Rows.{IsBlockTableOf};
 ghost use Rattle.sdf_plan.specs.Plans.{Suits};
 
 use crate::files::design_at;
-use crate::runs::{BLOCKS, inputs_of, run_blocks};
+use crate::runs::{BLOCKS, inputs_of, run_by_workers};
 use anyhow::{Context, Result};
 use rand_core::{Rng, SeedableRng};
 use rand_xoshiro::SplitMix64;
@@ -176,7 +176,7 @@ fn disturb_table<R: AllocGlobal + Sync + Threads>(
     for number in 0..runs {
         let patience = PATIENCES[number % PATIENCES.len()];
         let gate = Holding::new(holds.of_run(number));
-        let ran = run_blocks(rt, net, table, &inputs, patience, &gate);
+        let ran = run_by_workers(rt, net, table, &inputs, patience, &gate);
         counts.add(ran, &one, firings);
         counts.held = counts.held.saturating_add(gate.held.load(Ordering::SeqCst));
     }

@@ -58,7 +58,7 @@ pub(crate) fn patience_of(plan: &Plan) -> Option<u32> {
 }
 
 /// Runs a net by rows, or over rings if `patience`, the spin limit, is given.
-pub(crate) fn run_blocks<R: AllocGlobal + Sync + Threads, G: Gate>(
+pub(crate) fn run_by_workers<R: AllocGlobal + Sync + Threads, G: Gate>(
     rt: &R,
     net: &Net<Kit>,
     table: &BlockTable,
@@ -99,7 +99,10 @@ pub(crate) fn run_twice<R: AllocGlobal + Print + Sync + Threads>(
     for turn in TURNS {
         print_turn(rt, turn)?;
         match plan.table() {
-            Some(table) => show_ran(rt, run_blocks(rt, net, table, &inputs, patience, &NoGate))?,
+            Some(table) => show_ran(
+                rt,
+                run_by_workers(rt, net, table, &inputs, patience, &NoGate),
+            )?,
             None => show_ran(
                 rt,
                 run_one(rt.alloc(), net, plan.period(), periods, &inputs),
