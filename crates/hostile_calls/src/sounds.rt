@@ -23,12 +23,6 @@ fn print_end(rt: &impl Print, answer: &Result<(), Fault>, written: &[u8]) -> io:
     println!(rt; "wrote {written:?}")
 }
 
-fn show_end(rt: &impl Print, answer: Result<(), Fault>, written: &[u8]) -> io::Result<()> {
-    let shown = print_end(rt, &answer, written);
-    drop(answer);
-    shown
-}
-
 /// Runs a design from one WAV file in memory to another, twice.
 pub(crate) fn process_twice<R: AllocGlobal + Print + Sync + Threads>(
     rt: &R,
@@ -43,7 +37,7 @@ pub(crate) fn process_twice<R: AllocGlobal + Print + Sync + Threads>(
         let mut writer = ToWrite::new(Vec::with_capacity(rt.alloc(), MOST_WRITTEN)?);
         print_turn(rt, turn)?;
         let ended = process(rt, &mut reader, &mut writer, design, plan);
-        show_end(rt, ended, writer.into_inner().as_slice())?;
+        print_end(rt, &ended, writer.into_inner().as_slice())?;
     }
     Ok(())
 }

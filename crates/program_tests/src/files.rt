@@ -265,9 +265,7 @@ impl Read for Long {
 
 /// Returns the text of `fault`.
 fn text_of(alloc: Global, fault: Fault) -> Result<String, Fail> {
-    let text = fault_text(alloc, &fault);
-    drop(fault);
-    text.map_err(Fail::from)
+    fault_text(alloc, &fault).map_err(Fail::from)
 }
 
 /// Returns the text of a file of which at most `most` bytes may be read, or the fault.

@@ -315,11 +315,7 @@ fn ended<E: Write>(
 ) -> u8 {
     match done {
         Ok(status) => status,
-        Err(fault) => {
-            let status = tell(alloc, err, &fault, background);
-            drop(fault);
-            status
-        }
+        Err(fault) => tell(alloc, err, &fault, background),
     }
 }
 

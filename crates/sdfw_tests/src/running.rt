@@ -151,32 +151,21 @@ pub(crate) fn leave_open(file: &mut [u8]) {
     }
 }
 
-fn line_told(alloc: Global, fault: &Fault) -> Result<String, Fail> {
-    let text = fault_text(alloc, fault)?;
-    format!(in alloc; "{} {text}", status(fault)).map_err(Fail::from)
-}
-
 /// Returns the exit status of a fault and its line, as text.
 pub(crate) fn fault_told(alloc: Global, fault: Fault) -> Result<String, Fail> {
-    let told = line_told(alloc, &fault);
-    drop(fault);
-    told
+    let text = fault_text(alloc, &fault)?;
+    format!(in alloc; "{} {text}", status(&fault)).map_err(Fail::from)
 }
 
 /// Returns the exit status of a fault, as text.
 pub(crate) fn status_told(alloc: Global, fault: Fault) -> Result<String, Fail> {
-    let status = status(&fault);
-    drop(fault);
-    format!(in alloc; "{status}").map_err(Fail::from)
+    format!(in alloc; "{}", status(&fault)).map_err(Fail::from)
 }
 
 /// Returns the exit status and the line of the fault that a run ends with, or `no fault`.
 pub(crate) fn end_of<T: Drop>(alloc: Global, run: Result<T, Fault>) -> Result<String, Fail> {
     match run {
-        Ok(made) => {
-            drop(made);
-            String::from_str(alloc, "no fault").map_err(Fail::from)
-        }
+        Ok(_) => String::from_str(alloc, "no fault").map_err(Fail::from),
         Err(fault) => fault_told(alloc, fault),
     }
 }
