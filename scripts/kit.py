@@ -51,6 +51,13 @@ def copy_kept(folder, to):
     getattr(rt, "linked", shutil.copytree)(folder, to)
 
 
+def is_left(crate):
+    """Whether a whole `rt ci` left this crate's library here, and no source of it or of those below changed since."""
+    made = f"{crate.rlib}/format"
+    files = [file for it in [crate, *crate.below()] for file in rtlib.files_of(it.folder)]
+    return os.path.isfile(made) and all(os.path.getmtime(it) <= os.path.getmtime(made) for it in files)
+
+
 class Said:
     """A file of what a check says, each line with the seconds since it began."""
 
