@@ -51,11 +51,18 @@ def copy_kept(folder, to):
     getattr(rt, "linked", shutil.copytree)(folder, to)
 
 
+def made_at(crate):
+    """When the library of this crate was put here, or 0 if there is none."""
+    return os.path.getmtime(crate.rlib) if os.path.isfile(f"{crate.rlib}/format") else 0
+
+
 def is_left(crate):
-    """Whether a whole `rt ci` left this crate's library here, and no source of it or of those below changed since."""
-    made = f"{crate.rlib}/format"
-    files = [file for it in [crate, *crate.below()] for file in rtlib.files_of(it.folder)]
-    return os.path.isfile(made) and all(os.path.getmtime(it) <= os.path.getmtime(made) for it in files)
+    """Whether this crate's library and all below it are here, as a whole `rt ci` leaves them: each was put here after
+    the last change of its sources and of the libraries that it uses. Times are compared, not texts, so a source that
+    changed while `rt ci` ran is not noticed."""
+    chain = [*crate.below(), crate]
+    own = all(made_at(it) >= os.path.getmtime(file) for it in chain for file in rtlib.files_of(it.folder))
+    return own and all(0 < made_at(below) <= made_at(it) for it in chain for below in it.deps) and made_at(crate) > 0
 
 
 class Said:

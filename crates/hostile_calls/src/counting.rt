@@ -68,10 +68,18 @@ struct Sizes {
     blocks: u32,
 }
 
-/// Runs `net` by the runner `what` on `inputs`.
+/// The runner of a counted run.
+#[derive(Clone, Copy)]
+enum CountedRunner {
+    One,
+    Rows,
+    Rings,
+}
+
+/// Runs `net` by `runner` on `inputs`.
 fn run_by<R: AllocGlobal + Sync + Threads>(
     rt: &R,
-    what: &str,
+    runner: CountedRunner,
     net: &Net<Kit>,
     table: &BlockTable,
     blocks: u32,
@@ -79,13 +87,13 @@ fn run_by<R: AllocGlobal + Sync + Threads>(
 ) -> Result<Ran<i32>, RunFault>
     requires fits { IsBlockTableOf (rates (graph_of kit_steps net.now)) table.now }
 {
-    match what {
-        "one" => {
+    match runner {
+        CountedRunner::One => {
             let periods = table.factor.saturating_mul(blocks);
             run_one(rt.alloc(), net, &table.period, periods, inputs)
         }
-        "rows" => run_rows(rt, net, table, blocks, inputs, &NoGate),
-        _ => {
+        CountedRunner::Rows => run_rows(rt, net, table, blocks, inputs, &NoGate),
+        CountedRunner::Rings => {
             let workers = Workers {
                 rt,
                 gate: &NoGate,
@@ -96,10 +104,10 @@ fn run_by<R: AllocGlobal + Sync + Threads>(
     }
 }
 
-/// Runs `net` by the runner `what` between the lines, and returns the number of samples in its first output.
+/// Runs `net` by `runner` between the lines, and returns the number of samples in its first output.
 fn run_counted<R: AllocGlobal + Print + Sync + Threads>(
     rt: &R,
-    what: &str,
+    runner: CountedRunner,
     net: &Net<Kit>,
     table: &BlockTable,
     blocks: u32,
@@ -108,15 +116,15 @@ fn run_counted<R: AllocGlobal + Print + Sync + Threads>(
     requires fits { IsBlockTableOf (rates (graph_of kit_steps net.now)) table.now }
 {
     println!(rt; "begin")?;
-    let ran = run_by(rt, what, net, table, blocks, inputs)?;
+    let ran = run_by(rt, runner, net, table, blocks, inputs)?;
     println!(rt; "end")?;
     Ok(ran.outputs.first().context("an output")?.len())
 }
 
-/// Makes the inputs of `blocks` blocks of `table`, and runs `net` on them by the runner `what`.
+/// Makes the inputs of `blocks` blocks of `table`, and runs `net` on them by `runner`.
 fn run_blocks<R: AllocGlobal + Print + Sync + Threads>(
     rt: &R,
-    what: &str,
+    runner: CountedRunner,
     net: &Net<Kit>,
     table: &BlockTable,
     blocks: u32,
@@ -127,14 +135,13 @@ fn run_blocks<R: AllocGlobal + Print + Sync + Threads>(
     let periods = table.factor.saturating_mul(blocks);
     let samples = net.samples_in().saturating_mul(periods as usize);
     let inputs = vec![in alloc; vec![in alloc; 7; samples]?]?;
-    run_counted(rt, what, net, table, blocks, &inputs)
+    run_counted(rt, runner, net, table, blocks, &inputs)
 }
 
-/// Schedules `net` on homed workers, and runs it by the runner `what`. Returns the number of samples in its first
-/// output.
+/// Schedules `net` on homed workers, and runs it by `runner`. Returns the number of samples in its first output.
 fn run<R: AllocGlobal + Print + Sync + Threads>(
     rt: &R,
-    what: &str,
+    runner: CountedRunner,
     net: &Net<Kit>,
     sizes: Sizes,
 ) -> Result<usize> {
@@ -154,15 +161,15 @@ fn run<R: AllocGlobal + Print + Sync + Threads>(
         table,
     };
     // The answer in `proofs/counting/run` names `made`.
-    let made = run_blocks(rt, what, net, &table, blocks);
+    let made = run_blocks(rt, runner, net, &table, blocks);
     drop(table);
     made
 }
 
-/// Reads the chain and runs it by the runner `what`.
+/// Reads the chain and runs it by `runner`.
 fn run_chain<R: AllocGlobal + Print + Sync + Threads>(
     rt: &R,
-    what: &str,
+    runner: CountedRunner,
     sizes: Sizes,
 ) -> Result<usize> {
     let design = read_design(rt.alloc(), CHAIN.as_bytes(), &[])?;
@@ -221,7 +228,9 @@ pub(crate) fn count<R: AllocGlobal + Print + Sync + Threads>(
         "round" => schedule(rt, sizes.blocks, &mut Round::new()),
         "lean" => schedule(rt, sizes.blocks, &mut Lean),
         "runs" => schedule(rt, sizes.blocks, &mut Runs::new()),
-        "one" | "rows" | "rings" => run_chain(rt, what, sizes),
+        "one" => run_chain(rt, CountedRunner::One, sizes),
+        "rows" => run_chain(rt, CountedRunner::Rows, sizes),
+        "rings" => run_chain(rt, CountedRunner::Rings, sizes),
         _ => bail!("there is no such runner or policy"),
     }?;
     Ok(println!(rt; "{made}")?)

@@ -11,8 +11,8 @@
 //! `hostile_calls count RUNNER WORKERS PERIODS BLOCKS`, or a policy in place of the runner, makes one run or one
 //! schedule between two lines, for `scripts/allocations`.
 //!
-//! A plan, the words of a line and an answer with a fault of a design end by `drop(value)`, which is proved once. At the
-//! end of a scope each of their variants would be proved again.
+//! A plan, the words of a line and an answer with a fault of a design end by `drop(value)`, which is proved once. At
+//! the end of a scope each of their variants would be proved again.
 //!
 //! It depends on `sdf_words` and `sdf_options` for the words of a call, on `sdf_file` for designs, and on `sdf_plan`,
 //! `sdf_faults`, `sdf_process` and `sdf_wav` for runs of files. Calls of single layers also use `sdf_run`, `sdf_rings`,

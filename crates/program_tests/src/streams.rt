@@ -16,7 +16,7 @@ use std::thread::Threads;
 use std::time::Clock;
 
 /// A sound on standard input.
-const HEARD: &Around<'static> = &Around {
+const SOUND_ON_INPUT: &Around<'static> = &Around {
     stdin: SOUND,
     ..OPEN_AROUND
 };
@@ -177,7 +177,7 @@ const NOT_TOLD: &[Row] = &[
 
 #[test]
 fn what_stands_on_which_stream(rt: HostRuntime) -> Result<(), Fail> {
-    are_told_around(&rt, HEARD, FROM_STREAM)?;
+    are_told_around(&rt, SOUND_ON_INPUT, FROM_STREAM)?;
     are_told(&rt, FROM_FILE)?;
     are_told_around(&rt, CUT, FROM_CUT)?;
     are_told_around(&rt, MUTE, NOT_PRINTED)?;

@@ -146,7 +146,7 @@ const RUNS_AT_TERMINAL: &[Row] = &[
 ];
 
 /// A run of standard input at a terminal.
-const HEARD_AT_TERMINAL: &[Row] = &[(
+const RUN_OF_INPUT_AT_TERMINAL: &[Row] = &[(
     "a sound on standard input",
     "run plain.toml - out.wav",
     "0\n--\noutput 0: 2 frames, peak -76.3 dB, 0 samples at full scale\n--\n<5 -5>",
@@ -157,7 +157,7 @@ fn what_is_told_at_a_terminal(rt: HostRuntime) -> Result<(), Fail> {
     are_told_around(&rt, TERMINAL, AT_TERMINAL)?;
     are_told_around(&rt, TERMINAL, FILES_AT_TERMINAL)?;
     are_told_around(&rt, TERMINAL, RUNS_AT_TERMINAL)?;
-    are_told_around(&rt, SOUND_AT_TERMINAL, HEARD_AT_TERMINAL)
+    are_told_around(&rt, SOUND_AT_TERMINAL, RUN_OF_INPUT_AT_TERMINAL)
 }
 
 /// The bytes of a sound on standard input, and the report.

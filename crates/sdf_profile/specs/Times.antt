@@ -44,8 +44,8 @@ firings_text n = if n == 1 then codes ", 1 firing of " else codes ", " ++ decima
 -- an actor's share of the whole, the number of its firings and the time of one
 unfoldable pub share_line : List ℕ → ℕ → Spent → List ℕ
 share_line name whole s =
-    codes "share " ++ name ++ percent s.nanoseconds whole ++ firings_text s.firings ++ time_text (time_of s)
-    ++ end
+    codes "share " ++ name ++ percent s.nanoseconds whole ++ firings_text s.firings
+    ++ time_text (time_of s) ++ end
 
 -- the cost of an actor's firing
 unfoldable pub cost_line : List ℕ → ℕ → List ℕ

@@ -48,8 +48,8 @@ fn place(alloc: Global, at: At) -> Result<Place, AllocError> {
     }
 }
 
-/// Returns the fault `wrong` of a document, at `place` and with its key. `wrong` is one of the first six cases here:
-/// `document` makes the faults of the others itself.
+/// Returns the fault `wrong` of a document, at `place` and with its key. `wrong` has a place: `document` makes the
+/// other faults itself, so they never come here.
 fn placed(wrong: Wrong, place: Place, key: &'static str) -> DocumentFault {
     match wrong {
         Wrong::KitValue(_) => DocumentFault::KitValue(place, key),
