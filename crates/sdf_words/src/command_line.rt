@@ -257,7 +257,7 @@ fn words_of<'a>(matches: &ArgMatches<'a>) -> Option<Words<'a>>
 }
 
 /// Parses `words` by `command`. The first word is the program's name.
-fn read<'a>(command: &mut Command<'a>, words: &'a [&'a str]) -> Result<Words<'a>, WordFault>
+fn read_by<'a>(command: &mut Command<'a>, words: &'a [&'a str]) -> Result<Words<'a>, WordFault>
     ensures within { IfOk result IsWithinLimits }
     ensures usage { IfErr result IsUsage }
 {
@@ -266,6 +266,15 @@ fn read<'a>(command: &mut Command<'a>, words: &'a [&'a str]) -> Result<Words<'a>
         Some(read) => Ok(read),
         None => Err(missing(command)),
     }
+}
+
+/// Parses `words`, whose first one is the program's name.
+fn read<'a>(alloc: Global, words: &'a [&'a str]) -> Result<Words<'a>, WordFault>
+    ensures within { IfOk result IsWithinLimits }
+    ensures usage { IfErr result IsUsage }
+{
+    let mut command = sdfw_command(alloc)?;
+    read_by(&mut command, words)
 }
 
 /// Returns whether `words`, which follow `run`, name a folder to write into.
@@ -320,17 +329,29 @@ fn batch_in<'a>(alloc: Global, matches: &ArgMatches<'a>) -> Result<Option<Words<
     Ok(batch_of(inner, inputs))
 }
 
+/// Parses `words` by `command`, which is a `run` of several files. The first word is the program's name.
+fn read_batch_by<'a>(
+    alloc: Global,
+    command: &mut Command<'a>,
+    words: &'a [&'a str],
+) -> Result<Words<'a>, WordFault>
+    ensures within { IfOk result IsWithinLimits }
+    ensures usage { IfErr result IsUsage }
+{
+    let matches = command.try_get_matches_from_mut(words)?;
+    match batch_in(alloc, &matches)? {
+        Some(read) => Ok(read),
+        None => Err(missing(command)),
+    }
+}
+
 /// Parses `words` as a `run` of several files. The first word is the program's name.
 fn read_batch<'a>(alloc: Global, words: &'a [&'a str]) -> Result<Words<'a>, WordFault>
     ensures within { IfOk result IsWithinLimits }
     ensures usage { IfErr result IsUsage }
 {
     let mut command = batch_command(alloc)?;
-    let matches = command.try_get_matches_from_mut(words)?;
-    match batch_in(alloc, &matches)? {
-        Some(read) => Ok(read),
-        None => Err(missing(&mut command)),
-    }
+    read_batch_by(alloc, &mut command, words)
 }
 
 /// Returns the error of the parser with the message `text`.
@@ -394,6 +415,6 @@ pub fn words<'a>(alloc: Global, words: &'a [&'a str]) -> Result<Words<'a>, WordF
     match words {
         [_, "explain", name] if is_name(name) => explain(alloc, name),
         [_, "run", rest @ ..] if is_batch(rest) => read_batch(alloc, words),
-        _ => read(&mut sdfw_command(alloc)?, words),
+        _ => read(alloc, words),
     }
 }
