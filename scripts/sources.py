@@ -12,9 +12,9 @@ class Function:
         self.file, self.start, self.end = file, found.start(), close.end() if close else len(text)
         self.public, self.name = found["public"] == "pub ", found["name"]
         heads = re.findall(r"^(?:pub )?(impl|trait)\b([^{]*)\{", text[: found.start()], re.M) if found["indent"] else []
-        # What the trait is of, where that is a type's name alone.
-        of = re.match(r"(?:<[^>]*>)? *[\w:]+<(?:\w+::)*(\w+)> for ", heads[-1][1].strip()) if heads else None
-        self.trait_of = of[1] if of else ""
+        # What the trait is of, where that is a type without parameters: `ClapError` of `From<clap::Error>`.
+        of = re.match(r"(?:<[^>]*>)? *[\w:]+<([\w:]+)> for ", heads[-1][1].strip()) if heads else None
+        self.trait_of = "".join(it[:1].upper() + it[1:] for it in of[1].split("::")) if of else ""
         # The type's name without its parameters, and the trait's where it is one's.
         head = re.sub(r"<[^<>]*>", "", re.sub(r"<[^<>]*>", "", heads[-1][1])).split("\n")[0] if heads else ""
         self.trait, _, self.type = re.split(r" where|: ", head)[0].strip().rpartition(" for ")
