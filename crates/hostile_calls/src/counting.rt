@@ -173,7 +173,7 @@ fn run_chain<R: AllocGlobal + Print + Sync + Threads>(
     sizes: Sizes,
 ) -> Result<usize> {
     let design = read_design(rt.alloc(), CHAIN.as_bytes(), &[])?;
-    run(rt, what, design.net(), sizes)
+    run(rt, runner, design.net(), sizes)
 }
 
 /// Returns the design of a chain whose second actor fires `blocks` times for each firing of the first.
