@@ -51,18 +51,24 @@ def copy_kept(folder, to):
     getattr(rt, "linked", shutil.copytree)(folder, to)
 
 
-def made_at(crate):
-    """When the library of this crate was put here, or 0 if there is none."""
-    return os.path.getmtime(crate.rlib) if os.path.isfile(f"{crate.rlib}/format") else 0
+class Gate:
+    """The libraries that runs of `rt ci` on this machine made, each known by its files and by the libraries below."""
 
+    def __init__(self, crates):
+        rt.Crate.allowed = rt.handles_of(TOP)
+        self.kept = rt.Kept(crates)
 
-def is_left(crate):
-    """Whether this crate's library and all below it are here, as a whole `rt ci` leaves them: each was put here after
-    the last change of its sources and of the libraries that it uses. Times are compared, not texts, so a source that
-    changed while `rt ci` ran is not noticed."""
-    chain = [*crate.below(), crate]
-    own = all(made_at(it) >= os.path.getmtime(file) for it in chain for file in rtlib.files_of(it.folder))
-    return own and all(0 < made_at(below) <= made_at(it) for it in chain for below in it.deps) and made_at(crate) > 0
+    def gives(self, crate):
+        """Puts the library of a crate in its place if one was made of the same files, over those below that were given,
+        and says whether it did."""
+        key = self.kept.key(crate)
+        if not self.kept.at or not os.path.isdir(self.kept.place(crate, False, key)):
+            return False
+        shutil.rmtree(f"{crate.folder}/out/rlib", ignore_errors=True)
+        is_given = self.kept.give(crate, False, key)
+        if is_given:
+            self.kept.is_built(crate)
+        return is_given
 
 
 class Said:
