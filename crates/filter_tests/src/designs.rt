@@ -166,7 +166,7 @@ fn reads_with_coefficient_files(rt: HostRuntime) -> Result<(), Fail> {
     let alloc = rt.alloc();
     says(
         wanted_files(alloc, &FILTER, "h.toml", "h.toml"),
-        "{\"h.toml\"}",
+        "[\"h.toml\"]",
     )?;
     says(
         wanted_files(alloc, &FILTER, "h.toml", "../h"),

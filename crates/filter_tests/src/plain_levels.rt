@@ -86,8 +86,9 @@ fn plain_told(alloc: Global, wanted: Wanted, taps: &[i32]) -> Result<String, Fai
     let ripple = saturating_f64_to_u64((ripple * 1e4).round());
     let down = saturating_f64_to_u64((-decibels(loudest) * 10.0).round());
     Ok(format!(in alloc;
-        "{} taps: {}.{:04} dB of ripple, what is stopped at least {}.{} dB down\n",
+        "{} tap{}: {}.{:04} dB of ripple, what is stopped at least {}.{} dB down\n",
         taps.len(),
+        if taps.len() == 1 { "" } else { "s" },
         ripple / 10_000,
         ripple % 10_000,
         down / 10,

@@ -131,7 +131,8 @@ fn filters(rt: HostRuntime) -> Result<(), Fail> {
 }
 
 /// Filters, and the lines with the measures of their taps. Two are band-passes, with the steeper slope above or below;
-/// it determines the number of taps. Two are low-passes of 12 and 16 phases, and two are low-passes of 110 and 150 dB.
+/// it determines the number of taps. Two are low-passes of 12 and 16 phases, two are low-passes of 110 and 150 dB, and
+/// one has a single tap.
 const TOLD: &[(Wanted, &str)] = &[
     (
         Wanted {
@@ -202,6 +203,14 @@ const TOLD: &[(Wanted, &str)] = &[
             ..LOW_PASS
         },
         "54 taps: 0.0010 dB of ripple, what is stopped at least 74.3 dB down\n",
+    ),
+    (
+        Wanted {
+            attenuation: 0,
+            shift: 14,
+            ..LOW_PASS
+        },
+        "1 tap: 0.0000 dB of ripple, what is stopped at least 0.0 dB down\n",
     ),
 ];
 

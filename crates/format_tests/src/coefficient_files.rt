@@ -122,7 +122,7 @@ fn reads_and_names_coefficient_files(rt: HostRuntime) -> Result<(), Fail> {
     }
     says(
         told(alloc, file_names(alloc, WANTING.as_bytes())),
-        "{\"h.toml\", \"t.toml\"}",
+        "[\"h.toml\", \"t.toml\"]",
     )?;
     says(
         told(alloc, file_names(alloc, b"format = 3")),

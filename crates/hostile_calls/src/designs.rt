@@ -3,7 +3,6 @@
 use crate::files::Sources;
 use crate::{TURNS, print_turn};
 use anyhow::Result;
-use indexmap::IndexSet;
 use sdf_faults::Fault;
 use sdf_file::{Design, FileFault, check_text, design_files, read_design};
 use sdf_options::Options;
@@ -16,14 +15,14 @@ fn print_fault(rt: &impl Print, fault: &impl Display) -> Result<()> {
     Ok(println!(rt; "{fault}")?)
 }
 
-fn print_names(rt: &impl Print, names: &IndexSet<String>) -> Result<()> {
+fn print_names(rt: &impl Print, names: &[String]) -> Result<()> {
     for name in names {
         println!(rt; "file {name}")?;
     }
     Ok(())
 }
 
-fn show_names(rt: &impl Print, answer: Result<IndexSet<String>, FileFault>) -> Result<()> {
+fn show_names(rt: &impl Print, answer: Result<Vec<String>, FileFault>) -> Result<()> {
     let shown = match &answer {
         Ok(names) => print_names(rt, names),
         Err(fault) => print_fault(rt, fault),

@@ -69,7 +69,7 @@ push_other x y zs e = go (list_any (bytes_eq x) zs) refl
         let none : list_any (bytes_eq x) (without y zs) ≡ false = any_without x y e zs ∙ h in
         rw (h, e, none) (ap (λ ws. y ∷ ws) (filter-append (λ z. not (bytes_eq y z)) zs (x ∷ []) ∙ rw other refl))
 
-pub first_seen_push : (xs : List (List ℕ)) (x : List ℕ) → first_seen (xs ++ x ∷ []) ≡ with_name (first_seen xs) x
+first_seen_push : (xs : List (List ℕ)) (x : List ℕ) → first_seen (xs ++ x ∷ []) ≡ with_name (first_seen xs) x
 first_seen_push [] x = refl
 first_seen_push (y ∷ xs) x = ap (λ zs. y ∷ without y zs) (first_seen_push xs x) ∙ go (bytes_eq x y) refl
   where

@@ -7,7 +7,7 @@ use Rattle.std.specs.List.{list_any, position, position_or_len}
 use Rattle.std.specs.Prelude.{◌||◌, bytes_eq, string_eq}
 use Rattle.sdf_document.specs.Tables.{stranger, texts_of}
 use Rattle.indexmap.specs.IndexSet.{insert_key}
-use Rattle.sdf_document.specs.Names.{with_name}
+use Rattle.sdf_document.specs.Names.{names_of, with_name}
 use Rattle.std.proofs.lemmas.List.{map_push}
 
 -- whether a text is in a list, each item seen by f
@@ -18,16 +18,16 @@ any_map f s (k ∷ ks) = ap (λ b. bytes_eq s (f k) || b) (any_map f s ks)
 
 -- a text is among names exactly where it is a key's
 pub list_any_names : (s : List ℕ) (ks : List (String Global)) →
-    list_any (bytes_eq s) (map string_bytes ks) ≡ list_any (λ k. bytes_eq s (string_bytes k)) ks
+    list_any (bytes_eq s) (names_of ks) ≡ list_any (λ k. bytes_eq s (string_bytes k)) ks
 list_any_names s ks = any_map string_bytes s ks
 
 -- a name that is put into a set
 pub names_inserted : (ks : List (String Global)) (k : String Global) →
-    map string_bytes (insert_key string_eq ks k) ≡ with_name (map string_bytes ks) (string_bytes k)
+    names_of (insert_key string_eq ks k) ≡ with_name (names_of ks) (string_bytes k)
 names_inserted ks k = go (list_any (λ x. bytes_eq (string_bytes k) (string_bytes x)) ks) refl
   where
     go : (b : Bool) → list_any (λ x. bytes_eq (string_bytes k) (string_bytes x)) ks ≡ b →
-        map string_bytes (insert_key string_eq ks k) ≡ with_name (map string_bytes ks) (string_bytes k)
+        names_of (insert_key string_eq ks k) ≡ with_name (names_of ks) (string_bytes k)
     go true h = rw (h, list_any_names (string_bytes k) ks ∙ h) refl
     go false h = rw (h, list_any_names (string_bytes k) ks ∙ h) (map_push string_bytes ks k)
 
@@ -70,7 +70,7 @@ position_map f s ks =
 
 -- the place of a text among names
 pub position_names : (s : List ℕ) (ks : List (String Global)) →
-    position (bytes_eq s) (map string_bytes ks) ≡ position (λ k. bytes_eq s (string_bytes k)) ks
+    position (bytes_eq s) (names_of ks) ≡ position (λ k. bytes_eq s (string_bytes k)) ks
 position_names s ks = position_map string_bytes s ks
 
 pub position_texts : (s : List ℕ) (ts : List (Bor (List ℕ))) →

@@ -45,6 +45,12 @@ name_at a names ms = do
 abbrev pub keys_at : ℕ → Kind → Members → Result (Unit {0}) Fault
 keys_at a word ms = known_keys (actor a) (actor_keys (row_of word).keys ms) ms
 
+-- the values that every actor has: its processor, if it has one, and its cost
+unfoldable pub shared_at : ℕ → Lookup → Members → Result (Option ℕ × ℕ) Fault
+shared_at a files ms = do
+  values ← values_at a files shared_keys ms
+  Ok (optional (first values), natural (second values))
+
 -- actor a, given the names of the actors before it
 unfoldable pub actor_at : ℕ → ℕ → Lookup → List (List ℕ) → Data → Result ActorValue Fault
 actor_at a format files names d = do
@@ -53,5 +59,5 @@ actor_at a format files names d = do
   word ← word_at a format ms
   known ← keys_at a word ms
   kind ← kind_at a files word ms
-  shared ← values_at a files shared_keys ms
-  Ok (record { name = name; kind = kind; processor = optional (first shared); cost = natural (second shared) })
+  shared ← shared_at a files ms
+  Ok (record { name = name; kind = kind; processor = shared.0; cost = shared.1 })

@@ -8,4 +8,3 @@ pub mod Kinds
 pub mod Actors
 pub mod Links
 pub mod Document
-pub mod Laws

@@ -3,11 +3,10 @@ use Rattle.std.specs.Prelude.{◌≡◌, ℕ, ◌==◌, ◌&&◌, ◌||◌, not,
 use Rattle.std.specs.Prelude.{slice_index, map, String, string_bytes, bytes_eq, if◌then◌else◌}
 use Rattle.std.specs.List.{list_all, list_any}
 use Rattle.std.specs.declared.alloc.Global.{Global}
-use Rattle.indexmap.specs.IndexSet.{IndexSet, keys}
 
--- the names in first-seen order
-abbrev pub names_of : {S : Type 0} → IndexSet (String Global) S → List (List ℕ)
-names_of s = map string_bytes (keys s)
+-- the texts of names, in their order
+abbrev pub names_of : List (String Global) → List (List ℕ)
+names_of = map string_bytes
 
 -- a name put last, unless it is there
 abbrev pub with_name : List (List ℕ) → List ℕ → List (List ℕ)

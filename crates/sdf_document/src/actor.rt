@@ -1,12 +1,14 @@
 //! Actors, read from their tables.
-ghost use Rattle.std.specs.Prelude.{◌≡◌, IfOk, option_map, string_bytes};
+ghost use Rattle.std.specs.Prelude.{◌≡◌, ◌∷◌, [], IfOk, string_bytes};
 ghost use Rattle.std.specs.Vec.Iter.{into_iter_items};
 ghost use Rattle.toml.specs.View.{table_view, view};
 ghost use Rattle.sdf_document.specs.Fault.{Gives};
 ghost use Rattle.sdf_document.specs.Names.{names_of, IsNamed};
 ghost use Rattle.sdf_document.specs.Lists.{lookup_of, are_read};
-ghost use Rattle.sdf_document.specs.Kinds.{first, rest, optional};
-ghost use Rattle.sdf_document.specs.Actors.{name_at, keys_at, actor_at, actor_view, IsActorWithin};
+ghost use Rattle.sdf_document.specs.declared.key.KeyValue.TheVariants.{Natural, Optional};
+ghost use Rattle.sdf_document.specs.Kinds.{first, rest, optional, HaveForms};
+ghost use Rattle.sdf_document.specs.Actors.{name_at, keys_at, shared_at, actor_at, actor_view, IsActorWithin};
+ghost use Rattle.sdf_kinds.specs.Rows.{shared_keys};
 
 use crate::entry::ActorEntry;
 use crate::fault::{DocumentFault, Place, ReadFault, Spot};
@@ -30,8 +32,8 @@ fn name_at<'a>(
     names: &mut IndexSet<String>,
     table: &'a Table,
 ) -> Result<&'a str, ReadFault>
-    ensures given { Gives (λ s. s.now) result (name_at actor (names_of names.old) (table_view table.now)) }
-    ensures named { IfOk result (λ s. IsNamed (names_of names.old) s.now (names_of names.new)) }
+    ensures given { Gives (λ s. s.now) result (name_at actor (names_of names.old.keys) (table_view table.now)) }
+    ensures named { IfOk result (λ s. IsNamed (names_of names.old.keys) s.now (names_of names.new.keys)) }
 {
     let name = text_at(Place::Actor(actor), "name", table)?;
     if !is_name(name) {
@@ -62,6 +64,23 @@ fn processor(values: &mut vec::IntoIter<KeyValue>) -> Option<usize>
     Some(number as usize)
 }
 
+/// Reads the values that every actor has: its processor, if it has one, and its cost.
+#[tactic(auto, unfolding(crate::specs::Actors::shared_at))]
+fn shared_at(
+    alloc: Global,
+    actor: usize,
+    files: Files<'_>,
+    table: &Table,
+) -> Result<(Option<usize>, u32), ReadFault>
+    ensures given { Gives (λ v. v) result (shared_at actor (lookup_of files.entry) (table_view table.now)) }
+    ensures within { IfOk result (λ v. HaveForms (are_read files.entry) shared_keys
+        (Optional v.0 ∷ Natural v.1 ∷ [])) }
+{
+    let mut values = values_at(alloc, actor, files, shared_keys(), table)?.into_iter();
+    let processor = processor(&mut values);
+    Ok((processor, natural(&mut values)))
+}
+
 /// Reads actor number `actor`, and adds its name to `names`, the names of the actors before it.
 #[tactic(auto, unfolding(crate::specs::Actors::actor_at))]
 pub(crate) fn actor_at(
@@ -72,9 +91,10 @@ pub(crate) fn actor_at(
     names: &mut IndexSet<String>,
     value: &Value,
 ) -> Result<ActorEntry, ReadFault>
-    ensures given { Gives actor_view result (actor_at actor format (lookup_of files.entry) (names_of names.old)
+    ensures given { Gives actor_view result (actor_at actor format (lookup_of files.entry) (names_of names.old.keys)
         (view value.now)) }
-    ensures named { IfOk result (λ a. IsNamed (names_of names.old) (string_bytes a.name) (names_of names.new)) }
+    ensures named { IfOk result (λ a. IsNamed (names_of names.old.keys) (string_bytes a.name)
+        (names_of names.new.keys)) }
     ensures within { IfOk result (IsActorWithin (are_read files.entry)) }
 {
     let Some(table) = value.as_table() else {
@@ -84,11 +104,11 @@ pub(crate) fn actor_at(
     let word = word_at(actor, format, table)?;
     test_actor_keys(alloc, actor, word, table)?;
     let kind = kind_at(alloc, actor, files, word, table)?;
-    let mut shared = values_at(alloc, actor, files, shared_keys(), table)?.into_iter();
+    let (processor, cost) = shared_at(alloc, actor, files, table)?;
     Ok(ActorEntry {
         name: String::from_str(alloc, name)?,
         kind,
-        processor: processor(&mut shared),
-        cost: natural(&mut shared),
+        processor,
+        cost,
     })
 }

@@ -36,10 +36,10 @@ fn actors_in(
     names: &mut IndexSet<String>,
     items: &[Value],
 ) -> Result<Vec<ActorEntry>, ReadFault>
-    requires { names_of names.old ≡ [] }
+    requires { names_of names.old.keys ≡ [] }
     ensures given { Gives (λ v. map actor_view v.items) result
         (actors_in format (lookup_of files.entry) (items_view items.now)) }
-    ensures named { IfOk result (λ v. names_of names.new ≡ names_in (map actor_view v.items)) }
+    ensures named { IfOk result (λ v. names_of names.new.keys ≡ names_in (map actor_view v.items)) }
     ensures distinct { IfOk result (λ v. AreDistinct (names_in (map actor_view v.items))) }
     ensures within { IfOk result (λ v. All (IsActorWithin (are_read files.entry)) v.items) }
 {
@@ -56,7 +56,7 @@ fn links_in(
     names: &IndexSet<String>,
     items: &[Value],
 ) -> Result<Vec<LinkEntry>, ReadFault>
-    ensures { Gives (λ v. map link_view v.items) result (links_in (names_of names.now) (items_view items.now)) }
+    ensures { Gives (λ v. map link_view v.items) result (links_in (names_of names.now.keys) (items_view items.now)) }
 {
     let mut links = Vec::new(alloc);
     for (number, value) in items.iter().enumerate() {
@@ -124,7 +124,7 @@ fn document_in(
     files: &[(String, Vec<u8>)],
     names: &mut IndexSet<String>,
 ) -> Result<Document, ReadFault>
-    requires { names_of names.old ≡ [] }
+    requires { names_of names.old.keys ≡ [] }
     ensures given { Gives document_view result (entries_at (files_view files.now) (parts_view parts.entry)) }
     ensures distinct { IfOk result (λ d. AreDistinct (names_in (map actor_view d.actors.items))) }
     ensures within { IfOk result (λ d. All (IsActorWithin true) d.actors.items) }
@@ -162,8 +162,8 @@ fn put_files(
     names: &mut IndexSet<String>,
     actors: &[ActorEntry],
 ) -> Result<(), AllocError>
-    requires { names_of names.old ≡ [] }
-    ensures { OnOk result (names_of names.new ≡ first_seen (filter_map actor_file (map actor_view actors.now))) }
+    requires { names_of names.old.keys ≡ [] }
+    ensures { OnOk result (names_of names.new.keys ≡ first_seen (filter_map actor_file (map actor_view actors.now))) }
 {
     for actor in actors {
         if let Some(name) = file_of(&actor.kind) {
@@ -174,12 +174,12 @@ fn put_files(
 }
 
 /// Returns the names of the coefficient files of `actors`, each once, in first-seen order.
-fn names_wanted(alloc: Global, actors: &[ActorEntry]) -> Result<IndexSet<String>, AllocError>
-    ensures { IfOk result (λ s. names_of s ≡ first_seen (filter_map actor_file (map actor_view actors.now))) }
+fn names_wanted(alloc: Global, actors: &[ActorEntry]) -> Result<Vec<String>, AllocError>
+    ensures { IfOk result (λ v. names_of v.items ≡ first_seen (filter_map actor_file (map actor_view actors.now))) }
 {
     let mut names = IndexSet::new(alloc);
     put_files(alloc, &mut names, actors)?;
-    Ok(names)
+    Vec::from_iter(alloc, names)
 }
 
 /// Reads the actors of a graph file, without a look into coefficient files.
@@ -225,8 +225,8 @@ impl GraphFile {
     ///
     /// Links and coefficient files are not tested.
     #[tactic(auto, unfolding(crate::specs::Document::file_names_in))]
-    pub fn file_names(&self, alloc: Global) -> Result<IndexSet<String>, ReadFault>
-        ensures { Gives names_of result (file_names_in (table_view self.now)) }
+    pub fn file_names(&self, alloc: Global) -> Result<Vec<String>, ReadFault>
+        ensures { Gives (λ v. names_of v.items) result (file_names_in (table_view self.now)) }
     {
         let parts = parts_at(alloc, &self.table)?;
         let actors = actors_alone(alloc, parts)?;
@@ -273,8 +273,8 @@ pub fn read_document(
 ///
 /// Links and coefficient files are not tested.
 #[tactic(auto, unfolding(crate::specs::Document::file_names_of))]
-pub fn file_names(alloc: Global, graph: &[u8]) -> Result<IndexSet<String>, ReadFault>
-    ensures { Gives names_of result (file_names_of graph.now) }
+pub fn file_names(alloc: Global, graph: &[u8]) -> Result<Vec<String>, ReadFault>
+    ensures { Gives (λ v. names_of v.items) result (file_names_of graph.now) }
 {
     let graph = GraphFile::parse(alloc, graph)?;
     graph.file_names(alloc)

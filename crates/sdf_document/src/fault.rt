@@ -56,7 +56,7 @@ impl Spot<'_> {
 /// The first test that a graph file or one of its coefficient files fails.
 ///
 /// It prints its number and its name, then its place and key if it has them.
-#[derive(Debug, Drop, Error)]
+#[derive(Debug, Error)]
 pub enum DocumentFault {
     #[error("2 ActorCount")]
     ActorCount,
@@ -84,6 +84,27 @@ pub enum DocumentFault {
     BadPort(usize, &'static str),
     #[error("58 NoFile file {0}")]
     NoFile(String),
+}
+
+/// Not derived: a derived drop is expanded, with all that each fault holds, wherever a fault may be dropped.
+impl Drop for DocumentFault {
+    fn drop(self) {
+        match self {
+            DocumentFault::KitValue(_, _)
+            | DocumentFault::NotToml(_)
+            | DocumentFault::Format(_)
+            | DocumentFault::UnknownKey(_, _)
+            | DocumentFault::MissingKey(_, _)
+            | DocumentFault::WrongType(_, _)
+            | DocumentFault::BadName(_, _)
+            | DocumentFault::NoFile(_) => {}
+            DocumentFault::ActorCount
+            | DocumentFault::ChannelCount
+            | DocumentFault::NameTwice(_)
+            | DocumentFault::UnknownKind(_)
+            | DocumentFault::BadPort(_, _) => {}
+        }
+    }
 }
 
 /// The reason why a document was not read: an allocation was refused, or a test failed.

@@ -42,14 +42,14 @@ fn port_of(text: &str) -> Option<usize>
 
 #[tactic(auto, using(crate::proofs::Names::position_names))]
 fn named(names: &IndexSet<String>, text: &str) -> Option<usize>
-    ensures { result ≡ named (names_of names.now) text.now }
+    ensures { result ≡ named (names_of names.now.keys) text.now }
 {
     names.get_index_of(text)
 }
 
 #[tactic(auto, using(std::proofs::lemmas::Str::Pattern::split_once_first), unfolding(crate::specs::Links::end_of))]
 fn end_of(names: &IndexSet<String>, text: &str) -> Option<(usize, usize)>
-    ensures { result ≡ end_of (names_of names.now) text.now }
+    ensures { result ≡ end_of (names_of names.now.keys) text.now }
 {
     match text.split_once(':') {
         Some((name, port)) => {
@@ -67,7 +67,7 @@ fn end_at(
     names: &IndexSet<String>,
     table: &Table,
 ) -> Result<(usize, usize), ReadFault>
-    ensures { Gives (λ e. e) result (end_at link key.now (names_of names.now) (table_view table.now)) }
+    ensures { Gives (λ e. e) result (end_at link key.now (names_of names.now.keys) (table_view table.now)) }
 {
     let text = text_at(Place::Link(link), key, table)?;
     match end_of(names, text) {
@@ -107,7 +107,7 @@ pub(crate) fn link_at(
     names: &IndexSet<String>,
     value: &Value,
 ) -> Result<LinkEntry, ReadFault>
-    ensures { Gives link_view result (link_at link (names_of names.now) (view value.now)) }
+    ensures { Gives link_view result (link_at link (names_of names.now.keys) (view value.now)) }
 {
     let Some(table) = value.as_table() else {
         return Err(DocumentFault::WrongType(Place::Link(link), "link").into());

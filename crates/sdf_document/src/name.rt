@@ -62,7 +62,7 @@ pub(crate) fn put_name(
     names: &mut IndexSet<String>,
     name: &str,
 ) -> Result<(), AllocError>
-    ensures { OnOk result (names_of names.new ≡ with_name (names_of names.old) name.now) }
+    ensures { OnOk result (names_of names.new.keys ≡ with_name (names_of names.old.keys) name.now) }
 {
     names.insert(String::from_str(alloc, name)?)?;
     Ok(())
@@ -71,7 +71,7 @@ pub(crate) fn put_name(
 /// Returns whether `name` is among `names`.
 #[tactic(auto, using(crate::proofs::Names::list_any_names))]
 pub(crate) fn is_taken(names: &IndexSet<String>, name: &str) -> bool
-    ensures { result ≡ list_any (bytes_eq name.now) (names_of names.now) }
+    ensures { result ≡ list_any (bytes_eq name.now) (names_of names.now.keys) }
 {
     names.contains(name)
 }

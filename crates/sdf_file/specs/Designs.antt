@@ -7,7 +7,7 @@ use Rattle.sdf_document.specs.declared.entry.KindEntry.{KindEntry}
 use Rattle.sdf_document.specs.declared.entry.KindEntry.TheVariants as entry
 use Rattle.sdf_document.specs.Actors.{ActorValue}
 use Rattle.sdf_document.specs.Links.{LinkValue}
-use Rattle.sdf_document.specs.Document.{DocumentValue, document_of, file_names_of}
+use Rattle.sdf_document.specs.Document.{DocumentValue, AreDistinct, document_of, file_names_of}
 use Rattle.sdf_actor.specs.declared.node.Node.{Node}
 use Rattle.sdf_actor.specs.declared.node.Node.TheVariants.{Source, Sink, Inner}
 use Rattle.sdf_actor.specs.declared.fault.NetFault.{NetFault}
@@ -111,10 +111,11 @@ IsNamesFault graph = IsReadFault (file_names_of graph)
 
 -- ---- what is true of every design
 
--- each node has a name, a home or none, and a cost; a WAV file can have a channel for each input, and one for each
--- output
+-- each node has a name of its own, a home or none, and a cost; a WAV file can have a channel for each input, and one
+-- for each output
 pub record IsDesign (d : DesignValue) : Type 0 where
   pub named : length d.names ≡ length d.net.nodes
+  pub distinct : AreDistinct d.names
   pub housed : length d.homes ≡ length d.net.nodes
   pub priced : AreCosts (length d.net.nodes) d.costs
   pub inputs : list_count Inputs d.net.nodes ≤ MOST_CHANNEL + 1

@@ -15,7 +15,6 @@ ghost use Rattle.sdf_file.specs.Designs.{IsNamesFault, IsDesignFrom, IsFaultFrom
 
 use crate::fault::FileFault;
 use crate::parts::{links_of, parts_of};
-use indexmap::IndexSet;
 use sdf_actor::Net;
 use sdf_document::{Document, GraphFile};
 use sdf_kit::Kit;
@@ -27,7 +26,7 @@ use std::marker::Model;
 #[derive(Drop)]
 pub struct Design {
     net: Net<Kit>,
-    names: IndexSet<String>,
+    names: Vec<String>,
     homes: Vec<Option<usize>>,
     costs: Vec<u32>,
 }
@@ -40,14 +39,14 @@ impl Model for Design {
 
     ghost view = { λ d. record {
       net = d.net;
-      names = names_of d.names;
+      names = names_of d.names.items;
       homes = d.homes.items;
       costs = d.costs.items;
     } };
 
     ghost invariant = { λ d. IsDesign (record {
       net = d.net;
-      names = names_of d.names;
+      names = names_of d.names.items;
       homes = d.homes.items;
       costs = d.costs.items;
     }) };
@@ -66,7 +65,7 @@ impl Design {
     pub fn name(&self, actor: usize) -> &str
         ensures { result.now ≡ slice_index_or self.now.names actor [] }
     {
-        match self.names.get_index(actor) {
+        match self.names.get(actor) {
             Some(name) => name.as_str(),
             None => "",
         }
@@ -107,8 +106,8 @@ pub fn parse_graph(alloc: Global, graph: &[u8]) -> Result<GraphFile, FileFault>
 /// fails.
 ///
 /// Links, coefficient files and the net are not tested.
-pub fn coefficient_files(alloc: Global, graph: &GraphFile) -> Result<IndexSet<String>, FileFault>
-    ensures { MatchResult result (λ s. file_names_in (table_view graph.now) ≡ Ok (names_of s))
+pub fn coefficient_files(alloc: Global, graph: &GraphFile) -> Result<Vec<String>, FileFault>
+    ensures { MatchResult result (λ v. file_names_in (table_view graph.now) ≡ Ok (names_of v.items))
         (IsReadFault (file_names_in (table_view graph.now))) }
 {
     Ok(graph.file_names(alloc)?)
@@ -118,8 +117,8 @@ pub fn coefficient_files(alloc: Global, graph: &GraphFile) -> Result<IndexSet<St
 ///
 /// Each name is there once, in first-seen order. Links, coefficient files and the net are not tested.
 #[tactic(auto, using(crate::proofs::Parsed::names_parsed, crate::proofs::Parsed::names_unparsed))]
-pub fn design_files(alloc: Global, graph: &[u8]) -> Result<IndexSet<String>, FileFault>
-    ensures { MatchResult result (λ s. AreFileNames graph.now (names_of s)) (IsNamesFault graph.now) }
+pub fn design_files(alloc: Global, graph: &[u8]) -> Result<Vec<String>, FileFault>
+    ensures { MatchResult result (λ v. AreFileNames graph.now (names_of v.items)) (IsNamesFault graph.now) }
 {
     let graph = parse_graph(alloc, graph)?;
     coefficient_files(alloc, &graph)

@@ -10,8 +10,7 @@ ghost use Rattle.sdf_document.specs.Lists.{is_list};
 ghost use Rattle.sdf_kit.specs.declared.kit.Kit.TheVariants as kits;
 ghost use Rattle.sdf_document.specs.Kinds.{IsWithin};
 ghost use Rattle.sdf_document.specs.Actors.{ActorValue, actor_view, names_in, IsActorWithin};
-ghost use Rattle.sdf_document.specs.Document.{AreDistinct};
-ghost use Rattle.sdf_document.specs.Names.{names_of, with_name};
+ghost use Rattle.sdf_document.specs.Names.{names_of};
 ghost use Rattle.sdf_document.specs.Links.{link_view};
 ghost use Rattle.sdf_actor.specs.Sides.{list_count};
 ghost use Rattle.sdf_actor.specs.declared.sides.Lists.TheVariants.{Inputs, Outputs};
@@ -19,7 +18,6 @@ ghost use Rattle.sdf_actor.specs.Wires.{wires, wire_of as wire_of_link};
 ghost use Rattle.sdf_prec.specs.Costs.{AreCosts};
 ghost use Rattle.sdf_file.specs.Designs.{node_of, wire_of};
 
-use indexmap::IndexSet;
 use sdf_actor::{Link, Node};
 use sdf_document::{ActorEntry, KindEntry, LinkEntry, ListEntry};
 use sdf_kit::{Kit, KitFault};
@@ -101,23 +99,23 @@ fn node_of(kind: KindEntry) -> Node<Kit>
 #[derive(Drop)]
 pub(crate) struct Parts {
     pub(crate) nodes: Vec<Node<Kit>>,
-    pub(crate) names: IndexSet<String>,
+    pub(crate) names: Vec<String>,
     pub(crate) homes: Vec<Option<usize>>,
     pub(crate) costs: Vec<u32>,
 }
 
 impl Parts {
-    #[tactic(auto, using(sdf_document::proofs::Theorems::names_are_inserted))]
+    #[tactic(auto, using(std::proofs::lemmas::List::map_push))]
     fn push(&mut self, actor: ActorEntry) -> Result<(), AllocError>
         requires { IsActorWithin true actor }
         ensures nodes { OnOk result (self.new.nodes.items ≡ self.old.nodes.items ++ node_of actor.kind ∷ []) }
-        ensures names { OnOk result (names_of self.new.names ≡
-            with_name (names_of self.old.names) (string_bytes actor.name)) }
+        ensures names { OnOk result (names_of self.new.names.items ≡
+            names_of self.old.names.items ++ string_bytes actor.name ∷ []) }
         ensures homes { OnOk result (self.new.homes.items ≡ self.old.homes.items ++ actor.processor ∷ []) }
         ensures costs { OnOk result (self.new.costs.items ≡ self.old.costs.items ++ actor.cost ∷ []) }
     {
         self.nodes.push(node_of(actor.kind))?;
-        self.names.insert(actor.name)?;
+        self.names.push(actor.name)?;
         self.homes.push(actor.processor)?;
         Ok(self.costs.push(actor.cost)?)
     }
@@ -125,11 +123,10 @@ impl Parts {
 
 /// Makes the parts of `actors`, in their order.
 pub(crate) fn parts_of(alloc: Global, actors: Vec<ActorEntry>) -> Result<Parts, AllocError>
-    requires distinct { AreDistinct (names_in (map actor_view actors.items)) }
     requires within { All (IsActorWithin true) actors.items }
     ensures nodes { IfOk result (λ p. p.nodes.items ≡
         map (λ (a : ActorValue). node_of a.kind) (map actor_view actors.items)) }
-    ensures names { IfOk result (λ p. names_of p.names ≡ names_in (map actor_view actors.items)) }
+    ensures names { IfOk result (λ p. names_of p.names.items ≡ names_in (map actor_view actors.items)) }
     ensures homes { IfOk result (λ p. p.homes.items ≡
         map (λ (a : ActorValue). a.processor) (map actor_view actors.items)) }
     ensures costs { IfOk result (λ p. p.costs.items ≡ map (λ (a : ActorValue). a.cost) (map actor_view actors.items)) }
@@ -139,7 +136,7 @@ pub(crate) fn parts_of(alloc: Global, actors: Vec<ActorEntry>) -> Result<Parts, 
 {
     let mut parts = Parts {
         nodes: Vec::new(alloc),
-        names: IndexSet::new(alloc),
+        names: Vec::new(alloc),
         homes: Vec::new(alloc),
         costs: Vec::new(alloc),
     };

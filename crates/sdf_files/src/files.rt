@@ -6,7 +6,6 @@ ghost use Rattle.sdf_faults.specs.declared.fault.Fault.TheVariants.{OutOfMemory}
 
 use crate::input::InputTrace;
 use crate::storage::Storage;
-use indexmap::IndexSet;
 use sdf_faults::Fault;
 use sdf_file::{Design, GraphFile, coefficient_files, make_design, parse_graph};
 use std::alloc::{AllocError, Global};
@@ -228,7 +227,7 @@ fn read_files<S: Storage>(
     alloc: Global,
     storage: &S,
     graph: &str,
-    names: IndexSet<String>,
+    names: Vec<String>,
     most: u32,
     sources: &mut Sources,
 ) -> Result<(), Fault> {

@@ -1,5 +1,5 @@
 -- The texts that are printed of a filter.
-use Rattle.std.specs.Prelude.{◌≡◌, ℕ, ◌/◌, ◌%◌, ℤ, List, [], ◌∷◌, ◌++◌, length, codes, decimal}
+use Rattle.std.specs.Prelude.{◌≡◌, ◌==◌, ℕ, ◌/◌, ◌%◌, ℤ, List, [], ◌∷◌, ◌++◌, length, codes, decimal, if◌then◌else◌}
 use Rattle.sdf_filters.specs.declared.measure.Measured.{Measured}
 use Rattle.sdf_filters.specs.declared.wanted.Band.{Band}
 use Rattle.sdf_filters.specs.declared.wanted.Band.TheVariants.{Low, High, Middle}
@@ -35,10 +35,13 @@ with_places n =
 abbrev pub with_place : ℕ → List ℕ
 with_place n = decimal (n / 10) ++ codes "." ++ decimal (n % 10)
 
+abbrev pub counted_taps : ℕ → List ℕ
+counted_taps count = if count == 1 then codes "1 tap: " else decimal count ++ codes " taps: "
+
 -- the number of taps, and their measures
 unfoldable pub told_text : ℕ → Measured → List ℕ
 told_text count m =
-    decimal count ++ codes " taps: " ++ with_places m.ripple ++ codes " dB of ripple, what is stopped at least "
+    counted_taps count ++ with_places m.ripple ++ codes " dB of ripple, what is stopped at least "
     ++ with_place m.attenuation ++ codes " dB down" ++ end
 
 -- the coefficient file of the filter's taps, and the line with their measures, which may be any numbers

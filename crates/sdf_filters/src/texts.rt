@@ -3,7 +3,7 @@
 ghost use Rattle.std.specs.Prelude.{◌≡◌, ◌++◌, OnOk, MatchResult, string_bytes};
 ghost use Rattle.sdf_filters.specs.Wanted.{IsFault};
 ghost use Rattle.sdf_filters.specs.Filters.{band_text, head_text, with_places, with_place, told_text};
-ghost use Rattle.sdf_filters.specs.Filters.{AreFilterTexts};
+ghost use Rattle.sdf_filters.specs.Filters.{counted_taps, AreFilterTexts};
 
 use crate::coefficients::push_coefficients;
 use crate::fault::FilterFault;
@@ -70,12 +70,22 @@ fn push_place(text: &mut String, number: u64) -> Result<(), AllocError>
     write!(text, "{whole}.{tenths}")
 }
 
+/// Adds the number of taps, which begins the line.
+fn push_count(text: &mut String, count: usize) -> Result<(), AllocError>
+    ensures { OnOk result (string_bytes text.new ≡ string_bytes text.old ++ counted_taps count) }
+{
+    match count {
+        1 => text.push_str("1 tap: "),
+        _ => write!(text, "{count} taps: "),
+    }
+}
+
 /// Adds the line with the measures of `count` taps.
 #[tactic(auto, unfolding(crate::specs::Filters::told_text))]
 fn push_told(text: &mut String, count: usize, measured: Measured) -> Result<(), AllocError>
     ensures { OnOk result (string_bytes text.new ≡ string_bytes text.old ++ told_text count measured) }
 {
-    write!(text, "{count} taps: ")?;
+    push_count(text, count)?;
     push_places(text, measured.ripple)?;
     text.push_str(" dB of ripple, what is stopped at least ")?;
     push_place(text, measured.attenuation)?;

@@ -36,7 +36,7 @@ loop-number-preserved c =
     let more : names_in (map actor_view c.push.new.self.items) ≡
     names_in (map actor_view before) ++ string_bytes a.name ∷ [] =
     rw seen (map_push (λ (e : ActorValue). e.name) (map actor_view before) (actor_view a)) in
-    let named : IsNamed (names_in (map actor_view before)) (string_bytes a.name) (names_of c.actor_at.new.names) =
+    let named : IsNamed (names_in (map actor_view before)) (string_bytes a.name) (names_of c.actor_at.new.names.keys) =
     rw (← c.loop-number.invariant.named) c.in_ok-actor.ensures.named in record {
       given = rw seen (each_more (actor_after c.args.format (lookup_of c.args.files)) c.args.items.now
           c.loop-number.number c.index-items-number.result (map actor_view before) (actor_view a)

@@ -11,7 +11,7 @@ abbrev pub invariant-loop-number : goal.invariant-loop-number
 invariant-loop-number l = record {
   given : each_from (actor_after l.format (lookup_of l.files)) l.number (map actor_view l.actors.items)
       (items_view (drop l.number l.items)) ≡ actors_in l.format (lookup_of l.files) (items_view l.items);
-  named : names_of l.names ≡ names_in (map actor_view l.actors.items);
+  named : names_of l.names.keys ≡ names_in (map actor_view l.actors.items);
   distinct : AreDistinct (names_in (map actor_view l.actors.items));
   within : All (IsActorWithin (are_read l.files)) l.actors.items;
 }

@@ -10,7 +10,7 @@ use Rattle.sdf_document.proofs.document.links_in.Goals as goal
 pub returns-in_err-link : goal.returns-in_err-link
 returns-in_err-link c =
     let p = err_from_is_err_and c.from_residual.result c.from_residual.ensures.1 in
-    rw (p.1, p.2) (each_fail (link_after (names_of c.args.names.now)) c.in_err-link.field-0.0
+    rw (p.1, p.2) (each_fail (link_after (names_of c.args.names.now.keys)) c.in_err-link.field-0.0
     c.args.items.now
     c.loop-number.number c.index-items-number.result (map link_view c.loop-number.links.items) _ (omega arith)
     (search rules) c.loop-number.invariant)
@@ -21,11 +21,11 @@ loop-number-preserved c =
     let pushed : c.push.new.self.items ≡ c.loop-number.links.items ++ l ∷ [] = search rules in
     let seen : map link_view c.push.new.self.items ≡ map link_view c.loop-number.links.items ++ link_view l ∷ [] =
     rw pushed (map_push link_view c.loop-number.links.items l) in
-    rw seen (each_more (link_after (names_of c.args.names.now)) c.args.items.now c.loop-number.number
+    rw seen (each_more (link_after (names_of c.args.names.now.keys)) c.args.items.now c.loop-number.number
     c.index-items-number.result (map link_view c.loop-number.links.items) (link_view l) _ (omega arith)
     (search rules) c.loop-number.invariant)
 
 pub returns : goal.returns
-returns c = each_done (link_after (names_of c.args.names.now)) c.args.items.now c.loop-number.number
+returns c = each_done (link_after (names_of c.args.names.now.keys)) c.args.items.now c.loop-number.number
     _ _ (omega arith)
     c.loop-number.invariant

@@ -7,5 +7,5 @@ use Rattle.sdf_document.proofs.document.links_in.Given as goal
 
 abbrev pub invariant-loop-number : goal.invariant-loop-number
 invariant-loop-number l =
-    each_from (link_after (names_of l.names)) l.number (map link_view l.links.items)
-    (items_view (drop l.number l.items)) ≡ links_in (names_of l.names) (items_view l.items)
+    each_from (link_after (names_of l.names.keys)) l.number (map link_view l.links.items)
+    (items_view (drop l.number l.items)) ≡ links_in (names_of l.names.keys) (items_view l.items)

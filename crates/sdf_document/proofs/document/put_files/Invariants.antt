@@ -6,5 +6,5 @@ use Rattle.sdf_document.specs.Names.{names_of}
 use Rattle.sdf_document.proofs.document.put_files.Given as goal
 
 abbrev pub invariant-loop-actor : goal.invariant-loop-actor
-invariant-loop-actor l = names_of l.names ≡ first_seen
+invariant-loop-actor l = names_of l.names.keys ≡ first_seen
     (filter_map actor_file (map actor_view (take l.actor-index l.actors)))

@@ -2,9 +2,8 @@ use Rattle.std.proofs.Common.{◌≡◌, ◌∙◌, ◌∷◌, map, length, true
 use Rattle.std.specs.Vec.Iter.{into_iter_items}
 use Rattle.std.proofs.lemmas.List.Elements.{All-tail}
 use Rattle.sdf_document.specs.Actors.{ActorValue, actor_view, IsActorWithin}
-use Rattle.sdf_document.specs.Names.{names_of}
 use Rattle.sdf_file.specs.Designs.{node_of}
-use Rattle.sdf_file.proofs.Moves.{moved_more, moved_all, named_more, all_named}
+use Rattle.sdf_file.proofs.Moves.{moved_more, moved_all}
 use Rattle.sdf_file.proofs.Whole.{few_lists, have_costs}
 use Rattle.sdf_actor.specs.declared.sides.Lists.TheVariants.{Inputs, Outputs}
 use Rattle.sdf_file.proofs.parts.parts_of.Goals as goal
@@ -22,20 +21,13 @@ loop-actor-preserved c =
       within = All-tail (IsActorWithin true) x (into_iter_items c.next.new.self) (rw steps at at.invariant.within);
       nodes = moved_more (λ (a : ActorValue). node_of a.kind) _ _ _ _ _ (actor_view x) seen c.in_ok-push.ensures.nodes
           at.invariant.nodes;
-      names = named_more (λ (a : ActorValue). a.name) _ _ _ _ _ (actor_view x) seen c.in_ok-push.ensures.names
+      names = moved_more (λ (a : ActorValue). a.name) _ _ _ _ _ (actor_view x) seen c.in_ok-push.ensures.names
           at.invariant.names;
       homes = moved_more (λ (a : ActorValue). a.processor) _ _ _ _ _ (actor_view x) seen c.in_ok-push.ensures.homes
           at.invariant.homes;
       costs = moved_more (λ (a : ActorValue). a.cost) _ _ _ _ _ (actor_view x) seen c.in_ok-push.ensures.costs
           at.invariant.costs;
     }
-
-pub returns-clause-names : goal.returns-clause-names
-returns-clause-names c =
-    let at = c.loop-actor in
-    all_named actor_view (λ (a : ActorValue). a.name) (names_of at.parts.names) _ _ c.args.actors.items
-    (sym at.invariant.left ∙ c.in-None.ensures.steps.0) c.into_iter-actor-iterator.ensures.into_iter_gives.0
-    at.invariant.names c.requires.distinct
 
 pub returns-clause-inputs : goal.returns-clause-inputs
 returns-clause-inputs c =
