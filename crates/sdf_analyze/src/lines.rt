@@ -2,7 +2,7 @@
 
 ghost use Rattle.std.specs.Prelude.{◌≡◌, ◌++◌, ◌<◌, IfOk, OnOk, length, slice_index, string_bytes, codes};
 ghost use Rattle.sdf_analyze.specs.Texts.{hundredths, with_point, number_line, time_lines, speedup_line, worker_line};
-ghost use Rattle.sdf_analyze.specs.Texts.{lines_to, samples_text, share_line, held_line, analysis_text};
+ghost use Rattle.sdf_analyze.specs.Texts.{lines_to, samples_text, capacity_line, held_line, analysis_text};
 
 use crate::figures::Figures;
 use sdf_file::{Design, push_link};
@@ -104,8 +104,8 @@ fn push_held(text: &mut String, figures: &Figures) -> Result<(), AllocError>
 }
 
 /// Adds the line of the capacity of `link`.
-#[tactic(auto, unfolding(crate::specs::Texts::share_line))]
-fn push_share(
+#[tactic(auto, unfolding(crate::specs::Texts::capacity_line))]
+fn push_capacity(
     text: &mut String,
     design: &Design,
     table: &Table,
@@ -114,7 +114,7 @@ fn push_share(
     requires link { link < length design.now.net.wires }
     requires capacities { length table.now.caps ≡ length design.now.net.wires }
     ensures { OnOk result (string_bytes text.new ≡
-        string_bytes text.old ++ share_line design.now table.now.caps link) }
+        string_bytes text.old ++ capacity_line design.now table.now.caps link) }
 {
     text.push_str("capacity ")?;
     push_link(text, design, link)?;
@@ -123,13 +123,13 @@ fn push_share(
 }
 
 /// Adds the lines of the links' capacities, in file order.
-fn push_shares(text: &mut String, design: &Design, table: &Table) -> Result<(), AllocError>
+fn push_capacities(text: &mut String, design: &Design, table: &Table) -> Result<(), AllocError>
     requires { length table.now.caps ≡ length design.now.net.wires }
     ensures { OnOk result (string_bytes text.new ≡
-        string_bytes text.old ++ lines_to (share_line design.now table.now.caps) (length design.now.net.wires)) }
+        string_bytes text.old ++ lines_to (capacity_line design.now table.now.caps) (length design.now.net.wires)) }
 {
     for link in 0..design.net().channels() {
-        push_share(text, design, table, link)?;
+        push_capacity(text, design, table, link)?;
     }
     Ok(())
 }
@@ -151,6 +151,6 @@ pub(crate) fn analysis_text(
     push_speedup(&mut text, figures, workers)?;
     push_workers(&mut text, figures, workers)?;
     push_held(&mut text, figures)?;
-    push_shares(&mut text, design, table)?;
+    push_capacities(&mut text, design, table)?;
     Ok(text)
 }

@@ -13,7 +13,7 @@ use sdf_kinds::kinds_text;
 use sdf_options::Options;
 use sdf_plan::planning::plan;
 use sdf_plan::schedule::schedule;
-use sdf_words::explained;
+use sdf_words::{Format, Picture, explained};
 use std::alloc::{AllocError, Global};
 use std::io::Write;
 
@@ -34,12 +34,11 @@ pub(crate) fn test_plan(alloc: Global, design: &Design) -> Result<(), Fault> {
 }
 
 /// Returns a description of `design`, if it can be scheduled.
-pub fn checked(alloc: Global, design: &Design, json: bool) -> Result<String, Fault> {
+pub fn checked(alloc: Global, design: &Design, format: Format) -> Result<String, Fault> {
     test_plan(alloc, design)?;
-    if json {
-        Ok(check_json(alloc, design)?)
-    } else {
-        Ok(check_text(alloc, design)?)
+    match format {
+        Format::Text => Ok(check_text(alloc, design)?),
+        Format::Json => Ok(check_json(alloc, design)?),
     }
 }
 
@@ -48,12 +47,11 @@ pub fn scheduled(
     alloc: Global,
     design: &Design,
     options: &Options,
-    json: bool,
+    format: Format,
 ) -> Result<String, Fault> {
-    if json {
-        schedule_json(alloc, design, options)
-    } else {
-        schedule(alloc, design, options)
+    match format {
+        Format::Text => schedule(alloc, design, options),
+        Format::Json => schedule_json(alloc, design, options),
     }
 }
 
@@ -62,37 +60,34 @@ pub fn analyzed(
     alloc: Global,
     design: &Design,
     options: &Options,
-    json: bool,
+    format: Format,
 ) -> Result<String, Fault>
     requires { AreWithinLimits options.now }
 {
-    if json {
-        analysis_json(alloc, design, options)
-    } else {
-        analyze(alloc, design, options)
+    match format {
+        Format::Text => analyze(alloc, design, options),
+        Format::Json => analysis_json(alloc, design, options),
     }
 }
 
-/// Returns the picture of `design` and its schedule, or its graph for Graphviz if `as_dot` is set.
+/// Returns the `picture` of `design`.
 pub fn drawn(
     alloc: Global,
     design: &Design,
     options: &Options,
-    as_dot: bool,
+    picture: Picture,
 ) -> Result<String, Fault> {
-    if as_dot {
-        Ok(dot(alloc, design)?)
-    } else {
-        svg(alloc, design, options)
+    match picture {
+        Picture::Svg => svg(alloc, design, options),
+        Picture::Dot => Ok(dot(alloc, design)?),
     }
 }
 
 /// Returns the table of kinds.
-fn listed(alloc: Global, json: bool) -> Result<String, AllocError> {
-    if json {
-        kinds_json(alloc)
-    } else {
-        kinds_text(alloc)
+fn listed(alloc: Global, format: Format) -> Result<String, AllocError> {
+    match format {
+        Format::Text => kinds_text(alloc),
+        Format::Json => kinds_json(alloc),
     }
 }
 
@@ -100,9 +95,9 @@ fn listed(alloc: Global, json: bool) -> Result<String, AllocError> {
 pub fn print_kinds<S, T: AllocGlobal, O: Write>(
     world: &World<S, T>,
     out: &mut O,
-    json: bool,
+    format: Format,
 ) -> Result<(), Fault> {
-    show(out, listed(world.threads.alloc(), json)?.as_str())
+    show(out, listed(world.threads.alloc(), format)?.as_str())
 }
 
 /// Prints the explanation of the fault of this `number`.

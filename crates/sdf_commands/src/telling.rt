@@ -12,7 +12,7 @@ use sdf_why::{
     Halt, block_text, channels_text, device_text, file_text, home_text, rate_text, stall_text,
     toml_text,
 };
-use sdf_words::{Task, Words};
+use sdf_words::{Format, Task, Words};
 use std::alloc::{AllocError, Global};
 use std::io::Write;
 
@@ -164,20 +164,30 @@ fn options_of(task: &Task<'_>) -> Options {
     match task {
         Task::Schedule { options, .. }
         | Task::Analyze { options, .. }
+        | Task::Compare { options, .. }
         | Task::Draw { options, .. } => *options,
         Task::Run(run) => run.options,
         Task::Check { .. } | Task::Profile { .. } => Options::DEFAULT,
     }
 }
 
+/// Returns the format of what `task` prints.
+fn format_of(task: &Task<'_>) -> Format {
+    match task {
+        Task::Check { format }
+        | Task::Schedule { format, .. }
+        | Task::Analyze { format, .. }
+        | Task::Compare { format, .. } => *format,
+        Task::Draw { .. } | Task::Run(_) | Task::Profile { .. } => Format::Text,
+    }
+}
+
 /// Returns the form in which the faults of `task` are reported. Diagnostics need `is_said`.
 fn telling_of(task: &Task<'_>, is_said: bool) -> Telling {
-    match task {
-        Task::Check { json: true }
-        | Task::Schedule { json: true, .. }
-        | Task::Analyze { json: true, .. } => Telling::Json,
-        _ if is_said => Telling::Why(options_of(task)),
-        _ => Telling::Line,
+    match format_of(task) {
+        Format::Json => Telling::Json,
+        Format::Text if is_said => Telling::Why(options_of(task)),
+        Format::Text => Telling::Line,
     }
 }
 
@@ -206,7 +216,9 @@ impl Background {
             Words::Batch { batch, why, .. } if why.is_said(terminal) => {
                 self.telling = Telling::Why(batch.options);
             }
-            Words::Kinds { json: true } => self.telling = Telling::Json,
+            Words::Kinds {
+                format: Format::Json,
+            } => self.telling = Telling::Json,
             Words::Batch { .. } => {}
             _ if terminal => self.telling = Telling::Why(Options::DEFAULT),
             _ => {}
@@ -220,9 +232,12 @@ impl Background {
         }
     }
 
-    /// Checks whether a fault is reported in JSON.
-    pub fn is_json(&self) -> bool {
-        self.telling == Telling::Json
+    /// Returns the format in which a fault is reported.
+    pub fn format(&self) -> Format {
+        match self.telling {
+            Telling::Json => Format::Json,
+            Telling::Line | Telling::Why(_) => Format::Text,
+        }
     }
 
     /// Writes the diagnostic of `fault` to `err` if diagnostics are asked for, unless memory is refused for it.

@@ -23,7 +23,6 @@ use std::alloc::Global;
 use std::marker::Model;
 
 /// A design: a net, with the name, the home processor and the cost of a firing of each actor.
-#[derive(Drop)]
 pub struct Design {
     net: Net<Kit>,
     names: Vec<String>,
@@ -50,6 +49,18 @@ impl Model for Design {
       homes = d.homes.items;
       costs = d.costs.items;
     }) };
+}
+
+/// Not derived: a derived drop is expanded, list by list, wherever a design may be dropped.
+impl Drop for Design {
+    fn drop(self) {
+        let Design {
+            net: _,
+            names: _,
+            homes: _,
+            costs: _,
+        } = self;
+    }
 }
 
 impl Design {

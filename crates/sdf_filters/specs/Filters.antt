@@ -35,6 +35,7 @@ with_places n =
 abbrev pub with_place : ℕ → List ℕ
 with_place n = decimal (n / 10) ++ codes "." ++ decimal (n % 10)
 
+-- how many taps, with the noun in its number
 abbrev pub counted_taps : ℕ → List ℕ
 counted_taps count = if count == 1 then codes "1 tap: " else decimal count ++ codes " taps: "
 

@@ -25,49 +25,54 @@ pub(crate) fn blocking_by(design: &Design, options: &Options, period: &Period) -
     }
 }
 
-/// Makes the table of a block of `j` periods by the placement of `options`.
+/// Makes the table of a block of so many `periods` by the placement of `options`.
 pub(crate) fn table_by(
     alloc: Global,
     design: &Design,
     period: &Period,
     options: &Options,
-    j: u32,
+    periods: u32,
 ) -> Result<Table, PrecFault>
     requires { IsPeriodOf (rates_of design.now) period.now }
-    ensures { MatchResult result (IsTableBy design.now options.now period.now j)
-        (IsPlaceFault options.now.placement design.now j options.now.workers period.now) }
+    ensures { MatchResult result (IsTableBy design.now options.now period.now periods)
+        (IsPlaceFault options.now.placement design.now periods options.now.workers period.now) }
 {
     let graph = design.net().graph();
-    let m = options.workers;
+    let workers = options.workers;
     match options.placement {
-        Placement::Hu => {
-            let team = Team {
-                workers: m,
-                homed: false,
-            };
-            hu(alloc, graph, period, j, team, &design.firing_costs(alloc)?)
-        }
-        Placement::Homed => {
-            let team = Team {
-                workers: m,
-                homed: true,
-            };
-            hu(alloc, graph, period, j, team, &design.firing_costs(alloc)?)
+        Placement::Hu | Placement::Homed => {
+            let homed = options.placement == Placement::Homed;
+            let team = Team { workers, homed };
+            hu(
+                alloc,
+                graph,
+                period,
+                periods,
+                team,
+                &design.firing_costs(alloc)?,
+            )
         }
         Placement::File => match options.policy {
-            Policy::Runs => Table::by_homes_in_runs(alloc, graph, period, j, m, design.homes()),
+            Policy::Runs => Table::by_homes_in_runs(
+                alloc,
+                graph,
+                period,
+                periods,
+                workers,
+                design.homes(),
+            ),
             Policy::Round | Policy::Lean => Table::by_homes(
                 alloc,
                 graph,
                 period,
-                j,
-                m,
+                periods,
+                workers,
                 design.homes(),
             ),
         },
         Placement::Spread => {
             let weights = weights(alloc, design, period)?;
-            Table::spread(alloc, graph, period, j, m, &weights)
+            Table::spread(alloc, graph, period, periods, workers, &weights)
         }
     }
 }

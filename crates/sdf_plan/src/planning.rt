@@ -40,19 +40,19 @@ fn short_channel(short: &[(usize, usize)], actor: usize) -> Option<usize>
 fn progress_at(
     alloc: Global,
     design: &Design,
-    reps: &Repetitions,
+    repetitions: &Repetitions,
     stuck: &Stuck,
     actor: usize,
 ) -> Result<Progress, AllocError>
     requires known { actor < length design.now.net.nodes }
-    requires all { length reps.now ≡ length design.now.net.nodes }
+    requires all { length repetitions.now ≡ length design.now.net.nodes }
     requires done { length stuck.now.done.items ≡ length design.now.net.nodes }
-    ensures { IfOk result (λ p. progress_view p ≡ progress_of design.now reps.now stuck.now actor) }
+    ensures { IfOk result (λ p. progress_view p ≡ progress_of design.now repetitions.now stuck.now actor) }
 {
     Ok(Progress {
         name: String::from_str(alloc, design.name(actor))?,
         done: stuck.done[actor],
-        of: reps.of(actor),
+        of: repetitions.of(actor),
         short: short_channel(&stuck.short, actor),
     })
 }
@@ -61,17 +61,17 @@ fn progress_at(
 fn progress(
     alloc: Global,
     design: &Design,
-    reps: &Repetitions,
+    repetitions: &Repetitions,
     stuck: &Stuck,
 ) -> Result<Vec<Progress>, AllocError>
-    requires all { length reps.now ≡ length design.now.net.nodes }
+    requires all { length repetitions.now ≡ length design.now.net.nodes }
     requires done { length stuck.now.done.items ≡ length design.now.net.nodes }
     ensures { IfOk result (λ all. map progress_view all.items ≡
-        map (progress_of design.now reps.now stuck.now) (range_with_len 0 (length design.now.net.nodes))) }
+        map (progress_of design.now repetitions.now stuck.now) (range_with_len 0 (length design.now.net.nodes))) }
 {
     let mut all = Vec::new(alloc);
     for actor in 0..design.net().len() {
-        all.push(progress_at(alloc, design, reps, stuck, actor)?)?;
+        all.push(progress_at(alloc, design, repetitions, stuck, actor)?)?;
     }
     Ok(all)
 }
@@ -80,16 +80,16 @@ fn progress(
 fn class_s_by(
     alloc: Global,
     graph: &Graph,
-    reps: &Repetitions,
+    repetitions: &Repetitions,
     policy: Policy,
 ) -> Result<Period, SchedFault>
-    requires { IsLeastPeriod (rates graph.now) reps.now }
-    ensures { MatchResult result (IsScheduleBy policy graph.now) (IsStuckFault graph.now reps.now) }
+    requires { IsLeastPeriod (rates graph.now) repetitions.now }
+    ensures { MatchResult result (IsScheduleBy policy graph.now) (IsStuckFault graph.now repetitions.now) }
 {
     match policy {
-        Policy::Round => class_s(alloc, graph, reps, &mut Round::new()),
-        Policy::Lean => class_s(alloc, graph, reps, &mut Lean),
-        Policy::Runs => class_s(alloc, graph, reps, &mut Runs::new()),
+        Policy::Round => class_s(alloc, graph, repetitions, &mut Round::new()),
+        Policy::Lean => class_s(alloc, graph, repetitions, &mut Lean),
+        Policy::Runs => class_s(alloc, graph, repetitions, &mut Runs::new()),
     }
 }
 
@@ -101,12 +101,12 @@ pub fn period_by(alloc: Global, design: &Design, policy: Policy) -> Result<Perio
 {
     let net = design.net();
     let graph = net.graph();
-    let reps = net.repetitions();
-    match class_s_by(alloc, graph, reps, policy) {
+    let repetitions = net.repetitions();
+    match class_s_by(alloc, graph, repetitions, policy) {
         Ok(period) => Ok(period),
         Err(SchedFault::OutOfMemory) => Err(Fault::OutOfMemory),
         Err(SchedFault::Deadlock(stuck)) => {
-            let actors = progress(alloc, design, reps, &stuck)?;
+            let actors = progress(alloc, design, repetitions, &stuck)?;
             Err(Fault::Deadlock(Stalled { actors }))
         }
     }

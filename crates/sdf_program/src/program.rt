@@ -22,7 +22,7 @@ use sdf_files::world::World;
 use sdf_json::{comparison_json, fault_json};
 use sdf_options::WordFault;
 use sdf_words::arguments::Given;
-use sdf_words::{Batch, Task, Why, Words};
+use sdf_words::{Batch, Format, Task, Why, Words};
 use std::alloc::{AllocError, Global};
 use std::io::{Read, Write};
 use std::thread::Threads;
@@ -72,25 +72,24 @@ fn work<
     } = job;
     let design = &loaded.design;
     match task {
-        Task::Check { json } => show_made(out, checked(alloc, design, json)),
-        Task::Schedule { options, json } => show_made(
+        Task::Check { format } => show_made(out, checked(alloc, design, format)),
+        Task::Schedule { options, format } => show_made(
             out,
-            scheduled(alloc, design, &options, json),
+            scheduled(alloc, design, &options, format),
         ),
-        Task::Analyze {
+        Task::Analyze { options, format } => show_made(
+            out,
+            analyzed(alloc, design, &options, format),
+        ),
+        Task::Compare {
             options,
-            compare: false,
-            json,
-        } => show_made(out, analyzed(alloc, design, &options, json)),
-        Task::Analyze {
-            options,
-            json: true,
-            ..
+            format: Format::Json,
         } => show_made(out, comparison_json(alloc, design, &options)),
-        Task::Analyze { options, .. } => print_comparison(
-            alloc, out, err, design, &options, is_said,
-        ),
-        Task::Draw { options, dot } => show_made(out, drawn(alloc, design, &options, dot)),
+        Task::Compare {
+            options,
+            format: Format::Text,
+        } => print_comparison(alloc, out, err, design, &options, is_said),
+        Task::Draw { options, picture } => show_made(out, drawn(alloc, design, &options, picture)),
         Task::Run(asked) => {
             let running = Running {
                 graph,
@@ -212,7 +211,7 @@ fn obey<
         }
         Words::Fir { wanted } => ended_well(fir(world, out, err, wanted)),
         Words::Resample { conversion } => ended_well(resample(world, err, conversion, sources)),
-        Words::Kinds { json } => ended_well(print_kinds(world, out, json)),
+        Words::Kinds { format } => ended_well(print_kinds(world, out, format)),
         Words::Explain { number } => ended_well(print_meaning(world, out, number)),
     }
 }
@@ -233,19 +232,17 @@ fn help_or_fault<O: Write>(alloc: Global, out: &mut O, fault: WordFault) -> Resu
 
 /// Returns the text of `fault`, for standard error.
 fn told(alloc: Global, fault: &Fault, background: &Background) -> Result<String, AllocError> {
-    if background.is_json() {
-        fault_json(alloc, fault)
-    } else {
-        fault_text(alloc, fault)
+    match background.format() {
+        Format::Text => fault_text(alloc, fault),
+        Format::Json => fault_json(alloc, fault),
     }
 }
 
-/// Returns the text of the fault `OutOfMemory`, in JSON if `json` is set. It needs no allocation.
-fn told_without_memory(json: bool) -> &'static [u8] {
-    if json {
-        b"{\"fault\":1,\"name\":\"OutOfMemory\"}\n"
-    } else {
-        b"sdfw: 1 OutOfMemory\n"
+/// Returns the text of the fault `OutOfMemory` in `format`. It needs no allocation.
+fn told_without_memory(format: Format) -> &'static [u8] {
+    match format {
+        Format::Text => b"sdfw: 1 OutOfMemory\n",
+        Format::Json => b"{\"fault\":1,\"name\":\"OutOfMemory\"}\n",
     }
 }
 
@@ -261,7 +258,7 @@ fn tell<E: Write>(alloc: Global, err: &mut E, fault: &Fault, background: &Backgr
             status(fault)
         }
         Err(_) => {
-            let _ = err.write_all(told_without_memory(background.is_json()));
+            let _ = err.write_all(told_without_memory(background.format()));
             status(&Fault::OutOfMemory)
         }
     }

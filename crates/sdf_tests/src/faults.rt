@@ -1,6 +1,5 @@
 //! The texts of faults.
 
-use sdf_file::FileFault;
 use sdf_prec::PrecFault;
 use sdf_run::RunFault;
 use std::alloc::{AllocError, Global};
@@ -42,11 +41,10 @@ const OF_PLANS: &[(PrecFault, &str)] = &[
 ];
 
 #[test]
-fn of_runs_plans_and_files(rt: HostRuntime) -> Result<(), Fail> {
+fn of_runs_and_plans(rt: HostRuntime) -> Result<(), Fail> {
     let alloc = rt.alloc();
     is_told(alloc, RunFault::from(AllocError), "1 OutOfMemory")?;
     are_told(alloc, OF_RUNS)?;
     is_told(alloc, PrecFault::from(AllocError), "1 OutOfMemory")?;
-    are_told(alloc, OF_PLANS)?;
-    is_told(alloc, FileFault::from(AllocError), "1 OutOfMemory")
+    are_told(alloc, OF_PLANS)
 }

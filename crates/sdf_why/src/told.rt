@@ -131,10 +131,19 @@ pub fn home_text(
 }
 
 /// The tables of a graph file, and the design that it makes with its coefficient files.
-#[derive(Drop)]
 struct Basis {
     document: Value,
     design: Design,
+}
+
+/// Not derived: a derived drop is expanded, with each kind of value, wherever a basis may be dropped.
+impl Drop for Basis {
+    fn drop(self) {
+        let Basis {
+            document: _,
+            design: _,
+        } = self;
+    }
 }
 
 /// Returns no design for `fault`, and errs if it is a refused allocation.

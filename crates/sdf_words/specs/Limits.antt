@@ -8,7 +8,7 @@ use Rattle.sdf_words.specs.declared.asked.Crew.TheVariants.{Processors, Workers}
 use Rattle.sdf_words.specs.declared.asked.Words.{Words}
 use Rattle.sdf_words.specs.declared.asked.Words.TheVariants.{Design, Batch, Fir, Resample, Kinds, Explain}
 use Rattle.sdf_words.specs.declared.asked.Task.{Task}
-use Rattle.sdf_words.specs.declared.asked.Task.TheVariants.{Check, Schedule, Analyze, Draw, Run, Profile}
+use Rattle.sdf_words.specs.declared.asked.Task.TheVariants.{Check, Schedule, Analyze, Compare, Draw, Run, Profile}
 
 -- the number of workers is within its limits
 abbrev pub IsCrew : Crew → Type 0
@@ -17,10 +17,11 @@ IsCrew (Workers workers) = (1 ≤ workers) × (workers ≤ MOST_WORKERS)
 
 -- the numbers of a task are within their limits
 abbrev pub IsTaskWithinLimits : Task → Type 0
-IsTaskWithinLimits (Check json) = Unit {0}
-IsTaskWithinLimits (Schedule options json) = AreWithinLimits options
-IsTaskWithinLimits (Analyze options compare json) = AreWithinLimits options
-IsTaskWithinLimits (Draw options dot) = AreWithinLimits options
+IsTaskWithinLimits (Check format) = Unit {0}
+IsTaskWithinLimits (Schedule options format) = AreWithinLimits options
+IsTaskWithinLimits (Analyze options format) = AreWithinLimits options
+IsTaskWithinLimits (Compare options format) = AreWithinLimits options
+IsTaskWithinLimits (Draw options picture) = AreWithinLimits options
 IsTaskWithinLimits (Run run) = AreWithinLimits run.options × IfSome run.parallel IsCrew
 IsTaskWithinLimits (Profile input write) = Unit {0}
 
@@ -30,5 +31,5 @@ IsWithinLimits (Design graph task why) = IsTaskWithinLimits task
 IsWithinLimits (Batch graph batch why) = AreWithinLimits batch.options × IfSome batch.parallel IsCrew
 IsWithinLimits (Fir wanted) = Unit {0}
 IsWithinLimits (Resample conversion) = Unit {0}
-IsWithinLimits (Kinds json) = Unit {0}
+IsWithinLimits (Kinds format) = Unit {0}
 IsWithinLimits (Explain number) = (1 ≤ number) × (number ≤ MOST_FAULT)

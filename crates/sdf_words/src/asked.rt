@@ -72,29 +72,48 @@ pub struct Batch<'a> {
     pub open_ended: bool,
 }
 
-/// A task for a design. Its files are named by their paths. With `json` the output and a fault are JSON.
+/// The format of what a command prints, and of the report of its fault.
+#[derive(Clone, Copy, Debug, PartialEq, Eq)]
+pub enum Format {
+    Text,
+    Json,
+}
+
+/// What is drawn of a design.
+#[derive(Clone, Copy, Debug, PartialEq, Eq)]
+pub enum Picture {
+    /// The design and its schedule, as SVG.
+    Svg,
+    /// The graph alone, for Graphviz.
+    Dot,
+}
+
+/// A task for a design. Its files are named by their paths.
 #[derive(Clone, Copy, Debug, PartialEq, Eq)]
 pub enum Task<'a> {
     Check {
-        json: bool,
+        format: Format,
     },
     /// The schedule of a design. The runner and the spin limit in the options have no effect.
     Schedule {
         options: Options,
-        json: bool,
+        format: Format,
     },
-    /// The times of a schedule. The runner and the spin limit in the options have no effect. With `compare` the policy
-    /// and the placement have none either.
+    /// The times of a schedule. The runner and the spin limit in the options have no effect.
     Analyze {
         options: Options,
-        compare: bool,
-        json: bool,
+        format: Format,
     },
-    /// The picture of a design and its schedule. The runner and the spin limit in the options have no effect. With
-    /// `dot` it is the graph alone, for Graphviz.
+    /// The schedules by each policy and placement and by up to the given number of workers, compared. The policy, the
+    /// placement, the runner and the spin limit in the options have no effect.
+    Compare {
+        options: Options,
+        format: Format,
+    },
+    /// The picture of a design. The runner and the spin limit in the options have no effect.
     Draw {
         options: Options,
-        dot: bool,
+        picture: Picture,
     },
     Run(Run<'a>),
     /// Each actor's share of the time of a run. With `write` the graph file with the measured costs is written to that
@@ -130,7 +149,7 @@ pub enum Words<'a> {
     },
     /// The table of kinds.
     Kinds {
-        json: bool,
+        format: Format,
     },
     /// The meaning of the fault `number`, 1 to 63.
     Explain {

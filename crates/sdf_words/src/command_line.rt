@@ -6,7 +6,7 @@ ghost use Rattle.sdf_options.specs.Limits.{AreWithinLimits, IsUsage};
 ghost use Rattle.sdf_words.specs.Limits.{IsCrew, IsTaskWithinLimits, IsWithinLimits};
 ghost use Rattle.sdf_words.specs.declared.asked.TheConstants.{MOST_FAULT};
 
-use crate::asked::{Batch, Conversion, Crew, MOST_FAULT, Run, Task, Why, Words};
+use crate::asked::{Batch, Conversion, Crew, Format, MOST_FAULT, Picture, Run, Task, Why, Words};
 use crate::commands::{batch_command, sdfw_command};
 use crate::explain::{NAMES, number_named};
 use clap::error::ErrorKind;
@@ -80,13 +80,22 @@ fn why_of(matches: &ArgMatches<'_>) -> Why {
     }
 }
 
+/// Reads the format of what is printed.
+fn format_of(matches: &ArgMatches<'_>) -> Format {
+    if matches.get_flag("json") {
+        Format::Json
+    } else {
+        Format::Text
+    }
+}
+
 /// Reads the task of the command `schedule`.
 fn schedule_of<'a>(matches: &ArgMatches<'a>) -> Option<Task<'a>>
     ensures { IfSome result IsTaskWithinLimits }
 {
     Some(Task::Schedule {
         options: plan_options_of(matches)?,
-        json: matches.get_flag("json"),
+        format: format_of(matches),
     })
 }
 
@@ -94,11 +103,22 @@ fn schedule_of<'a>(matches: &ArgMatches<'a>) -> Option<Task<'a>>
 fn analyze_of<'a>(matches: &ArgMatches<'a>) -> Option<Task<'a>>
     ensures { IfSome result IsTaskWithinLimits }
 {
-    Some(Task::Analyze {
-        options: plan_options_of(matches)?,
-        compare: matches.get_flag("compare"),
-        json: matches.get_flag("json"),
-    })
+    let options = plan_options_of(matches)?;
+    let format = format_of(matches);
+    if matches.get_flag("compare") {
+        Some(Task::Compare { options, format })
+    } else {
+        Some(Task::Analyze { options, format })
+    }
+}
+
+/// Reads what is drawn.
+fn picture_of(matches: &ArgMatches<'_>) -> Picture {
+    if matches.get_flag("dot") {
+        Picture::Dot
+    } else {
+        Picture::Svg
+    }
 }
 
 /// Reads the task of the command `draw`.
@@ -107,7 +127,7 @@ fn draw_of<'a>(matches: &ArgMatches<'a>) -> Option<Task<'a>>
 {
     Some(Task::Draw {
         options: plan_options_of(matches)?,
-        dot: matches.get_flag("dot"),
+        picture: picture_of(matches),
     })
 }
 
@@ -151,7 +171,7 @@ fn task_of<'a>(name: &str, matches: &ArgMatches<'a>) -> Option<Task<'a>>
 {
     match name {
         "check" => Some(Task::Check {
-            json: matches.get_flag("json"),
+            format: format_of(matches),
         }),
         "schedule" => schedule_of(matches),
         "analyze" => analyze_of(matches),
@@ -185,12 +205,13 @@ fn band_of(matches: &ArgMatches<'_>) -> Option<Band> {
     match matches.get_str("SHAPE")? {
         "lowpass" => Some(Band::Low { pass, stop }),
         "highpass" => Some(Band::High { stop, pass }),
-        _ => Some(Band::Middle {
+        "bandpass" => Some(Band::Middle {
             low_stop: any_number_of(matches, "low-stop")?,
             low_pass: any_number_of(matches, "low-pass")?,
             pass,
             stop,
         }),
+        _ => None,
     }
 }
 
@@ -230,7 +251,7 @@ fn asked<'a>(name: &str, matches: &ArgMatches<'a>) -> Option<Words<'a>>
         "fir" => fir_of(matches),
         "resample" => resample_of(matches),
         "kinds" => Some(Words::Kinds {
-            json: matches.get_flag("json"),
+            format: format_of(matches),
         }),
         "explain" => Some(Words::Explain {
             number: number_of(matches, "NUMBER", 1, MOST_FAULT)?,

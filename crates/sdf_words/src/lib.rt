@@ -12,6 +12,6 @@ mod command_line;
 mod commands;
 mod explain;
 
-pub use asked::{Batch, Conversion, Crew, MOST_FAULT, Run, Task, Why, Words};
+pub use asked::{Batch, Conversion, Crew, Format, MOST_FAULT, Picture, Run, Task, Why, Words};
 pub use command_line::{mistake, words};
 pub use explain::{explained, fault_name};

@@ -129,8 +129,8 @@ const RUNS: &[Row] = &[
 
 /// Other commands, in full. Refuses defaults that differ from the help's.
 const COMMANDS: &[Row] = &[
-    ("kinds", "kinds", "Kinds { json: false }"),
-    ("kinds in JSON", "kinds --json", "Kinds { json: true }"),
+    ("kinds", "kinds", "Kinds { format: Text }"),
+    ("kinds in JSON", "kinds --json", "Kinds { format: Json }"),
     ("a number", "explain 1", "Explain { number: 1 }"),
     ("a number", "explain 10", "Explain { number: 10 }"),
     ("a number", "explain 63", "Explain { number: 63 }"),
@@ -138,7 +138,7 @@ const COMMANDS: &[Row] = &[
     (
         "more",
         "check g --why",
-        "Design { graph: \"g\", task: Check { json: false }, why: Always }",
+        "Design { graph: \"g\", task: Check { format: Text }, why: Always }",
     ),
     (
         "no more",
@@ -323,12 +323,12 @@ fn other_lines_and_defaults(rt: HostRuntime) -> Result<(), Fail> {
     says(told(alloc, &["sdfw"]), "2")?;
     says(
         told(alloc, &["sdfw", "check", "a b"]),
-        "Design { graph: \"a b\", task: Check { json: false }, why: AtTerminal }",
+        "Design { graph: \"a b\", task: Check { format: Text }, why: AtTerminal }",
     )?;
     says(
         told(alloc, &["sdfw", "schedule", "a b", "--workers", "2"]),
         "Design { graph: \"a b\", task: Schedule { options: Options { blocking: 1, workers: 2, policy: Round, \
-         placement: Homed, runner: One, patience: 1000 }, json: false }, why: AtTerminal }",
+         placement: Homed, runner: One, patience: 1000 }, format: Text }, why: AtTerminal }",
     )?;
     says(
         format!(in alloc; "{:?}", Options::DEFAULT).map_err(Fail::from),

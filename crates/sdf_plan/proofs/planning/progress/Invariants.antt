@@ -5,4 +5,4 @@ use Rattle.sdf_plan.proofs.planning.progress.Given as goal
 
 abbrev pub invariant-loop-actor : goal.invariant-loop-actor
 invariant-loop-actor l = map progress_view l.all.items ≡
-    map (progress_of l.design l.reps l.stuck) (range_with_len 0 l.actor)
+    map (progress_of l.design l.repetitions l.stuck) (range_with_len 0 l.actor)

@@ -1,7 +1,8 @@
 //! Designs from files, their texts, and their faults.
 
-use sdf_file::{Design, check_text, design_files, read_design};
-use std::alloc::Global;
+use crate::readings::{files, told};
+use sdf_file::{Design, FileFault, check_text, design_files, read_design};
+use std::alloc::{AllocError, Global};
 use std::test::Fail;
 use test_texts::{row_says, says};
 
@@ -85,20 +86,17 @@ fn parts(alloc: Global, design: &Design) -> Result<String, Fail> {
     )?)
 }
 
-/// Returns a file `h.toml` with `taps`, or no file if they are empty.
-fn files(alloc: Global, taps: &str) -> Result<Vec<(String, Vec<u8>)>, Fail> {
-    let mut files = Vec::new(alloc);
-    if !taps.is_empty() {
-        let name = String::from_str(alloc, "h.toml")?;
-        files.push((name, Vec::from_slice(alloc, taps.as_bytes())?))?;
-    }
-    Ok(files)
-}
-
-/// Returns the parts of the design of `graph`, with `new` in place of `old` and with a file of `taps`, or the fault.
-fn read(alloc: Global, graph: &Graph, old: &str, new: &str, taps: &str) -> Result<String, Fail> {
+/// Returns the parts of the design of `graph`, with `new` in place of `old` and with files of the names and texts in
+/// `rows`, or the fault.
+fn read(
+    alloc: Global,
+    graph: &Graph,
+    old: &str,
+    new: &str,
+    rows: &[(&str, &str)],
+) -> Result<String, Fail> {
     let text = text_of(alloc, graph, old, new)?;
-    let files = files(alloc, taps)?;
+    let files = files(alloc, rows)?;
     match read_design(alloc, text.as_bytes(), files.as_slice()) {
         Ok(design) => parts(alloc, &design),
         Err(fault) => Ok(fault.to_string(alloc)?),
@@ -147,18 +145,16 @@ const DESIGNS: &[(Graph, &str, &str, &str)] = &[
 #[test]
 fn reads_and_checks_designs(rt: HostRuntime) -> Result<(), Fail> {
     for (graph, old, new, wanted) in DESIGNS {
-        row_says(new, read(rt.alloc(), graph, old, new, ""), wanted)?;
+        row_says(new, read(rt.alloc(), graph, old, new, &[]), wanted)?;
     }
-    Ok(())
+    let refused: Result<Vec<String>, FileFault> = Err(FileFault::from(AllocError));
+    says(told(rt.alloc(), refused), "1 OutOfMemory")
 }
 
 /// Returns the names of the files that `graph` needs, with `new` in place of `old`, or the fault.
 fn wanted_files(alloc: Global, graph: &Graph, old: &str, new: &str) -> Result<String, Fail> {
     let text = text_of(alloc, graph, old, new)?;
-    match design_files(alloc, text.as_bytes()) {
-        Ok(names) => Ok(format!(in alloc; "{names:?}")?),
-        Err(fault) => Ok(fault.to_string(alloc)?),
-    }
+    told(alloc, design_files(alloc, text.as_bytes()))
 }
 
 #[test]
@@ -172,9 +168,9 @@ fn reads_with_coefficient_files(rt: HostRuntime) -> Result<(), Fail> {
         wanted_files(alloc, &FILTER, "h.toml", "../h"),
         "54 BadName actor 1 key file",
     )?;
-    let taps = "format = 1\nvalues = [16384, 16384, 16384]\n";
+    let taps = ("h.toml", "format = 1\nvalues = [16384, 16384, 16384]\n");
     says(
-        read(alloc, &FILTER, "h.toml", "h.toml", taps),
+        read(alloc, &FILTER, "h.toml", "h.toml", &[taps]),
         "3 a [None, None, None] [1, 1, 1]\n\
          actors 3\nlinks 2\nperiod 6\nq in 2\nq a 1\nq out 3\ninput 2 output 3\n",
     )
