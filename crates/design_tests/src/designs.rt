@@ -142,6 +142,7 @@ const DESIGNS: &[(Graph, &str, &str, &str)] = &[
     (FILTER, "h.toml", "h.toml", "58 NoFile file h.toml"),
 ];
 
+/// Tests designs and their faults, and the text of the fault that memory was refused.
 #[test]
 fn reads_and_checks_designs(rt: HostRuntime) -> Result<(), Fail> {
     for (graph, old, new, wanted) in DESIGNS {

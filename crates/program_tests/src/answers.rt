@@ -158,6 +158,11 @@ const IN_JSON: &[Row] = &[
         "5\n--\n{\"fault\":47,\"name\":\"Read\"}\n--\n",
     ),
     (
+        "a comparison of a design that is not there",
+        "analyze none.toml --compare --json",
+        "5\n--\n{\"fault\":47,\"name\":\"Read\"}\n--\n",
+    ),
+    (
         "a mistake in the words",
         "check --json",
         "2\n--\n{\"fault\":0,\"name\":\"Usage\",\"text\":\"error: …\"}\n--\n",

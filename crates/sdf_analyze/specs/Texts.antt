@@ -44,8 +44,8 @@ abbrev pub samples_text : ℕ → List ℕ
 samples_text n = decimal n ++ codes ", " ++ decimal (n * SAMPLE_BYTES) ++ codes " bytes" ++ end
 
 -- the capacity of link c: the most samples that it holds
-unfoldable pub capacity_line : DesignValue → List ℕ → ℕ → List ℕ
-capacity_line d caps c = codes "capacity " ++ link_text d c ++ codes " " ++ samples_text (slice_index caps c)
+unfoldable pub link_held_line : DesignValue → List ℕ → ℕ → List ℕ
+link_held_line d caps c = codes "capacity " ++ link_text d c ++ codes " " ++ samples_text (slice_index caps c)
 
 unfoldable pub held_line : Figured → List ℕ
 held_line f = codes "samples held " ++ samples_text f.held
@@ -54,4 +54,4 @@ held_line f = codes "samples held " ++ samples_text f.held
 abbrev pub analysis_text : DesignValue → Figured → List ℕ → List ℕ
 analysis_text d f caps =
     time_lines f ++ speedup_line f ++ lines_to (worker_line f) (length f.loads) ++ held_line f
-    ++ lines_to (capacity_line d caps) (length d.net.wires)
+    ++ lines_to (link_held_line d caps) (length d.net.wires)

@@ -2,7 +2,7 @@
 
 ghost use Rattle.std.specs.Prelude.{◌≡◌, ◌++◌, ◌<◌, IfOk, OnOk, length, slice_index, string_bytes, codes};
 ghost use Rattle.sdf_analyze.specs.Texts.{hundredths, with_point, number_line, time_lines, speedup_line, worker_line};
-ghost use Rattle.sdf_analyze.specs.Texts.{lines_to, samples_text, capacity_line, held_line, analysis_text};
+ghost use Rattle.sdf_analyze.specs.Texts.{lines_to, samples_text, link_held_line, held_line, analysis_text};
 
 use crate::figures::Figures;
 use sdf_file::{Design, push_link};
@@ -103,9 +103,9 @@ fn push_held(text: &mut String, figures: &Figures) -> Result<(), AllocError>
     push_samples(text, figures.held())
 }
 
-/// Adds the line of the capacity of `link`.
-#[tactic(auto, unfolding(crate::specs::Texts::capacity_line))]
-fn push_capacity(
+/// Adds the line of the samples that `link` can hold.
+#[tactic(auto, unfolding(crate::specs::Texts::link_held_line))]
+fn push_link_held(
     text: &mut String,
     design: &Design,
     table: &Table,
@@ -114,7 +114,7 @@ fn push_capacity(
     requires link { link < length design.now.net.wires }
     requires capacities { length table.now.caps ≡ length design.now.net.wires }
     ensures { OnOk result (string_bytes text.new ≡
-        string_bytes text.old ++ capacity_line design.now table.now.caps link) }
+        string_bytes text.old ++ link_held_line design.now table.now.caps link) }
 {
     text.push_str("capacity ")?;
     push_link(text, design, link)?;
@@ -122,14 +122,14 @@ fn push_capacity(
     push_samples(text, table.cap(link))
 }
 
-/// Adds the lines of the links' capacities, in file order.
-fn push_capacities(text: &mut String, design: &Design, table: &Table) -> Result<(), AllocError>
+/// Adds the lines of the samples that each link can hold, in file order.
+fn push_links_held(text: &mut String, design: &Design, table: &Table) -> Result<(), AllocError>
     requires { length table.now.caps ≡ length design.now.net.wires }
     ensures { OnOk result (string_bytes text.new ≡
-        string_bytes text.old ++ lines_to (capacity_line design.now table.now.caps) (length design.now.net.wires)) }
+        string_bytes text.old ++ lines_to (link_held_line design.now table.now.caps) (length design.now.net.wires)) }
 {
     for link in 0..design.net().channels() {
-        push_capacity(text, design, table, link)?;
+        push_link_held(text, design, table, link)?;
     }
     Ok(())
 }
@@ -151,6 +151,6 @@ pub(crate) fn analysis_text(
     push_speedup(&mut text, figures, workers)?;
     push_workers(&mut text, figures, workers)?;
     push_held(&mut text, figures)?;
-    push_capacities(&mut text, design, table)?;
+    push_links_held(&mut text, design, table)?;
     Ok(text)
 }

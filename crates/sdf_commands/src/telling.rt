@@ -152,7 +152,7 @@ pub fn why(
 }
 
 /// The form of a fault's report: its line, its line with a diagnostic for these options, or JSON.
-#[derive(Clone, Copy, PartialEq, Eq)]
+#[derive(Clone, Copy)]
 enum Telling {
     Line,
     Why(Options),
@@ -171,7 +171,7 @@ fn options_of(task: &Task<'_>) -> Options {
     }
 }
 
-/// Returns the format of what `task` prints.
+/// Returns the format in which faults of `task` are reported.
 fn format_of(task: &Task<'_>) -> Format {
     match task {
         Task::Check { format }
@@ -182,7 +182,7 @@ fn format_of(task: &Task<'_>) -> Format {
     }
 }
 
-/// Returns the form in which the faults of `task` are reported. Diagnostics need `is_said`.
+/// Returns how the faults of `task` are reported. Diagnostics need `is_said`.
 fn telling_of(task: &Task<'_>, is_said: bool) -> Telling {
     match format_of(task) {
         Format::Json => Telling::Json,

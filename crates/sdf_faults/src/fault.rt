@@ -62,7 +62,7 @@ pub enum Fault {
     /// A mistake on the command line, or a request for help or the version. The text is the parser's own.
     #[error(transparent)]
     Words(WordFault),
-    /// The fault of the design: 2, 3, 5 to 9, 20 to 28, 49 to 58, 63.
+    /// The fault of the design: 2, 3, 6 to 9, 20 to 28, 49 to 58.
     #[error(transparent)]
     File(FileFault),
     /// No sequence of enabled firings completes a period.

@@ -51,7 +51,7 @@ impl Model for Design {
     }) };
 }
 
-/// Not derived: a derived drop is expanded, list by list, wherever a design may be dropped.
+/// Not derived: a derived drop is expanded, with all lists of the net, wherever a design may be dropped.
 impl Drop for Design {
     fn drop(self) {
         let Design {

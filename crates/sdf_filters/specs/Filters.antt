@@ -35,7 +35,7 @@ with_places n =
 abbrev pub with_place : ℕ → List ℕ
 with_place n = decimal (n / 10) ++ codes "." ++ decimal (n % 10)
 
--- how many taps, with the noun in its number
+-- the number of taps: `1 tap: `, otherwise `N taps: `
 abbrev pub counted_taps : ℕ → List ℕ
 counted_taps count = if count == 1 then codes "1 tap: " else decimal count ++ codes " taps: "
 

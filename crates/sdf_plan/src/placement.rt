@@ -25,7 +25,7 @@ pub(crate) fn blocking_by(design: &Design, options: &Options, period: &Period) -
     }
 }
 
-/// Makes the table of a block of so many `periods` by the placement of `options`.
+/// Makes the table of a block of `periods` periods by the placement of `options`.
 pub(crate) fn table_by(
     alloc: Global,
     design: &Design,

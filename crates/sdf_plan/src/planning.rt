@@ -135,47 +135,47 @@ fn option_fault(options: &Options) -> Option<Fault>
     size_fault(options)
 }
 
-/// Makes the table of a block of `j` periods by the placement.
+/// Makes the table of a block of `periods` periods by the placement.
 fn block_table(
     alloc: Global,
     design: &Design,
     period: Period,
     options: &Options,
-    j: u32,
+    periods: u32,
 ) -> Result<BlockTable, PrecFault>
     requires { IsPeriodOf (rates_of design.now) period }
     ensures { MatchResult result
-        (λ t. (t.period ≡ period) × (t.factor ≡ j) × IsTableBy design.now options.now period j t.table)
-        (IsPlaceFault options.now.placement design.now j options.now.workers period) }
+        (λ t. (t.period ≡ period) × (t.factor ≡ periods) × IsTableBy design.now options.now period periods t.table)
+        (IsPlaceFault options.now.placement design.now periods options.now.workers period) }
 {
-    let table = table_by(alloc, design, &period, options, j)?;
+    let table = table_by(alloc, design, &period, options, periods)?;
     Ok(BlockTable {
         period,
-        factor: j,
+        factor: periods,
         table,
     })
 }
 
-/// Returns the way in which the runner of the options runs a design, for blocks of `j` periods.
+/// Returns the way in which the runner of the options runs a design, for blocks of `periods` periods.
 fn way_for(
     alloc: Global,
     design: &Design,
     period: Period,
     options: &Options,
-    j: u32,
+    periods: u32,
 ) -> Result<Way, Fault>
     requires { IsPeriodOf (rates_of design.now) period }
-    ensures { MatchResult result (λ way. IsRunBy design.now options.now period j (plan_by way))
-        (IsTableFault design.now options.now period j) }
+    ensures { MatchResult result (λ way. IsRunBy design.now options.now period periods (plan_by way))
+        (IsTableFault design.now options.now period periods) }
 {
     match options.runner {
         Runner::One => Ok(Way::One {
             period,
-            blocking: j,
+            blocking: periods,
         }),
-        Runner::Rows => Ok(Way::Rows(block_table(alloc, design, period, options, j)?)),
+        Runner::Rows => Ok(Way::Rows(block_table(alloc, design, period, options, periods)?)),
         Runner::Rings => {
-            let table = block_table(alloc, design, period, options, j)?;
+            let table = block_table(alloc, design, period, options, periods)?;
             if !table.table.homed() {
                 return Err(Fault::NotHomed);
             }

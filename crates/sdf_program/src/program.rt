@@ -81,14 +81,10 @@ fn work<
             out,
             analyzed(alloc, design, &options, format),
         ),
-        Task::Compare {
-            options,
-            format: Format::Json,
-        } => show_made(out, comparison_json(alloc, design, &options)),
-        Task::Compare {
-            options,
-            format: Format::Text,
-        } => print_comparison(alloc, out, err, design, &options, is_said),
+        Task::Compare { options, format } => match format {
+            Format::Text => print_comparison(alloc, out, err, design, &options, is_said),
+            Format::Json => show_made(out, comparison_json(alloc, design, &options)),
+        },
         Task::Draw { options, picture } => show_made(out, drawn(alloc, design, &options, picture)),
         Task::Run(asked) => {
             let running = Running {

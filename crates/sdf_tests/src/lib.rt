@@ -1,6 +1,6 @@
 //! Tests of what no contract states about runs of nets: worked nets, run by each runner, by hand and in pieces.
 //!
-//! It depends on the libraries below `sdf_process`, on `test_actors` and on `test_texts`. It contains tests only:
+//! It depends on the libraries up to `sdf_run`, on `sdf_kit`, `test_actors` and `test_texts`. It contains tests only:
 //! testing a crate proves its functions once more, so the tests have a crate of their own. Begin at `nets` and `kits`,
 //! which have the nets of the tests, their tables and their runs.
 #![tactic(auto)]

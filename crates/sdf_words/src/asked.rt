@@ -104,13 +104,14 @@ pub enum Task<'a> {
         options: Options,
         format: Format,
     },
-    /// The schedules by each policy and placement and by up to the given number of workers, compared. The policy, the
-    /// placement, the runner and the spin limit in the options have no effect.
+    /// The schedules by each policy, each placement, and 1, 2, 4 and so on up to `options.workers` workers, compared.
+    /// The policy, the placement, the runner and the spin limit in the options have no effect.
     Compare {
         options: Options,
         format: Format,
     },
-    /// The picture of a design. The runner and the spin limit in the options have no effect.
+    /// The picture of a design. The runner and the spin limit in the options have no effect, and for `Picture::Dot` no
+    /// option has.
     Draw {
         options: Options,
         picture: Picture,

@@ -1,93 +1,24 @@
 //! Reading a command line.
 
-ghost use Rattle.std.specs.Prelude.{◌≡◌, ◌≤◌, IfOk, IfErr, IfSome, option_and_then, position, slice_get};
-ghost use Rattle.std.specs.Str.{bytes_eq};
-ghost use Rattle.sdf_options.specs.Limits.{AreWithinLimits, IsUsage};
-ghost use Rattle.sdf_words.specs.Limits.{IsCrew, IsTaskWithinLimits, IsWithinLimits};
+ghost use Rattle.std.specs.Prelude.{IfOk, IfErr, IfSome};
+ghost use Rattle.sdf_options.specs.Limits.{IsUsage};
+ghost use Rattle.sdf_words.specs.Limits.{IsTaskWithinLimits, IsWithinLimits};
 ghost use Rattle.sdf_words.specs.declared.asked.TheConstants.{MOST_FAULT};
 
-use crate::asked::{Batch, Conversion, Crew, Format, MOST_FAULT, Picture, Run, Task, Why, Words};
+use crate::asked::{Batch, Conversion, MOST_FAULT, Run, Task, Words};
 use crate::commands::{batch_command, sdfw_command};
 use crate::explain::{NAMES, number_named};
+use crate::values::{
+    any_number_of, band_of, crew_of, format_of, number_of, options_of, picture_of, plan_options_of,
+    why_of,
+};
 use clap::error::ErrorKind;
 use clap::{ArgMatches, Command};
-use sdf_filters::{Band, Wanted};
-use sdf_limits::{MOST_BLOCKING, MOST_PATIENCE, MOST_WORKERS};
+use sdf_filters::Wanted;
+use sdf_options::WordFault;
 use sdf_options::printable::printable;
-use sdf_options::{
-    Options, PLACEMENT_WORDS, PLACEMENTS, POLICIES, POLICY_WORDS, RUNNER_WORDS, RUNNERS, WordFault,
-};
 use sdf_similar::nearest;
 use std::alloc::{AllocError, Global};
-
-/// Returns the number of the argument `id`. The parser of the option already enforces the limits, so none is lost here.
-fn number_of(matches: &ArgMatches<'_>, id: &str, least: u32, most: u32) -> Option<u32>
-    ensures { IfSome result (λ n. (least ≤ n) × (n ≤ most)) }
-{
-    match matches.get_one::<u32>(id) {
-        Some(number) if least <= number && number <= most => Some(number),
-        _ => None,
-    }
-}
-
-/// Returns the index of `word` in `words`.
-fn place_of(words: &[&str], word: &str) -> Option<usize>
-    ensures { result ≡ position (λ known. bytes_eq known.now word.now) words.now }
-{
-    words.iter().position(|known| *known == word)
-}
-
-/// Returns the value at the index in `values` that `word` has in `words`.
-fn meant<T: Copy>(words: &[&str], values: &[T], word: &str) -> Option<T>
-    ensures { result ≡ option_and_then (slice_get values.now)
-        (position (λ known. bytes_eq known.now word.now) words.now) }
-{
-    values.get(place_of(words, word)?).copied()
-}
-
-/// Reads the options of a schedule; the others have their defaults.
-fn plan_options_of(matches: &ArgMatches<'_>) -> Option<Options>
-    ensures { IfSome result AreWithinLimits }
-{
-    Some(Options {
-        blocking: number_of(matches, "blocking", 1, MOST_BLOCKING)?,
-        workers: number_of(matches, "workers", 1, MOST_WORKERS as u32)? as usize,
-        policy: meant(POLICY_WORDS, &POLICIES, matches.get_str("policy")?)?,
-        placement: meant(PLACEMENT_WORDS, &PLACEMENTS, matches.get_str("placement")?)?,
-        ..Options::DEFAULT
-    })
-}
-
-/// Reads the options of a run.
-fn options_of(matches: &ArgMatches<'_>) -> Option<Options>
-    ensures { IfSome result AreWithinLimits }
-{
-    Some(Options {
-        runner: meant(RUNNER_WORDS, &RUNNERS, matches.get_str("runner")?)?,
-        patience: number_of(matches, "patience", 0, MOST_PATIENCE)?,
-        ..plan_options_of(matches)?
-    })
-}
-
-/// Reads when a diagnostic is printed.
-fn why_of(matches: &ArgMatches<'_>) -> Why {
-    if matches.get_flag("why") {
-        Why::Always
-    } else if matches.get_flag("no-why") {
-        Why::Never
-    } else {
-        Why::AtTerminal
-    }
-}
-
-/// Reads the format of what is printed.
-fn format_of(matches: &ArgMatches<'_>) -> Format {
-    if matches.get_flag("json") {
-        Format::Json
-    } else {
-        Format::Text
-    }
-}
 
 /// Reads the task of the command `schedule`.
 fn schedule_of<'a>(matches: &ArgMatches<'a>) -> Option<Task<'a>>
@@ -112,15 +43,6 @@ fn analyze_of<'a>(matches: &ArgMatches<'a>) -> Option<Task<'a>>
     }
 }
 
-/// Reads what is drawn.
-fn picture_of(matches: &ArgMatches<'_>) -> Picture {
-    if matches.get_flag("dot") {
-        Picture::Dot
-    } else {
-        Picture::Svg
-    }
-}
-
 /// Reads the task of the command `draw`.
 fn draw_of<'a>(matches: &ArgMatches<'a>) -> Option<Task<'a>>
     ensures { IfSome result IsTaskWithinLimits }
@@ -139,17 +61,6 @@ fn profile_of<'a>(matches: &ArgMatches<'a>) -> Option<Task<'a>>
         input: matches.get_str("IN")?,
         write: matches.get_str("write"),
     })
-}
-
-/// Reads `--parallel`: its number of workers, or one per processor if it has no value.
-fn crew_of(matches: &ArgMatches<'_>) -> Option<Crew>
-    ensures { IfSome result IsCrew }
-{
-    match number_of(matches, "parallel", 1, MOST_WORKERS as u32) {
-        Some(workers) => Some(Crew::Workers(workers as usize)),
-        None if matches.contains_id("parallel") => Some(Crew::Processors),
-        None => None,
-    }
 }
 
 /// Reads the task of the command `run` for one file.
@@ -191,28 +102,6 @@ fn design_of<'a>(name: &str, matches: &ArgMatches<'a>) -> Option<Words<'a>>
         task: task_of(name, matches)?,
         why: why_of(matches),
     })
-}
-
-/// Returns the 32-bit number of the argument `id`.
-fn any_number_of(matches: &ArgMatches<'_>, id: &str) -> Option<u32> {
-    number_of(matches, id, 0, u32::MAX)
-}
-
-/// Reads the band of a filter, with its edges in Hz.
-fn band_of(matches: &ArgMatches<'_>) -> Option<Band> {
-    let pass = any_number_of(matches, "pass")?;
-    let stop = any_number_of(matches, "stop")?;
-    match matches.get_str("SHAPE")? {
-        "lowpass" => Some(Band::Low { pass, stop }),
-        "highpass" => Some(Band::High { stop, pass }),
-        "bandpass" => Some(Band::Middle {
-            low_stop: any_number_of(matches, "low-stop")?,
-            low_pass: any_number_of(matches, "low-pass")?,
-            pass,
-            stop,
-        }),
-        _ => None,
-    }
 }
 
 /// Reads the parameters of the command `fir`.

@@ -11,6 +11,7 @@ mod asked;
 mod command_line;
 mod commands;
 mod explain;
+mod values;
 
 pub use asked::{Batch, Conversion, Crew, Format, MOST_FAULT, Picture, Run, Task, Why, Words};
 pub use command_line::{mistake, words};

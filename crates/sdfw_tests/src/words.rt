@@ -141,6 +141,18 @@ const COMMANDS: &[Row] = &[
         "Design { graph: \"g\", task: Check { format: Text }, why: Always }",
     ),
     (
+        "a comparison",
+        "analyze g --compare --json",
+        "Design { graph: \"g\", task: Compare { options: Options { blocking: 1, workers: 1, policy: Round, \
+         placement: Homed, runner: One, patience: 1000 }, format: Json }, why: AtTerminal }",
+    ),
+    (
+        "a graph for Graphviz",
+        "draw g --dot",
+        "Design { graph: \"g\", task: Draw { options: Options { blocking: 1, workers: 1, policy: Round, \
+         placement: Homed, runner: One, patience: 1000 }, picture: Dot }, why: AtTerminal }",
+    ),
+    (
         "no more",
         "profile g i --no-why",
         "Design { graph: \"g\", task: Profile { input: \"i\", write: None }, why: Never }",

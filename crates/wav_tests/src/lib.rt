@@ -1,4 +1,4 @@
-//! Tests of what no contract says of WAV files: whole and in pieces, damaged ones, and over devices that fail.
+//! Tests of what no contract says of WAV files: whole, in pieces, damaged, and over devices that fail.
 //!
 //! It depends on `sdf_wav`, `test_devices` and `test_texts`, and has no functions. Tests are in a crate of their own,
 //! since a crate's functions are proved once more with its tests. Begin at `wav_files`.
