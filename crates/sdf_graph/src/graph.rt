@@ -16,7 +16,6 @@ use std::marker::Model;
 
 /// A synchronous dataflow graph (Lee and Messerschmitt 1987). Its actors are numbers from 0. Its channels, walked both
 /// ways, join each actor to actor 0.
-#[derive(Drop)]
 pub struct Graph {
     pub(crate) actors: usize,
     pub(crate) channels: Vec<Channel>,
@@ -40,6 +39,20 @@ impl Model for Graph {
 
     ghost invariant = { λ g. IsGraph (record { actors = g.actors; channels = g.channels.items }) g.totals.items
         g.cycles.items (map (λ list. list.items) g.outgoing.items) (map (λ list. list.items) g.incoming.items) };
+}
+
+/// Not derived: a derived drop is expanded, with all lists, wherever a graph may be dropped.
+impl Drop for Graph {
+    fn drop(self) {
+        let Graph {
+            actors: _,
+            channels: _,
+            totals: _,
+            cycles: _,
+            outgoing: _,
+            incoming: _,
+        } = self;
+    }
 }
 
 impl Graph {
@@ -76,7 +89,8 @@ impl Graph {
 
     /// Returns how many actors there are.
     pub fn actors(&self) -> usize
-        ensures { result ≡ self.now.actors }
+        ensures count { result ≡ self.now.actors }
+        ensures shape { IsShape self.now }
     {
         self.actors
     }
@@ -119,7 +133,8 @@ impl Graph {
     /// Returns the numbers of the channels that go to `actor`, in rising order. They include channels from itself.
     pub fn incoming(&self, actor: usize) -> &[usize]
         requires { actor < self.now.actors }
-        ensures { AreIncoming (rates self.now) actor result.now }
+        ensures channels { AreIncoming (rates self.now) actor result.now }
+        ensures shape { IsShape self.now }
     {
         &self.incoming[actor]
     }

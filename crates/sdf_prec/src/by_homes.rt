@@ -113,7 +113,6 @@ fn by_order(
         IsTable (rates graph.now) n m t) }
     ensures rows { IfOk result (λ t. AreByHomes homes.now m order.now t.rows) }
 {
-    graph.channels();
     let rows = rows_of(alloc, order, graph.actors(), m, homes)?;
     let table = Table::of_rows(alloc, graph, rows)?;
     Ok(table)

@@ -82,7 +82,6 @@ impl<'a> Crew<'a> {
     fn new(alloc: Global, graph: &'a Graph, width: usize) -> Result<Crew<'a>, AllocError>
         ensures { IfOk result (λ crew. crew ≡ idle graph.now width) }
     {
-        graph.channels();
         let actors = graph.actors();
         Ok(Crew {
             time: 0,

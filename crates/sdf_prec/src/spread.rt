@@ -63,7 +63,6 @@ fn past_of(graph: &Graph, actor: usize) -> usize
     requires { actor < graph.now.actors }
     ensures { IsPast (rates graph.now) actor result }
 {
-    graph.channels();
     for k in actor + 1..graph.actors() {
         if may_part(graph, k) {
             return k;

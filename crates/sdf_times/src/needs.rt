@@ -43,7 +43,6 @@ pub(crate) fn ready(graph: &Graph, starts: &[Starts], costs: &Costs, firing: Fir
     requires prepared { IsPrepared (rates graph.now) (slice_index costs.now) starts.now firing }
     ensures { IsGreatest (IsNeedEnd (rates graph.now) (slice_index costs.now) (start_in starts.now) firing) result }
 {
-    graph.channels();
     let mut time = ended(starts, costs, firing.actor, u64::from(firing.number));
     for number in graph.incoming(firing.actor) {
         let source = source_of(graph, *number);

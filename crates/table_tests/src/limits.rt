@@ -165,7 +165,6 @@ fn has_tables(alloc: Global, graph: &Graph) -> Result<(), Fail> {
 fn weights(alloc: Global, graph: &Graph) -> Result<Vec<u64>, AllocError>
     ensures { IfOk result (λ v. AreLoads graph.now.actors v.items) }
 {
-    graph.channels();
     vec![in alloc; 1u64; graph.actors()]
 }
 

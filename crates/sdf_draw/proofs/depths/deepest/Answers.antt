@@ -13,7 +13,7 @@ loop-number-preserved c =
     let i : ℕ = c.loop-number.number-index in
     let ins : List ℕ = c.incoming-number-items.result.now in
     let d : ℕ = get_or ins i 0 in
-    let here = c.incoming-number-items.ensures.each i (omega (arith, c.loop-number-test.true)) in
+    let here = c.incoming-number-items.ensures.channels.each i (omega (arith, c.loop-number-test.true)) in
     let chans : length c.channels-channels.result.now ≡ length g.channels =
     ap length c.channels-channels.ensures.list in
     let read : c.index-channels-number.result ≡ channel g d =
@@ -44,10 +44,10 @@ returns c = record {
         × (get_or c.args.depths.now (channel c.args.graph.now
         (get_or c.incoming-number-items.result.now j 0)).from 0 ≡ u))
         (IsInDepth (rates c.args.graph.now) c.args.depths.now c.args.actor) c.loop-number.most
-        (λ u _ p. let at = c.incoming-number-items.ensures.each p.0 (omega (arith, p.1, end)) in
+        (λ u _ p. let at = c.incoming-number-items.ensures.channels.each p.0 (omega (arith, p.1, end)) in
         (get_or c.incoming-number-items.result.now p.0 0, at.0, at.1, p.2))
         (λ u _ q. let w = at_zero c.incoming-number-items.result.now q.0
-        (c.incoming-number-items.ensures.all q.0 q.1 q.2) in (
+        (c.incoming-number-items.ensures.channels.all q.0 q.1 q.2) in (
           w.0,
           omega (arith, w.1, end),
           ap (λ n. get_or c.args.depths.now (channel c.args.graph.now n).from 0) w.2 ∙ q.3,

@@ -23,4 +23,4 @@ returns-clause-end c =
     let g = c.args.graph.now in
     let walked = c.loop.invariant.walked (omega (arith, c.loop-test.false)) in
     long_loops (rates g) (λ i known. c.channels.ensures.shape.to_in i known) c.loop.counter walked.0
-    (omega (arith, c.loop-test.false, c.actors-end.ensures)) walked.1
+    (omega (arith, c.loop-test.false, c.actors-end.ensures.count)) walked.1

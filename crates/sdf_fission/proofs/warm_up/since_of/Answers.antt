@@ -10,7 +10,7 @@ returns-in-Stays c =
     let new = c.settle.new.since in
     let was = c.in_ok-since.since.items in
     let many : length c.deref_mut.result.now ≡ g.actors =
-    omega (arith, c.in_ok-since.ensures.len, c.deref_mut.ensures.len, c.actors.ensures) in
+    omega (arith, c.in_ok-since.ensures.len, c.deref_mut.ensures.len, c.actors.ensures.count) in
     let back : take c.in_ok-since.since.len (new ++ drop (length new) was) ≡ new =
     take_at new (drop (length new) was) c.in_ok-since.since.len
     (omega (arith, many, c.settle.ensures.since.all, c.deref_mut.ensures.len)) in

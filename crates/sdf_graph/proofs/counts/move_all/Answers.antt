@@ -15,7 +15,7 @@ move_tokens-requires-2-clause-can c i l =
     subst (λ (chs : List Edge). get_or c.move_tokens.new.held at 0 + rate_at (get_or chs at no_channel).put c.args.i <
     2 ^ 64) (sym c.channels-channels.ensures.list)
     (room_after c.args.graph.now c.args.actor c.args.i c.incoming.result.now c.args.held.now c.move_tokens.new.held
-    c.incoming.ensures taken at known (c.requires.room at known))
+    c.incoming.ensures.channels taken at known (c.requires.room at known))
 
 pub returns : goal.returns
 returns c =
@@ -26,4 +26,4 @@ returns c =
     (length c.outgoing.result.now) c.move_tokens.new.held c.move_tokens-2.new.held)
     c.channels-channels.ensures.list c.move_tokens-2.ensures in
     moved_by c.args.graph.now c.args.actor c.args.i c.incoming.result.now c.args.held.now c.move_tokens.new.held
-    c.incoming.ensures taken c.outgoing.result.now c.move_tokens-2.new.held c.outgoing.ensures put
+    c.incoming.ensures.channels taken c.outgoing.result.now c.move_tokens-2.new.held c.outgoing.ensures put

@@ -6,14 +6,14 @@ use Rattle.sdf_prec.proofs.Placing.{rows_valid, rows_wide, rows_some}
 use Rattle.sdf_prec.proofs.by_homes.by_order.Goals as goal
 
 pub rows_of-requires-clause-known : goal.rows_of-requires-clause-known
-rows_of-requires-clause-known c = λ p l. omega (arith, (c.requires.pass.1.0 p l).0, c.actors.ensures)
+rows_of-requires-clause-known c = λ p l. omega (arith, (c.requires.pass.1.0 p l).0, c.actors.ensures.count)
 
 pub of_rows-requires : goal.of_rows-requires
 of_rows-requires c =
     let rs = c.in_ok-rows.rows.rows in (
       c.requires.pass.0,
       rows_valid (rates c.args.graph.now) c.requires.pass.0 c.args.order.now
-          (graphs_are_sound c.args.graph.now c.channels.ensures.shape) c.requires.pass.1 c.args.homes.now
+          (graphs_are_sound c.args.graph.now c.actors.ensures.shape) c.requires.pass.1 c.args.homes.now
           c.args.m c.requires.homed rs c.in_ok-rows.ensures,
       c.requires.pass.2,
     )
@@ -22,7 +22,7 @@ pub returns-clause-table : goal.returns-clause-table
 returns-clause-table c = λ n pass.
     let r = rates c.args.graph.now in
     let rs = c.in_ok-rows.rows.rows in
-    let sound = graphs_are_sound c.args.graph.now c.channels.ensures.shape in
+    let sound = graphs_are_sound c.args.graph.now c.actors.ensures.shape in
     let kept : rs ≡ c.in_ok-table.table.rows = sym c.in_ok-table.ensures.rows in
     record {
       valid = subst (IsValid r n) kept (rows_valid r n c.args.order.now sound pass c.args.homes.now

@@ -12,7 +12,7 @@ loop-actor-preserved c = rw c.in_ok-push.ensures.items
 pub returns-clause-homed : goal.returns-clause-homed
 returns-clause-homed c =
     let end : c.loop-actor.actor ≡ c.args.graph.now.actors =
-    omega (arith, c.loop-actor.auto.actor-end, c.loop-actor-test.false, c.actors-actor-end.ensures) in
+    omega (arith, c.loop-actor.auto.actor-end, c.loop-actor-test.false, c.actors-actor-end.ensures.count) in
     spread_homed (rates c.args.graph.now) c.args.weights.now c.args.m
     c.loop-actor.homes.items c.requires.weights (omega (arith, c.requires.workers.0)) (record {
       all = c.loop-actor.invariant.all ∙ end;

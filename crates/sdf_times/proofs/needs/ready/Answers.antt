@@ -33,7 +33,7 @@ loop-number-init c =
 pub ended-requires-clause-started : goal.ended-requires-clause-started
 ended-requires-clause-started c =
     let d : ℕ = get_or c.incoming-number-items.result.now c.loop-number.number-index 0 in
-    let here = c.incoming-number-items.ensures.each c.loop-number.number-index
+    let here = c.incoming-number-items.ensures.channels.each c.loop-number.number-index
     (omega (arith, c.loop-number-test.true)) in
     on_started (rates c.args.graph.now) (λ a. get_or c.args.costs.now a 0) c.args.starts.now c.args.firing
     c.requires.prepared d c.needed-count.result c.source_of-source.result here.0 here.1 c.needed-count.ensures
@@ -42,7 +42,7 @@ ended-requires-clause-started c =
 pub ended-requires-clause-small : goal.ended-requires-clause-small
 ended-requires-clause-small c =
     let d : ℕ = get_or c.incoming-number-items.result.now c.loop-number.number-index 0 in
-    let here = c.incoming-number-items.ensures.each c.loop-number.number-index
+    let here = c.incoming-number-items.ensures.channels.each c.loop-number.number-index
     (omega (arith, c.loop-number-test.true)) in
     on_small (rates c.args.graph.now) (λ a. get_or c.args.costs.now a 0) c.args.starts.now c.args.firing
     c.requires.prepared d c.needed-count.result c.source_of-source.result here.0 here.1 c.needed-count.ensures
@@ -55,8 +55,8 @@ loop-number-preserved c =
     let ins = c.incoming-number-items.result.now in
     let cost : ℕ → ℕ = λ a. get_or c.args.costs.now a 0 in
     let d : ℕ = get_or ins i 0 in
-    let here = c.incoming-number-items.ensures.each i (omega (arith, c.loop-number-test.true)) in
-    let sound = graphs_are_sound c.args.graph.now c.channels.ensures.shape in
+    let here = c.incoming-number-items.ensures.channels.each i (omega (arith, c.loop-number-test.true)) in
+    let sound = graphs_are_sound c.args.graph.now c.incoming-number-items.ensures.shape in
     let more = need_more r cost c.args.starts.now c.args.firing c.requires.prepared ins sound i
     c.loop-number.time d c.needed-count.result c.source_of-source.result c.ended.result (λ _. d) here.0 here.1
     c.needed-count.ensures c.source_of-source.ensures
@@ -67,6 +67,6 @@ loop-number-preserved c =
 pub returns : goal.returns
 returns c =
     need_all (rates c.args.graph.now) (λ a. get_or c.args.costs.now a 0) c.args.starts.now c.args.firing
-    c.requires.prepared c.incoming-number-items.result.now c.incoming-number-items.ensures
+    c.requires.prepared c.incoming-number-items.result.now c.incoming-number-items.ensures.channels
     c.loop-number.number-index c.loop-number.time
     (omega (arith, c.loop-number-test.false, c.loop-number.auto.number-index-end)) c.loop-number.invariant

@@ -16,7 +16,7 @@ homes-requires c =
     (in_order rs i (length rs) f l l st) in
     let known : IsOfBlock (rates c.args.graph.now) c.requires.0 f =
     subst (IsOfBlock (rates c.args.graph.now) c.requires.0) all.2 (v.known all.0 all.1) in
-    omega (arith, known.0, c.actors.ensures)
+    omega (arith, known.0, c.actors.ensures.count)
 
 pub capacities-requires-clause-admissible : goal.capacities-requires-clause-admissible
 capacities-requires-clause-admissible c =
@@ -41,8 +41,8 @@ returns-clause-exact c =
     let r = rates c.args.graph.now in
     record {
       order_is = c.in_ok-order.ensures;
-      homes_all = c.in_ok-homes.ensures.all ∙ c.actors.ensures;
-      homes_each = λ a j l. c.in_ok-homes.ensures.each a j (omega (arith, l, c.actors.ensures));
+      homes_all = c.in_ok-homes.ensures.all ∙ c.actors.ensures.count;
+      homes_each = λ a j l. c.in_ok-homes.ensures.each a j (omega (arith, l, c.actors.ensures.count));
       caps_all = c.in_ok-caps.ensures.0;
       caps_each = λ k l. subst (λ w. IsGreatestHeld r w k (get_or c.in_ok-caps.caps.items k 0)) c.deref.ensures.value
           (c.in_ok-caps.ensures.1 k l);

@@ -16,7 +16,7 @@ loop-i-init c =
     let zero = c.in_ok-until.ensures.items_if_clones_equal (λ y e. e) in
     record {
       walk = walk_first (rates c.args.graph.now) (λ a. get_or c.args.costs.now a 0) c.args.table.now.rows
-          c.in_ok-starts.starts.items c.in_ok-until.until.items (c.in_ok-starts.ensures.all ∙ c.actors.ensures)
+          c.in_ok-starts.starts.items c.in_ok-until.until.items (c.in_ok-starts.ensures.all ∙ c.actors.ensures.count)
           c.in_ok-starts.ensures.none
           (λ m. ap (λ (xs : List ℕ). get_or xs m 0) zero ∙ zeros c.args.m m);
       wide = ap length zero ∙ length-replicate c.args.m 0;
