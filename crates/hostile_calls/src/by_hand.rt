@@ -3,15 +3,15 @@
 ghost use Rattle.sdf_graph.specs.Rates.{rates};
 ghost use Rattle.sdf_actor.specs.Graphs.{graph_of};
 ghost use Rattle.sdf_kit.specs.Kit.{kit_steps};
-ghost use Rattle.sdf_answer.specs.Rows.{IsBlockTableOf};
+ghost use Rattle.sdf_prec.specs.BlockTables.{IsBlockTableOf};
 ghost use Rattle.sdf_rings.specs.Rests.{HaveMet};
 
 use crate::runs::{BLOCKS, inputs_of};
 use crate::{TURNS, print_turn};
 use anyhow::Result;
 use sdf_actor::Net;
-use sdf_answer::BlockTable;
 use sdf_kit::Kit;
+use sdf_prec::BlockTable;
 use sdf_rings::Rings;
 use sdf_run::NoGate;
 use std::io;

@@ -3,7 +3,7 @@
 ghost use Rattle.sdf_graph.specs.Rates.{rates};
 ghost use Rattle.sdf_actor.specs.Graphs.{graph_of};
 ghost use Rattle.sdf_kit.specs.Kit.{kit_steps};
-ghost use Rattle.sdf_answer.specs.Rows.{IsBlockTableOf};
+ghost use Rattle.sdf_prec.specs.BlockTables.{IsBlockTableOf};
 ghost use Rattle.sdf_plan.specs.Plans.{Suits};
 
 use crate::by_hand::finish_twice;
@@ -14,12 +14,12 @@ use crate::sessions::{feed_twice, open_twice};
 use crate::sounds::process_twice;
 use anyhow::{Result, bail};
 use sdf_actor::Net;
-use sdf_answer::BlockTable;
 use sdf_file::{Design, read_design};
 use sdf_kit::Kit;
 use sdf_options::Options;
 use sdf_plan::Plan;
 use sdf_plan::planning::plan;
+use sdf_prec::BlockTable;
 use std::fs;
 use std::rt::Files;
 use std::thread::Threads;

@@ -4,15 +4,14 @@
 ghost use Rattle.sdf_graph.specs.Rates.{rates};
 ghost use Rattle.sdf_actor.specs.Graphs.{graph_of};
 ghost use Rattle.sdf_kit.specs.Kit.{kit_steps};
-ghost use Rattle.sdf_answer.specs.Rows.{IsBlockTableOf};
+ghost use Rattle.sdf_prec.specs.BlockTables.{IsBlockTableOf};
 
 use anyhow::{Context, Result, bail};
 use sdf_actor::Net;
-use sdf_answer::BlockTable;
 use sdf_file::{Design, read_design};
 use sdf_kit::Kit;
 use sdf_prec::hu::hu;
-use sdf_prec::{Costs, Team};
+use sdf_prec::{BlockTable, Costs, Team};
 use sdf_run::{NoGate, Ran, RunFault, Workers, run_one, run_rings, run_rows};
 use sdf_sched::class_s::class_s;
 use sdf_sched::{Lean, Pick, Round, Runs};

@@ -3,7 +3,7 @@
 ghost use Rattle.sdf_graph.specs.Rates.{rates};
 ghost use Rattle.sdf_actor.specs.Graphs.{graph_of};
 ghost use Rattle.sdf_kit.specs.Kit.{kit_steps};
-ghost use Rattle.sdf_answer.specs.Rows.{IsBlockTableOf};
+ghost use Rattle.sdf_prec.specs.BlockTables.{IsBlockTableOf};
 ghost use Rattle.sdf_plan.specs.Plans.{Suits};
 
 use crate::files::design_at;
@@ -12,12 +12,12 @@ use anyhow::{Context, Result};
 use rand_core::{Rng, SeedableRng};
 use rand_xoshiro::SplitMix64;
 use sdf_actor::Net;
-use sdf_answer::BlockTable;
 use sdf_file::Design;
 use sdf_kit::Kit;
 use sdf_options::{Options, Runner};
 use sdf_plan::Plan;
 use sdf_plan::planning::plan;
+use sdf_prec::BlockTable;
 use sdf_run::{ActorId, Gate, Ran, RunFault, run_one};
 use std::rt::Files;
 use std::sync::atomic::{AtomicU64, Ordering};

@@ -3,15 +3,15 @@
 ghost use Rattle.sdf_graph.specs.Rates.{rates};
 ghost use Rattle.sdf_actor.specs.Graphs.{graph_of};
 ghost use Rattle.sdf_kit.specs.Kit.{kit_steps};
-ghost use Rattle.sdf_answer.specs.Rows.{IsBlockTableOf};
+ghost use Rattle.sdf_prec.specs.BlockTables.{IsBlockTableOf};
 ghost use Rattle.sdf_plan.specs.Plans.{Suits};
 
 use crate::{TURNS, print_turn};
 use anyhow::Result;
 use sdf_actor::Net;
-use sdf_answer::BlockTable;
 use sdf_kit::Kit;
 use sdf_plan::{Plan, Way};
+use sdf_prec::BlockTable;
 use sdf_run::{Gate, NoGate, Ran, RunFault, Workers, run_one, run_rings, run_rows};
 use std::alloc::{AllocError, Global};
 use std::io;

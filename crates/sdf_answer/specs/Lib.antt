@@ -1,5 +1,4 @@
 pub mod Answer
-pub mod Rows
 pub mod Lists
 pub mod Held
 pub mod Blocks

@@ -1,11 +1,10 @@
 -- What a run of a number of periods depends on.
-use Rattle.std.specs.Prelude.{◌≡◌, ℕ, ◌*◌, ◌≤◌, ◌<◌, List, [], length, slice_index, slice_index_or}
+use Rattle.std.specs.Prelude.{◌≡◌, ℕ, ◌*◌, ◌≤◌, ◌<◌, List, [], length, sum, slice_index, slice_index_or}
 use Rattle.sdf_limits.specs.declared.TheConstants.{MOST_RATE, MOST_BLOCK}
 use Rattle.sdf_graph.specs.Rates.{Rates, rates, IsShape, IsAlike}
 use Rattle.sdf_graph.specs.Periods.{IsLeastPeriod}
 use Rattle.sdf_graph.specs.Sequences.{IsPass}
 use Rattle.sdf_sched.specs.Period.{Schedule, IsPeriodOf}
-use Rattle.sdf_prec.specs.Blocks.{IsShort}
 use Rattle.sdf_actor.specs.declared.node.Node.TheVariants.{Source, Sink}
 use Rattle.sdf_actor.specs.declared.sides.Lists.{Lists}
 use Rattle.sdf_actor.specs.declared.sides.Lists.TheVariants.{Outputs}
@@ -65,5 +64,6 @@ pub record CanRun {A S T : Type 0} (s : Steps A S T) (n : Netlist A T) (q : List
 -- in a block of few firings no list moves more samples than MOST_BLOCK firings do at the rate MOST_RATE
 abbrev pub AreBlocksSmall : {A S T : Type 0} → Steps A S T → Netlist A T → Type 0
 AreBlocksSmall s n =
-    (j : ℕ) (q : List ℕ) (lists : Lists) → IsLeastPeriod (rates (graph_of s n)) q → IsShort j q →
+    (j : ℕ) (q : List ℕ) (lists : Lists) → IsLeastPeriod (rates (graph_of s n)) q →
+    j * sum q ≤ MOST_BLOCK →
     j * period_samples n.nodes lists q ≤ MOST_RATE * MOST_BLOCK

@@ -1,14 +1,13 @@
 //! The inputs and outputs of a net's run, whatever runs it.
 //!
-//! It depends on `sdf_graph`, `sdf_sched`, `sdf_prec`, `sdf_actor` and `sdf_node`, and every runner depends on it.
+//! It depends on `sdf_graph`, `sdf_sched`, `sdf_actor` and `sdf_node`, and every runner depends on it.
 //! Begin at `specs/Answer.antt`: the inputs of a run, and its outputs as lists of the histories. Then read `inputs` and
 //! `outputs`, the tests and the lists of a run; `sizes`, the samples that firings move; `queue`, the samples on a
 //! channel; `blocks`, the samples that a firing moves at its ports; `many_blocks`, the samples of batched firings
-//! (`parts`: at one port; `pairs`: at two); `rooms`, how many samples fit on a channel; `block_table`, the plan that
-//! workers follow (`specs/Rows.antt`); and `laws`, which every runner's proof uses.
+//! (`parts`: at one port; `pairs`: at two); `rooms`, how many samples fit on a channel; and `laws`, which every runner's
+//! proof uses.
 #![tactic(auto)]
 
-pub mod block_table;
 pub mod blocks;
 pub mod fault;
 pub mod inputs;
@@ -21,7 +20,6 @@ pub mod queue;
 pub mod rooms;
 pub mod sizes;
 
-pub use block_table::BlockTable;
 pub use fault::RunFault;
 pub use outputs::Ran;
 pub use queue::Queue;

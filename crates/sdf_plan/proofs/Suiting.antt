@@ -3,7 +3,7 @@ use Rattle.std.proofs.Common.{ℕ, Option, Some, None, Result, Ok, Err, MatchRes
 use Rattle.std.specs.Prelude.{IfSome, IfOk}
 use Rattle.sdf_sched.specs.Period.{Schedule}
 use Rattle.sdf_prec.specs.Tables.{Tabled, IsTable}
-use Rattle.sdf_answer.specs.Rows.{IsTableOf}
+use Rattle.sdf_prec.specs.BlockTables.{IsTableOf}
 use Rattle.sdf_file.specs.Designs.{DesignValue}
 use Rattle.sdf_faults.specs.declared.fault.Fault.{Fault}
 use Rattle.sdf_options.specs.declared.options.Options.{Options}

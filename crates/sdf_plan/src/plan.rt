@@ -4,15 +4,15 @@ ghost use Rattle.std.specs.Prelude.{◌≡◌, ℤ, IfSome, IfNone, None};
 ghost use Rattle.sdf_graph.specs.Rates.{rates};
 ghost use Rattle.sdf_actor.specs.Graphs.{graph_of};
 ghost use Rattle.sdf_actor.specs.Nets.{Netlist};
-ghost use Rattle.sdf_answer.specs.Rows.{IsBlockTableOf};
+ghost use Rattle.sdf_prec.specs.BlockTables.{IsBlockTableOf};
 ghost use Rattle.sdf_kit.specs.declared.kit.Kit.{Kit};
 ghost use Rattle.sdf_kit.specs.Kit.{kit_steps};
 ghost use Rattle.sdf_plan.specs.declared.plan.Way.TheVariants.{One, Parts};
 ghost use Rattle.sdf_plan.specs.Ways.{plan_by, HasBlockTable};
 ghost use Rattle.sdf_plan.specs.Plans.{Suits};
 
-use sdf_answer::BlockTable;
 use sdf_options::Runner;
+use sdf_prec::BlockTable;
 use sdf_sched::Period;
 use std::marker::Model;
 

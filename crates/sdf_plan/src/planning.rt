@@ -15,13 +15,12 @@ ghost use Rattle.sdf_plan.specs.Ways.{plan_by};
 
 use crate::placement::{blocking_by, table_by};
 use crate::plan::{Plan, Way};
-use sdf_answer::BlockTable;
 use sdf_faults::{Fault, Progress, Stalled};
 use sdf_file::Design;
 use sdf_graph::{Graph, Repetitions};
 use sdf_limits::{MOST_BLOCKING, MOST_PATIENCE, MOST_WORKERS};
 use sdf_options::{Options, Policy, Runner};
-use sdf_prec::PrecFault;
+use sdf_prec::{BlockTable, PrecFault};
 use sdf_sched::class_s::class_s;
 use sdf_sched::{Lean, Period, Round, Runs, SchedFault, Stuck};
 use std::alloc::{AllocError, Global};

@@ -63,12 +63,13 @@ fn past_of(graph: &Graph, actor: usize) -> usize
     requires { actor < graph.now.actors }
     ensures { IsPast (rates graph.now) actor result }
 {
-    for k in actor + 1..graph.actors() {
+    let actors = graph.actors();
+    for k in actor + 1..actors {
         if may_part(graph, k) {
             return k;
         }
     }
-    graph.actors()
+    actors
 }
 
 /// Returns the sum of the weights of the first `actors` actors.

@@ -8,7 +8,7 @@ use Rattle.sdf_actor.specs.Nets.{Netlist}
 use Rattle.sdf_fission.specs.WarmUps.{WarmsIn}
 use Rattle.sdf_kit.specs.Kit.{kit_steps}
 use Rattle.sdf_kit.specs.declared.kit.Kit.{Kit}
-use Rattle.sdf_answer.specs.Rows.{IsBlockTableOf}
+use Rattle.sdf_prec.specs.BlockTables.{IsBlockTableOf}
 use Rattle.sdf_run.specs.Sessions.{MayRun}
 use Rattle.sdf_sched.specs.Period.{IsPeriodOf}
 use Rattle.sdf_wav.specs.PiecesIn.{Reading, known_frames, IsReading}

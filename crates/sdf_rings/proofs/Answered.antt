@@ -20,7 +20,7 @@ use Rattle.sdf_actor.specs.Steps.{Steps}
 use Rattle.sdf_answer.specs.Answer.{HasInputs, AreOutputs, periods_of}
 use Rattle.sdf_answer.specs.Feeds as feeds
 use Rattle.sdf_answer.specs.Periods.{HasPeriod}
-use Rattle.sdf_answer.specs.Rows.{IsTableOf}
+use Rattle.sdf_prec.specs.BlockTables.{IsTableOf}
 use Rattle.sdf_rings.specs.Asks.{IsPlanned}
 use Rattle.sdf_rings.specs.Outcome.{HasRunInRounds, HasEnded}
 use Rattle.sdf_rings.specs.Prepared.{IsPrepared}

@@ -17,7 +17,7 @@ use Rattle.sdf_actor.specs.declared.node.Node.TheVariants.{Source, Sink, Inner}
 use Rattle.sdf_actor.specs.declared.sides.Lists.TheVariants.{Inputs, Outputs}
 use Rattle.sdf_answer.specs.Answer.{HasInputs}
 use Rattle.sdf_answer.specs.Periods.{HasPeriod, CanRun}
-use Rattle.sdf_answer.specs.Rows.{IsTableOf}
+use Rattle.sdf_prec.specs.BlockTables.{IsTableOf}
 use Rattle.sdf_node.specs.Nodes.{CanBegin}
 use Rattle.sdf_answer.proofs.Theorems.{nets_can_run}
 use Rattle.sdf_rings.specs.Begun.{CanStart}

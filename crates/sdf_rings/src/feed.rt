@@ -7,15 +7,16 @@ ghost use Rattle.sdf_actor.specs.Rests.{IsRest};
 ghost use Rattle.sdf_actor.specs.Wires.{lists};
 ghost use Rattle.sdf_answer.specs.Answer.{periods_of};
 ghost use Rattle.sdf_answer.specs.Feeds as feeds;
-ghost use Rattle.sdf_answer.specs.Rows.{IsBlockTableOf};
+ghost use Rattle.sdf_prec.specs.BlockTables.{IsBlockTableOf};
 ghost use Rattle.sdf_rings.specs.Outcome.{HasRunInRounds, HasGoneOn, IsRingsFault};
 
 use crate::runner::run_through;
 use crate::workers::Workers;
 use sdf_actor::{Actor, Net, Rest};
 use sdf_answer::laws::nets_have_periods;
-use sdf_answer::{BlockTable, Ran, RunFault};
+use sdf_answer::{Ran, RunFault};
 use sdf_node::Gate;
+use sdf_prec::BlockTable;
 use std::alloc::AllocGlobal;
 use std::thread::Threads;
 

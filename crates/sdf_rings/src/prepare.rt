@@ -8,7 +8,7 @@ ghost use Rattle.sdf_actor.specs.Graphs.{graph_of};
 ghost use Rattle.sdf_actor.specs.Sides.{period_samples};
 ghost use Rattle.sdf_actor.specs.Wires.{lists};
 ghost use Rattle.sdf_answer.specs.Answer.{HasInputs};
-ghost use Rattle.sdf_answer.specs.Rows.{IsBlockTableOf};
+ghost use Rattle.sdf_prec.specs.BlockTables.{IsBlockTableOf};
 ghost use Rattle.sdf_rings.specs.Begun.{IsStart};
 ghost use Rattle.sdf_rings.specs.Prepared.{IsPrepared, IsAsked, IsPrepareFault};
 
@@ -24,8 +24,8 @@ use sdf_answer::inputs::{are_inputs, first_sample};
 use sdf_answer::laws::{blocks_are_small, net_facts};
 use sdf_answer::outputs::make_outputs;
 use sdf_answer::sizes::samples_of_blocks;
-use sdf_answer::{BlockTable, RunFault, Sizes};
-use sdf_prec::Table;
+use sdf_answer::{RunFault, Sizes};
+use sdf_prec::{BlockTable, Table};
 use std::alloc::{AllocError, Global};
 
 /// Returns the seats of a run of `blocks` blocks of `table`.

@@ -4,16 +4,17 @@ ghost use Rattle.std.specs.Prelude.{◌*◌, MatchResult};
 ghost use Rattle.sdf_graph.specs.Rates.{rates};
 ghost use Rattle.sdf_actor.specs.Graphs.{graph_of};
 ghost use Rattle.sdf_actor.specs.Wires.{lists};
-ghost use Rattle.sdf_answer.specs.Rows.{IsBlockTableOf};
+ghost use Rattle.sdf_prec.specs.BlockTables.{IsBlockTableOf};
 ghost use Rattle.sdf_rings.specs.Outcome.{HasRunInRounds, HasEnded, IsRingsFault};
 
 use crate::rings::Rings;
 use crate::workers::Workers;
 use sdf_actor::{Actor, Net};
 use sdf_answer::laws::nets_have_periods;
-use sdf_answer::{BlockTable, Ran, RunFault};
+use sdf_answer::{Ran, RunFault};
 use sdf_limits::MOST_PATIENCE;
 use sdf_node::Gate;
+use sdf_prec::BlockTable;
 use std::alloc::AllocGlobal;
 use std::thread::Threads;
 

@@ -12,7 +12,7 @@ use Rattle.sdf_prec.specs.declared.firing.Firing.{Firing}
 use Rattle.sdf_prec.specs.Tables.{firings, row, order, sequence, Tabled}
 use Rattle.sdf_prec.specs.Blocks.{IsShort}
 use Rattle.sdf_prec.proofs.Theorems.{tables_count}
-use Rattle.sdf_answer.specs.Rows.{IsTableOf}
+use Rattle.sdf_prec.specs.BlockTables.{IsTableOf}
 
 -- rows with some firing are no more than their firings
 some_each : (rows : List (List (Option Firing))) → ((i : ℕ) → i < length rows → 0 < length (firings (row rows i))) →

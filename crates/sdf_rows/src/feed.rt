@@ -9,7 +9,7 @@ ghost use Rattle.sdf_actor.specs.Wires.{lists};
 ghost use Rattle.sdf_actor.specs.declared.sides.Lists.TheVariants.{Inputs};
 ghost use Rattle.sdf_answer.specs.Answer.{HasInputs, periods_of, IsRunFault};
 ghost use Rattle.sdf_answer.specs.Feeds.{HasRun, GoesOnBy};
-ghost use Rattle.sdf_answer.specs.Rows.{IsBlockTableOf};
+ghost use Rattle.sdf_prec.specs.BlockTables.{IsBlockTableOf};
 ghost use Rattle.sdf_rows.specs.Collect.{AreKept};
 
 use crate::collect::collect;

@@ -7,7 +7,7 @@ ghost use Rattle.sdf_actor.specs.Wires.{lists};
 ghost use Rattle.sdf_limits.specs.declared.TheConstants.{MOST_BLOCK};
 ghost use Rattle.sdf_prec.specs.Tables.{row, firings};
 ghost use Rattle.sdf_answer.specs.Answer.{HasInputs};
-ghost use Rattle.sdf_answer.specs.Rows.{IsBlockTableOf};
+ghost use Rattle.sdf_prec.specs.BlockTables.{IsBlockTableOf};
 ghost use Rattle.sdf_rows.specs.Blocks.{IsOver};
 
 use crate::runs::{Timetable, run_blocks};
@@ -18,9 +18,9 @@ use sdf_actor::{Actor, Net};
 use sdf_answer::laws::net_facts;
 use sdf_answer::rooms::make_queues;
 use sdf_answer::sizes::samples_of_blocks;
-use sdf_answer::{BlockTable, Sizes};
+use sdf_answer::Sizes;
 use sdf_node::Gate;
-use sdf_prec::Table;
+use sdf_prec::{BlockTable, Table};
 use std::alloc::{AllocError, Global};
 use std::thread::Threads;
 

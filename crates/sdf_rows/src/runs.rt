@@ -6,7 +6,7 @@ ghost use Rattle.sdf_graph.specs.Periods.{IsLeastPeriod};
 ghost use Rattle.sdf_actor.specs.Graphs.{graph_of};
 ghost use Rattle.sdf_actor.specs.Wires.{lists};
 ghost use Rattle.sdf_prec.specs.Tables.{row, firings};
-ghost use Rattle.sdf_answer.specs.Rows.{IsTableOf};
+ghost use Rattle.sdf_prec.specs.BlockTables.{IsTableOf};
 ghost use Rattle.sdf_rows.specs.Stands.{HaveBlocks, KeepBlocks, IsBetween, IsScene};
 ghost use Rattle.sdf_rows.specs.Blocks.{IsRound, IsResting, block_after};
 

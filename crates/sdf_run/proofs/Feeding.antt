@@ -17,7 +17,7 @@ use Rattle.sdf_actor.specs.declared.rest.Rest.{Rest}
 use Rattle.sdf_actor.specs.declared.sides.Lists.TheVariants.{Inputs, Outputs}
 use Rattle.sdf_answer.specs.Answer.{HasInputs, periods_of, IsRunFault}
 use Rattle.sdf_answer.specs.Feeds.{HasRun, AreFull, GoesOnBy}
-use Rattle.sdf_answer.specs.Rows.{IsTableOf}
+use Rattle.sdf_prec.specs.BlockTables.{IsTableOf}
 use Rattle.sdf_answer.specs.declared.fault.RunFault.{RunFault}
 use Rattle.sdf_answer.specs.declared.fault.RunFault.TheVariants.{OutOfMemory, InputLength, NotHomed, Patience, NoWorker}
 use Rattle.sdf_answer.specs.declared.fault.RunFault.TheVariants.{SessionFailed}

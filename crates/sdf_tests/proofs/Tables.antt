@@ -4,7 +4,7 @@ use Rattle.sdf_graph.specs.Rates.{Rates}
 use Rattle.sdf_prec.specs.Accepting.{IsSize}
 use Rattle.sdf_prec.specs.Blocks.{block}
 use Rattle.sdf_prec.specs.Tables.{Tabled, IsTable}
-use Rattle.sdf_answer.specs.Rows.{IsTableOf}
+use Rattle.sdf_prec.specs.BlockTables.{IsTableOf}
 
 pub sized : (r : Rates) (q : List ℕ) (j m : ℕ) (t : Tabled) → IsSize j m q → IsTable r (slice_index (block j q)) m t →
     IsTableOf r q j t

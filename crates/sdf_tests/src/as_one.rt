@@ -2,13 +2,13 @@
 
 ghost use Rattle.sdf_graph.specs.Rates.{rates};
 ghost use Rattle.sdf_actor.specs.Graphs.{graph_of};
-ghost use Rattle.sdf_answer.specs.Rows.{IsBlockTableOf};
+ghost use Rattle.sdf_prec.specs.BlockTables.{IsBlockTableOf};
 
 use crate::kits::{BLOCKS, Worked};
 use crate::nets::{Times, make_as_one, planned, ramp};
 use sdf_actor::{Actor, Net};
-use sdf_answer::BlockTable;
 use sdf_node::{ActorId, Gate};
+use sdf_prec::BlockTable;
 use sdf_run::Mode;
 use std::sync::atomic::{AtomicU64, Ordering};
 use std::test::Fail;

@@ -3,12 +3,12 @@
 ghost use Rattle.sdf_graph.specs.Rates.{rates};
 ghost use Rattle.sdf_sched.specs.Period.{IsPeriodOf};
 ghost use Rattle.sdf_actor.specs.Graphs.{graph_of};
-ghost use Rattle.sdf_answer.specs.Rows.{IsBlockTableOf};
+ghost use Rattle.sdf_prec.specs.BlockTables.{IsBlockTableOf};
 
 use crate::kits::{PLAIN, Worked};
 use crate::nets::{planned, ramp};
 use sdf_actor::{Actor, Net};
-use sdf_answer::BlockTable;
+use sdf_prec::BlockTable;
 use sdf_run::{Mode, Session, feed_one, resume_one};
 use sdf_sched::Period;
 use std::alloc::Global;

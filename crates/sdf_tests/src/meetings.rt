@@ -3,13 +3,13 @@
 
 ghost use Rattle.sdf_graph.specs.Rates.{rates};
 ghost use Rattle.sdf_actor.specs.Graphs.{graph_of};
-ghost use Rattle.sdf_answer.specs.Rows.{IsBlockTableOf};
+ghost use Rattle.sdf_prec.specs.BlockTables.{IsBlockTableOf};
 
 use crate::kits::{PLAIN, Worked};
 use crate::nets::{Times, feed_twice, make_as_one, planned, ramp};
 use sdf_actor::{Actor, Net};
-use sdf_answer::BlockTable;
 use sdf_node::{ActorId, Gate};
+use sdf_prec::BlockTable;
 use sdf_run::Mode;
 use std::test::Fail;
 use std::thread;

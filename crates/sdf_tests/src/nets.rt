@@ -4,13 +4,12 @@ ghost use Rattle.std.specs.Prelude.{◌≡◌, ◌*◌, ◌<◌, IfOk};
 ghost use Rattle.sdf_graph.specs.Rates.{rates};
 ghost use Rattle.sdf_sched.specs.Period.{IsPeriodOf};
 ghost use Rattle.sdf_actor.specs.Graphs.{graph_of};
-ghost use Rattle.sdf_answer.specs.Rows.{IsBlockTableOf};
+ghost use Rattle.sdf_prec.specs.BlockTables.{IsBlockTableOf};
 
 use sdf_actor::{Actor, Link, Net, Node};
-use sdf_answer::BlockTable;
 use sdf_node::Gate;
 use sdf_prec::hu::hu;
-use sdf_prec::{Costs, Table, Team};
+use sdf_prec::{BlockTable, Costs, Table, Team};
 use sdf_run::{Mode, Ran, RunFault, Session, Workers, run_one, run_rings, run_rows};
 use sdf_sched::class_s::class_s;
 use sdf_sched::{Period, Round};

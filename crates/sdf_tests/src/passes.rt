@@ -4,13 +4,12 @@
 ghost use Rattle.std.specs.Prelude.{◌≡◌, IfOk};
 ghost use Rattle.sdf_graph.specs.Rates.{rates};
 ghost use Rattle.sdf_actor.specs.Graphs.{graph_of};
-ghost use Rattle.sdf_answer.specs.Rows.{IsBlockTableOf};
+ghost use Rattle.sdf_prec.specs.BlockTables.{IsBlockTableOf};
 
 use crate::nets::{Times, begun, feed_twice, in_runs, list, pair, planned, run_by};
 use sdf_actor::{Actor, Net, Node};
-use sdf_answer::BlockTable;
 use sdf_node::{ActorId, Gate};
-use sdf_prec::Table;
+use sdf_prec::{BlockTable, Table};
 use sdf_run::Mode;
 use std::alloc::Global;
 use std::path::PathBuf;

@@ -2,13 +2,13 @@
 
 ghost use Rattle.sdf_graph.specs.Rates.{rates};
 ghost use Rattle.sdf_actor.specs.Graphs.{graph_of};
-ghost use Rattle.sdf_answer.specs.Rows.{IsBlockTableOf};
+ghost use Rattle.sdf_prec.specs.BlockTables.{IsBlockTableOf};
 
 use crate::kits::{BLOCKS, PLAIN, Worked};
 use crate::nets::{Times, lengths, planned, ramp, run_by};
 use sdf_actor::{Actor, Net};
-use sdf_answer::BlockTable;
 use sdf_node::{ActorId, Gate};
+use sdf_prec::BlockTable;
 use sdf_run::{Mode, Ran, RunFault};
 use std::alloc::Global;
 use std::sync::atomic::{AtomicBool, Ordering};

@@ -2,13 +2,13 @@
 
 ghost use Rattle.sdf_graph.specs.Rates.{rates};
 ghost use Rattle.sdf_actor.specs.Graphs.{graph_of};
-ghost use Rattle.sdf_answer.specs.Rows.{IsBlockTableOf};
+ghost use Rattle.sdf_prec.specs.BlockTables.{IsBlockTableOf};
 
 use crate::kits::Worked;
 use crate::nets::{by_one, chain, one_list, pair, planned, ramp};
 use crate::patience::{Held, LATE};
 use sdf_actor::{Actor, Net};
-use sdf_answer::BlockTable;
+use sdf_prec::BlockTable;
 use sdf_run::{Mode, NoGate, Ran, RunFault, Session};
 use std::alloc::{AllocError, Global};
 use std::test::Fail;

@@ -3,15 +3,14 @@
 ghost use Rattle.std.specs.Prelude.{◌≡◌, length};
 ghost use Rattle.sdf_graph.specs.Rates.{rates};
 ghost use Rattle.sdf_actor.specs.Graphs.{graph_of};
-ghost use Rattle.sdf_answer.specs.Rows.{IsBlockTableOf};
+ghost use Rattle.sdf_prec.specs.BlockTables.{IsBlockTableOf};
 ghost use Rattle.sdf_rings.specs.Rests.{HaveMet};
 
 use crate::kits::{BLOCKS, Worked};
 use crate::nets::{by_one, planned, ramp};
 use sdf_actor::{Actor, Net};
-use sdf_answer::BlockTable;
 use sdf_node::NoGate;
-use sdf_prec::Table;
+use sdf_prec::{BlockTable, Table};
 use sdf_rings::Rings;
 use std::process::Abort;
 use std::test::Fail;

@@ -5,7 +5,7 @@ use Rattle.sdf_prec.specs.Tables.{Tabled}
 use Rattle.sdf_actor.specs.Nets.{Netlist}
 use Rattle.sdf_actor.specs.Wires.{lists}
 use Rattle.sdf_answer.specs.Answer.{HasInputs, periods_of}
-use Rattle.sdf_answer.specs.Rows.{IsBlockTableOf}
+use Rattle.sdf_prec.specs.BlockTables.{IsBlockTableOf}
 use Rattle.sdf_answer.proofs.Theorems.{begun_nets_ask, begun_runs_go_on, periods_may_leave}
 use Rattle.sdf_answer.specs.declared.fault.RunFault.{RunFault}
 use Rattle.sdf_answer.specs.declared.fault.RunFault.TheVariants.{OutOfMemory, InputLength, NotHomed, Patience, NoWorker}

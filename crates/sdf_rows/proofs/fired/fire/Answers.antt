@@ -11,7 +11,7 @@ use Rattle.sdf_actor.specs.Wires.{lists}
 use Rattle.sdf_actor.specs.declared.sides.Lists.TheVariants.{Outputs}
 use Rattle.sdf_actor.proofs.Theorems.{nets_are_wired}
 use Rattle.sdf_answer.specs.Periods.{CanRun}
-use Rattle.sdf_answer.specs.Rows.{IsTableOf}
+use Rattle.sdf_prec.specs.BlockTables.{IsTableOf}
 use Rattle.sdf_answer.proofs.Theorems.{blocks_are_small, nets_can_run, nets_have_periods}
 use Rattle.sdf_rows.specs.Blocks.{IsResting}
 use Rattle.sdf_prec.specs.Tables.{row}

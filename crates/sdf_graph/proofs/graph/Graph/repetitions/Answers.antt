@@ -2,7 +2,7 @@ use Rattle.std.proofs.Common.{arith, inr, ◌≡◌, ◌<◌, ◌≤◌, ℕ, Li
 use Rattle.std.proofs.lemmas.Result.{MatchResult-weaker}
 use Rattle.sdf_graph.specs.declared.channel.Totals.{Totals}
 use Rattle.sdf_graph.specs.declared.repetitions.Ratio.{Ratio}
-use Rattle.sdf_graph.specs.Rates.{Shape, IsShape, rates, cycle}
+use Rattle.sdf_graph.specs.Rates.{Shape, IsShape, rates, channel, cycle}
 use Rattle.sdf_graph.specs.Periods.{Divides, IsLeastPeriod}
 use Rattle.sdf_graph.specs.Shares.{IsEven, IsEvenAt, IsCommon, IsScaleFault, firings, ratio, totals, no_totals}
 use Rattle.std.proofs.Common.{MatchResult}
@@ -14,12 +14,23 @@ use Rattle.sdf_graph.proofs.Faultless.{cycles_few}
 use Rattle.sdf_graph.proofs.PeriodLaws.{cycles_in, in_cycles, none_long, fault_of, least_period}
 use Rattle.sdf_graph.proofs.graph.Graph.repetitions.Goals as goal
 
+-- a graph keeps what its channels move in a cycle
+kept_are : {g value : Shape} {read kept : List Totals} → read ≡ kept → kept ≡ map totals g.channels → g ≡ value →
+    read ≡ map totals value.channels
+kept_are is sums view = is ∙ (sums ∙ ap (λ (s : Shape). map totals s.channels) view)
+
+-- what holds of each channel holds of each entry that the graph keeps
+each_kept : (value : Shape) {read : List Totals} (P : Totals → Type 0) → read ≡ map totals value.channels →
+    ((d : ℕ) → d < length value.channels → P (totals (channel value d))) →
+    (d : ℕ) → d < length read → P (get_or read d no_totals)
+each_kept value P are each = subst (λ (xs : List Totals). (d : ℕ) → d < length xs → P (get_or xs d no_totals))
+    (sym are) (all_totals P value.channels each)
+
 pub returns-in-Some : goal.returns-in-Some
 returns-in-Some c =
     let shape = subst IsShape c.self.view_is c.self.invariant.shape in
     let walk = c.in_ok-parts.ensures in
-    let sums : c.deref.result.now ≡ map totals c.args.self.now.channels =
-    c.deref.ensures.value ∙ (c.self.invariant.sums ∙ ap (λ (s : Shape). map totals s.channels) c.self.view_is) in
+    let sums = kept_are c.deref.ensures.value c.self.invariant.sums c.self.view_is in
     let uneven = subst (λ (xs : List Totals). (c.in-Some.channel < length xs)
     × (IsEven c.in_ok-parts.parts.items (get_or xs c.in-Some.channel no_totals) → ⊥)
     × ((d : ℕ) → d < c.in-Some.channel → IsEven c.in_ok-parts.parts.items (get_or xs d no_totals))) sums
@@ -49,8 +60,7 @@ pub returns-in_default-common : goal.returns-in_default-common
 returns-in_default-common c =
     let walk = c.in_ok-parts.ensures in
     let shape = subst IsShape c.self.view_is c.self.invariant.shape in
-    let sums : c.deref.result.now ≡ map totals c.args.self.now.channels =
-    c.deref.ensures.value ∙ (c.self.invariant.sums ∙ ap (λ (s : Shape). map totals s.channels) c.self.view_is) in
+    let sums = kept_are c.deref.ensures.value c.self.invariant.sums c.self.view_is in
     let evens = subst (λ (xs : List Totals). (i : ℕ) → i < length xs →
     IsEven c.in_ok-parts.parts.items (get_or xs i no_totals)) sums
     (subst (λ (ps : List Ratio). (i : ℕ) → i < length c.deref.result.now →
@@ -69,38 +79,28 @@ returns-in_default-common c =
 pub uneven-requires-clause-from_in : goal.uneven-requires-clause-from_in
 uneven-requires-clause-from_in c =
     let shape = subst IsShape c.self.view_is c.self.invariant.shape in
-    let sums : c.deref.result.now ≡ map totals c.args.self.now.channels =
-    c.deref.ensures.value ∙ (c.self.invariant.sums ∙ ap (λ (s : Shape). map totals s.channels) c.self.view_is) in
-    subst (λ (xs : List Totals). (d : ℕ) → d < length xs →
-    (get_or xs d no_totals).from < length c.deref-2.result.now) (sym sums)
-    (all_totals (λ t. t.from < length c.deref-2.result.now) c.args.self.now.channels
-    (λ d l. omega (arith, shape.from_in d l, c.in_ok-parts.ensures.all, ap length c.deref-2.ensures.value)))
+    each_kept c.args.self.now (λ t. t.from < length c.deref-2.result.now)
+    (kept_are c.deref.ensures.value c.self.invariant.sums c.self.view_is)
+    (λ d l. omega (arith, shape.from_in d l, c.in_ok-parts.ensures.all, ap length c.deref-2.ensures.value))
 
 pub uneven-requires-clause-to_in : goal.uneven-requires-clause-to_in
 uneven-requires-clause-to_in c =
     let shape = subst IsShape c.self.view_is c.self.invariant.shape in
-    let sums : c.deref.result.now ≡ map totals c.args.self.now.channels =
-    c.deref.ensures.value ∙ (c.self.invariant.sums ∙ ap (λ (s : Shape). map totals s.channels) c.self.view_is) in
-    subst (λ (xs : List Totals). (d : ℕ) → d < length xs →
-    (get_or xs d no_totals).to < length c.deref-2.result.now) (sym sums)
-    (all_totals (λ t. t.to < length c.deref-2.result.now) c.args.self.now.channels
-    (λ d l. omega (arith, shape.to_in d l, c.in_ok-parts.ensures.all, ap length c.deref-2.ensures.value)))
+    each_kept c.args.self.now (λ t. t.to < length c.deref-2.result.now)
+    (kept_are c.deref.ensures.value c.self.invariant.sums c.self.view_is)
+    (λ d l. omega (arith, shape.to_in d l, c.in_ok-parts.ensures.all, ap length c.deref-2.ensures.value))
 
 pub uneven-requires-clause-put_small : goal.uneven-requires-clause-put_small
 uneven-requires-clause-put_small c =
     let shape = subst IsShape c.self.view_is c.self.invariant.shape in
-    let sums : c.deref.result.now ≡ map totals c.args.self.now.channels =
-    c.deref.ensures.value ∙ (c.self.invariant.sums ∙ ap (λ (s : Shape). map totals s.channels) c.self.view_is) in
-    subst (λ (xs : List Totals). (d : ℕ) → d < length xs → (get_or xs d no_totals).put ≤ 65536) (sym sums)
-    (all_totals (λ t. t.put ≤ 65536) c.args.self.now.channels (λ d l. cycle_small _ _ (shape.put d l)))
+    each_kept c.args.self.now (λ t. t.put ≤ 65536)
+    (kept_are c.deref.ensures.value c.self.invariant.sums c.self.view_is) (λ d l. cycle_small _ _ (shape.put d l))
 
 pub uneven-requires-clause-take_small : goal.uneven-requires-clause-take_small
 uneven-requires-clause-take_small c =
     let shape = subst IsShape c.self.view_is c.self.invariant.shape in
-    let sums : c.deref.result.now ≡ map totals c.args.self.now.channels =
-    c.deref.ensures.value ∙ (c.self.invariant.sums ∙ ap (λ (s : Shape). map totals s.channels) c.self.view_is) in
-    subst (λ (xs : List Totals). (d : ℕ) → d < length xs → (get_or xs d no_totals).take ≤ 65536) (sym sums)
-    (all_totals (λ t. t.take ≤ 65536) c.args.self.now.channels (λ d l. cycle_small _ _ (shape.take d l)))
+    each_kept c.args.self.now (λ t. t.take ≤ 65536)
+    (kept_are c.deref.ensures.value c.self.invariant.sums c.self.view_is) (λ d l. cycle_small _ _ (shape.take d l))
 
 pub scaled-requires-clause-short : goal.scaled-requires-clause-short
 scaled-requires-clause-short c =
@@ -112,8 +112,7 @@ pub returns : goal.returns
 returns c =
     let shape = subst IsShape c.self.view_is c.self.invariant.shape in
     let walk = c.in_ok-parts.ensures in
-    let sums : c.deref.result.now ≡ map totals c.args.self.now.channels =
-    c.deref.ensures.value ∙ (c.self.invariant.sums ∙ ap (λ (s : Shape). map totals s.channels) c.self.view_is) in
+    let sums = kept_are c.deref.ensures.value c.self.invariant.sums c.self.view_is in
     let evens = subst (λ (xs : List Totals). (i : ℕ) → i < length xs →
     IsEven c.in_ok-parts.parts.items (get_or xs i no_totals)) sums
     (subst (λ (ps : List Ratio). (i : ℕ) → i < length c.deref.result.now →

@@ -1,9 +1,9 @@
-//! Tables of a net's blocks.
+//! Tables of the blocks of a period.
 
-use sdf_prec::Table;
+use crate::table::Table;
 use sdf_sched::Period;
 
-/// The plan that workers follow: the schedule of a net's period, the number of periods in a block, and a table of the
+/// The plan that workers follow: the schedule of a period, the number of periods in a block, and a table of the
 /// firings of a block.
 #[derive(Drop)]
 pub struct BlockTable {

@@ -4,7 +4,7 @@ use Rattle.sdf_graph.specs.Rates.{Rates}
 use Rattle.sdf_sched.specs.Period.{IsPeriodOf}
 use Rattle.sdf_prec.specs.Blocks.{block, IsWorkers, IsShort}
 use Rattle.sdf_prec.specs.Tables.{Tabled, IsTable}
-use Rattle.sdf_answer.specs.declared.block_table.BlockTable.{BlockTable}
+use Rattle.sdf_prec.specs.declared.block_table.BlockTable.{BlockTable}
 
 -- a table of some width, for blocks of j periods; in each period every actor a fires q a times. Only the limit on the
 -- firings of a block limits j
