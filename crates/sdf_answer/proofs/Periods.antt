@@ -1,4 +1,4 @@
--- The lists of a net's nodes.
+-- The lists of a net's nodes, and what every run depends on.
 use Rattle.std.proofs.Common.{◌≡◌, ℕ, ◌≤◌, ◌<◌, Some, length, ap, inl, inr, ◌⊎◌, arith}
 use Rattle.std.proofs.lemmas.Bool.{cases_lt}
 use Rattle.sdf_actor.specs.declared.node.Node.TheVariants.{Sink}
@@ -6,8 +6,11 @@ use Rattle.sdf_actor.specs.declared.sides.Lists.TheVariants.{Outputs}
 use Rattle.sdf_actor.specs.Nets.{Netlist, node}
 use Rattle.sdf_actor.specs.Sides.{list_of, list_count}
 use Rattle.sdf_actor.specs.NetFaults.{HasLists}
-use Rattle.sdf_actor.proofs.Theorems.{list_below}
+use Rattle.sdf_actor.specs.Steps.{Steps}
+use Rattle.sdf_actor.proofs.Theorems.{accepted_is_lawful, list_below, periods_are_whole}
+use Rattle.sdf_answer.specs.Laws.{NetsHaveFacts}
 use Rattle.sdf_answer.specs.Periods.{AreApart, HasSinks}
+use Rattle.sdf_answer.proofs.Cycles.{phases}
 
 -- no two sinks make one list
 pub sinks_apart : {A T : Type 0} (n : Netlist A T) → HasLists n.nodes → AreApart n
@@ -31,3 +34,14 @@ sinks_below n a ext block l x = list_below Outputs n.nodes a ext l (ap (list_of 
 
 pub has_sinks : {A T : Type 0} (n : Netlist A T) → HasLists n.nodes → HasSinks n
 has_sinks n has = record { apart = sinks_apart n has; below = sinks_below n }
+
+pub has_facts : {A S T : Type 0} (s : Steps A S T) → NetsHaveFacts s
+has_facts s n accepted =
+    let lawful = accepted_is_lawful s n accepted.0 accepted.1 in
+    record {
+      net = lawful.net;
+      graph = lawful.graph;
+      alike = lawful.alike;
+      phases = phases s (periods_are_whole s) n accepted.0 lawful.net lawful.graph lawful.alike accepted.1;
+      sinks = has_sinks n accepted.1.lists;
+    }

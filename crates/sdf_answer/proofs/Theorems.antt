@@ -1,19 +1,12 @@
 -- What proofs of other crates cite of this one: the laws of runs, by their lemmas, for actors of any steps.
-use Rattle.std.specs.Prelude.{ℕ, List}
-use Rattle.sdf_graph.specs.Rates.{rates, IsShape, IsAlike}
-use Rattle.sdf_sched.specs.Period.{Schedule, IsPeriodOf}
 use Rattle.sdf_actor.specs.declared.sides.Lists.TheVariants.{Outputs}
-use Rattle.sdf_actor.specs.Graphs.{graph_of}
 use Rattle.sdf_actor.specs.Laws.{HistoryExists, HistoryGrowsByFiring}
-use Rattle.sdf_actor.specs.NetFaults.{IsAccepted}
-use Rattle.sdf_actor.specs.Nets.{Netlist, wiring, IsNet}
 use Rattle.sdf_actor.specs.Steps.{Steps}
 use Rattle.sdf_answer.specs.Feeds.{FeedsGoOn, BegunNetsAsk, BegunNetsMake, SinksMakeRuns, NothingRuns}
 use Rattle.sdf_answer.specs.Feeds.{PeriodsMayLeave, BegunRunsGoOn, BegunRunsFail}
 use Rattle.sdf_answer.specs.Laws.{RunsGoOn, NetsCanRun, HistoriesBegin, SinksTakeAll, SinksMakeOutputs}
 use Rattle.sdf_answer.specs.Laws.{NothingMakesNothing, BlocksAreCounted, NodesTakeTheirs, PlansFit, BlocksStand}
-use Rattle.sdf_answer.specs.Laws.{FiringsMoveOn}
-use Rattle.sdf_answer.specs.Periods.{HasPeriod, AreBlocksSmall}
+use Rattle.sdf_answer.specs.Laws.{FiringsMoveOn, NetsHaveFacts, NetsHavePeriods, BlocksAreSmall}
 use Rattle.sdf_answer.proofs.Begun.{begun_runs_go_on as go_on, begun_runs_fail as fail}
 use Rattle.sdf_answer.proofs.BegunLists.{begun_nets_ask as ask, as_many_lists}
 use Rattle.sdf_answer.proofs.Feeds.{run_in_all}
@@ -23,24 +16,21 @@ use Rattle.sdf_answer.proofs.Histories.{sinks_make_outputs as make_outputs, noth
 use Rattle.sdf_answer.proofs.Histories.{sinks_make_runs as make_runs, nothing_runs as none_runs}
 use Rattle.sdf_answer.proofs.Moves.{blocks_are_counted as are_counted, nodes_take_theirs as take_theirs}
 use Rattle.sdf_answer.proofs.Moves.{plans_fit as fit, blocks_stand as stand, firings_move_on as move_on}
+use Rattle.sdf_answer.proofs.Periods.{has_facts}
 use Rattle.sdf_answer.proofs.Samples.{blocks_small}
 use Rattle.sdf_answer.proofs.Wholes.{can_run, may_leave}
 
--- a net that was accepted and any period of it have what the laws of runs ask for
-pub nets_have_periods : {A S T : Type 0} (s : Steps A S T) (n : Netlist A T) → IsNet s n → IsShape (graph_of s n) →
-    IsAlike (rates (graph_of s n)) (wiring s n).rates → ((q : List ℕ) × IsAccepted s n q) →
-    (p : Schedule) → IsPeriodOf (rates (graph_of s n)) p → HasPeriod s n p
-nets_have_periods s n net shape alike accepted p period = record {
-  net = net;
-  shape = shape;
-  alike = alike;
-  accepted = accepted;
-  period = period;
-}
+pub accepted_nets : {A S T : Type 0} (s : Steps A S T) → NetsHaveFacts s
+accepted_nets = has_facts
 
-pub blocks_are_small : {A S T : Type 0} (s : Steps A S T) (n : Netlist A T) → IsNet s n → IsShape (graph_of s n) →
-    IsAlike (rates (graph_of s n)) (wiring s n).rates → AreBlocksSmall s n
-blocks_are_small = blocks_small
+pub nets_have_periods : {A S T : Type 0} (s : Steps A S T) → NetsHavePeriods s
+nets_have_periods s n accepted p period =
+    let facts = has_facts s n accepted in
+    record { net = facts.net; shape = facts.graph; alike = facts.alike; accepted = accepted; period = period }
+
+pub blocks_are_small : {A S T : Type 0} (s : Steps A S T) → BlocksAreSmall s
+blocks_are_small s n accepted =
+    let facts = has_facts s n accepted in blocks_small s n facts.net facts.graph facts.alike
 
 pub nets_can_run : {A S T : Type 0} (s : Steps A S T) → NetsCanRun s
 nets_can_run = can_run

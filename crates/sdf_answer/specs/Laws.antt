@@ -1,19 +1,36 @@
 -- Statements of the laws.
 use Rattle.std.specs.Prelude.{◌≡◌, ◌≢◌, ℕ, ◌+◌, ◌*◌, ◌≤◌, ◌<◌, ◌==◌, cond, List, [], length, map, take, slice_index_or}
 use Rattle.std.specs.List.{flat_map, Contains}
+use Rattle.sdf_graph.specs.Rates.{rates}
 use Rattle.sdf_graph.specs.Sequences.{IsEnabled}
-use Rattle.sdf_sched.specs.Period.{Schedule}
+use Rattle.sdf_sched.specs.Period.{Schedule, IsPeriodOf}
 use Rattle.sdf_actor.specs.declared.node.Node.TheVariants.{Sink}
 use Rattle.sdf_actor.specs.declared.sides.Lists.TheVariants.{Inputs, Outputs}
+use Rattle.sdf_actor.specs.Graphs.{graph_of}
 use Rattle.sdf_actor.specs.Histories.{taken, taken_before}
+use Rattle.sdf_actor.specs.NetFaults.{IsAccepted}
 use Rattle.sdf_actor.specs.Nets.{Netlist, node, wiring, arrived, IsNet, InputsReach, IsHistoryOf}
 use Rattle.sdf_actor.specs.Sides.{list_count, period_samples}
 use Rattle.sdf_actor.specs.Steps.{Steps}
 use Rattle.sdf_answer.specs.Answer.{HasInputs, AreOutputs, periods_of}
 use Rattle.sdf_answer.specs.Blocks.{at_ports}
-use Rattle.sdf_answer.specs.Periods.{HasPeriod, CanRun}
+use Rattle.sdf_answer.specs.Periods.{HasFacts, HasPeriod, AreBlocksSmall, CanRun}
 use Rattle.sdf_answer.specs.Moves.{FitsPorts, IsLeft, front_of, MovesOn}
 use Rattle.sdf_answer.specs.Sizes.{IsPlan}
+
+-- an accepted net has what every run depends on
+abbrev pub NetsHaveFacts : {A S T : Type 0} → Steps A S T → Type 0
+NetsHaveFacts {A} {S} {T} s = (n : Netlist A T) → ((q : List ℕ) × IsAccepted s n q) → HasFacts s n
+
+-- an accepted net and any period of it have what the laws of runs ask for
+abbrev pub NetsHavePeriods : {A S T : Type 0} → Steps A S T → Type 0
+NetsHavePeriods {A} {S} {T} s =
+    (n : Netlist A T) → ((q : List ℕ) × IsAccepted s n q) → (p : Schedule) → IsPeriodOf (rates (graph_of s n)) p →
+    HasPeriod s n p
+
+-- a block of few firings of an accepted net reads and makes few samples
+abbrev pub BlocksAreSmall : {A S T : Type 0} → Steps A S T → Type 0
+BlocksAreSmall {A} {S} {T} s = (n : Netlist A T) → ((q : List ℕ) × IsAccepted s n q) → AreBlocksSmall s n
 
 -- each list is the beginning of the later list of its number
 abbrev pub Begin : {T : Type 0} → List (List T) → List (List T) → Type 0

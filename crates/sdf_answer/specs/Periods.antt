@@ -10,7 +10,7 @@ use Rattle.sdf_actor.specs.declared.sides.Lists.{Lists}
 use Rattle.sdf_actor.specs.declared.sides.Lists.TheVariants.{Outputs}
 use Rattle.sdf_actor.specs.Graphs.{graph_of}
 use Rattle.sdf_actor.specs.NetFaults.{IsAccepted}
-use Rattle.sdf_actor.specs.Nets.{Netlist, node, wiring, IsNet, InputsReach}
+use Rattle.sdf_actor.specs.Nets.{Netlist, node, wiring, cycle_of, IsNet, InputsReach}
 use Rattle.sdf_actor.specs.Sides.{list_count, period_samples}
 use Rattle.sdf_actor.specs.Steps.{Steps}
 use Rattle.sdf_answer.specs.Answer.{periods_of}
@@ -32,6 +32,15 @@ AreApart n = (a d e x y : ℕ) → a < length n.nodes → d < length n.nodes →
 pub record HasSinks {A T : Type 0} (n : Netlist A T) : Type 0 where
   pub apart : AreApart n
   pub below : (a ext block : ℕ) → a < length n.nodes → node n a ≡ Sink ext block → ext < list_count Outputs n.nodes
+
+-- what every run depends on, of a net that was accepted
+pub record HasFacts {A S T : Type 0} (s : Steps A S T) (n : Netlist A T) : Type 0 where
+  pub net : IsNet s n
+  pub graph : IsShape (graph_of s n)
+  pub alike : IsAlike (rates (graph_of s n)) (wiring s n).rates
+  -- each node has a phase
+  pub phases : (a : ℕ) → a < length n.nodes → 0 < cycle_of s (node n a)
+  pub sinks : HasSinks n
 
 -- any number of periods of q can be fired from the start, and each puts and takes the same number of samples on each
 -- channel

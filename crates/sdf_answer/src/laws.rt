@@ -16,7 +16,7 @@ ghost use Rattle.sdf_answer.specs.Laws.{BlocksAreCounted, NodesTakeTheirs, Plans
 use sdf_actor::laws::{history_grows_by_firing, one_history};
 use sdf_actor::{Actor, Net};
 
-/// Proves the facts that a run depends on, from the contracts of the net's accessors.
+/// States the facts that every run depends on.
 pub fn net_facts<A: Actor>(net: &Net<A>)
     ensures net { IsNet A.steps net.now }
     ensures graph { IsShape (graph_of A.steps net.now) }
@@ -25,8 +25,7 @@ pub fn net_facts<A: Actor>(net: &Net<A>)
     ensures phases { (a : ℕ) → a < length net.now.nodes → 0 < cycle_of A.steps (node net.now a) }
     ensures sinks { HasSinks net.now }
 {
-    let _channels = net.graph().channels();
-    let _repetitions = net.repetitions();
+    let _ = net.graph();
 }
 
 /// States that a net and any period of it have what the laws of runs need.

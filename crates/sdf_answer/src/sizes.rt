@@ -8,7 +8,6 @@ ghost use Rattle.sdf_actor.specs.Sides.{channels_at};
 ghost use Rattle.sdf_actor.specs.Wires.{lists};
 ghost use Rattle.sdf_answer.specs.Sizes.{AreSizes, AreRows, at_phase, rates_on, rows_on};
 
-use crate::laws::net_facts;
 use sdf_actor::{Actor, Net, Side};
 use sdf_graph::Channel;
 use std::alloc::{AllocError, Global};
@@ -43,7 +42,6 @@ impl Sizes {
     pub fn new<A: Actor>(alloc: Global, net: &Net<A>) -> Result<Sizes, AllocError>
         ensures { IfOk result (AreSizes A.steps net.now) }
     {
-        net_facts(net);
         let channels = net.graph().channels();
         let phases = longest_cycle(net);
         let takes = by_phase(alloc, channels, Side::Input, phases)?;
@@ -74,7 +72,6 @@ impl Sizes {
         requires sizes { AreSizes A.steps net.now self.now }
         ensures { IfOk result (λ v. AreRows A.steps side (node net.now a) (lists v.items)) }
     {
-        net_facts(net);
         let channels = channels_of(net, a, side);
         let mut rows = Vec::new(alloc);
         for phase in 0..net.node(a).cycle() {

@@ -53,7 +53,7 @@ loop-c-preserved g c =
     let edge = the_channel c.channels-channel-items.result.now (graph_of g.A.Actor.steps n) c.channel-item.result i
     c.channel-item.is l (list ∙ ap (λ x. x.channels) c.graph-graph.ensures.value) in
     let known : i < length c.graph-graph.result.now.channels = omega (arith, l, ap length list) in
-    let samples = c.deref.ensures.value ∙ ap (λ w. w.initial) c.link.ensures in
+    let samples = c.deref.ensures.value ∙ ap (λ w. w.initial) c.link.ensures.value in
     let begins : c.channel.inside.initial ≡ length (wire n i).initial = ap (λ e. e.initial) (c.channel.view_is ∙ edge)
     ∙ (ap (λ x. (channel x i).initial) (sym c.graph-graph.ensures.value)
     ∙ c.graph-graph.ensures.rates.initial i known) in

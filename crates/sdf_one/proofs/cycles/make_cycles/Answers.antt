@@ -71,9 +71,10 @@ loop-channel-preserved g c =
     let e = edge g (goal.at.loop-channel-preserved g c).After-channel-item in
     let its = c.channel.view_is ∙ e.1 in
     let takes_turns : c.cycle.result ≡ cycle_of s (node n (channel graph i).to) =
-    c.cycle.ensures ∙ ap (cycle_of s) (c.node.ensures ∙ ap (λ x. node n x.to) its) in
+    c.cycle.ensures ∙ ap (cycle_of s) (c.node.ensures.value ∙ ap (λ x. node n x.to) its) in
     let puts_turns : c.cycle-in-loop-channel.result ≡ cycle_of s (node n (channel graph i).from) =
-    c.cycle-in-loop-channel.ensures ∙ ap (cycle_of s) (c.node-in-loop-channel.ensures ∙ ap (λ x. node n x.from) its) in
+    c.cycle-in-loop-channel.ensures
+    ∙ ap (cycle_of s) (c.node-in-loop-channel.ensures.value ∙ ap (λ x. node n x.from) its) in
     record {
       takes_all = omega (arith, c.in_ok-push.ensures.len, inv.takes_all);
       puts_all = omega (arith, c.in_ok-push-2.ensures.len, inv.puts_all);

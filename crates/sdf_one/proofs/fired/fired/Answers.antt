@@ -26,8 +26,8 @@ can g c =
     (sym c.repetitions-repetitions.ensures)
     (nets_can_run g.A.Actor.steps c.args.passage.net.now c.args.passage.period.now c.args.passage.periods
     (lists c.args.passage.inputs.now)
-    (nets_have_periods g.A.Actor.steps c.args.passage.net.now c.net_facts.ensures.net c.net_facts.ensures.graph
-    c.net_facts.ensures.alike c.net_facts.ensures.accepted c.args.passage.period.now c.requires.passage.period)
+    (nets_have_periods g.A.Actor.steps c.args.passage.net.now c.net_facts.ensures.accepted
+    c.args.passage.period.now c.requires.passage.period)
     c.requires.passage.inputs)
 
 rooms : (g : Rattle.sdf_one.proofs.fired.fired.Given.Over) (c : After-run-1 g) (d : ℕ) →

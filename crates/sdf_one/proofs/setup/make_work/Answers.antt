@@ -14,7 +14,7 @@ make_blocks-requires-clause-rows g c =
     (subst (λ m. AreRowsAt ((wiring g.A.Actor.steps c.args.net.now).ins c.args.a) c.args.sizes.now.takes m)
     (sym c.cycle-cycle.ensures)
     (rows_in g.A.Actor.steps c.args.net.now c.requires.net c.args.sizes.now c.requires.sizes
-    c.args.a c.requires.known c.in-Inner.actor (sym c.node.ensures ∙ c.in-Inner.is)))
+    c.args.a c.requires.known c.in-Inner.actor (sym c.node.ensures.value ∙ c.in-Inner.is)))
 
 pub make_blocks-requires-in-Inner-clause-rows : goal.make_blocks-requires-in-Inner-clause-rows
 make_blocks-requires-in-Inner-clause-rows g c =
@@ -22,13 +22,13 @@ make_blocks-requires-in-Inner-clause-rows g c =
     (subst (λ m. AreRowsAt ((wiring g.A.Actor.steps c.args.net.now).outs c.args.a) c.args.sizes.now.puts m)
     (sym c.cycle-cycle.ensures)
     (rows_out g.A.Actor.steps c.args.net.now c.requires.net c.args.sizes.now c.requires.sizes
-    c.args.a c.requires.known c.in-Inner.actor (sym c.node.ensures ∙ c.in-Inner.is)))
+    c.args.a c.requires.known c.in-Inner.actor (sym c.node.ensures.value ∙ c.in-Inner.is)))
 
 pub returns-in_ok-put-in-Inner : goal.returns-in_ok-put-in-Inner
 returns-in_ok-put-in-Inner g c =
     let s = g.A.Actor.steps in
     let x = c.in-Inner.actor in
-    let is : node c.args.net.now c.args.a ≡ Inner c.in-Inner.actor = sym c.node.ensures ∙ c.in-Inner.is in
+    let is : node c.args.net.now c.args.a ≡ Inner c.in-Inner.actor = sym c.node.ensures.value ∙ c.in-Inner.is in
     begun s c.args.net.now c.requires.net c.args.sizes.now c.requires.sizes c.args.a c.requires.known x is
     _ c.in_ok-state-in-Inner.state c.in_ok-taken-in-Inner.taken c.in_ok-put-in-Inner.put c.in_ok-put-in-Inner.lengths
     refl c.in_ok-state-in-Inner.ensures

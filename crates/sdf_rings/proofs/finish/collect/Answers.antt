@@ -18,7 +18,7 @@ loop-a-preserved g c =
       rest = rest_more sinks c.requires.placed known was.stands was.rest c.collect_from.ensures.seats;
       given = given_more sinks c.requires.placed known was.stands was.rest c.collect_from.ensures.seats
           (λ e d. subst (λ x. IsCollected x (stand_of n c.loop-a.seats c.args.places.now e d a).state c.loop-a.outputs
-          outputs) c.node.ensures (c.collect_from.ensures.list e d)) was.given;
+          outputs) c.node.ensures.value (c.collect_from.ensures.list e d)) was.given;
     }
 
 pub returns-clause-each : goal.returns-clause-each

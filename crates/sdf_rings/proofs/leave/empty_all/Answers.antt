@@ -22,7 +22,7 @@ empty_at-requires-clause-there g c κs within =
     let n = c.args.net.now in
     let places = c.args.places.now in
     let known : c.loop-c.c < length n.wires = omega (arith, c.loop-c-test.true, c.channels-c-end.ensures) in
-    let at = c.end_at-at.ensures ∙ ap (λ w. spot_of places w.to) c.link.ensures in
+    let at = c.end_at-at.ensures ∙ ap (λ w. spot_of places w.to) c.link.ensures.value in
     subst (λ q. TakesAt c.loop-c.seats q) (sym at)
     (takes_at c.requires.rings.1 c.loop-c.invariant.kept known)
 
@@ -33,7 +33,7 @@ loop-c-preserved g c =
     let places = c.args.places.now in
     let m = c.loop-c.c in
     let known : m < length n.wires = omega (arith, c.loop-c-test.true, c.channels-c-end.ensures) in
-    let at = c.end_at-at.ensures ∙ ap (λ w. spot_of places w.to) c.link.ensures in
+    let at = c.end_at-at.ensures ∙ ap (λ w. spot_of places w.to) c.link.ensures.value in
     let new = c.empty_at.new.seats in
     let gone : IsEmptied c.loop-c.seats new (spot_of places (wire n m).to) =
     subst (λ q. IsEmptied c.loop-c.seats new q) at c.in_ok-empty_at.ensures.kept in

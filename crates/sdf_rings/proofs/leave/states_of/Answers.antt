@@ -30,6 +30,6 @@ loop-a-preserved g c =
           y ≡ kept_of (node n k) (stand_of n seats places e d k).state)
           c.loop-a.states.items c.push.new.self.items c.in_ok-kept.field-0 a c.in_ok-push.ensures.items
           c.loop-a.invariant.all (λ k w m. c.loop-a.invariant.each k w e d m)
-          (c.in_ok-kept.ensures ∙ (ap (λ x. kept_of x r.state) c.node.ensures ∙
+          (c.in_ok-kept.ensures ∙ (ap (λ x. kept_of x r.state) c.node.ensures.value ∙
           ap (λ (y : Stand _ _ _). kept_of (node n a) y.state) (sym (stand_was here e d)))) b z h;
     }

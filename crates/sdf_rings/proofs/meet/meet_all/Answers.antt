@@ -24,8 +24,8 @@ loop-c-preserved g c =
     let old = c.loop-c.seats in
     let new = c.tell_at.new.seats in
     let known : m < length n.wires = omega arith in
-    let from = c.end_at-from.ensures ∙ ap (λ w. spot_of places w.from) c.link-link.ensures in
-    let to = c.end_at-to.ensures ∙ ap (λ w. spot_of places w.to) c.link-link.ensures in
+    let from = c.end_at-from.ensures ∙ ap (λ w. spot_of places w.from) c.link-link.ensures.value in
+    let to = c.end_at-to.ensures ∙ ap (λ w. spot_of places w.to) c.link-link.ensures.value in
     let t : IsTold old new (spot_of places (wire n m).from) (spot_of places (wire n m).to) =
     subst (λ f. IsTold old new f (spot_of places (wire n m).to)) from
     (subst (λ f. IsTold old new c.end_at-from.result f) to c.tell_at.ensures) in

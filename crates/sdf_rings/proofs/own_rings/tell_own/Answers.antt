@@ -34,7 +34,7 @@ link-link-requires-after_bounds g c κs within =
 pub bounds-outs-link : goal.bounds-outs-link
 bounds-outs-link g c =
     let from = from_below c.requires.net c.args.actor c.requires.known c.channels_in-channels.ensures c.loop-i-test.true
-    c.link-link.ensures c.if-link-actor.true in
+    c.link-link.ensures.value c.if-link-actor.true in
     omega (arith, from, c.loop-i.auto.outs, c.requires.outs)
 
 pub tell-requires : goal.tell-requires
@@ -46,7 +46,7 @@ tell-requires g c =
     let ch : ℕ = get_or ((wiring s n).ins a) i 0 in
     let at = port_at c.requires.net a i c.requires.known
     (port_below c.requires.net a c.channels_in-channels.ensures c.loop-i-test.true refl) in
-    let link = c.link-link.ensures ∙ ap (λ cs. wire n (get_or cs i 0)) c.channels_in-channels.ensures in
+    let link = c.link-link.ensures.value ∙ ap (λ cs. wire n (get_or cs i 0)) c.channels_in-channels.ensures in
     let pairs = own_pairs_kept n a c.args.ins.now c.loop-i.ins c.args.outs.now c.loop-i.outs (λ _. []) (λ _. [])
     c.loop-i.auto.ins c.loop-i.auto.outs c.loop-i.invariant.ins c.loop-i.invariant.outs c.requires.pairs in
     let here = pairs ch c.index-ins-i.result c.index-outs-link.result at.0
@@ -74,7 +74,7 @@ loop-i-preserved g c =
           let y = w.tell.new.producer in
           let q = c.link-link.result.now.from.1 in
           let from = from_below c.requires.net a c.requires.known c.channels_in-channels.ensures c.loop-i-test.true
-          c.link-link.ensures w.if-link-actor.true in
+          c.link-link.ensures.value w.if-link-actor.true in
           let there : q < length c.loop-i.outs = omega (arith, from, c.loop-i.auto.outs, c.requires.outs) in
           let ins = each_then (λ p r. Drew p r []) (λ p r t. drew_join p r t [] []) c.args.ins.now c.loop-i.ins i x
           w.index-ins-i.result inside w.index-ins-i.is c.loop-i.invariant.ins
@@ -90,13 +90,14 @@ loop-i-preserved g c =
             begin = rw (w.ins-is, w.outs-is) (begin_next n a c.loop-i.ins c.loop-i.outs x y i q inside there
                 (known_items x, w.tell.ensures.met.all_known) w.index-outs-link.result w.index-outs-link.is
                 (w.tell.ensures.producer.1 ∙ ap sent (sym w.index-outs-link.is))
-                (λ k l t e. ap (λ z. z.from.1) (link k l t e ∙ sym c.link-link.ensures)) c.loop-i.invariant.begin);
+                (λ k l t e. ap (λ z. z.from.1) (link k l t e ∙ sym c.link-link.ensures.value))
+                c.loop-i.invariant.begin);
           }
       | else-link-actor w ↦ record {
         ins = rw w.ins-is c.loop-i.invariant.ins;
         outs = rw w.outs-is c.loop-i.invariant.outs;
         begin = rw (w.ins-is, w.outs-is) (begin_none n a c.loop-i.ins c.loop-i.outs i
-            (λ k l f t e. w.if-link-actor.false (ap (λ z. z.from.0) (sym (link k l t e ∙ sym c.link-link.ensures))
+            (λ k l f t e. w.if-link-actor.false (ap (λ z. z.from.0) (sym (link k l t e ∙ sym c.link-link.ensures.value))
             ∙ f)) c.loop-i.invariant.begin);
       }
     ]

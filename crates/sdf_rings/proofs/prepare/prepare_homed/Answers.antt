@@ -25,7 +25,7 @@ lay_out-requires-clause-start g c κs within =
     let asked = c.in_ok-asked.ensures ∙ ap (map (λ q. b * (j * q))) c.repetitions.ensures in
     record {
       can = can_start g.A.Actor.steps n p
-          (nets_have_periods g.A.Actor.steps n facts.net facts.graph facts.alike facts.accepted p
+          (nets_have_periods g.A.Actor.steps n facts.accepted p
           c.requires.fits.period) b j
           c.in_ok-asked.field-0.items asked
           (lists c.args.inputs.now) c.samples_of_blocks.result c.first_sample.result c.net_facts.ensures.phases
@@ -47,7 +47,7 @@ lay_out-requires-clause-plan g c κs within =
     let b = c.args.blocks in
     let j = c.args.table.now.factor in
     is_asked g.A.Actor.steps n p
-    (nets_have_periods g.A.Actor.steps n facts.net facts.graph facts.alike facts.accepted p
+    (nets_have_periods g.A.Actor.steps n facts.accepted p
     c.requires.fits.period) b j
     c.in_ok-asked.field-0.items
     (c.in_ok-asked.ensures ∙ ap (map (λ q. b * (j * q))) c.repetitions.ensures)
@@ -58,7 +58,7 @@ pub samples_of_blocks-requires : goal.samples_of_blocks-requires
 samples_of_blocks-requires g c =
     let q = c.args.table.now.period.repetitions in
     let facts = c.net_facts.ensures in
-    let few = blocks_are_small g.A.Actor.steps c.args.net.now facts.net facts.graph facts.alike
+    let few = blocks_are_small g.A.Actor.steps c.args.net.now facts.accepted
     c.args.table.now.factor q Outputs c.requires.fits.period.least c.requires.fits.table.short in
     omega (
       arith,

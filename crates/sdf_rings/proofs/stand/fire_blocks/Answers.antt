@@ -21,7 +21,7 @@ take_front-requires-clause-many g c =
     let x = c.args.stand.now in
     let st = c.requires.stand in
     let inputs = lists c.args.inputs.now in
-    taken_is st c.node-node.ensures c.phase-phase.ensures c.takes-many.ensures ∙
+    taken_is st c.node-node.ensures.value c.phase-phase.ensures c.takes-many.ensures ∙
     (sym (row_sum st st.takes c.phase-phase.ensures c.row.ensures) ∙
     ap (start_at (slice_index c.row.result.now)) (sym (c.as_mut_slice.ensures.len ∙ st.ins_all)))
 
@@ -38,22 +38,22 @@ take_front-requires-clause-known g c =
 pub slice_bounds-step_front-end : goal.slice_bounds-step_front-end
 slice_bounds-step_front-end g c =
     let x = c.args.stand.now in
-    let fits = taken_fits c.requires.stand c.node-node.ensures c.phase-phase.ensures c.requires.left
+    let fits = taken_fits c.requires.stand c.node-node.ensures.value c.phase-phase.ensures c.requires.left
     c.takes-many.ensures in
     sym (length-take-le c.takes-many.result c.deref.result.now (omega arith))
 
 pub step_front-requires-clause-can : goal.step_front-requires-clause-can
 step_front-requires-clause-can g c = λ κs within.
     let x = c.args.stand.now in
-    let fits = taken_fits c.requires.stand c.node-node.ensures c.phase-phase.ensures c.requires.left
+    let fits = taken_fits c.requires.stand c.node-node.ensures.value c.phase-phase.ensures c.requires.left
     c.takes-many.ensures in
-    can_step c.requires.stand c.requires.left c.node-node.ensures c.phase-phase.ensures
+    can_step c.requires.stand c.requires.left c.node-node.ensures.value c.phase-phase.ensures
     (length-take-le c.takes-many.result c.deref.result.now (omega arith) ∙ c.takes-many.ensures) c.puts-more.ensures
 
 pub slice_bounds-put_told-end : goal.slice_bounds-put_told-end
 slice_bounds-put_told-end g c =
     let x = c.args.stand.now in
-    let fits = put_fits c.requires.stand c.node-node.ensures c.phase-phase.ensures c.requires.left
+    let fits = put_fits c.requires.stand c.node-node.ensures.value c.phase-phase.ensures c.requires.left
     c.puts-more.ensures in
     sym (length-take-le c.puts-more.result c.deref-2.result.now (omega arith))
 
@@ -70,9 +70,9 @@ put_told-requires-clause-length g c = λ κs within.
     let x = c.args.stand.now in
     let st = c.requires.stand in
     let inputs = lists c.args.inputs.now in
-    let fits = put_fits st c.node-node.ensures c.phase-phase.ensures c.requires.left c.puts-more.ensures in
+    let fits = put_fits st c.node-node.ensures.value c.phase-phase.ensures c.requires.left c.puts-more.ensures in
     length-take-le c.puts-more.result c.deref-2.result.now (omega arith) ∙
-    (put_is st c.node-node.ensures c.phase-phase.ensures c.puts-more.ensures ∙
+    (put_is st c.node-node.ensures.value c.phase-phase.ensures c.puts-more.ensures ∙
     (sym (row_sum st st.puts c.phase-phase.ensures c.row-2.ensures) ∙
     ap (start_at (slice_index c.row-2.result.now)) (sym (c.as_mut_slice-5.ensures.len ∙ st.outs_all))))
 
@@ -95,7 +95,7 @@ returns-clause-fired g c =
     let st = c.requires.stand in
     let inputs = lists c.args.inputs.now in
     let y = c.node-node.result.now in
-    let y_is = c.node-node.ensures in
+    let y_is = c.node-node.ensures.value in
     let j = c.phase-phase.result in
     let j_is = c.phase-phase.ensures in
     let many = c.takes-many.result in

@@ -8,7 +8,7 @@ use Rattle.sdf_rings.proofs.together.fire_run_blocks.Goals as goal
 
 pub take_front-requires-clause-ports : goal.take_front-requires-clause-ports
 take_front-requires-clause-ports g c =
-    in_ports c.requires.net c.requires.stand c.requires.can c.node-node.ensures c.takes.ensures c.row.ensures
+    in_ports c.requires.net c.requires.stand c.requires.can c.node-node.ensures.value c.takes.ensures c.row.ensures
     (c.as_mut_slice.ensures.len ∙ c.requires.stand.ins_all)
 
 pub take_front-requires-clause-known : goal.take_front-requires-clause-known
@@ -18,13 +18,13 @@ take_front-requires-clause-known g c =
 pub step_front_many-requires-clause-can : goal.step_front_many-requires-clause-can
 step_front_many-requires-clause-can g c κs within =
     let all = c.takes.result * c.args.many in
-    let fits = taken_within c.requires.net c.requires.stand c.requires.can c.node-node.ensures c.takes.ensures in
-    can_step_run c.requires.net c.requires.stand c.requires.can c.node-node.ensures c.takes.ensures c.puts.ensures
+    let fits = taken_within c.requires.net c.requires.stand c.requires.can c.node-node.ensures.value c.takes.ensures in
+    can_step_run c.requires.net c.requires.stand c.requires.can c.node-node.ensures.value c.takes.ensures c.puts.ensures
     (length-take-le all c.deref.result.now (omega arith)) refl
 
 pub put-requires-clause-ports : goal.put-requires-clause-ports
 put-requires-clause-ports g c =
-    out_ports c.requires.net c.requires.stand c.requires.can c.node-node.ensures c.puts.ensures c.row-2.ensures
+    out_ports c.requires.net c.requires.stand c.requires.can c.node-node.ensures.value c.puts.ensures c.row-2.ensures
     (c.as_mut_slice-5.ensures.len ∙ c.requires.stand.outs_all)
 
 pub put-requires-clause-room : goal.put-requires-clause-room
@@ -38,7 +38,7 @@ returns-clause-fired g c =
     let x = c.args.stand.now in
     let st = c.requires.stand in
     let can = c.requires.can in
-    let y_is = c.node-node.ensures in
+    let y_is = c.node-node.ensures.value in
     let many = c.args.many in
     let all = c.takes.result * many in
     let more = c.puts.result * many in
@@ -86,7 +86,7 @@ returns-clause-fired g c =
 
 pub take_front-requires-clause-long : goal.take_front-requires-clause-long
 take_front-requires-clause-long g c =
-    let fits = taken_within c.requires.net c.requires.stand c.requires.can c.node-node.ensures c.takes.ensures in
+    let fits = taken_within c.requires.net c.requires.stand c.requires.can c.node-node.ensures.value c.takes.ensures in
     subst (λ ts. c.takes.result * c.args.many ≤ length ts) (sym c.as_mut_slice-2.ensures.value) fits
 
 pub returns-clause-done : goal.returns-clause-done

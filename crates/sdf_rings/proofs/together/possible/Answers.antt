@@ -4,7 +4,7 @@ use Rattle.sdf_rings.proofs.together.possible.Goals as goal
 
 pub returns-clause-can : goal.returns-clause-can
 returns-clause-can g c =
-    can_run c.requires.stand c.requires.goes c.node-node.ensures c.row.ensures c.row-2.ensures
+    can_run c.requires.stand c.requires.goes c.node-node.ensures.value c.row.ensures c.row-2.ensures
     c.takes.ensures c.puts.ensures c.requires.left
     c.whole_blocks-many.ensures.within (let h = c.whole_blocks-many.ensures.held in omega arith)
     c.whole_blocks-many-2.ensures.within (let h = c.whole_blocks-many-2.ensures.held in omega arith)

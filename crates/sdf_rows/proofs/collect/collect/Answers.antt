@@ -20,14 +20,14 @@ loop-a-preserved g c =
           ∙ get_or_default c.loop-a.states a d c.index-states-a.result
           (omega (arith, c.loop-a.invariant.nodes, c.requires.states, known)))
           (subst (λ x. IsCollected x (get_or c.loop-a.states a c.index-states-a.result) c.loop-a.outputs
-          c.collect_at.new.outputs) c.node.ensures c.collect_at.ensures) c.loop-a.invariant.lists;
+          c.collect_at.new.outputs) c.node.ensures.value c.collect_at.ensures) c.loop-a.invariant.lists;
     }
 
 pub collect_at-requires-after_bounds : goal.collect_at-requires-after_bounds
 collect_at-requires-after_bounds g c κs within = λ ext block x.
     omega (
       arith,
-      c.net_facts.ensures.sinks.below c.loop-a.a ext block (omega arith) (sym c.node.ensures ∙ x),
+      c.net_facts.ensures.sinks.below c.loop-a.a ext block (omega arith) (sym c.node.ensures.value ∙ x),
       c.loop-a.invariant.all,
       c.requires.outputs,
     )

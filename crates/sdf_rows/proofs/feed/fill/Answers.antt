@@ -26,7 +26,8 @@ returns-in_ok-held-in-Some g c =
     let rest : Rest g.row.A-Token.Denot g.row.A-State.Denot =
     record { states = c.in_ok-kept_by-in-Some.field-0; held = c.in_ok-held-in-Some.field-0 } in
     let same : length made ≡ length items = c.collect.ensures.all ∙ ap length c.deref_mut-in-Some.ensures.value in
-    let count : length made ≡ list_count Outputs n.nodes = same ∙ (c.in_ok-outputs.ensures.0 ∙ c.outputs.ensures) in
+    let count : length made ≡ list_count Outputs n.nodes = same
+    ∙ (c.in_ok-outputs.ensures.0 ∙ c.outputs.ensures.count) in
     let long : c.in_ok-outputs.outputs.len ≡ length made = omega (arith, same, vec_long c.in_ok-outputs.outputs) in
     let whole = ap (λ m. take m (made ++ drop (length made) items)) long
     ∙ take-append_seam made (drop (length made) items) in
@@ -51,6 +52,6 @@ returns-in_ok-first_rest-in-None g c =
     c.net_facts.ensures.net c.requires.inputs (omega
     (arith, c.requires.inputs.count, c.net_facts.ensures.accepted.1.lists.input)) c.requires.some
     (rw c.in-None.is at c.first_sample.ensures)
-    (many_out ∙ (c.in_ok-outputs.ensures.0 ∙ c.outputs.ensures))
+    (many_out ∙ (c.in_ok-outputs.ensures.0 ∙ c.outputs.ensures.count))
     (λ e l. (c.in_ok-outputs.ensures.1 e (omega (arith, many_out, c.in_ok-outputs.ensures.0))).0)
     (c.in_ok-first_rest-in-None.ensures (lists c.args.inputs.now))

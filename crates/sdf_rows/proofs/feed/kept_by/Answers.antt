@@ -22,7 +22,7 @@ loop-a-preserved g c =
       all = ap length items ∙ (length_push c.loop-a.copies.items c.in_ok-kept.field-0 ∙ ap (λ m. m + 1) k.all);
       each = λ b d l. push_at (λ a x. x ≡ kept_of (node n a) (get_or c.args.states.now a d)) c.loop-a.copies.items
           c.push.new.self.items c.in_ok-kept.field-0 None c.loop-a.a items k.all (λ a h. k.each a d h)
-          (c.in_ok-kept.ensures ∙ (ap (λ x. kept_of x c.index-states-a.result) c.node.ensures
+          (c.in_ok-kept.ensures ∙ (ap (λ x. kept_of x c.index-states-a.result) c.node.ensures.value
           ∙ ap (kept_of (node n c.loop-a.a)) (get_or_read c.args.states.now c.loop-a.a c.index-states-a.result
           within c.index-states-a.is d))) b l;
     }

@@ -32,7 +32,7 @@ run_blocks-requires-clause-start g c = λ κs within.
     let same = c.repetitions-repetitions.ensures in
     let least = subst (IsLeastPeriod (rates (graph_of s n))) (sym same) c.requires.fits.period.least in
     let facts = c.net_facts.ensures in
-    let has = nets_have_periods s n facts.net facts.graph facts.alike facts.accepted p.table.now.period
+    let has = nets_have_periods s n facts.accepted p.table.now.period
     c.requires.fits.period in
     let can = subst (λ r. CanRun s n r (p.blocks * p.table.now.factor) (lists c.args.inputs.now)) (sym same)
     (nets_can_run g.A.Actor.steps n p.table.now.period (p.blocks * p.table.now.factor) (lists c.args.inputs.now)
@@ -123,6 +123,6 @@ samples_of_blocks-room-requires g c =
     let j = c.args.plan.now.table.now.factor in
     let q = c.args.plan.now.table.now.period.repetitions in
     let facts = c.net_facts.ensures in
-    let few = blocks_are_small g.A.Actor.steps c.args.net.now facts.net facts.graph facts.alike j q Outputs
+    let few = blocks_are_small g.A.Actor.steps c.args.net.now facts.accepted j q Outputs
     c.requires.fits.period.least c.requires.fits.table.short in
     omega (arith, few, ap (λ m. j * m) (c.samples_out.ensures.value q c.requires.fits.period.least))

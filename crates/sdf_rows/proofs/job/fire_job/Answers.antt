@@ -11,7 +11,7 @@ step_into-requires-clause-can g c = λ κs within.
     let j = c.args.job.now in
     can_here s n (lists c.args.scene.now.inputs.now) c.args.scene.now.sizes c.args.queues.now j c.requires
     c.node-node.result.now
-    c.read_fronts.new.block.items c.puts-many.result c.node-node.ensures
+    c.read_fronts.new.block.items c.puts-many.result c.node-node.ensures.value
     (read_is c.channels_in.result.now ((wiring s n).ins j.actor) c.on.result.now
     (at_phase c.args.scene.now.sizes.takes j.phase) c.args.queues.now c.clear.new.self.items
     c.read_fronts.new.block.items

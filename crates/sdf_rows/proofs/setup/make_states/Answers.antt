@@ -10,5 +10,6 @@ loop-a-preserved g c = record {
   each = push_each (λ k w. IsUnfired g.A.Actor.steps c.args.room (node c.args.net.now k) w) c.loop-a.states.items
       c.push.new.self.items c.in_ok-begin.field-0 c.loop-a.a
       c.in_ok-push.ensures.items (vec_long c.loop-a.states ∙ c.loop-a.invariant.len) c.loop-a.invariant.each
-      (subst (λ x. IsUnfired g.A.Actor.steps c.args.room x c.in_ok-begin.field-0) c.node.ensures c.in_ok-begin.ensures);
+      (subst (λ x. IsUnfired g.A.Actor.steps c.args.room x c.in_ok-begin.field-0) c.node.ensures.value
+      c.in_ok-begin.ensures);
 }

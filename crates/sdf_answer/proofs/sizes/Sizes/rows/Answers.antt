@@ -6,31 +6,34 @@ use Rattle.sdf_actor.specs.Wires.{lists}
 use Rattle.sdf_answer.specs.Sizes.{at_phase, rows_on}
 use Rattle.sdf_answer.proofs.PortRows.{phase_known, sized, are_rows}
 use Rattle.sdf_answer.proofs.Readings.{vec_long}
+use Rattle.sdf_answer.proofs.Theorems.{accepted_nets}
 use Rattle.sdf_answer.proofs.sizes.Sizes.rows.Goals as goal
 
 pub on-requires : goal.on-requires
 on-requires g c =
-    phase_known c.net_facts.ensures.net c.requires.sizes c.args.a c.requires.known c.args.side
+    let facts = accepted_nets g.A.Actor.steps c.args.net.now c.node.ensures.accepted in
+    phase_known facts.net c.requires.sizes c.args.a c.requires.known c.args.side
     c.loop-phase.phase (omega (
       arith,
       c.loop-phase-test.true,
       c.cycle-phase-end.ensures,
-      ap (cycle_of g.A.Actor.steps) c.node.ensures,
+      ap (cycle_of g.A.Actor.steps) c.node.ensures.value,
     ))
 
 pub at_channels-requires : goal.at_channels-requires
 at_channels-requires g c =
+    let facts = accepted_nets g.A.Actor.steps c.args.net.now c.node.ensures.accepted in
     subst (λ row. (p : ℕ) → p < length c.channels_of-channels.result.now →
     get_or c.channels_of-channels.result.now p 0 < length row) (sym c.on.ensures)
     (subst (λ cs. (p : ℕ) → p < length cs → get_or cs p 0 <
     length (at_phase (rows_on c.args.side c.args.self.now) c.loop-phase.phase))
     (sym c.channels_of-channels.ensures)
     (λ p l.
-    sized c.net_facts.ensures.net c.requires.sizes c.args.a c.requires.known c.args.side c.loop-phase.phase p (omega (
+    sized facts.net c.requires.sizes c.args.a c.requires.known c.args.side c.loop-phase.phase p (omega (
       arith,
       c.loop-phase-test.true,
       c.cycle-phase-end.ensures,
-      ap (cycle_of g.A.Actor.steps) c.node.ensures,
+      ap (cycle_of g.A.Actor.steps) c.node.ensures.value,
     )) l))
 
 pub loop-phase-preserved : goal.loop-phase-preserved
@@ -61,8 +64,9 @@ returns g c =
     let cycle : c.loop-phase.phase ≡ cycle_of g.A.Actor.steps (node c.args.net.now c.args.a) =
     (let e : c.loop-phase.phase ≡ c.cycle-phase-end.result =
     omega (arith, c.loop-phase-test.false, c.loop-phase.auto.phase-end) in e) ∙
-    (c.cycle-phase-end.ensures ∙ ap (cycle_of g.A.Actor.steps) c.node.ensures) in
-    are_rows c.net_facts.ensures.net c.requires.sizes c.args.a c.requires.known c.args.side
+    (c.cycle-phase-end.ensures ∙ ap (cycle_of g.A.Actor.steps) c.node.ensures.value) in
+    let facts = accepted_nets g.A.Actor.steps c.args.net.now c.node.ensures.accepted in
+    are_rows facts.net c.requires.sizes c.args.a c.requires.known c.args.side
     (lists c.loop-phase.rows.items) (length-map c.loop-phase.rows.items (λ v. v.items)
     ∙ (vec_long c.loop-phase.rows ∙ (c.loop-phase.invariant.len ∙ cycle)))
     (λ j h. c.loop-phase.invariant.each j (omega (arith, cycle, h)))

@@ -13,7 +13,7 @@ open_ring-requires g c =
     let enough = room_enough (wiring g.A.Actor.steps n).rates caps c.loop-c.c
     c.in_ok-room.room c.in_ok-room.ensures in
     let held = c.requires.held c.loop-c.c (omega arith) in
-    let is = ap length (c.deref.ensures.value ∙ ap (λ w. w.initial) c.link.ensures) in
+    let is = ap length (c.deref.ensures.value ∙ ap (λ w. w.initial) c.link.ensures.value) in
     omega arith
 
 pub loop-c-preserved : goal.loop-c-preserved
@@ -23,7 +23,7 @@ loop-c-preserved g c =
     let caps : ℕ → ℕ = slice_index c.args.table.now.caps in
     let i = c.loop-c.c in
     let ring = c.in_ok-ring.ring in
-    let is = c.deref.ensures.value ∙ ap (λ w. w.initial) c.link.ensures in
+    let is = c.deref.ensures.value ∙ ap (λ w. w.initial) c.link.ensures.value in
     record {
       producers = omega (arith, c.in_ok-push.ensures.len, c.loop-c.invariant.producers);
       consumers = omega (arith, c.in_ok-push-2.ensures.len, c.loop-c.invariant.consumers);

@@ -16,7 +16,8 @@ returns-in-Some g c =
     ∙ get_or_default shape.channels c.args.c c.index-channels-c.result no_channel inside) in
     let greatest = subst (λ (e : Edge). IsGreatestOf e.put c.greatest_put-block.result) at
     c.greatest_put-block.ensures in
-    let own = ap (λ w. w.from.0) (sym c.link-link.ensures) ∙ (c.if-link.false ∙ ap (λ w. w.to.0) c.link-link.ensures) in
+    let link = c.link-link.ensures.value in
+    let own = ap (λ w. w.from.0) (sym link) ∙ (c.if-link.false ∙ ap (λ w. w.to.0) link) in
     record {
       between_two = λ ne. absurd (ne own);
       own = λ e. (

@@ -15,7 +15,7 @@ returns-clause-stand g c =
     let n = x.net.now in
     let inputs = lists x.inputs.now in
     let a = c.args.a in
-    let is = c.node-node.ensures in
+    let is = c.node-node.ensures.value in
     let asked = c.index.result.now in
     let asked_is = c.index.ensures ∙ get_or_default x.asked.items a asked 0
     (omega (arith, vec_long x.asked, c.requires.start.asked_all, c.requires.known)) in
