@@ -1,15 +1,20 @@
 -- What proofs of other crates cite of this one: each statement of specs/Laws.antt, by its lemma.
 use Rattle.sdf_graph.specs.Laws.{PeriodsRepeat, CapacitiesRepeat, AlikeSequences, GraphsAreSound}
+use Rattle.sdf_graph.specs.Laws.{FaultlessGraphsHaveShapes}
 use Rattle.sdf_graph.specs.Laws.{GraphsHavePeriods, OneLeastPeriod, LastCountsMore, OthersCountSame}
 use Rattle.sdf_graph.specs.Laws.{FrontsCountWithin, SumsGrow, SumsRise, SumsAreSmall, CyclesBeginAnew}
 use Rattle.sdf_graph.specs.Laws.{WholeCyclesMove, OneCycleMoves, ConstantRatesMove, ListsSumWithin}
 use Rattle.sdf_graph.proofs.Alike.{admissible_alike}
 use Rattle.sdf_graph.proofs.Cycles.{sum_to_more, sum_to_rises, sum_within, sum_to_small, sum_to_anew}
 use Rattle.sdf_graph.proofs.Cycles.{sum_to_cycles, sum_to_cycle, sum_to_steady}
+use Rattle.sdf_graph.proofs.Faultless.{shape_of}
 use Rattle.sdf_graph.proofs.Greedy.{times_same, times_other, times_within}
 use Rattle.sdf_graph.proofs.Least.{one_least_period as least_is_one}
 use Rattle.sdf_graph.proofs.Repeated.{periods_repeat as words_repeat, capacities_repeat as places_repeat}
 use Rattle.sdf_graph.proofs.Shapes.{sound_of, period_of}
+
+pub faultless_graphs_have_shapes : FaultlessGraphsHaveShapes
+faultless_graphs_have_shapes = shape_of
 
 pub graphs_are_sound : GraphsAreSound
 graphs_are_sound = sound_of

@@ -3,6 +3,11 @@ use Rattle.std.specs.Prelude.{◌≡◌, ℕ, ◌+◌, ◌*◌, ◌≤◌, ◌<�
 use Rattle.sdf_graph.specs.Rates.{Rates, IsAlike, IsSound, Shape, IsShape, rates, rate_at, sum_to}
 use Rattle.sdf_graph.specs.Sequences.{times, IsAdmissible, IsPass, IsPeriod, repeated, FitsIn}
 use Rattle.sdf_graph.specs.Periods.{IsPeriodVector, IsLeastPeriod}
+use Rattle.sdf_graph.specs.Faults.{IsFaultless}
+
+-- a graph in which no fault holds is within the limits
+abbrev pub FaultlessGraphsHaveShapes : Type 0
+FaultlessGraphsHaveShapes = (g : Shape) → IsFaultless g → IsShape g
 
 -- the rates of a graph are sound
 abbrev pub GraphsAreSound : Type 0
