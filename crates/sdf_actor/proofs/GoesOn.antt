@@ -5,8 +5,10 @@ use Rattle.std.specs.List.{flat_map, between}
 use Rattle.std.proofs.lemmas.List.{take-append-le, take-append-drop, drop-append-le, drop-drop}
 use Rattle.std.proofs.lemmas.List.{append-nil, length-append, length-drop}
 use Rattle.std.proofs.lemmas.Bool.{cases_lt}
+use Rattle.sdf_graph.specs.Rates.{Rates}
 use Rattle.sdf_graph.specs.Sequences.{IsPeriod}
 use Rattle.sdf_actor.specs.Histories.{Wiring, Answers, taken, put, taken_before, IsHistory, IsWired, AnswersAgree}
+use Rattle.sdf_actor.specs.Laws.{RatesBeginAnew}
 use Rattle.sdf_actor.proofs.Agree.{SameInput, SameOutput, taken_agrees, taken_before_agrees, put_agrees}
 use Rattle.sdf_actor.proofs.Agree.{length_taken_before}
 use Rattle.sdf_actor.proofs.Pieces.{flat_map_same, take_on}
@@ -36,6 +38,14 @@ take_past : {X : Type 0} (xs : List X) (n i : ℕ) → take (n + i) xs ≡ take 
 take_past xs n i =
     let size : n + i - n ≡ i = omega arith in
     take_on xs n (n + i) (omega arith) ∙ ap (λ m. take n xs ++ take m (drop n xs)) size
+
+pub begin_anew : {r : Rates} {k : ℕ → ℕ} → RatesBeginAnew r k
+begin_anew {r = r} {k = k} period a j c l = (
+  (λ e. let at : k a + j ≡ j + k (r.target c) = let own : k (r.target c) ≡ k a = ap k e in omega arith in
+  ap (r.consumed c) at ∙ period.consumed_anew c j l),
+  (λ e. let at : k a + j ≡ j + k (r.source c) = let own : k (r.source c) ≡ k a = ap k e in omega arith in
+  ap (r.produced c) at ∙ (period.produced_anew c j l ∙ ap (λ n. r.produced c j + n) (period.balanced c l))),
+)
 
 -- a history V of whole periods on wiring f, and a history U on a wiring g like it, whose channels begin with the
 -- samples that V leaves
@@ -100,20 +110,6 @@ module _ {T : Type 0} (going : Going T) where
   kept : (c n : ℕ) → n ≤ length (V c) → take n (V c) ≡ take n (whole c)
   kept c n h = sym (take-append-le n (V c) (drop (f.rates.initial c) (U c)) h)
 
-  -- rates begin anew
-  pub consumed_on : (a j c : ℕ) → c < f.rates.channels → f.rates.target c ≡ a →
-      f.rates.consumed c (k a + j) ≡ f.rates.consumed c j + used c
-  consumed_on a j c l e =
-      let at : k a + j ≡ j + k (f.rates.target c) = let own : k (f.rates.target c) ≡ k a = ap k e in omega arith in
-      ap (f.rates.consumed c) at ∙ period.consumed_anew c j l
-
-  produced_on : (a j c : ℕ) → c < f.rates.channels → f.rates.source c ≡ a →
-      f.rates.produced c (k a + j) ≡ f.rates.produced c j + used c
-  produced_on a j c l e =
-      let at : k a + j ≡ j + k (f.rates.source c) = let own : k (f.rates.source c) ≡ k a = ap k e in omega arith in
-      ap (f.rates.produced c) at ∙ (period.produced_anew c j l
-      ∙ ap (λ n. f.rates.produced c j + n) (period.balanced c l))
-
   module _ (a : ℕ) (known : a < f.rates.actors) where
     input : SameInput f V whole a (k a)
     input = record {
@@ -146,10 +142,10 @@ module _ {T : Type 0} (going : Going T) where
             between (f.rates.consumed c (k a + j)) (f.rates.consumed c (k a + j + 1)) (whole c) ≡
             between (g.rates.consumed c j) (g.rates.consumed c (j + 1)) (U c)
         at c l e =
-            let from = consumed_on a j c l e in
+            let from = (begin_anew period a j c l).0 e in
             let to : f.rates.consumed c (k a + j + 1) ≡ f.rates.consumed c (j + 1) + used c =
             ap (f.rates.consumed c) (let z : k a + j + 1 ≡ k a + (j + 1) = omega arith in z)
-            ∙ consumed_on a (j + 1) c l e in
+            ∙ (begin_anew period a (j + 1) c l).0 e in
             let first = sym (same.consumed c j l) in
             let last = sym (same.consumed c (j + 1) l) in
             (λ κ. between (from κ) (to κ) (whole c)) ∙
@@ -174,9 +170,9 @@ module _ {T : Type 0} (going : Going T) where
         at c l e =
             let next : f.rates.produced c (k a + j + 1) ≡ f.rates.produced c (j + 1) + used c =
             ap (f.rates.produced c) (let z : k a + j + 1 ≡ k a + (j + 1) = omega arith in z)
-            ∙ produced_on a (j + 1) c l e in
+            ∙ (begin_anew period a (j + 1) c l).1 e in
             let from : f.rates.initial c + f.rates.produced c (k a + j) ≡
-            f.rates.initial c + f.rates.produced c j + used c = omega (arith, produced_on a j c l e) in
+            f.rates.initial c + f.rates.produced c j + used c = omega (arith, (begin_anew period a j c l).1 e) in
             let to : f.rates.initial c + f.rates.produced c (k a + j + 1) ≡
             f.rates.initial c + f.rates.produced c (j + 1) + used c = omega (arith, next) in
             let begin = sym (same.initial c l) in
@@ -241,15 +237,15 @@ module _ {T : Type 0} (going : Going T) where
             length-drop (f.rates.initial c) (U c),
             length_before c l,
             length_on c l,
-            produced_on (f.rates.source c) (i (f.rates.source c)) c l
+            (begin_anew period (f.rates.source c) (i (f.rates.source c)) c l).1
                 (λ _. f.rates.source c),
           );
       enough = λ c l. omega (
         arith,
         enough_on c l,
-        produced_on (f.rates.source c) (i (f.rates.source c)) c l
+        (begin_anew period (f.rates.source c) (i (f.rates.source c)) c l).1
             (λ _. f.rates.source c),
-        consumed_on (f.rates.target c) (i (f.rates.target c)) c l (λ _. f.rates.target c),
+        (begin_anew period (f.rates.target c) (i (f.rates.target c)) c l).0 (λ _. f.rates.target c),
       );
       steps = λ a n known h. step a n known h (cases_lt n (k a));
     }
@@ -263,7 +259,7 @@ module _ {T : Type 0} (going : Going T) where
       ap (λ b. g.rates.consumed c (i b)) (same.target c l) ∙ same.consumed c (i (f.rates.target c)) l in
       let at : f.rates.consumed c (k (f.rates.target c) + i (f.rates.target c)) ≡
       used c + f.rates.consumed c (i (f.rates.target c)) =
-      omega (arith, consumed_on (f.rates.target c) (i (f.rates.target c)) c l (λ _. f.rates.target c)) in
+      omega (arith, (begin_anew period (f.rates.target c) (i (f.rates.target c)) c l).0 (λ _. f.rates.target c)) in
       ap (λ n. drop n (whole c)) at ∙
       (sym (drop-drop (f.rates.consumed c (i (f.rates.target c))) (used c) (whole c)) ∙
       (λ κ. drop (sym took κ) (rest_is c l κ)))
@@ -274,7 +270,7 @@ module _ {T : Type 0} (going : Going T) where
   arrived_on a c l e =
       let own : used c ≡ f.rates.consumed c (k a) = ap (λ b. f.rates.consumed c (k b)) e in
       let at : f.rates.consumed c (k a + i a) ≡ used c + f.rates.consumed c (i a) =
-      omega (arith, consumed_on a (i a) c l e) in
+      omega (arith, (begin_anew period a (i a) c l).0 e) in
       let took = sym (same.consumed c (i a) l) in
       let front = sym (kept c (used c) (omega (arith, length_before c l))) in
       ap (λ n. take n (whole c)) at ∙

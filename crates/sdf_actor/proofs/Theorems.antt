@@ -1,23 +1,20 @@
 -- What proofs of other crates cite of this one: laws of histories and nets, by their lemmas, for actors of any steps;
 -- and lemmas about parts of lists, and about the numbers of a net's lists, that these need.
-use Rattle.std.proofs.Common.{◌≡◌, ℕ, ◌+◌, ◌≤◌, ◌<◌, List, ◌++◌, Some, length, get_or, take, drop, arith}
-use Rattle.std.specs.List.{flat_map, between}
+use Rattle.std.proofs.Common.{ℕ, ◌+◌, arith}
+use Rattle.sdf_graph.specs.Rates.{Rates}
 use Rattle.sdf_graph.proofs.Theorems.{graphs_have_periods}
-use Rattle.sdf_actor.specs.declared.node.Node.{Node}
-use Rattle.sdf_actor.specs.declared.node.Node.TheVariants.{Sink}
-use Rattle.sdf_actor.specs.declared.sides.Lists.{Lists}
 use Rattle.sdf_actor.specs.GoingOn.{HistoriesGoOn, RestsGoOn, ArrivalsGoOn, PeriodsAreWhole}
 use Rattle.sdf_actor.specs.Laws.{HistoryIsUnique, HistoriesGrow, NetsAreWired, PortsHaveChannels, TakenStays}
-use Rattle.sdf_actor.specs.Laws.{PutIsDealt, PutStays, AcceptedIsLawful}
+use Rattle.sdf_actor.specs.Laws.{PutIsDealt, PutStays, AcceptedIsLawful, RatesBeginAnew, ListsAreBelow, PartsAgree}
+use Rattle.sdf_actor.specs.Laws.{PartsAreBehind, FrontsGoOn, PiecesJoin, PiecesPart}
 use Rattle.sdf_actor.specs.Locals.{LocalsBegin, LocalsGrow, LocalsMeet}
 use Rattle.sdf_actor.specs.Nets.{wiring, answers}
-use Rattle.sdf_actor.specs.Sides.{list_of, list_count}
 use Rattle.sdf_actor.specs.Steps.{Steps}
 use Rattle.sdf_actor.proofs.Agree.{SameInput, SameOutput, taken_before_agrees, put_agrees}
 use Rattle.sdf_actor.proofs.Continuing.{history_goes_on, rest_goes_on, arrivals_go_on as arrivals_on}
 use Rattle.sdf_actor.proofs.Counts.{list_below as is_below}
 use Rattle.sdf_actor.proofs.Dealt.{put_is_dealt as is_dealt}
-use Rattle.sdf_actor.proofs.GoesOn.{between_past as part_past}
+use Rattle.sdf_actor.proofs.GoesOn.{begin_anew as rates_begin_anew, between_past as part_past}
 use Rattle.sdf_actor.proofs.HistoryLaws.{history_is_unique as is_unique, histories_grow as all_grow}
 use Rattle.sdf_actor.proofs.Locals.{local_begins, local_grows, locals_are_history}
 use Rattle.sdf_actor.proofs.Making.{is_lawful}
@@ -84,31 +81,23 @@ rests_go_on s r n m first later k i V U rest last h = rest_goes_on h last
 pub arrivals_go_on : {A B S T : Type 0} (s : Steps A S T) (r : Steps B S T) → ArrivalsGoOn s r
 arrivals_go_on s r n m first later k i V U rest h = arrivals_on h
 
--- a part within an equal beginning
-pub between_agree : {X : Type 0} (xs ys : List X) (n i j : ℕ) → take n xs ≡ take n ys → j ≤ n →
-    between i j xs ≡ between i j ys
+pub begin_anew : {r : Rates} {k : ℕ → ℕ} → RatesBeginAnew r k
+begin_anew = rates_begin_anew
+
+pub list_below : {A : Type 0} → ListsAreBelow A
+list_below = is_below
+
+pub between_agree : {X : Type 0} → PartsAgree X
 between_agree = parts_agree
 
--- a beginning is a shorter one and the part after it
-pub take_on : {X : Type 0} (xs : List X) (i j : ℕ) → i ≤ j → take j xs ≡ take i xs ++ between i j xs
-take_on = front_goes_on
-
--- a part behind the first n
-pub between_past : {X : Type 0} (xs : List X) (n i j : ℕ) → between (i + n) (j + n) xs ≡ between i j (drop n xs)
+pub between_past : {X : Type 0} → PartsAreBehind X
 between_past = part_past
 
--- lists joined of equal pieces
-pub flat_map_same : {X : Type 0} (f g : ℕ → List X) (cs : List ℕ) →
-    ((n : ℕ) → n < length cs → f (get_or cs n 0) ≡ g (get_or cs n 0)) → flat_map f cs ≡ flat_map g cs
+pub take_on : {X : Type 0} → FrontsGoOn X
+take_on = front_goes_on
+
+pub flat_map_same : {X : Type 0} → PiecesJoin X
 flat_map_same = all_same
 
--- equal lists joined of pieces of equal lengths have equal pieces
-pub flat_map_apart : {X : Type 0} (f g : ℕ → List X) (cs : List ℕ) →
-    ((n : ℕ) → n < length cs → length (f (get_or cs n 0)) ≡ length (g (get_or cs n 0))) →
-    flat_map f cs ≡ flat_map g cs → (n : ℕ) → n < length cs → f (get_or cs n 0) ≡ g (get_or cs n 0)
+pub flat_map_apart : {X : Type 0} → PiecesPart X
 flat_map_apart = all_apart
-
--- the number of a list is below their count
-pub list_below : {A : Type 0} (lists : Lists) (xs : List (Node A)) (a e : ℕ) → a < length xs →
-    list_of lists (get_or xs a (Sink 0 0)) ≡ Some e → e < list_count lists xs
-list_below = is_below
