@@ -30,6 +30,16 @@ put_in-requires-clause-small g c = λ i.
     let cycle = c.channels-channel-items.ensures.shape.put c.loop-c.c (omega (arith, l, ap length list)) in
     subst (λ e. get_or e.put i 0 ≤ 1024) (sym edge) (cycle.small i)
 
+pub offset_bounds-repetitions-channel-inside : goal.offset_bounds-repetitions-channel-inside
+offset_bounds-repetitions-channel-inside g c =
+    let l = c.loop-c-test.true in
+    let list = c.channels-channel-items.ensures.list in
+    let edge = the_channel c.channels-channel-items.result.now c.graph-graph.result.now c.channel-item.result c.loop-c.c
+    c.channel-item.is l list in
+    let shape = c.channels-channel-items.ensures.shape in
+    let from = shape.from_in c.loop-c.c (omega (arith, l, ap length list)) in
+    omega (arith, from, shape.few, ap (λ e. e.from) (c.channel.view_is ∙ edge))
+
 pub overflow_add-room : goal.overflow_add-room
 overflow_add-room g c =
     let l = c.loop-c-test.true in
