@@ -6,3 +6,4 @@ pub mod Many
 pub mod Sweeps
 pub mod Lengths
 pub mod Fired
+pub mod Laws

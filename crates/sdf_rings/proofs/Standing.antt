@@ -1,9 +1,5 @@
 -- What a stand's rows say of its next firing.
 use Rattle.std.proofs.Common.{◌≡◌, ℕ, ◌%◌, ◌≤◌, ◌<◌, List, length, get_or, sym, ap, ◌∙◌, subst, arith}
-use Rattle.std.specs.Global.{Global}
-use Rattle.rtrb.specs.declared.producer.Producer.{Producer}
-use Rattle.rtrb.specs.declared.consumer.Consumer.{Consumer}
-use Rattle.rtrb.specs.declared.AnyItems.{AnyItems}
 use Rattle.sdf_actor.specs.Steps.{Steps}
 use Rattle.sdf_actor.specs.Histories.{taken_before}
 use Rattle.sdf_actor.specs.Nets.{Netlist, node, wiring, cycle_of}
@@ -11,12 +7,10 @@ use Rattle.sdf_actor.specs.declared.node.Node.{Node}
 use Rattle.sdf_actor.specs.declared.sides.Side.{Side}
 use Rattle.sdf_actor.specs.declared.sides.Side.TheVariants.{Input, Output}
 use Rattle.sdf_actor.specs.Sides.{ports_of}
-use Rattle.sdf_actor.specs.Wires.{lists}
 use Rattle.sdf_node.specs.Nodes.{phase_at, takes_of, puts_of, CanStep}
 use Rattle.sdf_node.proofs.Theorems.{nodes_can_step, nodes_keep_phase}
 use Rattle.sdf_rings.specs.declared.stand.Stand.{Stand}
 use Rattle.sdf_rings.specs.Blocks.{start_at, block_of}
-use Rattle.sdf_rings.specs.Ends.{Drew, Gave, DrewEach, GaveEach, HoldsEach, HasRoomEach}
 use Rattle.sdf_answer.specs.Sizes.{sizes, at_phase, AreRows}
 use Rattle.sdf_rings.specs.Stands.{IsStand}
 use Rattle.sdf_rings.proofs.Spreads.{start_at_same, block_same}
@@ -91,51 +85,29 @@ module _ {A S T : Type 0} {s : Steps A S T} {n : Netlist A T} {inputs : List (Li
         let long = st.put_long left x.done in
         omega arith
 
-  -- by the row or by the firing: whether the ports hold a block or have room, and what moved
-  module _ {j : ℕ} (j_is : j ≡ phase_at x.state) {row : List ℕ} (row_is : row ≡ at_phase (lists x.takes.items) j)
-      (ends : List (Consumer T Global AnyItems)) (long : length ends ≡ ports_of s Input v) where
-    pub ins_row : length ends ≡ length row
-    ins_row = long ∙ sym (row_all st.takes j_is row_is)
+  -- by the row or by the firing: whether each end fits the size of its block, and what moved there
+  module _ {side : Side} {rows : List (List ℕ)} (are : AreRows s side v rows) {j : ℕ} (j_is : j ≡ phase_at x.state)
+      {row : List ℕ} (row_is : row ≡ at_phase rows j) {E : Type 0} (ends : List E)
+      (long : length ends ≡ ports_of s side v) where
+    pub ends_row : length ends ≡ length row
+    ends_row = long ∙ sym (row_all are j_is row_is)
 
-    pub holds_by_row : HoldsEach (sizes s Input v x.done) ends → HoldsEach (λ p. get_or row p 0) ends
-    holds_by_row all = λ i d h.
-        let size = row_size st.takes j_is row_is i (omega arith) in
-        let l = all i d h in
-        omega arith
+    pub by_row : (Fits : ℕ → E → Type 0) →
+        ((i : ℕ) (d : E) → i < length ends → Fits (sizes s side v x.done i) (get_or ends i d)) →
+        (i : ℕ) (d : E) → i < length ends → Fits (get_or row i 0) (get_or ends i d)
+    by_row Fits all i d h = subst (λ m. Fits m (get_or ends i d))
+        (sym (row_size are j_is row_is i (omega arith))) (all i d h)
 
-    pub holds_by_firing : HoldsEach (λ p. get_or row p 0) ends → HoldsEach (sizes s Input v x.done) ends
-    holds_by_firing all = λ i d h.
-        let size = row_size st.takes j_is row_is i (omega arith) in
-        let l = all i d h in
-        omega arith
+    pub by_firing : (Fits : ℕ → E → Type 0) →
+        ((i : ℕ) (d : E) → i < length ends → Fits (get_or row i 0) (get_or ends i d)) →
+        (i : ℕ) (d : E) → i < length ends → Fits (sizes s side v x.done i) (get_or ends i d)
+    by_firing Fits all i d h = subst (λ m. Fits m (get_or ends i d))
+        (row_size are j_is row_is i (omega arith)) (all i d h)
 
-    pub drew_by_firing : (after : List (Consumer T Global AnyItems)) (t : List T) →
-        DrewEach ends after (λ i. block_of (λ p. get_or row p 0) i t) →
-        DrewEach ends after (λ i. block_of (sizes s Input v x.done) i t)
-    drew_by_firing after t all = λ i d h.
-        subst (λ b. Drew (get_or ends i d) (get_or after i d) b)
-        (row_part st.takes j_is row_is i t (omega arith)) (all i d h)
-
-  module _ {j : ℕ} (j_is : j ≡ phase_at x.state) {row : List ℕ} (row_is : row ≡ at_phase (lists x.puts.items) j)
-      (ends : List (Producer T Global AnyItems)) (long : length ends ≡ ports_of s Output v) where
-    pub outs_row : length ends ≡ length row
-    outs_row = long ∙ sym (row_all st.puts j_is row_is)
-
-    pub room_by_row : HasRoomEach (sizes s Output v x.done) ends → HasRoomEach (λ p. get_or row p 0) ends
-    room_by_row all = λ i d h.
-        let size = row_size st.puts j_is row_is i (omega arith) in
-        let l = all i d h in
-        omega arith
-
-    pub room_by_firing : HasRoomEach (λ p. get_or row p 0) ends → HasRoomEach (sizes s Output v x.done) ends
-    room_by_firing all = λ i d h.
-        let size = row_size st.puts j_is row_is i (omega arith) in
-        let l = all i d h in
-        omega arith
-
-    pub gave_by_firing : (after : List (Producer T Global AnyItems)) (b : List T) →
-        GaveEach ends after (λ i. block_of (λ p. get_or row p 0) i b) →
-        GaveEach ends after (λ i. block_of (sizes s Output v x.done) i b)
-    gave_by_firing after b all = λ i d h.
-        subst (λ y. Gave (get_or ends i d) (get_or after i d) y)
-        (row_part st.puts j_is row_is i b (omega arith)) (all i d h)
+    pub moved_by_firing : (Moved : E → E → List T → Type 0) (after : List E) (t : List T) →
+        ((i : ℕ) (d : E) → i < length ends →
+        Moved (get_or ends i d) (get_or after i d) (block_of (λ p. get_or row p 0) i t)) →
+        (i : ℕ) (d : E) → i < length ends →
+        Moved (get_or ends i d) (get_or after i d) (block_of (sizes s side v x.done) i t)
+    moved_by_firing Moved after t all i d h = subst (Moved (get_or ends i d) (get_or after i d))
+        (row_part are j_is row_is i t (omega arith)) (all i d h)

@@ -10,7 +10,6 @@ ghost use Rattle.sdf_rings.specs.Rests.{IsPlaced, AreGiven};
 
 use crate::seat::Seat;
 use sdf_actor::{Actor, Net, Node};
-use sdf_answer::laws::net_facts;
 use sdf_node::collect_at;
 
 /// Moves the list of `node` from its stand to its number in `outputs`, if the node is a sink.
@@ -43,7 +42,6 @@ pub(crate) fn collect<A: Actor>(
     ensures count { length outputs.new ≡ length outputs.old }
     ensures each { AreGiven net.now seats.old places.now (length net.now.nodes) outputs.new }
 {
-    net_facts(net);
     for a in 0..net.len() {
         let place = places[a];
         collect_from(net.node(a), seats, place.0, place.1, outputs);

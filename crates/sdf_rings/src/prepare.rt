@@ -21,7 +21,6 @@ use crate::setup::seats::seats;
 use crate::setup::stands::Start;
 use sdf_actor::{Actor, Net};
 use sdf_answer::inputs::{are_inputs, first_sample};
-use sdf_answer::laws::{blocks_are_small, net_facts};
 use sdf_answer::outputs::make_outputs;
 use sdf_answer::sizes::samples_of_blocks;
 use sdf_answer::{RunFault, Sizes};
@@ -67,7 +66,6 @@ fn prepare_homed<'a, A: Actor>(
     requires some { 0 < period_samples net.now.nodes Inputs table.now.period.repetitions }
     ensures { IfOk result (IsPrepared A.steps net.now (lists inputs.now) table.now.table blocks) }
 {
-    net_facts(net);
     let start = Start {
         net,
         inputs,
@@ -97,7 +95,6 @@ impl<'a, A: Actor> Rings<'a, A> {
             × IsPrepared A.steps net.now (lists inputs.now) t.table blocks r)
             (IsPrepareFault net.now q (blocks * j) (lists inputs.now) t.table) }
     {
-        blocks_are_small(net);
         if !table.table.homed() {
             return Err(RunFault::NotHomed);
         }

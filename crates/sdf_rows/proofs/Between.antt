@@ -1,7 +1,7 @@
 -- A row between two rows.
 use Rattle.std.proofs.Common.{◌≡◌, ℕ, zero, suc, ◌+◌, ◌-◌, ◌≤◌, ◌<◌, List, [], ◌∷◌, ◌++◌, length, map, get_or, drop}
 use Rattle.std.proofs.Common.{inl, inr, ◌⊎◌, refl, sym, ap, ◌∙◌, subst, arith, vec_capacity, Option, Some, None}
-use Rattle.std.proofs.lemmas.List.{same_lists, get_or-map, length-map, length-append, length-drop, get_or-drop}
+use Rattle.std.proofs.lemmas.List.{get_or-map, length-map, length-append, length-drop, get_or-drop}
 use Rattle.std.proofs.lemmas.List.{get_or_append_left, get_or-append_right}
 use Rattle.std.proofs.lemmas.Bool.{cases_lt}
 use Rattle.sdf_actor.specs.Steps.{Steps}
@@ -18,6 +18,7 @@ use Rattle.sdf_answer.specs.Held.{Held}
 use Rattle.sdf_answer.specs.Sizes.{phase_of}
 use Rattle.sdf_rows.specs.Stage.{actors_of, row_actors, AreLoaded}
 use Rattle.sdf_rows.specs.Stands.{HaveBlocks, IsLoaded, IsFilling, IsBetween, IsRow, KeepBlocks}
+use Rattle.sdf_rows.proofs.Jobs.{actors_are}
 
 abbrev bit : Option Firing → ℕ
 bit None = 0
@@ -101,18 +102,8 @@ module _ {A S T : Type 0} {s : Steps A S T} {n : Netlist A T} {inputs : List (Li
 
   pub front_actors : actors_of front ≡ row_actors row
   front_actors =
-      same_lists (actors_of front) (row_actors row) (length-map front (λ j. j.actor) ∙ (all ∙ sym acts_long))
-      (λ i d h.
-      let h' : i < length front = omega (arith, length-map front (λ j. j.actor)) in
-      let h'' : i < length fs = omega (arith, all) in
-      let j : Job A T S = some_job front i h' in
-      get_or-map (λ (j : Job A T S). j.actor) front i j d h' ∙
-      ((loaded_at i j h'').actor ∙ (actor_at fs i h''
-      ∙ sym (get_or-map (λ (f : Firing). f.actor) fs i no_firing d h''))))
-    where
-      some_job : (js : List (Job A T S)) (i : ℕ) → i < length js → Job A T S
-      some_job [] i h = absurd (omega arith)
-      some_job (j ∷ js) i h = j
+      actors_are front (row_actors row) (all ∙ sym acts_long)
+      (λ i d h. (loaded_at i d (omega (arith, all))).actor)
 
   filling : IsFilling s n inputs many low high (row_actors row) 0 k states' ls front
   filling = record {

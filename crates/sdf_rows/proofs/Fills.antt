@@ -1,7 +1,7 @@
 -- A row's jobs, filled and then fired.
 use Rattle.std.proofs.Common.{◌≡◌, ℕ, ◌≤◌, ◌<◌, List, [], ◌∷◌, ◌++◌, length, get_or, take, sym, ap, ◌∙◌, subst, arith}
 use Rattle.std.specs.List.{All, sum_by}
-use Rattle.std.proofs.lemmas.List.{same_lists, get_or-map, length-map}
+use Rattle.std.proofs.lemmas.List.{get_or-map, length-map}
 use Rattle.std.proofs.lemmas.List.Elements.{All-nil, All-from_get_or}
 use Rattle.sdf_actor.specs.Steps.{Steps}
 use Rattle.sdf_actor.specs.Histories.{taken, taken_before}
@@ -17,6 +17,7 @@ use Rattle.sdf_answer.proofs.Theorems.{blocks_are_counted, blocks_stand}
 use Rattle.sdf_rows.specs.Jobs.{JobFits, HasFired, HaveFired}
 use Rattle.sdf_rows.specs.Stage.{actors_of}
 use Rattle.sdf_rows.specs.Stands.{IsLoaded, IsBack, IsFilling, IsSettling, IsBetween, KeepBlocks}
+use Rattle.sdf_rows.proofs.Jobs.{actors_are}
 use Rattle.sdf_rows.proofs.Settles.{AtPlace, plan, held, ports_in, in_cycle, takes_in, takes_are}
 
 -- all elements, each with a default of its own
@@ -132,17 +133,9 @@ module _ {A S T : Type 0} {s : Steps A S T} {n : Netlist A T} (good : IsNet s n)
       (fired : HaveFired s n inputs z ls jobs jobs') where
     pub same_actors : actors_of jobs' ≡ actors_of jobs
     same_actors =
-        same_lists (actors_of jobs') (actors_of jobs) (length-map jobs' (λ j. j.actor) ∙ (all ∙ sym acts_long))
-        (λ i d h.
-        let h' : i < length jobs' = omega (arith, length-map jobs' (λ j. j.actor)) in
-        let j : Job A T S = some_job jobs' i h' in
-        get_or-map (λ (j : Job A T S). j.actor) jobs' i j d h' ∙
-        ((fired i j (omega (arith, all))).actor_kept
-        ∙ sym (get_or-map (λ (j : Job A T S). j.actor) jobs i j d (omega (arith, all)))))
-      where
-        some_job : (js : List (Job A T S)) (i : ℕ) → i < length js → Job A T S
-        some_job [] i h = absurd (omega arith)
-        some_job (j ∷ js) i h = j
+        actors_are jobs' (actors_of jobs) (all ∙ sym acts_long)
+        (λ i d h. (fired i d (omega (arith, all))).actor_kept
+        ∙ sym (get_or-map (λ (j : Job A T S). j.actor) jobs i d 0 (omega (arith, all))))
 
     pub all_back : IsSettling s n inputs many low high (actors_of jobs) 0 k states ls jobs'
     all_back = record {

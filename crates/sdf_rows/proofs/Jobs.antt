@@ -1,7 +1,8 @@
 -- The firings of one row.
-use Rattle.std.proofs.Common.{◌≡◌, ℕ, suc, List, [], ◌∷◌, ◌++◌, length, get_or, take, refl, sym, ap, ◌∙◌, subst, arith}
+use Rattle.std.proofs.Common.{◌≡◌, ℕ, suc, ◌<◌, List, [], ◌∷◌, ◌++◌, length, get_or, take, refl, sym, ap, ◌∙◌, subst}
+use Rattle.std.proofs.Common.{arith}
 use Rattle.std.specs.List.{sum_by}
-use Rattle.std.proofs.lemmas.List.{length-append, length-take-le}
+use Rattle.std.proofs.lemmas.List.{length-append, length-take-le, same_lists, get_or-map, length-map, get_or_default}
 use Rattle.std.proofs.lemmas.List.Sums.{sum_by-cons}
 use Rattle.sdf_actor.specs.Steps.{Steps}
 use Rattle.sdf_actor.specs.declared.node.Node.{Node}
@@ -12,6 +13,21 @@ use Rattle.sdf_answer.specs.Held.{Held}
 use Rattle.sdf_answer.specs.Blocks.{samples, HoldBlocks, front}
 use Rattle.sdf_answer.specs.Sizes.{Rows, at_phase}
 use Rattle.sdf_rows.specs.Jobs.{JobFits}
+use Rattle.sdf_rows.specs.Stage.{actors_of}
+
+-- jobs of these actors
+pub actors_are : {A S T : Type 0} (jobs : List (Job A T S)) (acts : List ℕ) → length jobs ≡ length acts →
+    ((i : ℕ) (d : Job A T S) → i < length jobs → (get_or jobs i d).actor ≡ get_or acts i 0) → actors_of jobs ≡ acts
+actors_are {A} {S} {T} jobs acts all each =
+    same_lists (actors_of jobs) acts (length-map jobs (λ j. j.actor) ∙ all)
+    (λ i d h.
+    let l : i < length jobs = omega (arith, length-map jobs (λ j. j.actor)) in
+    let j : Job A T S = some_job jobs i l in
+    get_or-map (λ (j : Job A T S). j.actor) jobs i j d l ∙ (each i j l ∙ get_or_default acts i 0 d (omega arith)))
+  where
+    some_job : (js : List (Job A T S)) (i : ℕ) → i < length js → Job A T S
+    some_job [] i h = absurd (omega arith)
+    some_job (j ∷ js) i h = j
 
 -- a block at the front has its length
 pub length_fronts : {T : Type 0} (takes ins : List ℕ) (ls : List (Held T)) → HoldBlocks ins takes ls →

@@ -29,6 +29,15 @@ linear_at f q none anew b =
     let same : f (b * q + 0) ≡ f (b * q) = ap f (let e : b * q + 0 ≡ b * q = omega arith in e) in
     omega (arith, all, same, none)
 
+linear_from : (f : ℕ → ℕ) (q : ℕ) → f 0 ≡ 0 → ((i : ℕ) → f (i + q) ≡ f i + f q) → (b m i : ℕ) → m ≡ b * q →
+    f (m + i) ≡ f m + f i
+linear_from f q none anew b m i is =
+    omega (arith, linear_on f q anew b i, linear_at f q none anew b, ap (λ k. f (k + i)) is, ap f is)
+
+-- and so does what is the same number by number
+same_anew : (f g : ℕ → ℕ) → ((i : ℕ) → f i ≡ g i) → (i q : ℕ) → f (i + q) ≡ f i + f q → g (i + q) ≡ g i + g q
+same_anew f g same i q anew = omega (arith, anew, same (i + q), same i, same q)
+
 block_at : (j : ℕ) (q : List ℕ) (a : ℕ) → get_or (block j q) a 0 ≡ j * get_or q a 0
 block_at j [] a = omega arith
 block_at j (x ∷ xs) zero = refl
@@ -40,12 +49,6 @@ module _ {A S T : Type 0} (s : Steps A S T) (n : Netlist A T) {r : Rates} (alike
     known : c < r.channels
     known = omega (arith, alike.channels, h)
 
-    src : ℕ
-    src = (wiring s n).rates.source c
-
-    tgt : ℕ
-    tgt = (wiring s n).rates.target c
-
     pub src_known : (wiring s n).rates.source c < length n.nodes
     src_known = omega (arith, sound.source_in c known, alike.source c known, alike.actors)
 
@@ -54,29 +57,17 @@ module _ {A S T : Type 0} (s : Steps A S T) (n : Netlist A T) {r : Rates} (alike
 
     put_anew : (i : ℕ) → (wiring s n).rates.produced c (i + get_or q ((wiring s n).rates.source c) 0) ≡
         (wiring s n).rates.produced c i + (wiring s n).rates.produced c (get_or q ((wiring s n).rates.source c) 0)
-    put_anew i =
-        let own = subst (λ b. r.produced c (i + get_or q b 0) ≡ r.produced c i + r.produced c (get_or q b 0))
-        (alike.source c known) (period.produced_anew c i known) in
-        omega (
-          arith,
-          own,
-          alike.produced c (i + get_or q ((wiring s n).rates.source c) 0) known,
-          alike.produced c i known,
-          alike.produced c (get_or q ((wiring s n).rates.source c) 0) known,
-        )
+    put_anew i = same_anew (r.produced c) ((wiring s n).rates.produced c) (λ j. alike.produced c j known) i
+        (get_or q ((wiring s n).rates.source c) 0)
+        (subst (λ b. r.produced c (i + get_or q b 0) ≡ r.produced c i + r.produced c (get_or q b 0))
+        (alike.source c known) (period.produced_anew c i known))
 
     taken_anew : (i : ℕ) → (wiring s n).rates.consumed c (i + get_or q ((wiring s n).rates.target c) 0) ≡
         (wiring s n).rates.consumed c i + (wiring s n).rates.consumed c (get_or q ((wiring s n).rates.target c) 0)
-    taken_anew i =
-        let own = subst (λ b. r.consumed c (i + get_or q b 0) ≡ r.consumed c i + r.consumed c (get_or q b 0))
-        (alike.target c known) (period.consumed_anew c i known) in
-        omega (
-          arith,
-          own,
-          alike.consumed c (i + get_or q ((wiring s n).rates.target c) 0) known,
-          alike.consumed c i known,
-          alike.consumed c (get_or q ((wiring s n).rates.target c) 0) known,
-        )
+    taken_anew i = same_anew (r.consumed c) ((wiring s n).rates.consumed c) (λ j. alike.consumed c j known) i
+        (get_or q ((wiring s n).rates.target c) 0)
+        (subst (λ b. r.consumed c (i + get_or q b 0) ≡ r.consumed c i + r.consumed c (get_or q b 0))
+        (alike.target c known) (period.consumed_anew c i known))
 
     put_none : (wiring s n).rates.produced c 0 ≡ 0
     put_none = omega (arith, sound.produced_none c, alike.produced c 0 known)
@@ -101,32 +92,12 @@ module _ {A S T : Type 0} (s : Steps A S T) (n : Netlist A T) {r : Rates} (alike
   -- counts of whole periods
   pub round_of : (k : ℕ → ℕ) (p : ℕ) → ((a : ℕ) → a < length n.nodes → k a ≡ p * get_or q a 0) → IsRound s n k
   round_of k p k_is = record {
-    produced = λ c i h.
-        let e = k_is ((wiring s n).rates.source c) (src_known c h) in
-        let all = linear_on ((wiring s n).rates.produced c) (get_or q ((wiring s n).rates.source c) 0)
-        (put_anew c h) p i in
-        let own = linear_at ((wiring s n).rates.produced c) (get_or q ((wiring s n).rates.source c) 0) (put_none c h)
-        (put_anew c h) p in
-        omega (
-          arith,
-          all,
-          own,
-          ap (λ m. (wiring s n).rates.produced c (m + i)) e,
-          ap ((wiring s n).rates.produced c) e,
-        );
-    consumed = λ c i h.
-        let e = k_is ((wiring s n).rates.target c) (tgt_known c h) in
-        let all = linear_on ((wiring s n).rates.consumed c) (get_or q ((wiring s n).rates.target c) 0)
-        (taken_anew c h) p i in
-        let own = linear_at ((wiring s n).rates.consumed c) (get_or q ((wiring s n).rates.target c) 0) (taken_none c h)
-        (taken_anew c h) p in
-        omega (
-          arith,
-          all,
-          own,
-          ap (λ m. (wiring s n).rates.consumed c (m + i)) e,
-          ap ((wiring s n).rates.consumed c) e,
-        );
+    produced = λ c i h. linear_from ((wiring s n).rates.produced c) (get_or q ((wiring s n).rates.source c) 0)
+        (put_none c h) (put_anew c h) p (k ((wiring s n).rates.source c)) i
+        (k_is ((wiring s n).rates.source c) (src_known c h));
+    consumed = λ c i h. linear_from ((wiring s n).rates.consumed c) (get_or q ((wiring s n).rates.target c) 0)
+        (taken_none c h) (taken_anew c h) p (k ((wiring s n).rates.target c)) i
+        (k_is ((wiring s n).rates.target c) (tgt_known c h));
     balanced = λ c h.
         let put = linear_at ((wiring s n).rates.produced c) (get_or q ((wiring s n).rates.source c) 0) (put_none c h)
         (put_anew c h) p in
@@ -162,7 +133,6 @@ module _ {A S T : Type 0} (s : Steps A S T) (n : Netlist A T) {r : Rates} (alike
       above = rest.between.above;
       below = λ a l. omega arith;
       fits = λ c l.
-          let src : ℕ = (wiring s n).rates.source c in
           let more = round_here.produced c (get_or (block j q) ((wiring s n).rates.source c) 0) l in
           omega (
             arith,

@@ -242,12 +242,35 @@ module _ {A S T : Type 0} {s : Steps A S T} {n : Netlist A T} {z : Rows} {inputs
       let left = st.within i (omega arith) h in
       omega (arith, ap k back.actor, left, st.top a known, st.small a known)
 
-  module _ (m : ℕ → ℕ) (one : m a ≡ k a + 1) (others : (b : ℕ) → (a ≡ b → ⊥) → m b ≡ k b) (ls' : List (Held T))
-      (did : HasSettled s n z job ls ls')
-      (states' : List (NodeState T S)) (jobs' : List (Job A T S)) (states_all : length states' ≡ length states)
-      (own : (w : NodeState T S) → get_or states' a w ≡ job.state)
-      (rest : (b : ℕ) (w : NodeState T S) → (a ≡ b → ⊥) → get_or states' b w ≡ get_or states b w)
-      (jobs_rest : (p : ℕ) (j : Job A T S) → (i ≡ p → ⊥) → get_or jobs' p j ≡ get_or jobs p j) where
+  -- the firing is settled
+  module _ {ls' : List (Held T)} (did : HasSettled s n z job ls ls') {states' : List (NodeState T S)}
+      (states_are : states' ≡ set states job.actor job.state) {done' : List ℕ}
+      (done_is : done' ≡ set done job.actor (get_or done job.actor 0 + 1)) (job' : Job A T S) where
+    abbrev m : ℕ → ℕ
+    m b = get_or done' b 0
+
+    states_at : states' ≡ set states a job.state
+    states_at = states_are ∙ ap (λ b. set states b job.state) back.actor
+
+    done_at : done' ≡ set done a (get_or done a 0 + 1)
+    done_at = done_is ∙ ap (λ b. set done b (get_or done b 0 + 1)) back.actor
+
+    one : m a ≡ k a + 1
+    one = ap (λ xs. get_or xs a 0) done_at
+        ∙ get_or-set_same done a (get_or done a 0 + 1) 0 (omega (arith, known, x.counted))
+
+    others : (b : ℕ) → (a ≡ b → ⊥) → m b ≡ k b
+    others b ne = ap (λ xs. get_or xs b 0) done_at
+        ∙ get_or-set_other done a b (get_or done a 0 + 1) 0 (λ e. ne (sym e))
+
+    own : (w : NodeState T S) → get_or states' a w ≡ job.state
+    own w = ap (λ xs. get_or xs a w) states_at
+        ∙ get_or-set_same states a job.state w (omega (arith, known, st.nodes))
+
+    rest : (b : ℕ) (w : NodeState T S) → (a ≡ b → ⊥) → get_or states' b w ≡ get_or states b w
+    rest b w ne = ap (λ xs. get_or xs b w) states_at
+        ∙ get_or-set_other states a b job.state w (λ e. ne (sym e))
+
     less : (b : ℕ) → b < length n.nodes → m b ≤ high b
     less b l = go (cases_eq a b)
       where
@@ -316,13 +339,13 @@ module _ {A S T : Type 0} {s : Steps A S T} {n : Netlist A T} {z : Rows} {inputs
       b_on : IsEnabled (wiring s n).rates k b
       b_on = st.able p (omega arith) q
 
-      back_then : (j : Job A T S) → IsBack s n inputs many m W b (get_or jobs' p j)
+      back_then : (j : Job A T S) → IsBack s n inputs many m W b (get_or (set jobs i job') p j)
       back_then j =
           let was = st.jobs_are p j (omega arith) q in
           let e : taken_before (wiring s n) V b (k b) ≡ taken_before (wiring s n) W b (m b) =
           sym (moves.others b b_known ne) in
           let t : taken (wiring s n) V b (k b) ≡ taken (wiring s n) W b (m b) = sym (moves.ahead b b_known ne b_on) in
-          subst (IsBack s n inputs many m W b) (sym (jobs_rest p j (λ f. absurd (omega arith))))
+          subst (IsBack s n inputs many m W b) (sym (get_or-set_other jobs i p job' j (λ f. absurd (omega arith))))
           (record {
             actor = was.actor;
             phase = was.phase ∙ ap (phase_of s (node n b)) (sym (others b ne));
@@ -348,8 +371,8 @@ module _ {A S T : Type 0} {s : Steps A S T} {n : Netlist A T} {z : Rows} {inputs
           ap (λ x. (wiring s n).rates.consumed c (x + 1)) same in
           omega (arith, was, rise, at)
 
-    settled : IsSettling s n inputs many low high acts (i + 1) m states' ls' jobs'
-    settled = record {
+    pub settled_next : IsSettling s n inputs many low high acts (i + 1) m states' ls' (set jobs i job')
+    settled_next = record {
       small = st.small;
       reach = st.reach;
       top = st.top;
@@ -360,7 +383,7 @@ module _ {A S T : Type 0} {s : Steps A S T} {n : Netlist A T} {z : Rows} {inputs
       above = λ b l. omega (arith, st.above b l, more b l);
       below = less;
       fits = λ c l. omega (arith, st.fits c l, did.rooms c (omega (arith, st.channels)));
-      nodes = states_all ∙ st.nodes;
+      nodes = ap length states_are ∙ (length-set states job.actor job.state ∙ st.nodes);
       known = st.known;
       apart = st.apart;
       idle = λ b w l none. idle_then b w l none (cases_eq a b);
@@ -368,35 +391,6 @@ module _ {A S T : Type 0} {s : Steps A S T} {n : Netlist A T} {z : Rows} {inputs
       able = λ p from q. able_then p from q;
       within = λ p from q. omega (arith, others (get_or acts p 0) (ne p from q), st.within p (omega arith) q);
     }
-
-  module _ (ls' : List (Held T)) (settles : HasSettled s n z job ls ls') (states' : List (NodeState T S))
-      (done' : List ℕ) (job' : Job A T S)
-      (states_are : states' ≡ set states job.actor job.state)
-      (done_is : done' ≡ set done job.actor (get_or done job.actor 0 + 1)) where
-    states_at : states' ≡ set states a job.state
-    states_at = states_are ∙ ap (λ b. set states b job.state) back.actor
-
-    done_at : done' ≡ set done a (get_or done a 0 + 1)
-    done_at = done_is ∙ ap (λ b. set done b (get_or done b 0 + 1)) back.actor
-
-    one : get_or done' a 0 ≡ get_or done a 0 + 1
-    one = ap (λ xs. get_or xs a 0) done_at
-        ∙ get_or-set_same done a (get_or done a 0 + 1) 0 (omega (arith, known, x.counted))
-
-    others : (b : ℕ) → (a ≡ b → ⊥) → get_or done' b 0 ≡ get_or done b 0
-    others b ne = ap (λ xs. get_or xs b 0) done_at
-        ∙ get_or-set_other done a b (get_or done a 0 + 1) 0 (λ e. ne (sym e))
-
-    pub settled_next : IsSettling s n inputs many low high acts (i + 1) (λ b. get_or done' b 0) states' ls'
-        (set jobs i job')
-    settled_next =
-        settled (λ b. get_or done' b 0) one others ls' settles states' (set jobs i job')
-        (ap length states_are ∙ length-set states job.actor job.state)
-        (λ w. ap (λ xs. get_or xs a w) states_at
-        ∙ get_or-set_same states a job.state w (omega (arith, known, st.nodes)))
-        (λ b w ne. ap (λ xs. get_or xs b w) states_at
-        ∙ get_or-set_other states a b job.state w (λ e. ne (sym e)))
-        (λ p j ne. get_or-set_other jobs i p job' j (λ e. ne (sym e)))
 
     pub counts_next : (was : List ℕ) → ((b : ℕ) → get_or done b 0 ≡ get_or was b 0 + times (take i acts) b) →
         (b : ℕ) → get_or done' b 0 ≡ get_or was b 0 + times (take (i + 1) acts) b

@@ -6,7 +6,6 @@ ghost use Rattle.sdf_actor.specs.Sides.{list_count};
 ghost use Rattle.sdf_rows.specs.Collect.{AreCollected};
 
 use sdf_actor::{Actor, Net};
-use sdf_answer::laws::net_facts;
 use sdf_node::{NodeState, collect_at};
 
 /// Moves the lists out of the states of all sinks, each to its number in `outputs`.
@@ -20,7 +19,6 @@ pub(crate) fn collect<A: Actor>(
     ensures all { length outputs.new ≡ length outputs.old }
     ensures lists { AreCollected net.now (length net.now.nodes) states.old outputs.new }
 {
-    net_facts(net);
     for a in 0..net.len() {
         collect_at(net.node(a), &mut states[a], outputs);
     }

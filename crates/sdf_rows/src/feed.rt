@@ -16,7 +16,7 @@ use crate::collect::collect;
 use crate::fired::{TableBlocks, fire, rounds_of};
 use sdf_actor::{Actor, Net, Rest};
 use sdf_answer::inputs::{are_inputs, first_sample};
-use sdf_answer::laws::{blocks_are_small, net_facts, nets_have_periods};
+use sdf_answer::laws::nets_have_periods;
 use sdf_answer::outputs::make_outputs;
 use sdf_answer::queue::held;
 use sdf_answer::sizes::samples_of_blocks;
@@ -58,7 +58,6 @@ fn fill<R: Threads + AllocGlobal + Sync, A: Actor, G: Gate>(
     ensures { let t = plan.now.table.now in IfOk result (λ made. HasRun A.steps net.now (lists inputs.now)
         (periods_of t.period.repetitions (plan.now.blocks * t.factor)) (lists made.0.items) made.1) }
 {
-    net_facts(net);
     let alloc = rt.alloc();
     let mut outputs = make_outputs(alloc, net.outputs(), 0)?;
     match first_sample(inputs) {
@@ -91,7 +90,6 @@ pub fn feed_rows<R: Threads + AllocGlobal + Sync, A: Actor, G: Gate>(
         × (fed.0.rounds ≡ plan.now.blocks * length t.table.rows))
         (IsRunFault net.now q periods (lists inputs.now)) }
 {
-    blocks_are_small(net);
     let least = samples_of_blocks(plan.blocks, plan.table.factor, net.samples_in());
     if !are_inputs(inputs, net.inputs(), least) {
         return Err(RunFault::InputLength);

@@ -15,7 +15,6 @@ use crate::scene::Scene;
 use crate::setup::{make_jobs, make_states};
 use crate::stage::Stage;
 use sdf_actor::{Actor, Net};
-use sdf_answer::laws::net_facts;
 use sdf_answer::rooms::make_queues;
 use sdf_answer::sizes::samples_of_blocks;
 use sdf_answer::Sizes;
@@ -53,7 +52,6 @@ pub(crate) fn fire<R: Threads + AllocGlobal + Sync, A: Actor, G: Gate>(
     ensures { let t = plan.now.table.now in IfOk result (λ stage. IsOver A.steps net.now (lists inputs.now)
         t.period.repetitions t.factor plan.now.blocks stage.states.items stage.queues.items) }
 {
-    net_facts(net);
     let alloc = rt.alloc();
     let table = plan.table;
     let repetitions = table.period.repetitions();

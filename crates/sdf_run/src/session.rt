@@ -12,7 +12,7 @@ ghost use Rattle.sdf_answer.specs.Feeds.{GoesOnBy};
 ghost use Rattle.sdf_prec.specs.BlockTables.{IsBlockTableOf};
 ghost use Rattle.sdf_answer.specs.declared.fault.RunFault.TheVariants.{SessionFailed};
 ghost use Rattle.sdf_run.specs.Sessions.{AreBlocks, AreNone, SessionValue, MayRun, IsModeFault, HasRounds, IsLive};
-ghost use Rattle.sdf_run.specs.Sessions.{StandsAfter, HasFed, IsSession, IsFeedFault, after_fault, FeedsAreOneRun};
+ghost use Rattle.sdf_run.specs.Sessions.{StandsAfter, HasFed, IsFeedFault, after_fault, FeedsAreOneRun};
 
 use crate::mode::Mode;
 use sdf_actor::{Actor, Net, Rest};
@@ -190,13 +190,6 @@ impl<'a, A: Actor> Session<'a, A> {
             blocks: 0,
             rounds: 0,
         })
-    }
-
-    /// Proves what is true of every session.
-    pub fn facts(&self)
-        ensures { IsSession A.steps self.now }
-    {
-        let _ = &self.net;
     }
 
     /// Runs the blocks in `inputs`, and returns the outputs beyond what was made before. Each list must have the

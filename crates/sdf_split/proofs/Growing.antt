@@ -16,7 +16,7 @@ use Rattle.sdf_split.specs.Parts.{AreStretches, IsFinished, IsSplit, IsPart, IsW
 use Rattle.sdf_split.specs.Parts.{read_by, end_of, part_count, none as no_part, more as one_part}
 use Rattle.sdf_split.specs.Parts.{first as first_stretch, next as next_stretch}
 use Rattle.sdf_split.proofs.Joining.{one_more, stretch_more, all_read, begins, ends, ends_last}
-use Rattle.sdf_split.proofs.Theorems.{joined_is, joined_long, same_lists}
+use Rattle.sdf_split.proofs.Joined.{joined_is, joined_long, same_lists}
 use Rattle.sdf_split.proofs.Warmed.{blank, blank_at}
 
 -- the periods of the first parts

@@ -24,7 +24,7 @@ use Rattle.sdf_fission.specs.WarmUps.{WarmsIn}
 use Rattle.sdf_fission.proofs.Theorems.{parts_go_on, runs_go_on_twice}
 use Rattle.sdf_split.specs.Parts.{read_by, end_of, IsWarmedUp}
 use Rattle.sdf_split.proofs.Cutting.{reads_join, reads_many, are_given, are_full, cut_at}
-use Rattle.sdf_split.proofs.Theorems.{same_lists}
+use Rattle.sdf_split.proofs.Joined.{same_lists}
 
 -- a part that is all
 whole : {T : Type 0} (xs : List T) (i j : ℕ) → i ≡ 0 → length xs ≤ j → between i j xs ≡ xs

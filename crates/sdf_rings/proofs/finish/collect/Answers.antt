@@ -1,5 +1,6 @@
 use Rattle.std.proofs.Common.{◌<◌, length, arith, ◌∙◌, subst}
 use Rattle.sdf_node.specs.Collected.{IsCollected}
+use Rattle.sdf_answer.proofs.Theorems.{accepted_nets}
 use Rattle.sdf_rings.specs.Rests.{stand_of}
 use Rattle.sdf_rings.proofs.Collects.{stands_more, rest_more, given_more}
 use Rattle.sdf_rings.proofs.finish.collect.Goals as goal
@@ -10,7 +11,7 @@ loop-a-preserved g c =
     let a = c.loop-a.a in
     let known : a < length n.nodes = omega arith in
     let was = c.loop-a.invariant in
-    let sinks = c.net_facts.ensures.sinks in
+    let sinks = (accepted_nets g.A.Actor.steps n c.node.ensures.accepted).sinks in
     let outputs = c.collect_from.new.outputs in
     record {
       all = c.collect_from.auto.outputs ∙ was.all;

@@ -3,7 +3,7 @@ use Rattle.std.specs.Prelude.{sum}
 use Rattle.std.proofs.lemmas.List.{length-map}
 use Rattle.sdf_actor.specs.Wires.{lists}
 use Rattle.sdf_actor.specs.declared.sides.Lists.TheVariants.{Outputs}
-use Rattle.sdf_answer.proofs.Theorems.{blocks_are_small, nets_have_periods}
+use Rattle.sdf_answer.proofs.Theorems.{accepted_nets, blocks_are_small, nets_have_periods}
 use Rattle.sdf_rings.proofs.Lists.{vec_long}
 use Rattle.sdf_rings.proofs.Starting.{can_start, is_asked}
 use Rattle.sdf_rings.proofs.prepare.prepare_homed.Goals as goal
@@ -18,22 +18,20 @@ asked-requires g c = omega (
 pub lay_out-requires-clause-start : goal.lay_out-requires-clause-start
 lay_out-requires-clause-start g c κs within =
     let n = c.args.net.now in
-    let facts = c.net_facts.ensures in
+    let accepted = c.samples_out.ensures.accepted in
     let p = c.args.table.now.period in
     let b = c.args.blocks in
     let j = c.args.table.now.factor in
     let asked = c.in_ok-asked.ensures ∙ ap (map (λ q. b * (j * q))) c.repetitions.ensures in
     record {
       can = can_start g.A.Actor.steps n p
-          (nets_have_periods g.A.Actor.steps n facts.accepted p
-          c.requires.fits.period) b j
-          c.in_ok-asked.field-0.items asked
-          (lists c.args.inputs.now) c.samples_of_blocks.result c.first_sample.result c.net_facts.ensures.phases
-          c.requires.inputs
+          (nets_have_periods g.A.Actor.steps n accepted p c.requires.fits.period) b j c.in_ok-asked.field-0.items asked
+          (lists c.args.inputs.now) c.samples_of_blocks.result c.first_sample.result
+          (accepted_nets g.A.Actor.steps n accepted).phases c.requires.inputs
           (c.samples_of_blocks.ensures ∙ ap (λ m. b * j * m)
           (c.samples_out.ensures.value p.repetitions c.requires.fits.period.least)) c.first_sample.ensures
           c.requires.some
-          (omega (arith, c.requires.inputs.count, c.net_facts.ensures.accepted.1.lists.input));
+          (omega (arith, c.requires.inputs.count, accepted.1.lists.input));
       sizes_are = c.in_ok-new.ensures;
       asked_all = sym (vec_long c.in_ok-asked.field-0) ∙ (ap length asked ∙ (length-map p.repetitions (λ q. b * (j * q))
           ∙ c.requires.fits.period.least.is.all));
@@ -42,13 +40,11 @@ lay_out-requires-clause-start g c κs within =
 pub lay_out-requires-clause-plan : goal.lay_out-requires-clause-plan
 lay_out-requires-clause-plan g c κs within =
     let n = c.args.net.now in
-    let facts = c.net_facts.ensures in
     let p = c.args.table.now.period in
     let b = c.args.blocks in
     let j = c.args.table.now.factor in
     is_asked g.A.Actor.steps n p
-    (nets_have_periods g.A.Actor.steps n facts.accepted p
-    c.requires.fits.period) b j
+    (nets_have_periods g.A.Actor.steps n c.samples_out.ensures.accepted p c.requires.fits.period) b j
     c.in_ok-asked.field-0.items
     (c.in_ok-asked.ensures ∙ ap (map (λ q. b * (j * q))) c.repetitions.ensures)
     c.args.table.now.table
@@ -57,8 +53,7 @@ lay_out-requires-clause-plan g c κs within =
 pub samples_of_blocks-requires : goal.samples_of_blocks-requires
 samples_of_blocks-requires g c =
     let q = c.args.table.now.period.repetitions in
-    let facts = c.net_facts.ensures in
-    let few = blocks_are_small g.A.Actor.steps c.args.net.now facts.accepted
+    let few = blocks_are_small g.A.Actor.steps c.args.net.now c.samples_out.ensures.accepted
     c.args.table.now.factor q Outputs c.requires.fits.period.least c.requires.fits.table.short in
     omega (
       arith,

@@ -1,17 +1,18 @@
-use Rattle.std.proofs.Common.{[], length, get_or, take, slice_index, refl, sym, ap, ◌∙◌, subst, arith}
+use Rattle.std.proofs.Common.{◌≤◌, [], length, get_or, take, slice_index, refl, sym, ap, ◌∙◌, subst, arith}
 use Rattle.std.specs.Vec.{with_items}
 use Rattle.std.proofs.lemmas.List.{with_items_is, length-take-le}
+use Rattle.rtrb.specs.Ring.{known_items, known_free}
 use Rattle.sdf_actor.specs.Wires.{lists}
 use Rattle.sdf_actor.specs.declared.sides.Side.TheVariants.{Input, Output}
 use Rattle.sdf_actor.specs.Nets.{node}
 use Rattle.sdf_rings.specs.Blocks.{start_at, block_of}
-use Rattle.sdf_rings.specs.Ends.{HoldsEach, HasRoomEach}
+use Rattle.sdf_rings.specs.Ends.{Drew, Gave, HoldsEach, HasRoomEach}
 use Rattle.sdf_answer.specs.Sizes.{sizes}
 use Rattle.sdf_rings.proofs.Firing.{fired}
 use Rattle.sdf_rings.proofs.Looks.{drew_then, gave_none}
 use Rattle.sdf_rings.proofs.OwnEnds.{own_pairs_kept}
-use Rattle.sdf_rings.proofs.Standing.{can_step, row_known, row_sum, taken_is, put_is, taken_fits, put_fits, outs_row}
-use Rattle.sdf_rings.proofs.Standing.{holds_by_row, room_by_row, drew_by_firing, gave_by_firing}
+use Rattle.sdf_rings.proofs.Standing.{can_step, row_known, row_sum, taken_is, put_is, taken_fits, put_fits, ends_row}
+use Rattle.sdf_rings.proofs.Standing.{by_row, moved_by_firing}
 use Rattle.sdf_rings.proofs.stand.fire_blocks.Goals as goal
 
 pub take_front-requires-clause-many : goal.take_front-requires-clause-many
@@ -31,8 +32,8 @@ take_front-requires-clause-known g c =
     let n = c.args.net.now in
     let x = c.args.stand.now in
     let st = c.requires.stand in
-    holds_by_row st c.phase-phase.ensures c.row.ensures c.as_mut_slice.result.now
-    (c.as_mut_slice.ensures.len ∙ st.ins_all)
+    by_row st st.takes c.phase-phase.ensures c.row.ensures c.as_mut_slice.result.now
+    (c.as_mut_slice.ensures.len ∙ st.ins_all) (λ m e. m ≤ length (known_items e))
     (subst (HoldsEach (sizes s Input (node n x.actor) x.done)) (sym c.as_mut_slice.ensures.value) c.requires.can.holds)
 
 pub slice_bounds-step_front-end : goal.slice_bounds-step_front-end
@@ -60,7 +61,7 @@ slice_bounds-put_told-end g c =
 pub put_told-requires-clause-ports : goal.put_told-requires-clause-ports
 put_told-requires-clause-ports g c = λ κs within.
     let x = c.args.stand.now in
-    outs_row c.requires.stand c.phase-phase.ensures c.row-2.ensures c.as_mut_slice-5.result.now
+    ends_row c.requires.stand c.requires.stand.puts c.phase-phase.ensures c.row-2.ensures c.as_mut_slice-5.result.now
     (c.as_mut_slice-5.ensures.len ∙ c.requires.stand.outs_all)
 
 pub put_told-requires-clause-length : goal.put_told-requires-clause-length
@@ -82,8 +83,8 @@ put_told-requires-clause-room g c = λ κs within.
     let n = c.args.net.now in
     let x = c.args.stand.now in
     let st = c.requires.stand in
-    room_by_row st c.phase-phase.ensures c.row-2.ensures c.as_mut_slice-5.result.now
-    (c.as_mut_slice-5.ensures.len ∙ st.outs_all)
+    by_row st st.puts c.phase-phase.ensures c.row-2.ensures c.as_mut_slice-5.result.now
+    (c.as_mut_slice-5.ensures.len ∙ st.outs_all) (λ m e. m ≤ known_free e)
     (subst (HasRoomEach (sizes s Output (node n x.actor) x.done)) (sym c.as_mut_slice-5.ensures.value)
     c.requires.can.has_room)
 
@@ -110,15 +111,15 @@ returns-clause-fired g c =
     let outs = with_items_is x.outs c.put_told.new.outs (omega arith) in
     let seen = ap (take many) (c.deref.ensures.value ∙ taken) in
     let out = ap (take more) (c.deref-2.ensures.value ∙ put) in
-    let took = drew_by_firing st j_is c.row.ensures c.as_mut_slice.result.now
-    (c.as_mut_slice.ensures.len ∙ st.ins_all) c.take_front.new.ends (take many c.take_front.new.taken)
+    let took = moved_by_firing st st.takes j_is c.row.ensures c.as_mut_slice.result.now
+    (c.as_mut_slice.ensures.len ∙ st.ins_all) Drew c.take_front.new.ends (take many c.take_front.new.taken)
     c.take_front.ensures in
     let drew = drew_then x.ins.items c.take_front.new.ends c.put_told.new.ins
     (λ i. block_of (sizes s Input (node n x.actor) x.done) i (take many c.take_front.new.taken)) (omega arith)
     (rw c.as_mut_slice.ensures.value at took) (rw (c.as_mut_slice-4.ensures.value ∙ ins) at
     c.put_told.ensures.looked) in
-    let gave = gave_by_firing st j_is c.row-2.ensures c.as_mut_slice-5.result.now
-    (c.as_mut_slice-5.ensures.len ∙ st.outs_all) c.put_told.new.outs (take more c.step_front.new.put)
+    let gave = moved_by_firing st st.puts j_is c.row-2.ensures c.as_mut_slice-5.result.now
+    (c.as_mut_slice-5.ensures.len ∙ st.outs_all) Gave c.put_told.new.outs (take more c.step_front.new.put)
     (rw out at c.put_told.ensures.gave) in
     fired c.requires.net st (record {
       left = c.requires.left;

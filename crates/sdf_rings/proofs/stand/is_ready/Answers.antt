@@ -1,6 +1,7 @@
-use Rattle.std.proofs.Common.{rules, refl, sym, ◌∙◌, subst, arith}
+use Rattle.std.proofs.Common.{◌≤◌, length, rules, refl, sym, ◌∙◌, subst, arith}
 use Rattle.std.specs.Vec.{with_items}
 use Rattle.std.proofs.lemmas.List.{with_items_is}
+use Rattle.rtrb.specs.Ring.{known_items, known_free}
 use Rattle.sdf_actor.specs.Wires.{lists}
 use Rattle.sdf_actor.specs.declared.sides.Side.TheVariants.{Input, Output}
 use Rattle.sdf_actor.specs.Nets.{node}
@@ -8,7 +9,7 @@ use Rattle.sdf_rings.specs.Ends.{HoldsEach, HasRoomEach}
 use Rattle.sdf_answer.specs.Sizes.{sizes}
 use Rattle.sdf_rings.proofs.Looks.{gave_none}
 use Rattle.sdf_rings.proofs.Looking.{looked_stand, looked_moved}
-use Rattle.sdf_rings.proofs.Standing.{ins_row, outs_row, holds_by_row, holds_by_firing, room_by_row, room_by_firing}
+use Rattle.sdf_rings.proofs.Standing.{ends_row, by_row, by_firing}
 use Rattle.sdf_rings.proofs.stand.is_ready.Goals as goal
 
 pub returns-then-not-hold_each-clause-stand : goal.returns-then-not-hold_each-clause-stand
@@ -48,13 +49,13 @@ returns-clause-moved g c =
 pub hold_each-requires : goal.hold_each-requires
 hold_each-requires g c =
     let x = c.args.stand.now in
-    ins_row c.requires c.phase-phase.ensures c.row.ensures c.as_mut_slice.result.now
+    ends_row c.requires c.requires.takes c.phase-phase.ensures c.row.ensures c.as_mut_slice.result.now
     (c.as_mut_slice.ensures.len ∙ c.requires.ins_all)
 
 pub have_room_each-requires : goal.have_room_each-requires
 have_room_each-requires g c =
     let x = c.args.stand.now in
-    outs_row c.requires c.phase-phase.ensures c.row-2.ensures c.as_mut_slice-2.result.now
+    ends_row c.requires c.requires.puts c.phase-phase.ensures c.row-2.ensures c.as_mut_slice-2.result.now
     (c.as_mut_slice-2.ensures.len ∙ c.requires.outs_all)
 
 pub returns-then-not-hold_each-clause-no : goal.returns-then-not-hold_each-clause-no
@@ -64,8 +65,8 @@ returns-then-not-hold_each-clause-no g c = λ f can.
     let st = c.requires in
     let ins = with_items_is x.ins c.hold_each.new.ends (omega arith) in
     let no = c.hold_each.ensures.no (search rules) in
-    no (holds_by_row st c.phase-phase.ensures c.row.ensures c.hold_each.new.ends
-    (omega (arith, st.ins_all, c.as_mut_slice.ensures.len))
+    no (by_row st st.takes c.phase-phase.ensures c.row.ensures c.hold_each.new.ends
+    (omega (arith, st.ins_all, c.as_mut_slice.ensures.len)) (λ m e. m ≤ length (known_items e))
     (subst (HoldsEach (sizes s Input (node c.args.net.now x.actor) x.done)) ins can.holds))
 
 pub returns-clause-yes : goal.returns-clause-yes
@@ -79,12 +80,12 @@ returns-clause-yes g c = λ t.
     let outs = with_items_is x.outs c.have_room_each.new.ends (omega arith) in
     record {
       holds = subst (HoldsEach (sizes s Input (node n x.actor) x.done)) (sym ins)
-          (holds_by_firing st c.phase-phase.ensures c.row.ensures c.hold_each.new.ends
-          (omega (arith, st.ins_all, c.as_mut_slice.ensures.len))
+          (by_firing st st.takes c.phase-phase.ensures c.row.ensures c.hold_each.new.ends
+          (omega (arith, st.ins_all, c.as_mut_slice.ensures.len)) (λ m e. m ≤ length (known_items e))
           (c.hold_each.ensures.yes (search rules)));
       has_room = subst (HasRoomEach (sizes s Output (node n x.actor) x.done)) (sym outs)
-          (room_by_firing st c.phase-phase.ensures c.row-2.ensures c.have_room_each.new.ends
-          (omega (arith, st.outs_all, c.as_mut_slice-2.ensures.len))
+          (by_firing st st.puts c.phase-phase.ensures c.row-2.ensures c.have_room_each.new.ends
+          (omega (arith, st.outs_all, c.as_mut_slice-2.ensures.len)) (λ m e. m ≤ known_free e)
           (c.have_room_each.ensures.yes t));
     }
 
@@ -95,6 +96,6 @@ returns-clause-no g c = λ f can.
     let st = c.requires in
     let outs = with_items_is x.outs c.have_room_each.new.ends (omega arith) in
     c.have_room_each.ensures.no f
-    (room_by_row st c.phase-phase.ensures c.row-2.ensures c.have_room_each.new.ends
-    (omega (arith, st.outs_all, c.as_mut_slice-2.ensures.len))
+    (by_row st st.puts c.phase-phase.ensures c.row-2.ensures c.have_room_each.new.ends
+    (omega (arith, st.outs_all, c.as_mut_slice-2.ensures.len)) (λ m e. m ≤ known_free e)
     (subst (HasRoomEach (sizes s Output (node c.args.net.now x.actor) x.done)) outs can.has_room))

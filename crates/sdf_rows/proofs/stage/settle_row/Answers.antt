@@ -64,14 +64,10 @@ loop-place-preserved g c =
     let now = here g (goal.at.loop-place-preserved g c).In-loop-place in
     record {
       settled = λ many low high was.
-          settled_next (now many low high was) d c.settle_at.new.stage.queues.items c.settle_at.ensures.queues
-          c.settle_at.new.stage.states.items c.settle_at.new.stage.done.items c.settle_at.new.job
-          c.settle_at.ensures.states c.settle_at.ensures.done;
-      done = counts_next (now b.0 b.1 b.2 b.3) d c.settle_at.new.stage.queues.items c.settle_at.ensures.queues
-          c.settle_at.new.stage.states.items c.settle_at.new.stage.done.items c.settle_at.new.job
-          c.settle_at.ensures.states c.settle_at.ensures.done
-          c.args.stage.now.done.items
-          c.loop-place.invariant.done;
+          settled_next (now many low high was) d c.settle_at.ensures.queues c.settle_at.ensures.states
+          c.settle_at.ensures.done c.settle_at.new.job;
+      done = counts_next (now b.0 b.1 b.2 b.3) d c.settle_at.ensures.queues c.settle_at.ensures.states
+          c.settle_at.ensures.done c.settle_at.new.job c.args.stage.now.done.items c.loop-place.invariant.done;
       counted = ap length c.settle_at.ensures.done
           ∙ (length-set _ _ _ ∙ c.loop-place.invariant.counted);
       blocks = kept_set c.args.jobs.now c.loop-place.jobs c.loop-place.place c.settle_at.new.job d

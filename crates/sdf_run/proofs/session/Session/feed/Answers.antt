@@ -5,7 +5,33 @@ use Rattle.sdf_actor.specs.declared.sides.Lists.TheVariants.{Inputs}
 use Rattle.sdf_one.proofs.Theorems.{samples_have_lists}
 use Rattle.sdf_run.specs.Sessions.{SessionValue, FeedsBlocks, IsFeedFault, HasFed, after_fault, counted}
 use Rattle.sdf_run.proofs.Feeding.{rest_of, blocks_same, feed_fault, has_fed, stands_still}
+use Rattle.sdf_run.proofs.session.Session.feed.Given.{Over}
+use Rattle.sdf_run.proofs.session.Session.feed.Goals.{In-Some-blocks_in}
 use Rattle.sdf_run.proofs.session.Session.feed.Goals as goal
+
+-- the session before the feed
+abbrev value : (g : Over) → In-Some-blocks_in g → SessionValue g.row.A.Denot g.row.A-State.Denot g.row.A-Token.Denot
+value g c = record {
+  net = c.self.inside.net.now;
+  period = c.self.inside.table.now.period;
+  factor = c.self.inside.table.now.factor;
+  table = c.self.inside.table.now.table;
+  mode = c.self.inside.mode;
+  rest = c.self.inside.rest;
+  blocks = c.self.inside.blocks;
+  rounds = c.self.inside.rounds;
+}
+
+-- the lists are its blocks
+are : (g : Over) (c : In-Some-blocks_in g) →
+    FeedsBlocks (value g c) c.in-Some-blocks_in.blocks (lists c.args.inputs.now)
+are g c =
+    let n = c.self.inside.net.now in
+    let q = c.self.inside.table.now.period.repetitions in
+    subst (λ X. X) (blocks_same c.inputs.result (list_count Inputs n.nodes) c.self.inside.table.now.factor
+    c.samples_in.result (period_samples n.nodes Inputs q) c.in-Some-blocks_in.blocks (lists c.args.inputs.now)
+    c.inputs.ensures (c.samples_in.ensures.value q c.self.invariant.period.least))
+    c.in-Some-blocks_in.ensures.some
 
 pub blocks_in-requires-clause-many : goal.blocks_in-requires-clause-many
 blocks_in-requires-clause-many g c =
@@ -49,46 +75,24 @@ go_on-fed-requires-clause-rest g c κs within =
     )
 
 pub invariant_of-self : goal.invariant_of-self
-invariant_of-self g c =
-    let n = c.self.inside.net.now in
-    let q = c.self.inside.table.now.period.repetitions in
-    let each = c.samples_in.ensures.value q c.self.invariant.period.least in
-    let blocks = c.in-Some-blocks_in.blocks in
-    let inputs = lists c.args.inputs.now in
-    let are = subst (λ X. X) (blocks_same c.inputs.result (list_count Inputs n.nodes) c.self.inside.table.now.factor
-    c.samples_in.result (period_samples n.nodes Inputs q) blocks inputs c.inputs.ensures each)
-    c.in-Some-blocks_in.ensures.some in
-    record {
-      period = c.self.invariant.period;
-      table = c.self.invariant.table;
-      may = c.self.invariant.may;
-      stands = λ live. stands_still g.A.Actor.steps _ c.in-Some.rest c.in-Ok.last c.in-Some.is blocks inputs
-          (lists c.in-Ok.ran.outputs.items) are c.in-Ok.ensures.0
-          c.saturating_add-self-inside.result c.saturating_add-self-inside-in-Ok.result
-          (c.self.invariant.stands (c.in-Some.rest, c.in-Some.is));
-    }
+invariant_of-self g c = record {
+  period = c.self.invariant.period;
+  table = c.self.invariant.table;
+  may = c.self.invariant.may;
+  stands = λ live. stands_still g.A.Actor.steps _ c.in-Some.rest c.in-Ok.last c.in-Some.is c.in-Some-blocks_in.blocks
+      (lists c.args.inputs.now) (lists c.in-Ok.ran.outputs.items)
+      (are g (goal.at.invariant_of-self g c).In-Some-blocks_in) c.in-Ok.ensures.0
+      c.saturating_add-self-inside.result c.saturating_add-self-inside-in-Ok.result
+      (c.self.invariant.stands (c.in-Some.rest, c.in-Some.is));
+}
 
 pub returns-in-Ok : goal.returns-in-Ok
 returns-in-Ok g c =
-    let n = c.self.inside.net.now in
-    let q = c.self.inside.table.now.period.repetitions in
-    let each = c.samples_in.ensures.value q c.self.invariant.period.least in
+    let here = (goal.at.returns-in-Ok g c).In-Some-blocks_in in
+    let v = value g here in
     let blocks = c.in-Some-blocks_in.blocks in
     let inputs = lists c.args.inputs.now in
-    let made = lists c.in-Ok.ran.outputs.items in
-    let are = subst (λ X. X) (blocks_same c.inputs.result (list_count Inputs n.nodes) c.self.inside.table.now.factor
-    c.samples_in.result (period_samples n.nodes Inputs q) blocks inputs c.inputs.ensures each)
-    c.in-Some-blocks_in.ensures.some in
-    let v : SessionValue g.row.A.Denot g.row.A-State.Denot g.row.A-Token.Denot = record {
-      net = n;
-      period = c.self.inside.table.now.period;
-      factor = c.self.inside.table.now.factor;
-      table = c.self.inside.table.now.table;
-      mode = c.self.inside.mode;
-      rest = c.self.inside.rest;
-      blocks = c.self.inside.blocks;
-      rounds = c.self.inside.rounds;
-    } in (
+    let made = lists c.in-Ok.ran.outputs.items in (
       blocks,
       subst (λ u. HasFed g.A.Actor.steps u (record v {
         rest = Some c.in-Ok.last;
@@ -97,7 +101,7 @@ returns-in-Ok g c =
       }) blocks inputs made c.in-Ok.ran.rounds)
           c.self.view_is
           (has_fed g.A.Actor.steps v c.in-Some.rest c.in-Ok.last c.in-Some.is blocks c.in-Ok.ran.rounds
-          c.saturating_add-self-inside.result c.saturating_add-self-inside-in-Ok.result inputs made are
+          c.saturating_add-self-inside.result c.saturating_add-self-inside-in-Ok.result inputs made (are g here)
           c.in-Ok.ensures.0 c.in-Ok.ensures.1 (c.saturating_add-self-inside.ensures
           ∙ ap (λ b. counted (c.self.inside.blocks + b)) c.from.ensures)
           c.saturating_add-self-inside-in-Ok.ensures),
@@ -105,24 +109,10 @@ returns-in-Ok g c =
 
 pub returns-in-Err : goal.returns-in-Err
 returns-in-Err g c =
-    let n = c.self.inside.net.now in
-    let q = c.self.inside.table.now.period.repetitions in
-    let each = c.samples_in.ensures.value q c.self.invariant.period.least in
-    let blocks = c.in-Some-blocks_in.blocks in
+    let here = (goal.at.returns-in-Err g c).In-Some-blocks_in in
+    let v = value g here in
     let inputs = lists c.args.inputs.now in
-    let are = subst (λ X. X) (blocks_same c.inputs.result (list_count Inputs n.nodes) c.self.inside.table.now.factor
-    c.samples_in.result (period_samples n.nodes Inputs q) blocks inputs c.inputs.ensures each)
-    c.in-Some-blocks_in.ensures.some in
-    let v : SessionValue g.row.A.Denot g.row.A-State.Denot g.row.A-Token.Denot = record {
-      net = n;
-      period = c.self.inside.table.now.period;
-      factor = c.self.inside.table.now.factor;
-      table = c.self.inside.table.now.table;
-      mode = c.self.inside.mode;
-      rest = c.self.inside.rest;
-      blocks = c.self.inside.blocks;
-      rounds = c.self.inside.rounds;
-    } in
     subst (λ u. IsFeedFault u inputs c.in-Err.fault
     × (record v { rest = None } ≡ after_fault u c.in-Err.fault)) c.self.view_is
-    (feed_fault v blocks inputs (c.in-Some.rest, c.in-Some.is) are c.in-Err.fault c.in-Err.ensures)
+    (feed_fault v c.in-Some-blocks_in.blocks inputs (c.in-Some.rest, c.in-Some.is) (are g here) c.in-Err.fault
+    c.in-Err.ensures)
