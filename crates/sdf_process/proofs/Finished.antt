@@ -1,6 +1,6 @@
 -- The last stage of a run: what is known once its frames are written, or where that failed.
-use Rattle.std.proofs.Common.{false, ◌≡◌, ◌⊎◌, inl, inr, ℕ, ◌*◌, ◌≤◌, ℤ, List, ◌++◌, length, Option, Some, Result, Ok}
-use Rattle.std.proofs.Common.{Err, refl, sym, ap, ◌∙◌, subst}
+use Rattle.std.proofs.Common.{◌≡◌, ◌⊎◌, inl, inr, ℕ, ◌*◌, ◌≤◌, ℤ, List, ◌++◌, length, Option, Some, Result, Ok, Err}
+use Rattle.std.proofs.Common.{refl, sym, ap, ◌∙◌, subst}
 use Rattle.std.specs.Io.KnownBytes.{Appends}
 use Rattle.sdf_actor.specs.Nets.{Netlist}
 use Rattle.sdf_answer.specs.Answer.{AreOutputs, periods_of as firings}
@@ -10,24 +10,26 @@ use Rattle.sdf_wav.specs.Sound.{Sound}
 use Rattle.sdf_wav.specs.Grammar.{IsWav}
 use Rattle.sdf_wav.specs.Canonical.{header, canonical_wav, sample_bytes, IsCanonical}
 use Rattle.sdf_wav.specs.Device.{AppendsFront, ReaderState, WriterState, one_more}
-use Rattle.sdf_wav.specs.PiecesIn.{Reading, known_frames, sound_read}
-use Rattle.sdf_wav.specs.PiecesOut.{Owed, file_header}
-use Rattle.sdf_wav.proofs.Theorems.{not_both, one_sound}
-use Rattle.sdf_process.specs.declared.exchange.Exchange.{Exchange}
+use Rattle.sdf_wav.specs.PiecesIn.{sound_read}
+use Rattle.sdf_wav.specs.PiecesOut.{Owed}
+use Rattle.sdf_wav.proofs.Theorems.{not_both, one_sound, pieces_end}
 use Rattle.sdf_process.specs.declared.exchange.Extent.{Extent}
 use Rattle.sdf_faults.specs.declared.fault.Fault.{Fault}
 use Rattle.sdf_faults.specs.declared.fault.Fault.TheVariants.{OutOfMemory, Write}
 use Rattle.sdf_process.specs.Output.{announced_by, exchange_of, interleaved, input_lists, output_frames, output_fault}
-use Rattle.sdf_process.specs.Output.{output_header, output_of, periods_of, IsExchange, IsExtent}
+use Rattle.sdf_process.specs.Output.{output_header, output_of, periods_of, IsExchange}
 use Rattle.sdf_process.specs.Run.{AreFrames, HasOutput, IsRun, IsText, Refuses}
-use Rattle.sdf_process.specs.Stages.{Hears, IsOpened, PutsOutput}
-use Rattle.sdf_process.specs.declared.source.Source.TheVariants.{Content}
-use Rattle.sdf_process.specs.Streams.{Streams}
+use Rattle.sdf_process.specs.Stages.{Hears, IsHeard, PutsOutput}
 use Rattle.sdf_process.proofs.Outcomes.{appends_join, front_join}
 use Rattle.sdf_process.proofs.Refusals.{Begins, writer_failed, memory_failed, some_no_none}
-use Rattle.sdf_process.proofs.Opened.{heard_ahead, stream_stopped, wav_of_heard}
 use Rattle.sdf_process.proofs.Sounds.{length-interleaved}
 use Rattle.sdf_process.proofs.Texts.{text_begins, whole_file}
+
+-- what was heard to its end is a file
+pub wav_of_heard : (input : List ℕ) (s : Sound) (rest : List ℕ) → IsHeard input s rest → IsWav input s rest
+wav_of_heard input s rest h =
+    let made : sound_read h.reading s.samples ≡ s = rw (← h.rate, ← h.channels) refl in
+    subst (λ (t : Sound). IsWav input t rest) made (pieces_end input h.reading s.samples rest h.read h.ended)
 
 module _ (n : Netlist Kit ℤ) (q : List ℕ) (limits : IsExchange (exchange_of n q))
     (r r' : ReaderState) (w w1 w' : WriterState) (s : Sound) (e : Extent) (o : Owed)
@@ -149,26 +151,3 @@ answered n q limits r r' w w1 w' s e o hears (Ok x) (lists, made, written, fine)
     finished n q limits r r' w w1 w' s e o hears lists made written fine
 answered n q limits r r' w w1 w' s e o hears (Err f) (periods, frames, few, are, why) =
     finishing_failed n q limits r r' w w1 w' s e o hears periods frames few are f why
-
--- so is one that read and wrote as it went
-pub streamed : (n : Netlist Kit ℤ) (q : List ℕ) (x : Exchange) (same : x ≡ exchange_of n q)
-    (limits : IsExchange x) (r mid : ReaderState) (c : Reading) (opened : IsOpened r mid c) (gone : c.gone ≡ 0)
-    (frames : ℕ) (is : known_frames c ≡ Some frames) (e : Extent)
-    (extent : IsExtent x (record { rate = c.rate; channels = c.channels; frames = frames }) e)
-    (r' : ReaderState) (w w1 w' : WriterState)
-    (written : Appends w.contents w1.contents (file_header e.rate x.outputs (e.periods * x.made)))
-    (fine : w1.failures ≡ w.failures) (one : 1 ≤ c.channels) (o : Owed) → o ≡ record {
-      channels = x.outputs;
-      missing = e.periods * x.made;
-      spent = false;
-    } →
-    (result : Result (Unit {0}) Fault) → Streams n q (Content c) mid r' w1 w' result → IsRun n q r r' w w' result
-streamed n q x same limits r mid c opened gone frames is e extent r' w w1 w' written fine one o owed (Ok y)
-    (s, reads, puts) =
-    answered n q (subst IsExchange same limits) r r' w w1 w' s e o
-    (heard_ahead n q x same limits r mid c opened gone frames is e extent r' w w1 written fine s o reads owed)
-    (Ok y) puts
-streamed n q x same limits r mid c opened gone frames is e extent r' w w1 w' written fine one o owed (Err f)
-    (samples, periods, bytes, last, st, reads, why) =
-    stream_stopped n q x same limits r mid c opened gone frames is e extent r' w w1 w' one written fine samples
-    periods bytes last st reads f why

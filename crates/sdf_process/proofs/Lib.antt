@@ -5,8 +5,9 @@ mod Channels
 mod Contents
 mod Refusals
 mod Texts
-mod Opened
 mod Finished
+mod Opened
+mod Unsized
 mod Pieces
 mod Sounds
 mod Rendering

@@ -1,23 +1,26 @@
 -- Frames that are written some at a time.
-use Rattle.std.proofs.Common.{◌≡◌, ℕ, zero, suc, ◌+◌, ◌-◌, ◌*◌, ◌/◌, ◌%◌, ◌≤◌, ℤ, List, [], ◌++◌}
-use Rattle.std.proofs.Common.{Option, Some, None, append-nil, Result, Ok, Err, sym, ap, ◌∙◌, subst, arith}
-use Rattle.std.proofs.Common.{append_assoc}
+use Rattle.std.proofs.Common.{◌≡◌, ℕ, zero, suc, ◌+◌, ◌-◌, ◌*◌, ◌/◌, ◌%◌, ◌≤◌, ℤ, List, [], ◌++◌, Option, Some, None}
+use Rattle.std.proofs.Common.{append-nil, Result, Ok, Err, sym, ap, ◌∙◌, subst, arith, append_assoc}
 use Rattle.std.specs.Prelude.{IsErrAnd}
 use Rattle.std.specs.List.{range_with_len}
 use Rattle.std.specs.Io.KnownBytes.{Appends, Keeps}
 use Rattle.std.proofs.Math.Nat.{mul-div_cancel, mul-le-mul_right, mul-mod_left}
 use Rattle.std.proofs.lemmas.List.Concat.{flat_map-cons}
 use Rattle.sdf_wav.specs.Canonical.{sample_bytes}
-use Rattle.sdf_wav.specs.Device.{WriterState, failures_after, one_more}
+use Rattle.sdf_wav.specs.Device.{WriterState, failures_after, one_more, ReaderState}
 use Rattle.sdf_wav.specs.PiecesOut.{Owed, Puts}
 use Rattle.sdf_wav.specs.declared.fault.WavFault.{WavFault}
 use Rattle.sdf_wav.specs.declared.fault.WavFault.TheVariants as wav
 use Rattle.sdf_faults.specs.declared.fault.Fault.{Fault}
 use Rattle.sdf_faults.specs.Faults.{of_wav}
 use Rattle.sdf_process.specs.Output.{frame, interleaved_from}
-use Rattle.sdf_process.specs.Stages.{PutsHeader}
+use Rattle.sdf_process.specs.Stages.{PutsHeader, RunsOn}
 use Rattle.sdf_process.proofs.Outcomes.{front_join}
 use Rattle.sdf_process.proofs.Texts.{bytes_append}
+use Rattle.sdf_wav.specs.PiecesIn.{Reading}
+use Rattle.sdf_actor.specs.Nets.{Netlist}
+use Rattle.sdf_kit.specs.declared.kit.Kit.{Kit}
+use Rattle.sdf_process.specs.Run.{IsRun}
 
 -- frames from two places on, one behind the other
 pub frames_joined : (xs : List (List ℤ)) (a n m : ℕ) →
@@ -102,3 +105,10 @@ pub run_fails : (P : Result (Unit {0}) Fault → Type 0) (f : Fault) (r : Result
     IsErrAnd r (λ e. e ≡ f) → P (Err f) → P r
 run_fails P f (Err e) is p = subst (λ (z : Fault). P (Err z)) (sym is) p
 run_fails P f (Ok x) is p = absurd is
+
+-- the stages behind an opening failed
+pub stage_fails : {n : Netlist Kit ℤ} {q : List ℕ} {c : Reading} {opened r' : ReaderState} {w w' : WriterState}
+    (f : Fault) (result : Result (Unit {0}) Fault) → IsErrAnd result (λ e. e ≡ f) →
+    RunsOn n q c opened r' w w' (Err f) → RunsOn n q c opened r' w w' result
+stage_fails {n} {q} {c} {opened} {r'} {w} {w'} f result is runs = λ r o.
+    run_fails (IsRun n q r r' w w') f result is (runs r o)

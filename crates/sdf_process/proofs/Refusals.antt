@@ -10,21 +10,22 @@ use Rattle.sdf_wav.specs.Canonical.{IsCanonical}
 use Rattle.sdf_wav.specs.Grammar.{IsWav}
 use Rattle.sdf_wav.specs.Fault.{HasFault}
 use Rattle.sdf_wav.specs.Device.{AppendsFront, Known, LosesFront, ReaderState, WriterState, failures_after, one_more}
-use Rattle.sdf_wav.specs.PiecesIn.{Reading, Opens, OpensTo, IsReadTo, AnswersOpening}
+use Rattle.sdf_wav.specs.PiecesIn.{Reading, Opens, IsReadTo, AnswersOpening}
 use Rattle.sdf_wav.specs.declared.fault.FormatFault.{FormatFault}
 use Rattle.sdf_wav.specs.declared.fault.FormatFault.TheVariants.{Truncated}
 use Rattle.sdf_wav.specs.declared.fault.WavFault.{WavFault}
 use Rattle.sdf_wav.specs.declared.fault.WavFault.TheVariants as wav
 use Rattle.sdf_wav.specs.declared.format.Format.{Format}
-use Rattle.sdf_wav.proofs.Theorems.{files_open, not_both, one_fault}
+use Rattle.sdf_wav.proofs.Theorems.{not_both, one_fault}
 use Rattle.sdf_process.specs.declared.exchange.Announced.{Announced}
 use Rattle.sdf_faults.specs.declared.fault.Fault.{Fault}
 use Rattle.sdf_faults.specs.declared.fault.Fault.TheVariants.{OutOfMemory, Wav, Read, Write, ChannelsMissing}
 use Rattle.sdf_faults.specs.declared.fault.Fault.TheVariants.{RateNotWhole}
 use Rattle.sdf_faults.specs.Faults.{of_wav}
 use Rattle.sdf_process.specs.Output.{announced_by, announced_fault, exchange_of, output_fault}
-use Rattle.sdf_process.specs.Run.{Announces, announced_size, HasOutputFault, Handles, IsAllowed, IsRun, IsText}
-use Rattle.sdf_process.specs.Run.{IsUnsized, ReadsAnnounced, ReadsInto, Refuses, Runs, WritesFile, WritesSome}
+use Rattle.sdf_process.specs.Run.{Announces, announced_size, HasOutputFault, Handles, IsAllowed, IsFromOutside, IsRun}
+use Rattle.sdf_process.specs.Run.{IsText, IsUnsized, ReadsAnnounced, ReadsInto, Refuses, Runs, WhereKnown, WritesFile}
+use Rattle.sdf_process.specs.Run.{WritesSome}
 use Rattle.sdf_process.proofs.Outcomes.{IsOfOutput, fault_of_announced, keeps_same, kept, refuses_outside}
 
 -- what is said of the fault of a call that failed, said of that call's own
@@ -47,56 +48,72 @@ pub fails_by : {X : Type 0} (r : Result X Fault) (f : Fault) (P : X → Type 0) 
 fails_by (Err e) f P Q is q = subst Q (sym is) q
 fails_by (Ok x) f P Q is q = absurd is
 
--- ---- a file that did not open
+-- ---- memory or a device failed
+
+-- that fits whatever the input is
+from_outside : (n : Netlist Kit ℤ) (q : List ℕ) (r r' : ReaderState) (w w' : WriterState) (f : Fault) →
+    IsFromOutside f → WhereKnown r.remaining (λ input. Runs n q input w.contents w'.contents (Err f)) →
+    Handles {X = Unit {0}} r r' w w' (Err f) → IsRun n q r r' w w' (Err f)
+from_outside n q r r' w w' f outside runs devices = record {
+  runs = runs;
+  accepts = λ input s rest known wav. refuses_outside (output_fault (exchange_of n q) s) f outside;
+  foresees = λ input g size rest e known o sized why. inr outside;
+  refuses = λ input g known has allowed. inr outside;
+  devices = devices;
+}
+
+-- ---- nothing was written
 
 module _ (n : Netlist Kit ℤ) (q : List ℕ) (r r' : ReaderState) (w : WriterState) where
-  pub unopened : (e : WavFault) → AnswersOpening r.remaining r'.remaining (Err e) →
-      r'.failures ≡ failures_after {X = Unit {0}} (Err e) r.failures →
-      ((input : List ℕ) (f : Format) (size : ℕ) (rest : List ℕ) → r.remaining ≡ Some input → Opens input f size rest →
-      OpensTo r'.remaining f size rest (Err e)) →
-      IsRun n q r r' w w (Err (of_wav e))
-  unopened wav.OutOfMemory said counted only = record {
-    runs = λ input known. inl (keeps_same w.contents);
-    accepts = λ input s rest known is. refuses_outside (output_fault (exchange_of n q) s) OutOfMemory (inl refl);
-    foresees = λ input f size rest e known o sized is. inr (inl refl);
-    refuses = λ input f known has allowed. inr (inl refl);
+  pub unheard_by_memory : Known r.remaining r'.remaining LosesFront → r'.failures ≡ r.failures →
+      IsRun n q r r' w w (Err OutOfMemory)
+  unheard_by_memory lost counted =
+      from_outside n q r r' w w OutOfMemory (inl refl) (λ input known. inl (keeps_same w.contents)) (record {
+        faults = tt;
+        leaves = lost;
+        writes = inl (keeps_same w.contents);
+        reader = counted;
+        writer = refl;
+      })
+
+  pub unheard_by_reader : Known r.remaining r'.remaining LosesFront → r'.failures ≡ one_more r.failures →
+      IsRun n q r r' w w (Err Read)
+  unheard_by_reader lost failed =
+      from_outside n q r r' w w Read (inr (inl refl)) (λ input known. inl (keeps_same w.contents)) (record {
+        faults = tt;
+        leaves = lost;
+        writes = inl (keeps_same w.contents);
+        reader = failed;
+        writer = refl;
+      })
+
+  -- the input did not open, or the size of its data was not filled in
+  pub unheard_by_fault : ((input : List ℕ) → r.remaining ≡ Some input → IsUnsized input) → (g : FormatFault) →
+      Known r.remaining r'.remaining (λ input rest. HasFault input g × LosesFront input rest) →
+      r'.failures ≡ r.failures → IsRun n q r r' w w (Err (Wav g))
+  unheard_by_fault unsized g has counted = record {
+    runs = λ input known. inl ((has.at input known).2.0, unsized input known, keeps_same w.contents);
+    accepts = λ input s rest known wav. absurd (not_both input s rest g wav (has.at input known).2.0);
+    foresees = λ input f size rest e known o sized why. absurd (sized (unsized input known f size rest o));
+    refuses = λ input f known h allowed. inl (ap Wav (one_fault input g f (has.at input known).2.0 h));
     devices = record {
       faults = tt;
-      leaves = said;
-      writes = inl (keeps_same w.contents);
-      reader = counted;
-      writer = refl;
-    };
-  }
-  unopened wav.Read said counted only = record {
-    runs = λ input known. inl (keeps_same w.contents);
-    accepts = λ input s rest known is. refuses_outside (output_fault (exchange_of n q) s) Read (inr (inl refl));
-    foresees = λ input f size rest e known o sized is. inr (inr (inl refl));
-    refuses = λ input f known has allowed. inr (inr (inl refl));
-    devices = record {
-      faults = tt;
-      leaves = said;
-      writes = inl (keeps_same w.contents);
-      reader = counted;
-      writer = refl;
-    };
-  }
-  unopened (wav.Format g) said counted only = record {
-    runs = λ input known. let y = said.at input known in
-        inl (y.2.0.has, (λ f size rest o. absurd (y.2.0.opens_not f size rest o)), keeps_same w.contents);
-    accepts = λ input s rest known is. let o = files_open input s rest is in
-        absurd ((said.at input known).2.0.opens_not _ o.size o.rest o.opens);
-    foresees = λ input f size rest e known o sized is. absurd ((said.at input known).2.0.opens_not f size rest o);
-    refuses = λ input f known has allowed. inl (ap Wav (one_fault input g f (said.at input known).2.0.has has));
-    devices = record {
-      faults = tt;
-      leaves = record { at = λ input known. let y = said.at input known in (y.0, y.1, inl (y.2.0.has, y.2.1)) };
+      leaves = record { at = λ input known. let y = has.at input known in (y.0, y.1, inl y.2) };
       writes = kept w.contents g;
       reader = counted;
       writer = refl;
     };
   }
-  unopened wav.Write said counted only = absurd said
+
+  -- a file that did not open
+  pub unopened : (e : WavFault) → AnswersOpening r.remaining r'.remaining (Err e) →
+      r'.failures ≡ failures_after {X = Unit {0}} (Err e) r.failures → IsRun n q r r' w w (Err (of_wav e))
+  unopened wav.OutOfMemory said counted = unheard_by_memory said counted
+  unopened wav.Read said counted = unheard_by_reader said counted
+  unopened (wav.Format g) said counted =
+      unheard_by_fault (λ input known f size rest o. absurd ((said.at input known).2.0.opens_not f size rest o)) g
+      (record { at = λ input known. let y = said.at input known in (y.0, y.1, (y.2.0.has, y.2.1)) }) counted
+  unopened wav.Write said counted = absurd said
 
 -- ---- there is no output of what is announced
 
@@ -224,19 +241,14 @@ module _ (n : Netlist Kit ℤ) (q : List ℕ) (r r' : ReaderState) (w w' : Write
   pub writer_failed : AppendsFront w.contents w'.contents text → Known r.remaining r'.remaining ReadsInto →
       r'.failures ≡ r.failures → w'.failures ≡ one_more w.failures →
       IsRun n q r r' w w' (Err Write)
-  writer_failed written stands counted failed = record {
-    runs = λ input known. (text, is input known, written);
-    accepts = λ input s rest known wav. refuses_outside (output_fault (exchange_of n q) s) Write (inr (inr refl));
-    foresees = λ input f size rest e known o sized why. inr (inr (inr refl));
-    refuses = λ input f known has allowed. inr (inr (inr refl));
-    devices = record {
-      faults = tt;
-      leaves = stands;
-      writes = (begins.file, begins.canonical, front_of w.contents w'.contents text begins written);
-      reader = counted;
-      writer = failed;
-    };
-  }
+  writer_failed written stands counted failed =
+      from_outside n q r r' w w' Write (inr (inr refl)) (λ input known. (text, is input known, written)) (record {
+        faults = tt;
+        leaves = stands;
+        writes = (begins.file, begins.canonical, front_of w.contents w'.contents text begins written);
+        reader = counted;
+        writer = failed;
+      })
 
   some_written : Appends w.contents w'.contents text → WritesSome w.contents w'.contents
   some_written written = inr (begins.file, begins.canonical, all_of w.contents w'.contents text begins written)
@@ -244,24 +256,16 @@ module _ (n : Netlist Kit ℤ) (q : List ℕ) (r r' : ReaderState) (w w' : Write
   pub memory_failed : Appends w.contents w'.contents text → Known r.remaining r'.remaining LosesFront →
       r'.failures ≡ r.failures → w'.failures ≡ w.failures →
       IsRun n q r r' w w' (Err OutOfMemory)
-  memory_failed written lost counted fine = record {
-    runs = λ input known. inr (text, is input known, written);
-    accepts = λ input s rest known wav. refuses_outside (output_fault (exchange_of n q) s) OutOfMemory (inl refl);
-    foresees = λ input f size rest e known o sized why. inr (inl refl);
-    refuses = λ input f known has allowed. inr (inl refl);
-    devices = record { faults = tt; leaves = lost; writes = some_written written; reader = counted; writer = fine };
-  }
+  memory_failed written lost counted fine =
+      from_outside n q r r' w w' OutOfMemory (inl refl) (λ input known. inr (text, is input known, written))
+      (record { faults = tt; leaves = lost; writes = some_written written; reader = counted; writer = fine })
 
   pub reader_failed : Appends w.contents w'.contents text → Known r.remaining r'.remaining LosesFront →
       r'.failures ≡ one_more r.failures → w'.failures ≡ w.failures →
       IsRun n q r r' w w' (Err Read)
-  reader_failed written lost failed fine = record {
-    runs = λ input known. inr (text, is input known, written);
-    accepts = λ input s rest known wav. refuses_outside (output_fault (exchange_of n q) s) Read (inr (inl refl));
-    foresees = λ input f size rest e known o sized why. inr (inr (inl refl));
-    refuses = λ input f known has allowed. inr (inr (inl refl));
-    devices = record { faults = tt; leaves = lost; writes = some_written written; reader = failed; writer = fine };
-  }
+  reader_failed written lost failed fine =
+      from_outside n q r r' w w' Read (inr (inl refl)) (λ input known. inr (text, is input known, written))
+      (record { faults = tt; leaves = lost; writes = some_written written; reader = failed; writer = fine })
 
   -- the content is cut off
   pub content_cut : (g : FormatFault) → g ≡ Truncated → Appends w.contents w'.contents text →
@@ -282,58 +286,5 @@ module _ (n : Netlist Kit ℤ) (q : List ℕ) (r r' : ReaderState) (w w' : Write
           (some_written written);
       reader = counted;
       writer = fine;
-    };
-  }
-
--- ---- the content of a size that was not filled in failed
-
-module _ (n : Netlist Kit ℤ) (q : List ℕ) (r r' : ReaderState) (w : WriterState)
-    (unsized : (input : List ℕ) → r.remaining ≡ Some input → IsUnsized input) where
-  pub unheard_by_memory : Known r.remaining r'.remaining LosesFront → r'.failures ≡ r.failures →
-      IsRun n q r r' w w (Err OutOfMemory)
-  unheard_by_memory lost counted = record {
-    runs = λ input known. inl (keeps_same w.contents);
-    accepts = λ input s rest known wav. refuses_outside (output_fault (exchange_of n q) s) OutOfMemory (inl refl);
-    foresees = λ input f size rest e known o sized why. inr (inl refl);
-    refuses = λ input f known has allowed. inr (inl refl);
-    devices = record {
-      faults = tt;
-      leaves = lost;
-      writes = inl (keeps_same w.contents);
-      reader = counted;
-      writer = refl;
-    };
-  }
-
-  pub unheard_by_reader : Known r.remaining r'.remaining LosesFront → r'.failures ≡ one_more r.failures →
-      IsRun n q r r' w w (Err Read)
-  unheard_by_reader lost failed = record {
-    runs = λ input known. inl (keeps_same w.contents);
-    accepts = λ input s rest known wav. refuses_outside (output_fault (exchange_of n q) s) Read (inr (inl refl));
-    foresees = λ input f size rest e known o sized why. inr (inr (inl refl));
-    refuses = λ input f known has allowed. inr (inr (inl refl));
-    devices = record {
-      faults = tt;
-      leaves = lost;
-      writes = inl (keeps_same w.contents);
-      reader = failed;
-      writer = refl;
-    };
-  }
-
-  pub unheard_by_fault : (g : FormatFault) → Known r.remaining r'.remaining
-      (λ input rest. HasFault input g × LosesFront input rest) →
-      r'.failures ≡ r.failures → IsRun n q r r' w w (Err (Wav g))
-  unheard_by_fault g has counted = record {
-    runs = λ input known. inl ((has.at input known).2.0, unsized input known, keeps_same w.contents);
-    accepts = λ input s rest known wav. absurd (not_both input s rest g wav (has.at input known).2.0);
-    foresees = λ input f size rest e known o sized why. absurd (sized (unsized input known f size rest o));
-    refuses = λ input f known h allowed. inl (ap Wav (one_fault input g f (has.at input known).2.0 h));
-    devices = record {
-      faults = tt;
-      leaves = record { at = λ input known. let y = has.at input known in (y.0, y.1, inl y.2) };
-      writes = kept w.contents g;
-      reader = counted;
-      writer = refl;
     };
   }

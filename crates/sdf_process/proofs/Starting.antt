@@ -1,6 +1,6 @@
 -- A run before it takes its first frame.
-use Rattle.std.proofs.Common.{◌≡◌, ℕ, ◌-◌, ◌*◌, ◌≤◌, ◌<◌, ℤ, List, [], false}
-use Rattle.std.proofs.Common.{refl, sym, ap, ◌∙◌, subst, arith}
+use Rattle.std.proofs.Common.{◌≡◌, ℕ, ◌-◌, ◌*◌, ◌≤◌, ◌<◌, ℤ, List, [], false, refl, sym, ap, ◌∙◌, subst, arith, length}
+use Rattle.std.proofs.Common.{sum, mul-le-mul_left}
 use Rattle.std.proofs.Math.Seq.{drop-nil}
 use Rattle.sdf_actor.specs.Nets.{Netlist}
 use Rattle.sdf_actor.specs.Wires.{lists as items_of}
@@ -31,6 +31,20 @@ use Rattle.sdf_process.proofs.Pieces.{appends_none}
 use Rattle.sdf_process.proofs.Outcomes.{keeps_same}
 use Rattle.sdf_process.proofs.Taken.{behind_none, takes_none}
 use Rattle.sdf_process.proofs.Came.{allowed_lower, whole_size}
+use Rattle.std.proofs.lemmas.List.Sums.{get_or-le-sum_by}
+use Rattle.sdf_limits.specs.declared.TheConstants.{MOST_BLOCK}
+
+-- a period has firings
+some_firings : (n : Netlist Kit ℤ) (p : Schedule) → HasPeriod kit_steps n p → 1 ≤ sum p.repetitions
+some_firings n p has =
+    let few : 0 < length p.repetitions = omega (arith, has.period.least.is.all, has.shape.some) in
+    omega (arith, has.period.least.is.positive 0 has.shape.some, get_or-le-sum_by (λ q. q) p.repetitions 0 0 few)
+
+-- a block of few firings has few periods
+few_blocks : (j firings : ℕ) → 1 ≤ firings → j * firings ≤ MOST_BLOCK → j ≤ MOST_BLOCK
+few_blocks j firings some short =
+    let more : j * 1 ≤ j * firings = mul-le-mul_left j some in
+    omega (arith, more, short)
 
 module _ (t : Opened) (is : IsOpened t)
     (has : (p : Schedule) → IsPeriodOf (rates (graph_of kit_steps t.net.now)) p → HasPeriod kit_steps t.net.now p)
@@ -72,7 +86,7 @@ module _ (t : Opened) (is : IsOpened t)
           known = here.0;
           fits = begun.unheard.sound.size_fits;
           some = is.some;
-          few = is.fits;
+          few = few_blocks t.blocking (sum p.repetitions) (some_firings n p (has p is.period)) is.fits;
           taken = subst (λ (y : Exchange). 0 < y.taken) there limits.some_taken;
           made = subst (λ (y : Exchange). 0 < y.made) there limits.some_made;
           outputs = omega (arith, (has p is.period).accepted.1.lists.output);

@@ -1,10 +1,7 @@
 -- How a run begins in the way of its plan: by a session, or by a player, whose sound may be taken whole before.
-use Rattle.std.proofs.Common.{◌≡◌, ◌≢◌, ℕ, ℤ, ◌*◌, ◌≤◌, ◌<◌, List, [], length, sum, Result, Ok, sym, ap}
-use Rattle.std.proofs.Common.{mul-le-mul_left, subst, arith}
-use Rattle.std.proofs.lemmas.List.Sums.{get_or-le-sum_by}
-use Rattle.sdf_limits.specs.declared.TheConstants.{MOST_BLOCK}
+use Rattle.std.proofs.Common.{◌≡◌, ◌≢◌, ℕ, ℤ, ◌*◌, ◌≤◌, ◌<◌, List, [], length, sum, Result, Ok, sym, ap, subst, arith}
+use Rattle.sdf_limits.specs.declared.TheConstants.{MOST_BLOCK, MOST_PERIOD}
 use Rattle.sdf_actor.specs.Nets.{Netlist}
-use Rattle.sdf_answer.specs.Periods.{HasPeriod}
 use Rattle.sdf_kit.specs.declared.kit.Kit.{Kit}
 use Rattle.sdf_kit.specs.Kit.{kit_steps}
 use Rattle.sdf_run.specs.Sessions.{SessionValue}
@@ -15,45 +12,42 @@ use Rattle.sdf_wav.specs.Sound.{Sound}
 use Rattle.sdf_wav.specs.declared.wav.TheConstants.{MOST_CHANNELS}
 use Rattle.sdf_faults.specs.declared.fault.Fault.{Fault}
 use Rattle.sdf_process.specs.declared.begun.Begun.{Begun}
-use Rattle.sdf_process.specs.declared.begun.Shared.{Shared}
 use Rattle.sdf_process.specs.declared.source.Source.TheVariants.{Heard}
 use Rattle.sdf_process.specs.Output.{exchange_of, IsExtent}
 use Rattle.sdf_process.specs.Sources.{reading_of, Takes, TakesAll}
 use Rattle.sdf_process.specs.Stages.{PutsOutput}
 use Rattle.sdf_process.specs.Streams.{FeedsBy, StandsAt, Streams}
-use Rattle.sdf_process.specs.Tasks.{IsBegun, IsShared}
+use Rattle.sdf_process.specs.Tasks.{IsBegun, IsScore}
 use Rattle.sdf_process.proofs.Came.{allowed_lower, whole_size}
 use Rattle.sdf_process.proofs.Opened.{frames_known}
 use Rattle.sdf_process.proofs.Taken.{heard_puts, taken_whole, unheard_sound, whole_streams}
+use Rattle.sdf_graph.specs.Rates.{rates}
+use Rattle.sdf_graph.proofs.Theorems.{one_least_period}
+use Rattle.sdf_actor.specs.Graphs.{graph_of}
+use Rattle.sdf_actor.specs.NetFaults.{IsAccepted}
+use Rattle.sdf_process.specs.declared.playing.Score.{Score}
 
 -- ---- a session
 
--- a period has firings
-some_firings : (n : Netlist Kit ℤ) (p : Schedule) → HasPeriod kit_steps n p → 1 ≤ sum p.repetitions
-some_firings n p has =
-    let few : 0 < length p.repetitions = omega (arith, has.period.least.is.all, has.shape.some) in
-    omega (arith, has.period.least.is.positive 0 has.shape.some, get_or-le-sum_by (λ q. q) p.repetitions 0 0 few)
-
--- a block of few firings has few periods
-few_blocks : (j firings : ℕ) → 1 ≤ firings → j * firings ≤ MOST_BLOCK → j ≤ MOST_BLOCK
-few_blocks j firings some short =
-    let more : j * 1 ≤ j * firings = mul-le-mul_left j some in
-    omega (arith, more, short)
-
--- the blocks of a session have few periods
-pub session_fits : (t : Shared) → IsShared t → HasPeriod kit_steps t.net.now t.table.now.period →
-    t.table.now.factor ≤ MOST_BLOCK
-session_fits t shared has =
-    few_blocks t.table.now.factor (sum t.table.now.period.repetitions)
-    (some_firings t.net.now t.table.now.period has) shared.table.table.short
-
--- and it is not spent, if it stands after nothing
+-- it is not spent, if it stands after nothing
 pub session_goes : (n : Netlist Kit ℤ) (p : Schedule) (j : ℕ) (v : SessionValue Kit (List ℤ) ℤ) →
     (v.net ≡ n) × (v.period ≡ p) × (v.factor ≡ j) → ((s : Sound) → StandsAt n p j s 0 0 [] v.rest) →
     FeedsBy n p j v
 session_goes n p j v is stands =
     let at = stands (record { rate = 0; channels = 0; samples = [] }) in
     record { live = (at.rest, at.held); net = is.0; period = is.1; factor = is.2 }
+
+-- ---- a player
+
+-- its blocks, which are single periods, have few firings
+pub one_short : (t : Score) → IsScore t → ((q : List ℕ) × IsAccepted kit_steps t.net.now q) →
+    1 * sum t.period.now.repetitions ≤ MOST_BLOCK
+one_short t is accepted =
+    let same : accepted.0 ≡ t.period.now.repetitions =
+    one_least_period (rates (graph_of kit_steps t.net.now)) accepted.0 t.period.now.repetitions accepted.1.period
+    is.least in
+    let few : sum t.period.now.repetitions ≤ MOST_PERIOD = subst (λ q. sum q ≤ MOST_PERIOD) same accepted.1.short in
+    omega (arith, few)
 
 -- ---- a source that is taken whole before it is played
 

@@ -1,6 +1,6 @@
 -- A run that takes its input and writes its output as it goes.
 use Rattle.std.specs.Prelude.{◌≡◌, ◌⊎◌, ℕ, ◌+◌, ◌*◌, ◌<◌, ◌≤◌, ℤ, List, [], ◌++◌, length, slice_index_or, Option, Some}
-use Rattle.std.specs.Prelude.{Bool, Result, Ok, Err, false, is_some}
+use Rattle.std.specs.Prelude.{sum, Bool, Result, Ok, Err, false, is_some}
 use Rattle.std.specs.Io.KnownBytes.{Appends}
 use Rattle.sdf_limits.specs.declared.TheConstants.{MOST_BLOCK}
 use Rattle.sdf_graph.specs.Rates.{rates}
@@ -128,7 +128,7 @@ pub record IsOpened (t : Opened) : Type 0 where
   pub goes : GoesBy t.net.now t.period.now t.blocking t.runner
   pub stands : (s : Sound) → StandsAt t.net.now t.period.now t.blocking s 0 0 [] (left_by t.runner)
   pub some : 0 < t.blocking
-  pub fits : t.blocking ≤ MOST_BLOCK
+  pub fits : t.blocking * sum t.period.now.repetitions ≤ MOST_BLOCK
   pub first : 0 < t.first
   pub piece : 0 < t.frames
 

@@ -21,7 +21,6 @@ use sdf_faults::Fault;
 use sdf_kit::Kit;
 use sdf_plan::Way;
 use sdf_prec::BlockTable;
-use sdf_run::laws::nets_have_periods;
 use sdf_run::{Gate, Mode, Session};
 use sdf_wav::{ContentOut, Reader, Writer};
 use std::alloc::Global;
@@ -74,7 +73,6 @@ fn run_shared<T: Threads + AllocGlobal + Sync, R: Reader, W: Writer, G: Gate>(
     ensures { Streams shared.entry.net.now shared.entry.table.now.period.repetitions begun.source
         (R.state reader.old) (R.state reader.new) (W.state writer.old) (W.state writer.new) result }
 {
-    nets_have_periods(shared.net);
     let session = open_session(rt.alloc(), shared)?;
     let opened = Opened {
         net: shared.net,

@@ -6,6 +6,7 @@ ghost use Rattle.sdf_graph.specs.Periods.{IsLeastPeriod};
 ghost use Rattle.sdf_graph.specs.Rates.{rates};
 ghost use Rattle.sdf_actor.specs.declared.sides.Lists.TheVariants.{Inputs, Outputs};
 ghost use Rattle.sdf_actor.specs.Graphs.{graph_of};
+ghost use Rattle.sdf_actor.specs.NetFaults.{IsAccepted};
 ghost use Rattle.sdf_actor.specs.Sides.{list_count};
 ghost use Rattle.sdf_kit.specs.Kit.{kit_steps};
 ghost use Rattle.sdf_process.specs.Output.{exchange_of, announced_by, announced_fault, periods_for, rate_for};
@@ -65,8 +66,8 @@ impl Exchange {
         ensures value { (q : List ℕ) → IsLeastPeriod (rates (graph_of kit_steps net.now)) q →
             result ≡ exchange_of net.now q }
         ensures limits { IsExchange result }
+        ensures accepted { (q : List ℕ) × IsAccepted kit_steps net.now q }
     {
-        let _ = net.repetitions();
         Exchange {
             inputs: net.inputs(),
             outputs: net.outputs(),

@@ -12,8 +12,6 @@ pub fn one_output(design: &Design)
     ensures { OneOutput design.now }
 {
     let net = design.net();
-    let _ = net.repetitions();
-    let graph = net.graph();
-    let _ = graph.channels();
+    let _ = net.graph();
     one_history::<Kit>();
 }

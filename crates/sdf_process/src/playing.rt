@@ -2,12 +2,13 @@
 //! periods before left, and their memory, which it uses again.
 
 ghost use Rattle.std.specs.Prelude.{◌≡◌, ◌*◌, ◌≤◌, ◌<◌, [], IfErr, IfOk, IfSome, IfNone, MatchResult, Some, is_some};
-ghost use Rattle.std.specs.Prelude.{true};
+ghost use Rattle.std.specs.Prelude.{true, ℕ, List};
 ghost use Rattle.sdf_actor.specs.Wires.{lists as items_of};
 ghost use Rattle.sdf_answer.specs.declared.fault.RunFault.TheVariants as run;
 ghost use Rattle.sdf_fission.specs.WarmUps.{IsLasting};
 ghost use Rattle.sdf_graph.specs.Rates.{rates};
 ghost use Rattle.sdf_actor.specs.Graphs.{graph_of};
+ghost use Rattle.sdf_actor.specs.NetFaults.{IsAccepted};
 ghost use Rattle.sdf_kit.specs.Kit.{kit_steps};
 ghost use Rattle.sdf_sched.specs.Period.{IsPeriodOf};
 ghost use Rattle.sdf_faults.specs.declared.fault.Fault.TheVariants.{OutOfMemory};
@@ -26,7 +27,6 @@ use sdf_answer::RunFault;
 use sdf_faults::Fault;
 use sdf_fission::warm_up::warm_up;
 use sdf_kit::{Kept, Kit};
-use sdf_run::laws::net_facts;
 use sdf_run::{Passage, Spares, resume_one_in};
 use sdf_sched::Period;
 use sdf_split::{Split, Workers, resume_split};
@@ -141,6 +141,7 @@ impl<'a> Player<'a> {
     pub(crate) fn open(alloc: Global, score: Score<'a>) -> Result<Player<'a>, Fault>
         requires score { IsScore score }
         requires taken { 0 < (exchange_of score.net.now score.period.now.repetitions).taken }
+        requires accepted { (q : List ℕ) × IsAccepted kit_steps score.net.now q }
         ensures player { MatchResult result
             (λ v. IsPlayer v × (v.net ≡ score.entry.net) × (v.period ≡ score.entry.period))
             (λ e. e ≡ OutOfMemory) }
@@ -150,7 +151,6 @@ impl<'a> Player<'a> {
         ensures whole { IfOk result (λ v. IfNone (cut_by v.manner) (2 ≤ score.entry.parts →
             IsLasting kit_steps score.entry.net.now)) }
     {
-        net_facts(score.net);
         let manner = match cut_of(alloc, score)? {
             Some(cut) => Manner::Parts(cut, Workers::none(alloc)),
             None => Manner::Whole(Memory::none(alloc)),

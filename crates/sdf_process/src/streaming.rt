@@ -22,7 +22,7 @@ use sdf_answer::RunFault;
 use sdf_faults::Fault;
 use sdf_kit::Kit;
 use sdf_run::Gate;
-use sdf_run::laws::{nets_have_periods, runs_go_on};
+use sdf_run::laws::runs_go_on;
 use sdf_sched::Period;
 use sdf_wav::{Reader, Writer};
 use std::alloc::{AllocError, Global};
@@ -54,7 +54,6 @@ pub(crate) struct Opened<'a> {
 }
 
 /// A run that goes on block by block.
-#[derive(Drop)]
 pub(crate) struct Stream<'a> {
     runner: Runner<'a>,
     flow: Flow,
@@ -65,6 +64,20 @@ pub(crate) struct Stream<'a> {
     rate: u32,
     /// Samples in a frame of the sound.
     channels: u16,
+}
+
+/// Not derived: a derived drop is expanded, with all lists of the runner and the flow, wherever a run may stop.
+impl Drop for Stream<'_> {
+    fn drop(self) {
+        let Stream {
+            runner: _,
+            flow: _,
+            exchange: _,
+            blocking: _,
+            rate: _,
+            channels: _,
+        } = self;
+    }
 }
 
 impl<'a> Stream<'a> {
@@ -81,7 +94,6 @@ impl<'a> Stream<'a> {
             output,
         } = begun;
         runs_go_on::<Kit>();
-        nets_have_periods(opened.net);
         let exchange = Exchange::of_net(opened.net);
         let (rate, channels) = (source.rate(), source.channels());
         let flow = Flow {

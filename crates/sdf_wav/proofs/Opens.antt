@@ -144,53 +144,31 @@ not_whole_stops bytes cs f size after p four known part =
       ne_eqb (little_number 4 size % (2 * f.channels)) 0 part,
     ) refl
 
+-- a size of whole frames behind the format opens
+sized_opens : (bytes : List ℕ) (cs : List Chunk) (f : Format) (size after : List ℕ) →
+    Place bytes cs (Some f) (codes "data" ++ (size ++ after)) → length size ≡ 4
+    → (little_number 4 size ≢ 0xFFFFFFFF → little_number 4 size % (2 * f.channels) ≡ 0)
+    → Opens bytes f (little_number 4 size) after
+sized_opens bytes cs f size after p four whole = record {
+  chunks = cs;
+  size_bytes = size;
+  place = p;
+  size_is_four = four;
+  size_is = refl;
+  whole = whole;
+}
+
 content_opens : (bytes : List ℕ) (cs : List Chunk) (f : Format) (size after : List ℕ) (r : FormatFault) →
     Place bytes cs (Some f) (codes "data" ++ (size ++ after)) → length size ≡ 4
     → ContentFails (2 * f.channels) (little_number 4 size) after r → (open_at bytes ≡ Err r) ⊎ SomeOpens bytes
 content_opens bytes cs f size after r p four (is_not_whole known part) =
     inl (not_whole_stops bytes cs f size after p four known part)
 content_opens bytes cs f size after r p four (is_cut known whole lt) =
-    inr (
-      f,
-      little_number 4 size,
-      after,
-      record {
-        chunks = cs;
-        size_bytes = size;
-        place = p;
-        size_is_four = four;
-        size_is = refl;
-        whole = λ x. whole;
-      },
-    )
+    inr (f, little_number 4 size, after, sized_opens bytes cs f size after p four (λ x. whole))
 content_opens bytes cs f size after r p four (is_long is lt) =
-    inr (
-      f,
-      little_number 4 size,
-      after,
-      record {
-        chunks = cs;
-        size_bytes = size;
-        place = p;
-        size_is_four = four;
-        size_is = refl;
-        whole = λ x. absurd (x is);
-      },
-    )
+    inr (f, little_number 4 size, after, sized_opens bytes cs f size after p four (λ x. absurd (x is)))
 content_opens bytes cs f size after r p four (is_partial is le part) =
-    inr (
-      f,
-      little_number 4 size,
-      after,
-      record {
-        chunks = cs;
-        size_bytes = size;
-        place = p;
-        size_is_four = four;
-        size_is = refl;
-        whole = λ x. absurd (x is);
-      },
-    )
+    inr (f, little_number 4 size, after, sized_opens bytes cs f size after p four (λ x. absurd (x is)))
 
 -- a fault comes before the content, or the input opens
 fault_opens : (bytes : List ℕ) (r : FormatFault) → HasFault bytes r → (open_at bytes ≡ Err r) ⊎ SomeOpens bytes
@@ -218,14 +196,9 @@ sized_content size content rest samples (inr filled) x count even = absurd (x fi
 
 opens_of : (bytes : List ℕ) (s : Sound) (rest : List ℕ) (w : IsWav bytes s rest) →
     Opens bytes w.format (little_number 4 w.size) (w.content ++ rest)
-opens_of bytes s rest w = record {
-  chunks = w.chunks;
-  size_bytes = w.size;
-  place = w.place;
-  size_is_four = w.size_is_four;
-  size_is = refl;
-  whole = whole_size (2 * w.format.channels) (little_number 4 w.size) w.content rest w.content_is w.whole;
-}
+opens_of bytes s rest w =
+    sized_opens bytes w.chunks w.format w.size (w.content ++ rest) w.place w.size_is_four
+    (whole_size (2 * w.format.channels) (little_number 4 w.size) w.content rest w.content_is w.whole)
 
 pub wav_opens : (bytes : List ℕ) (s : Sound) (rest : List ℕ) → IsWav bytes s rest → SomeOpens bytes
 wav_opens bytes s rest w = (w.format, little_number 4 w.size, w.content ++ rest, opens_of bytes s rest w)

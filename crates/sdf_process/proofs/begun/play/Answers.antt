@@ -4,6 +4,7 @@ use Rattle.sdf_process.specs.declared.exchange.Exchange.{Exchange}
 use Rattle.sdf_process.specs.Streams.{Streams}
 use Rattle.sdf_process.proofs.Came.{unopened}
 use Rattle.sdf_process.proofs.Pieces.{run_fails}
+use Rattle.sdf_process.proofs.Ways.{one_short}
 use Rattle.sdf_process.proofs.begun.play.Goals as goal
 
 pub returns-in_err-player : goal.returns-in_err-player
@@ -35,7 +36,7 @@ run_stream-requires-clause-opened g c κs within =
       goes = record { player = is.0; net = ap (λ r. r.now) is.1; period = ap (λ r. r.now) is.2; single = refl };
       stands = c.in_ok-player.ensures.stands;
       some = search rules;
-      fits = search rules;
+      fits = one_short c.args.score c.requires.score c.of_net-exchange.ensures.accepted;
       first = c.piece-first.ensures;
       piece = c.piece-frames.ensures;
     }

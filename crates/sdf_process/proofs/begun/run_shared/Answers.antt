@@ -3,7 +3,7 @@ use Rattle.sdf_faults.specs.declared.fault.Fault.{Fault}
 use Rattle.sdf_process.specs.Streams.{Streams}
 use Rattle.sdf_process.proofs.Came.{unopened}
 use Rattle.sdf_process.proofs.Pieces.{run_fails}
-use Rattle.sdf_process.proofs.Ways.{session_fits, session_goes}
+use Rattle.sdf_process.proofs.Ways.{session_goes}
 use Rattle.sdf_process.proofs.begun.run_shared.Goals as goal
 
 pub returns-in_err-session : goal.returns-in_err-session
@@ -29,8 +29,7 @@ run_stream-requires-clause-opened g c κs within =
           c.in_ok-session.ensures.is c.in_ok-session.ensures.stands;
       stands = c.in_ok-session.ensures.stands;
       some = omega (arith, c.requires.shared.table.table.some);
-      fits = session_fits t c.requires.shared
-          (c.nets_have_periods.ensures t.table.now.period c.requires.shared.table.period);
+      fits = c.requires.shared.table.table.short;
       first = search rules;
       piece = search rules;
     }

@@ -15,7 +15,7 @@ returns-in_err-content g c =
     (unopened c.args.task.net.now c.args.task.plan.now.period.repetitions
     (g.R.Reader.state c.args.reader.now) (g.R.Reader.state c.open.new.reader)
     (g.W.Writer.state c.args.writer.now) c.in_err-content.field-0.0 c.in_err-content.ensures.answers
-    c.in_err-content.ensures.counted c.in_err-content.ensures.accepts)
+    c.in_err-content.ensures.counted)
 
 pub returns-in-Some : goal.returns-in-Some
 returns-in-Some g c = c.run_ahead.ensures (g.R.Reader.state c.args.reader.now) (record {

@@ -1,9 +1,11 @@
 use Rattle.std.proofs.Common.{arith}
+use Rattle.sdf_answer.proofs.Theorems.{accepted_nets}
+use Rattle.sdf_kit.specs.Kit.{kit_steps}
 use Rattle.sdf_process.proofs.Pieced.{first_stands}
 use Rattle.sdf_process.proofs.playing.Player.open.Goals as goal
 
 pub returns-clause-stands : goal.returns-clause-stands
 returns-clause-stands c = λ s.
     first_stands c.args.score.net.now c.args.score.period.now c.in_ok-rest.rest
-    c.net_facts.ensures.net (omega (arith, c.net_facts.ensures.accepted.1.lists.input)) c.requires.taken
-    c.in_ok-rest.ensures s
+    (accepted_nets kit_steps c.args.score.net.now c.requires.accepted).net
+    (omega (arith, c.requires.accepted.1.lists.input)) c.requires.taken c.in_ok-rest.ensures s
