@@ -1,4 +1,4 @@
-//! Plans of runs, by options or for several workers if these can be faster, and the printed schedule of a design.
+//! Plans of runs, by options or for several workers if these can be faster, and the schedule of a design.
 //!
 //! It depends on `sdf_options` for the options, and on `sdf_file`, `sdf_kit`, `sdf_actor` and `sdf_graph` for the
 //! design. `sdf_sched` orders the firings of a period, and `sdf_prec` makes the table of a block. `sdf_fission` finds
@@ -7,6 +7,7 @@
 //! `specs/Plans.antt`, `specs/Placements.antt`, `specs/Paces.antt` and `specs/Schedules.antt`.
 #![tactic(auto)]
 
+pub mod costs;
 pub mod parallel;
 mod placement;
 mod plan;
