@@ -3,9 +3,8 @@
 ghost use Rattle.std.specs.Prelude.{◌≡◌};
 ghost use Rattle.sdf_json.specs.Ports.{ports_of, KindsHaveTheirPorts};
 
-use sdf_kinds::Kind;
-use sdf_kinds::ports as rows;
 use sdf_kinds::ports::PortRow;
+use sdf_kinds::{Kind, ports as rows};
 
 /// A number of ports, samples or firings: none, one, or the value of the key that it is named for.
 #[derive(Clone, Copy, Debug, PartialEq, Eq)]
