@@ -13,7 +13,7 @@ use sdf_file::Design;
 use sdf_filters::converter_texts;
 use sdf_json::schedule_json;
 use sdf_options::{Options, Placement, Policy};
-use sdf_plan::schedule::schedule;
+use sdf_texts::schedule::schedule;
 use std::alloc::Global;
 
 /// A design that a seed makes.

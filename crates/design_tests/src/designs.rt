@@ -1,7 +1,8 @@
 //! Designs from files, their texts, and their faults.
 
 use crate::readings::{files, told};
-use sdf_file::{Design, FileFault, check_text, design_files, read_design};
+use sdf_file::{Design, FileFault, design_files, read_design};
+use sdf_texts::check_text;
 use std::alloc::{AllocError, Global};
 use std::test::Fail;
 use test_texts::{row_says, says};

@@ -2,11 +2,11 @@
 //! read, and their faults have their places. Taps match the formulas, splits are cheap, and designs that convert
 //! between usual rates are accepted. The texts of designs and of faults are right.
 //!
-//! It depends on `sdf_filters`, on `sdf_document` and `sdf_file`, which read the designs, and on `test_texts`. It has
-//! no functions outside its tests: a crate's functions are proved once more with its tests, so tests are in a crate of
-//! their own. Begin at `documents` and `designs`, or for filters at `taps`. `plain_taps` computes in the plainest way
-//! what `sdf_filters` computes in a quicker one. `tap_rows` compares the two on rows of filters and on filters from
-//! `made`. `plain_levels` and `plain_splits` do both.
+//! It depends on `sdf_filters`, on `sdf_document` and `sdf_file`, which read the designs, on `sdf_texts`, which
+//! describes them, and on `test_texts`. It has no functions outside its tests: a crate's functions are proved once
+//! more with its tests, so tests are in a crate of their own. Begin at `documents` and `designs`, or for filters at
+//! `taps`. `plain_taps` computes in the plainest way what `sdf_filters` computes in a quicker one. `tap_rows` compares
+//! the two on rows of filters and on filters from `made`. `plain_levels` and `plain_splits` do both.
 #![tactic(auto)]
 
 #[cfg(test)]

@@ -4,11 +4,12 @@ use crate::files::Sources;
 use crate::{TURNS, print_turn};
 use anyhow::Result;
 use sdf_faults::Fault;
-use sdf_file::{Design, FileFault, check_text, design_files, read_design};
+use sdf_file::{Design, FileFault, design_files, read_design};
 use sdf_options::Options;
 use sdf_plan::Plan;
 use sdf_plan::planning::plan;
 use sdf_prec::Table;
+use sdf_texts::check_text;
 use std::fmt::Display;
 
 fn print_fault(rt: &impl Print, fault: &impl Display) -> Result<()> {

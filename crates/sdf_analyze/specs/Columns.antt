@@ -2,7 +2,7 @@
 use Rattle.std.specs.Prelude.{ℕ, ◌-◌, ◌==◌, ◌&&◌, Bool, true, not, nat_lt, List, [], ◌∷◌, ◌++◌, if◌then◌else◌}
 use Rattle.std.specs.Prelude.{length, replicate, codes, decimal}
 use Rattle.std.specs.List.{flat_map, list_all}
-use Rattle.sdf_file.specs.Texts.{end}
+use Rattle.sdf_texts.specs.Texts.{end}
 use Rattle.sdf_options.specs.declared.options.Policy.{Policy}
 use Rattle.sdf_options.specs.declared.options.Policy.TheVariants.{Round, Lean, Runs}
 use Rattle.sdf_options.specs.declared.options.Placement.{Placement}

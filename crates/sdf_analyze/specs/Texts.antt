@@ -2,8 +2,8 @@
 use Rattle.std.specs.Prelude.{ℕ, zero, suc, ◌*◌, ◌/◌, ◌%◌, List, [], ◌++◌, length, codes, decimal}
 use Rattle.std.specs.Prelude.{slice_index}
 use Rattle.sdf_file.specs.Designs.{DesignValue}
-use Rattle.sdf_file.specs.Texts.{end}
-use Rattle.sdf_file.specs.Schedules.{link_text}
+use Rattle.sdf_texts.specs.Texts.{end}
+use Rattle.sdf_texts.specs.Schedules.{link_text}
 use Rattle.sdf_analyze.specs.declared.lines.TheConstants.{SAMPLE_BYTES}
 use Rattle.sdf_analyze.specs.Figures.{Figured}
 

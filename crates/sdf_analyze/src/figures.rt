@@ -15,6 +15,7 @@ use crate::spans::block_span;
 use sdf_file::Design;
 use sdf_limits::{MOST_ACTORS, MOST_BLOCK, MOST_COST};
 use sdf_options::Options;
+use sdf_plan::costs::firing_costs;
 use sdf_prec::{Firing, PrecFault, Table};
 use sdf_sched::Period;
 use sdf_times::{Times, bound, held, work};
@@ -100,7 +101,7 @@ impl Figures {
     {
         let graph = design.net().graph();
         let _ = graph.channels();
-        let costs = design.firing_costs(alloc)?;
+        let costs = firing_costs(alloc, design)?;
         let times = Times::of(alloc, graph, table, options.workers, &costs)?;
         let work = work(period.repetitions(), options.blocking, &costs);
         Ok(Figures {

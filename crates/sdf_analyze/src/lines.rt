@@ -5,8 +5,9 @@ ghost use Rattle.sdf_analyze.specs.Texts.{hundredths, with_point, number_line, t
 ghost use Rattle.sdf_analyze.specs.Texts.{lines_to, samples_text, link_held_line, held_line, analysis_text};
 
 use crate::figures::Figures;
-use sdf_file::{Design, push_link};
+use sdf_file::Design;
 use sdf_prec::Table;
+use sdf_texts::push_link;
 use std::alloc::{AllocError, Global};
 
 /// The bytes of a sample on a link. Samples have 32 bits.

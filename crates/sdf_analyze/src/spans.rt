@@ -10,6 +10,7 @@ ghost use Rattle.sdf_plan.specs.Placements.{rates_of, firings_of};
 ghost use Rattle.sdf_analyze.specs.Spans.{AreSpans};
 
 use sdf_file::Design;
+use sdf_plan::costs::firing_costs;
 use sdf_prec::PrecFault;
 use sdf_sched::Period;
 use sdf_times::span;
@@ -37,7 +38,7 @@ pub(crate) fn block_span(
 {
     let graph = design.net().graph();
     let _ = graph.channels();
-    let costs = design.firing_costs(alloc)?;
+    let costs = firing_costs(alloc, design)?;
     span(alloc, graph, period, periods, &costs)
 }
 

@@ -1,7 +1,4 @@
 mod Limits
 mod Moves
 mod Whole
-mod Lines
-mod Stretches
 mod Parsed
-mod Priced

@@ -1,5 +1,5 @@
 -- What holds of every design holds of the design of a document.
-use Rattle.sdf_limits.specs.declared.TheConstants.{MOST_CHANNEL}
+use Rattle.sdf_limits.specs.declared.TheConstants.{MOST_CHANNEL, MOST_COST}
 use Rattle.std.proofs.Common.{◌≡◌, ◌≤◌, ◌<◌, ◌+◌, ℕ, zero, suc, ℤ, List, [], ◌∷◌, map, max, length, true, refl, ap}
 use Rattle.std.proofs.Common.{arith}
 use Rattle.std.specs.Prelude.{slice_index}
@@ -24,9 +24,8 @@ use Rattle.sdf_actor.specs.Nets.{Netlist}
 use Rattle.sdf_actor.specs.NetFaults.{IsNetFault}
 use Rattle.sdf_actor.specs.declared.fault.NetFault.{NetFault}
 use Rattle.sdf_actor.specs.declared.fault.NetFault.TheVariants as nets
-use Rattle.sdf_prec.specs.Costs.{IsCost, AreCosts}
 use Rattle.sdf_file.specs.Faults.{of_net}
-use Rattle.sdf_file.specs.Designs.{node_of, IsMadeFault}
+use Rattle.sdf_file.specs.Designs.{node_of, ArePriced, IsMadeFault}
 
 -- one more than the number of a node's list, or 0
 abbrev pub list_room : Lists → Node Kit → ℕ
@@ -79,7 +78,7 @@ abbrev pub costs_of : List ActorEntry → List ℕ
 costs_of es = map (λ (a : ActorValue). a.cost) (map actor_view es)
 
 each_costs : (es : List ActorEntry) → All (IsActorWithin true) es → (a : ℕ) → a < length es →
-    IsCost (slice_index (costs_of es) a)
+    (1 ≤ slice_index (costs_of es) a) × (slice_index (costs_of es) a ≤ MOST_COST)
 each_costs [] all a h = absurd (omega arith)
 each_costs (e ∷ es) all zero h = (All-head (IsActorWithin true) e es all).1.1.0
 each_costs (e ∷ es) all (suc a) h = each_costs es (All-tail (IsActorWithin true) e es all) a (omega arith)
@@ -89,7 +88,7 @@ as_many [] = refl
 as_many (e ∷ es) = ap suc (as_many es)
 
 -- actors within their limits have lawful costs
-pub have_costs : (es : List ActorEntry) → All (IsActorWithin true) es → AreCosts (length es) (costs_of es)
+pub have_costs : (es : List ActorEntry) → All (IsActorWithin true) es → ArePriced (length es) (costs_of es)
 have_costs es all = record { all = as_many es; each = each_costs es all }
 
 -- a fault of the net as one of the file

@@ -1,6 +1,6 @@
 -- The design of a graph file and its coefficient files.
-use Rattle.std.specs.Prelude.{◌≡◌, ◌≤◌, ◌+◌, ℕ, ℤ, List, length, map, Option, Result, Ok, Err}
-use Rattle.sdf_limits.specs.declared.TheConstants.{MOST_CHANNEL}
+use Rattle.std.specs.Prelude.{◌≡◌, ◌≤◌, ◌<◌, ◌+◌, ℕ, ℤ, List, length, map, slice_index, Option, Result, Ok, Err}
+use Rattle.sdf_limits.specs.declared.TheConstants.{MOST_CHANNEL, MOST_COST}
 use Rattle.sdf_document.specs.Fault.{Fault, fault_view}
 use Rattle.sdf_document.specs.Lists.{Files}
 use Rattle.sdf_document.specs.declared.entry.KindEntry.{KindEntry}
@@ -19,7 +19,6 @@ use Rattle.sdf_actor.specs.NetFaults.{IsAccepted, IsNetFault}
 use Rattle.sdf_kit.specs.declared.kit.Kit.{Kit}
 use Rattle.sdf_kit.specs.declared.kit.Kit.TheVariants as kits
 use Rattle.sdf_kit.specs.Kit.{kit_steps}
-use Rattle.sdf_prec.specs.Costs.{AreCosts}
 use Rattle.sdf_file.specs.declared.fault.FileFault.{FileFault}
 use Rattle.sdf_file.specs.declared.fault.FileFault.TheVariants.{OutOfMemory, Document, Net}
 
@@ -111,12 +110,17 @@ IsNamesFault graph = IsReadFault (file_names_of graph)
 
 -- ---- what is true of every design
 
+-- each of n actors has a cost, within its limits
+pub record ArePriced (n : ℕ) (costs : List ℕ) : Type 0 where
+  pub all : length costs ≡ n
+  pub each : (a : ℕ) → a < n → (1 ≤ slice_index costs a) × (slice_index costs a ≤ MOST_COST)
+
 -- each node has a name of its own, a home or none, and a cost; a WAV file can have a channel for each input, and one
 -- for each output
 pub record IsDesign (d : DesignValue) : Type 0 where
   pub named : length d.names ≡ length d.net.nodes
   pub distinct : AreDistinct d.names
   pub housed : length d.homes ≡ length d.net.nodes
-  pub priced : AreCosts (length d.net.nodes) d.costs
+  pub priced : ArePriced (length d.net.nodes) d.costs
   pub inputs : list_count Inputs d.net.nodes ≤ MOST_CHANNEL + 1
   pub outputs : list_count Outputs d.net.nodes ≤ MOST_CHANNEL + 1

@@ -1,4 +1,2 @@
 pub mod Faults
 pub mod Designs
-pub mod Texts
-pub mod Schedules

@@ -9,7 +9,6 @@ ghost use Rattle.sdf_document.specs.Document.{table_view, graph_table, document_
 ghost use Rattle.sdf_document.specs.Names.{names_of};
 ghost use Rattle.sdf_actor.specs.NetFaults.{IsAccepted};
 ghost use Rattle.sdf_kit.specs.Kit.{kit_steps};
-ghost use Rattle.sdf_prec.specs.declared.fault.PrecFault.TheVariants.{OutOfMemory};
 ghost use Rattle.sdf_file.specs.Designs.{design_of, IsDesign, IsDesignOf, IsFileFault, IsMadeFault, AreFileNames};
 ghost use Rattle.sdf_file.specs.Designs.{IsNamesFault, IsDesignFrom, IsFaultFrom, IsReadFault};
 
@@ -18,7 +17,6 @@ use crate::parts::{links_of, parts_of};
 use sdf_actor::Net;
 use sdf_document::{Document, GraphFile};
 use sdf_kit::Kit;
-use sdf_prec::{Costs, PrecFault};
 use std::alloc::Global;
 use std::marker::Model;
 
@@ -94,14 +92,6 @@ impl Design {
         ensures { result.now ≡ self.now.costs }
     {
         &self.costs
-    }
-
-    /// Returns a copy of the costs, as `Costs` for making a table. The only fault is that memory was refused.
-    pub fn firing_costs(&self, alloc: Global) -> Result<Costs, PrecFault>
-        ensures { MatchResult result (λ c. c ≡ self.now.costs) (λ fault. fault ≡ OutOfMemory) }
-    {
-        let costs = Vec::from_slice(alloc, self.costs())?;
-        Costs::new(self.net().graph(), costs)
     }
 }
 

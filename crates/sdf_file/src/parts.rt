@@ -15,8 +15,7 @@ ghost use Rattle.sdf_document.specs.Links.{link_view};
 ghost use Rattle.sdf_actor.specs.Sides.{list_count};
 ghost use Rattle.sdf_actor.specs.declared.sides.Lists.TheVariants.{Inputs, Outputs};
 ghost use Rattle.sdf_actor.specs.Wires.{wires, wire_of as wire_of_link};
-ghost use Rattle.sdf_prec.specs.Costs.{AreCosts};
-ghost use Rattle.sdf_file.specs.Designs.{node_of, wire_of};
+ghost use Rattle.sdf_file.specs.Designs.{node_of, wire_of, ArePriced};
 
 use sdf_actor::{Link, Node};
 use sdf_document::{ActorEntry, KindEntry, LinkEntry, ListEntry};
@@ -130,7 +129,7 @@ pub(crate) fn parts_of(alloc: Global, actors: Vec<ActorEntry>) -> Result<Parts, 
     ensures homes { IfOk result (λ p. p.homes.items ≡
         map (λ (a : ActorValue). a.processor) (map actor_view actors.items)) }
     ensures costs { IfOk result (λ p. p.costs.items ≡ map (λ (a : ActorValue). a.cost) (map actor_view actors.items)) }
-    ensures priced { IfOk result (λ p. AreCosts (length actors.items) p.costs.items) }
+    ensures priced { IfOk result (λ p. ArePriced (length actors.items) p.costs.items) }
     ensures inputs { IfOk result (λ p. list_count Inputs p.nodes.items ≤ MOST_CHANNEL + 1) }
     ensures outputs { IfOk result (λ p. list_count Outputs p.nodes.items ≤ MOST_CHANNEL + 1) }
 {

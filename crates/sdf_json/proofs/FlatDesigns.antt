@@ -8,7 +8,7 @@ use Rattle.sdf_actor.specs.Nets.{wire}
 use Rattle.sdf_actor.specs.Sides.{period_samples}
 use Rattle.sdf_actor.specs.declared.sides.Lists.TheVariants.{Inputs, Outputs}
 use Rattle.sdf_file.specs.Designs.{DesignValue}
-use Rattle.sdf_file.specs.Schedules.{name_of}
+use Rattle.sdf_texts.specs.Schedules.{name_of}
 use Rattle.sdf_json.specs.Values.{natural, object_of, list_of, each_to}
 use Rattle.sdf_json.specs.Designs.{actor_value, end_value, ends_of, link_value, check_value}
 use Rattle.sdf_json.proofs.Depths.{IsFlat, with_flat, each_flat}

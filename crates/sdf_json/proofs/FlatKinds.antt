@@ -8,10 +8,11 @@ use Rattle.sdf_kinds.specs.declared.row.Kind.{Kind}
 use Rattle.sdf_kinds.specs.declared.row.Form.{Form}
 use Rattle.sdf_kinds.specs.declared.row.Form.TheVariants.{Natural, Optional, Integer, FromLeast}
 use Rattle.sdf_kinds.specs.declared.row.Form.TheVariants.{List as ListForm}
+use Rattle.sdf_kinds.specs.declared.ports.PortRow.{PortRow}
+use Rattle.sdf_kinds.specs.Ports.{ports_in, samples_in}
 use Rattle.sdf_kinds.specs.Rows.{KeyRow, row_of, kinds, shared_keys}
 use Rattle.sdf_json.specs.declared.ports.Amount.{Amount}
 use Rattle.sdf_json.specs.declared.ports.Amount.TheVariants.{Zero, One, Block, Up, Down, Factor, Ways, Run}
-use Rattle.sdf_json.specs.declared.ports.PortRow.{PortRow}
 use Rattle.sdf_json.specs.declared.kinds.Range.{Range}
 use Rattle.sdf_json.specs.Values.{natural, with, list_of}
 use Rattle.sdf_json.specs.Ports.{ports_of}
@@ -30,15 +31,15 @@ amount_flat Factor = omega arith
 amount_flat Ways = omega arith
 amount_flat Run = omega arith
 
-ports_flat : (p : PortRow) → AllByRecursion (λ (m : List ℕ × Data). IsFlat 2 m.1) (port_members p)
+ports_flat : (p : PortRow Amount) → AllByRecursion (λ (m : List ℕ × Data). IsFlat 2 m.1) (port_members p)
 ports_flat p = (
-  amount_flat p.inputs,
+  amount_flat (ports_in p.inputs),
   (
-    amount_flat p.takes,
+    amount_flat (samples_in p.inputs),
     (
-      amount_flat p.outputs,
+      amount_flat (ports_in p.outputs),
       (
-        amount_flat p.puts,
+        amount_flat (samples_in p.outputs),
         (amount_flat p.cycle, tt),
       ),
     ),

@@ -9,7 +9,7 @@ use Rattle.sdf_actor.specs.Sides.{period_samples}
 use Rattle.sdf_actor.specs.declared.sides.Lists.TheVariants.{Inputs, Outputs}
 use Rattle.sdf_kit.specs.Kit.{kit_steps}
 use Rattle.sdf_file.specs.Designs.{DesignValue}
-use Rattle.sdf_file.specs.Schedules.{name_of}
+use Rattle.sdf_texts.specs.Schedules.{name_of}
 use Rattle.sdf_json.specs.Values.{natural, object_of, list_of, each_to, IsLineOf}
 
 -- actor a, and how often it fires in a period: q is the repetition vector

@@ -7,10 +7,11 @@ use Rattle.sdf_kinds.specs.declared.row.Width.TheVariants.{Bits16, Bits32}
 use Rattle.sdf_kinds.specs.declared.row.Form.{Form}
 use Rattle.sdf_kinds.specs.declared.row.Form.TheVariants.{Natural, Optional, Integer, FromLeast}
 use Rattle.sdf_kinds.specs.declared.row.Form.TheVariants.{List as ListForm}
+use Rattle.sdf_kinds.specs.declared.ports.PortRow.{PortRow}
+use Rattle.sdf_kinds.specs.Ports.{ports_in, samples_in}
 use Rattle.sdf_kinds.specs.Rows.{KeyRow, row_of, kinds, shared_keys}
 use Rattle.sdf_json.specs.declared.ports.Amount.{Amount}
 use Rattle.sdf_json.specs.declared.ports.Amount.TheVariants.{Zero, One, Block, Up, Down, Factor, Ways, Run}
-use Rattle.sdf_json.specs.declared.ports.PortRow.{PortRow}
 use Rattle.sdf_json.specs.declared.kinds.Range.{Range}
 use Rattle.sdf_json.specs.Values.{natural, with, object_of, list_of}
 use Rattle.sdf_json.specs.Ports.{ports_of}
@@ -28,10 +29,10 @@ amount_value Factor = string (codes "factor")
 amount_value Ways = string (codes "ways")
 amount_value Run = string (codes "run")
 
-abbrev pub port_members : PortRow → List (List ℕ × Data)
+abbrev pub port_members : PortRow Amount → List (List ℕ × Data)
 port_members p =
-    (codes "inputs", amount_value p.inputs) ∷ (codes "takes", amount_value p.takes)
-    ∷ (codes "outputs", amount_value p.outputs) ∷ (codes "puts", amount_value p.puts)
+    (codes "inputs", amount_value (ports_in p.inputs)) ∷ (codes "takes", amount_value (samples_in p.inputs))
+    ∷ (codes "outputs", amount_value (ports_in p.outputs)) ∷ (codes "puts", amount_value (samples_in p.outputs))
     ∷ (codes "cycle", amount_value p.cycle) ∷ []
 
 -- ---- keys

@@ -8,38 +8,33 @@ use Rattle.sdf_kit.specs.declared.kit.Kit.{Kit}
 use Rattle.sdf_kit.specs.Kit.{kit_steps}
 use Rattle.sdf_kinds.specs.declared.row.Kind.{Kind}
 use Rattle.sdf_kinds.specs.declared.row.Kind.TheVariants as kind
+use Rattle.sdf_kinds.specs.declared.ports.SideRow.{SideRow}
+use Rattle.sdf_kinds.specs.declared.ports.SideRow.TheVariants.{Every, InTurn}
+use Rattle.sdf_kinds.specs.declared.ports.PortRow.{PortRow}
+use Rattle.sdf_kinds.specs.Ports.{ports_in}
+use Rattle.sdf_kinds.specs.Ports as rows
 use Rattle.sdf_document.specs.declared.key.KeyValue.{KeyValue}
 use Rattle.sdf_kinds.specs.Rows.{KeyRow, row_of}
 use Rattle.sdf_document.specs.Kinds.{entry_of, natural, first, rest}
 use Rattle.sdf_file.specs.Designs.{node_of}
 use Rattle.sdf_json.specs.declared.ports.Amount.{Amount}
 use Rattle.sdf_json.specs.declared.ports.Amount.TheVariants.{Zero, One, Block, Up, Down, Factor, Ways, Run}
-use Rattle.sdf_json.specs.declared.ports.PortRow.{PortRow}
 
--- one phase, and the same at each port of a side
-abbrev pub steady : Amount → Amount → Amount → Amount → PortRow
-steady inputs takes outputs puts =
-    record { inputs = inputs; takes = takes; outputs = outputs; puts = puts; cycle = One }
-
--- the ports of one side are served in turn, a run at each
-abbrev pub turned : Amount → Amount → PortRow
-turned inputs outputs = record { inputs = inputs; takes = Run; outputs = outputs; puts = Run; cycle = Ways }
-
-abbrev pub ports_of : Kind → PortRow
-ports_of kind.Input = steady Zero Zero One Block
-ports_of kind.Output = steady One Block Zero Zero
-ports_of kind.Fir = steady One Down One Up
-ports_of kind.Decimate = steady One Factor One One
-ports_of kind.Interpolate = steady One One One Factor
-ports_of kind.Add = steady Ways One One One
-ports_of kind.Fork = steady One One Ways One
-ports_of kind.Gain = steady One One One One
-ports_of kind.Delay = steady One One One One
-ports_of kind.Table = steady One One One One
-ports_of kind.Deal = turned One Ways
-ports_of kind.Gather = turned Ways One
-ports_of kind.Clip = steady One One One One
-ports_of kind.Offset = steady One One One One
+abbrev pub ports_of : Kind → PortRow Amount
+ports_of kind.Input = rows.input Block Zero One
+ports_of kind.Output = rows.output Block Zero One
+ports_of kind.Fir = rows.fir Up Down One
+ports_of kind.Decimate = rows.decimate Factor One
+ports_of kind.Interpolate = rows.interpolate Factor One
+ports_of kind.Add = rows.add Ways One
+ports_of kind.Fork = rows.fork Ways One
+ports_of kind.Gain = rows.pointwise One
+ports_of kind.Delay = rows.pointwise One
+ports_of kind.Table = rows.pointwise One
+ports_of kind.Deal = rows.deal Ways Run One
+ports_of kind.Gather = rows.gather Ways Run One
+ports_of kind.Clip = rows.pointwise One
+ports_of kind.Offset = rows.pointwise One
 
 -- ---- that a kind has them
 
@@ -58,21 +53,20 @@ amount_in k vs Factor = value_of (codes "factor") (row_of k).keys vs
 amount_in k vs Ways = value_of (codes "ways") (row_of k).keys vs
 amount_in k vs Run = value_of (codes "run") (row_of k).keys vs
 
--- the samples that a firing at phase j moves at port p of a side: only at port j, if the cycle and the side's ports are
--- both `ways`
-abbrev pub moved_by : Amount → Amount → ℕ → ℕ → ℕ → ℕ
-moved_by Ways Ways n p j = cond (p == j) n 0
-moved_by cycle ports n p j = n
+-- the samples that a firing at phase j moves at port p of a side
+abbrev pub moved_at : SideRow Amount → (Amount → ℕ) → ℕ → ℕ → ℕ
+moved_at (Every ports samples) amount p j = amount samples
+moved_at (InTurn ports samples) amount p j = cond (p == j) (amount samples) 0
 
 -- a node has the ports and the firings of the row, and moves the row's samples at each port
-pub record HasPorts (row : PortRow) (amount : Amount → ℕ) (node : Node Kit) : Type 0 where
-  pub inputs : inputs_of kit_steps node ≡ amount row.inputs
-  pub outputs : outputs_of kit_steps node ≡ amount row.outputs
+pub record HasPorts (row : PortRow Amount) (amount : Amount → ℕ) (node : Node Kit) : Type 0 where
+  pub inputs : inputs_of kit_steps node ≡ amount (ports_in row.inputs)
+  pub outputs : outputs_of kit_steps node ≡ amount (ports_in row.outputs)
   pub cycle : cycle_of kit_steps node ≡ amount row.cycle
-  pub takes : (p j : ℕ) → p < amount row.inputs →
-      rate_of kit_steps Input node p j ≡ moved_by row.cycle row.inputs (amount row.takes) p j
-  pub puts : (p j : ℕ) → p < amount row.outputs →
-      rate_of kit_steps Output node p j ≡ moved_by row.cycle row.outputs (amount row.puts) p j
+  pub takes : (p j : ℕ) → p < amount (ports_in row.inputs) →
+      rate_of kit_steps Input node p j ≡ moved_at row.inputs amount p j
+  pub puts : (p j : ℕ) → p < amount (ports_in row.outputs) →
+      rate_of kit_steps Output node p j ≡ moved_at row.outputs amount p j
 
 abbrev pub KindsHaveTheirPorts : Type 0
 KindsHaveTheirPorts = (k : Kind) (vs : List KeyValue) →

@@ -5,7 +5,7 @@ use Rattle.sdf_sched.specs.Period.{Schedule}
 use Rattle.sdf_prec.specs.declared.firing.Firing.{Firing}
 use Rattle.sdf_prec.specs.Tables.{Tabled, home_in}
 use Rattle.sdf_file.specs.Designs.{DesignValue}
-use Rattle.sdf_file.specs.Schedules.{Stretch, stretches, name_of}
+use Rattle.sdf_texts.specs.Schedules.{Stretch, stretches, name_of}
 use Rattle.sdf_json.specs.Values.{natural, perhaps, object_of, list_of}
 use Rattle.sdf_json.specs.Designs.{ends_of}
 

@@ -50,10 +50,10 @@ fn put_ports(members: &mut Members, alloc: Global, kind: Kind) -> Result<(), All
         with (members_view members.old.entries) (port_members (ports_of kind))) }
 {
     let ports = ports_of(kind);
-    put_amount(members, alloc, "inputs", ports.inputs)?;
-    put_amount(members, alloc, "takes", ports.takes)?;
-    put_amount(members, alloc, "outputs", ports.outputs)?;
-    put_amount(members, alloc, "puts", ports.puts)?;
+    put_amount(members, alloc, "inputs", ports.inputs.ports())?;
+    put_amount(members, alloc, "takes", ports.inputs.samples())?;
+    put_amount(members, alloc, "outputs", ports.outputs.ports())?;
+    put_amount(members, alloc, "puts", ports.outputs.samples())?;
     put_amount(members, alloc, "cycle", ports.cycle)
 }
 

@@ -3,11 +3,11 @@
 //!
 //! It depends on `sdf_plan`, which schedules a design, and on `sdf_analyze`, which computes the figures of a schedule.
 //! `sdf_file` and `sdf_document` read designs, `sdf_kinds` has the rows of the kinds, and `sdf_faults` gathers the
-//! faults of the program. The values printed belong to `sdf_options`, `sdf_wav`, `sdf_kit`, `sdf_actor`, `sdf_prec`,
-//! `sdf_sched` and `sdf_graph`. Begin at `designs`, then `schedules`, `analyses`, `comparisons`, `kinds` and `faults`.
-//! The values are in `specs/Designs.antt`, `specs/Schedules.antt`, `specs/Analyses.antt`, `specs/Comparisons.antt`,
-//! `specs/Kinds.antt`, `specs/Ports.antt` and `specs/Faults.antt`. `IsLineOf` of `specs/Values.antt` says that a text
-//! is one compact line that reads as its value.
+//! faults of the program. `sdf_texts` finds the stretches of an order. The values printed belong to `sdf_options`,
+//! `sdf_wav`, `sdf_kit`, `sdf_actor`, `sdf_prec`, `sdf_sched` and `sdf_graph`. Begin at `designs`, then `schedules`,
+//! `analyses`, `comparisons`, `kinds` and `faults`. The values are in `specs/Designs.antt`, `specs/Schedules.antt`,
+//! `specs/Analyses.antt`, `specs/Comparisons.antt`, `specs/Kinds.antt`, `specs/Ports.antt` and `specs/Faults.antt`.
+//! `IsLineOf` of `specs/Values.antt` says that a text is one compact line that reads as its value.
 #![tactic(auto)]
 
 mod analyses;

@@ -2,15 +2,16 @@
 
 ghost use Rattle.std.specs.Prelude.{◌≡◌, ◌<◌, ◌+◌, ◌≤◌, ◌∷◌, IfOk, length, map, drop, slice_index};
 ghost use Rattle.serde_json.specs.View.{view};
-ghost use Rattle.sdf_file.specs.Schedules.{stretches};
+ghost use Rattle.sdf_texts.specs.Schedules.{stretches};
 ghost use Rattle.sdf_json.specs.Values.{each_to};
 ghost use Rattle.sdf_json.specs.Tables.{stretch_value, cell_value, row_value, homed_value, capacity_value};
 
 use crate::designs::ends_of;
 use crate::values::{perhaps, put_number, put_text};
-use sdf_file::{Design, stretch_at};
+use sdf_file::Design;
 use sdf_prec::{Firing, Table};
 use sdf_sched::Period;
+use sdf_texts::stretch_at;
 use serde_json::{Map, Value, put};
 use std::alloc::{AllocError, Global};
 

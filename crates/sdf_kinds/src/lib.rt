@@ -1,12 +1,15 @@
-//! The table of the kinds of actors. It has a row for each kind, with the kind's word, its keys and their limits.
+//! The table of the kinds of actors. It has a row for each kind, with the kind's word, its keys and their limits, and
+//! one with its ports.
 //!
 //! `kinds` returns all kinds, `row_of` the row of one kind, and `kinds_text` the table as a text; `keys_text` and
-//! `limits_text` return parts of it. The reader of graph files, the kit and the diagnostics use it. It depends on
-//! `sdf_limits`. Begin at `row`. The definitions are in `specs/Keys.antt`, `specs/Rows.antt` and `specs/Listing.antt`.
+//! `limits_text` return parts of it. `ports` has the ports of each kind, by the values of its keys or by their names.
+//! The reader of graph files, the kit and the diagnostics use these. It depends on `sdf_limits`. Begin at `row`. The
+//! definitions are in `specs/Keys.antt`, `specs/Rows.antt`, `specs/Ports.antt` and `specs/Listing.antt`.
 #![tactic(auto)]
 
 mod key;
 mod listing;
+pub mod ports;
 mod row;
 
 pub use key::Key;

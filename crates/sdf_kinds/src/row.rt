@@ -2,7 +2,7 @@
 //!
 //! To add a kind:
 //! 1. here, its word in `Kind` and `KINDS`, its keys and an arm of `row_of`; its row in `specs/Rows.antt`; any new keys
-//!   in `key.rt` and `specs/Keys.antt`;
+//!   in `key.rt` and `specs/Keys.antt`; its ports in `ports.rt` and `specs/Ports.antt`, if no kind has the same;
 //! 2. its line in the table of `docs/FORMATS.md`, as `kinds_text` in `listing.rt` prints it;
 //! 3. in `sdf_document`, its values as a variant of `KindEntry`, with an arm of `entry_of` in `kind.rt` that takes them
 //!   in the order of the row; an equation of `entry_of` and one of `kind_values` in `specs/Kinds.antt`;

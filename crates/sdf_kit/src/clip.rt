@@ -6,7 +6,7 @@ ghost use Rattle.sdf_kit.specs.Clip.{clip, limits_of, clipped};
 
 use crate::fault::{KitFault, check, has_16_bits};
 use crate::ports::Ports;
-use sdf_kinds::{Key, Kind};
+use sdf_kinds::{Key, Kind, ports as rows};
 use std::marker::Model;
 
 /// A clipper: it puts each sample, or `least` if the sample is below that, or `greatest` if it is above that.
@@ -45,7 +45,7 @@ impl Clip {
         ensures is { result ≡ (clip self.now).ports }
         ensures limits { ArePorts result }
     {
-        Ports::steady(1, 1, 1, 1)
+        Ports::of_row(rows::pointwise(1))
     }
 
     /// Fires once or many times, one firing after another.

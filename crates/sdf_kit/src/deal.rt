@@ -9,7 +9,7 @@ ghost use Rattle.sdf_kinds.specs.declared.row.Kind.TheVariants as kinds;
 use crate::fault::KitFault;
 use crate::ports::Ports;
 use crate::turns::Turns;
-use sdf_kinds::Kind;
+use sdf_kinds::{Kind, ports as rows};
 use std::marker::Model;
 
 /// An actor that deals its input out to its output ports, `run` samples to each in turn:
@@ -41,11 +41,7 @@ impl Deal {
         ensures is { result ≡ (deal self.now).ports }
         ensures limits { ArePorts result }
     {
-        Ports {
-            cycle: self.turns.cycle(),
-            inputs: self.turns.one(),
-            outputs: self.turns.ways(),
-        }
+        Ports::of_row(rows::deal(self.turns.cycle(), self.turns.run(), 1))
     }
 
     /// Fires once or many times, at any phase. Each firing writes to the one port whose block is not empty.

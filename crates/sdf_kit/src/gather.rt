@@ -9,7 +9,7 @@ ghost use Rattle.sdf_kinds.specs.declared.row.Kind.TheVariants as kinds;
 use crate::fault::KitFault;
 use crate::ports::Ports;
 use crate::turns::Turns;
-use sdf_kinds::Kind;
+use sdf_kinds::{Kind, ports as rows};
 use std::marker::Model;
 
 /// An actor that gathers its input ports into one output, `run` samples from each in turn:
@@ -41,11 +41,7 @@ impl Gather {
         ensures is { result ≡ (gather self.now).ports }
         ensures limits { ArePorts result }
     {
-        Ports {
-            cycle: self.turns.cycle(),
-            inputs: self.turns.ways(),
-            outputs: self.turns.one(),
-        }
+        Ports::of_row(rows::gather(self.turns.cycle(), self.turns.run(), 1))
     }
 
     /// Fires once or many times, at any phase. Each firing reads the one port whose block is not empty.

@@ -6,7 +6,7 @@ ghost use Rattle.sdf_kit.specs.Offset.{offset, value_of, raised};
 
 use crate::fault::{KitFault, check, has_16_bits};
 use crate::ports::Ports;
-use sdf_kinds::{Key, Kind};
+use sdf_kinds::{Key, Kind, ports as rows};
 use std::marker::Model;
 
 /// An offset: it adds `value` to each sample and clamps the sum.
@@ -40,7 +40,7 @@ impl Offset {
         ensures is { result ≡ (offset self.now).ports }
         ensures limits { ArePorts result }
     {
-        Ports::steady(1, 1, 1, 1)
+        Ports::of_row(rows::pointwise(1))
     }
 
     /// Fires once or many times, one firing after another.

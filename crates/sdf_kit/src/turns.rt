@@ -1,12 +1,9 @@
 //! Ways that are served in turn.
 
 ghost use Rattle.std.specs.Prelude.{◌≡◌, ◌≤◌};
-ghost use Rattle.sdf_kit.specs.Ports.{ArePortRates};
 ghost use Rattle.sdf_kit.specs.Turns.{turns_of};
-ghost use Rattle.sdf_kit.specs.declared.ports.PortRates.TheVariants.{Every, InTurn};
 
 use crate::fault::{KitFault, check, is_between};
-use crate::ports::PortRates;
 use sdf_kinds::{Key, Kind};
 use sdf_limits::{LEAST_WAYS, MOST_RUN, MOST_WAYS};
 use std::marker::Model;
@@ -47,29 +44,16 @@ impl Turns {
     pub fn cycle(&self) -> u32
         ensures is { result ≡ self.now.ways }
         ensures some { 1 ≤ result }
+        ensures few { result ≤ MOST_WAYS }
     {
         self.ways as u32
     }
 
-    /// Returns the ports of the ways.
-    pub fn ways(&self) -> PortRates
-        ensures is { result ≡ InTurn self.now.ways self.now.run }
-        ensures limits { ArePortRates result }
+    /// Returns the number of samples in a turn.
+    pub fn run(&self) -> u32
+        ensures is { result ≡ self.now.run }
+        ensures some { 1 ≤ result }
     {
-        PortRates::InTurn {
-            ports: self.ways,
-            rate: self.run,
-        }
-    }
-
-    /// Returns the one port on the other side.
-    pub fn one(&self) -> PortRates
-        ensures is { result ≡ Every 1 self.now.run }
-        ensures limits { ArePortRates result }
-    {
-        PortRates::Every {
-            ports: 1,
-            rate: self.run,
-        }
+        self.run
     }
 }

@@ -5,3 +5,4 @@ mod Weighing
 mod Placing
 mod Tabling
 mod Alone
+mod Priced

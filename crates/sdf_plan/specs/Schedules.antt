@@ -1,11 +1,10 @@
--- The schedule of a design by options and what the command `schedule` prints of it, or why there is none.
-use Rattle.std.specs.Prelude.{ℕ, List}
+-- The schedule of a design by options, or why there is none.
+use Rattle.std.specs.Prelude.{ℕ}
 use Rattle.sdf_actor.specs.Graphs.{graph_of}
 use Rattle.sdf_kit.specs.Kit.{kit_steps}
 use Rattle.sdf_sched.specs.Period.{Schedule}
 use Rattle.sdf_prec.specs.Tables.{Tabled}
 use Rattle.sdf_file.specs.Designs.{DesignValue}
-use Rattle.sdf_file.specs.Schedules.{IsScheduleText}
 use Rattle.sdf_options.specs.declared.options.Options.{Options}
 use Rattle.sdf_faults.specs.declared.fault.Fault.{Fault}
 use Rattle.sdf_faults.specs.declared.fault.Fault.TheVariants.{OutOfMemory, BlockingFactor, WorkerCount, Deadlock}
@@ -19,14 +18,6 @@ pub record IsScheduled (d : DesignValue) (o : Options) (periods : ℕ) (period :
   pub by_policy : IsScheduleBy o.policy (graph_of kit_steps d.net) period
   pub blocking : ArePeriodsOf d o period periods
   pub by_placement : IsTableBy d o period periods table
-
--- the text of a schedule by the options
-pub record IsShown (d : DesignValue) (o : Options) (text : List ℕ) : Type 0 where
-  pub period : Schedule
-  pub periods : ℕ
-  pub table : Tabled
-  pub scheduled : IsScheduled d o periods period table
-  pub is : IsScheduleText d period.order table text
 
 -- the first test that fails: of the numbers, of the schedule, of the table
 abbrev pub IsShowFault : DesignValue → Options → Fault → Type 0

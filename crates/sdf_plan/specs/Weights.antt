@@ -6,10 +6,9 @@ use Rattle.sdf_limits.specs.declared.TheConstants.{MOST_COST}
 use Rattle.sdf_actor.specs.Nets.{node}
 use Rattle.sdf_actor.specs.declared.node.Node.{Node}
 use Rattle.sdf_actor.specs.declared.node.Node.TheVariants.{Source, Sink, Inner}
-use Rattle.sdf_kit.specs.Fir.{kept_len}
+use Rattle.sdf_kit.specs.FiringProducts.{products_of}
 use Rattle.sdf_kit.specs.Kit.{behaviour}
 use Rattle.sdf_kit.specs.declared.kit.Kit.{Kit}
-use Rattle.sdf_kit.specs.declared.kit.Kit.TheVariants.{Fir}
 use Rattle.sdf_kit.specs.declared.ports.PortRates.{PortRates}
 use Rattle.sdf_kit.specs.declared.ports.PortRates.TheVariants.{Every, InTurn}
 use Rattle.sdf_file.specs.Designs.{DesignValue}
@@ -19,11 +18,6 @@ use Rattle.sdf_plan.specs.declared.weights.TheConstants.{SAMPLE_WEIGHT}
 abbrev pub moved_by : PortRates → ℕ
 moved_by (Every ports rate) = ports * rate
 moved_by (InTurn ports rate) = rate
-
--- the products of a firing: for each sample that a filter puts, one more than the samples that it keeps
-abbrev pub products_of : Kit → ℕ
-products_of (Fir f) = f.up * (kept_len f + 1)
-products_of kit = 0
 
 -- a weight within the limits of a cost
 abbrev pub as_cost : ℕ → ℕ

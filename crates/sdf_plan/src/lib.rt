@@ -1,12 +1,13 @@
-//! Plans of runs, by options or for several workers if these can be faster, and the printed schedule of a design.
+//! Plans of runs, by options or for several workers if these can be faster, and the schedule of a design.
 //!
 //! It depends on `sdf_options` for the options, and on `sdf_file`, `sdf_kit`, `sdf_actor` and `sdf_graph` for the
-//! design. `sdf_sched` orders the firings of a period, and `sdf_prec` makes the table of a block. `sdf_fission` finds
-//! the warm-up of a part, `sdf_answer` has the table that workers follow, and `sdf_faults` has the reasons why there
-//! is no plan. It runs nothing. Begin at `planning`; then `parallel` and `schedule`. The definitions are in
-//! `specs/Plans.antt`, `specs/Placements.antt`, `specs/Paces.antt` and `specs/Schedules.antt`.
+//! design. `sdf_sched` orders the firings of a period, and `sdf_prec` makes the table of a block, which workers follow.
+//! `sdf_fission` finds the warm-up of a part, and `sdf_faults` has the reasons why there is no plan. It runs nothing.
+//! Begin at `planning`; then `parallel` and `schedule`. The definitions are in `specs/Plans.antt`,
+//! `specs/Placements.antt`, `specs/Paces.antt` and `specs/Schedules.antt`.
 #![tactic(auto)]
 
+pub mod costs;
 pub mod parallel;
 mod placement;
 mod plan;

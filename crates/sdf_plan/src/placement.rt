@@ -4,6 +4,7 @@ ghost use Rattle.std.specs.Prelude.{MatchResult};
 ghost use Rattle.sdf_sched.specs.Period.{IsPeriodOf};
 ghost use Rattle.sdf_plan.specs.Placements.{rates_of, ArePeriodsOf, IsTableBy, IsPlaceFault};
 
+use crate::costs::firing_costs;
 use crate::weights::weights;
 use sdf_file::Design;
 use sdf_options::{Options, Placement, Policy};
@@ -49,7 +50,7 @@ pub(crate) fn table_by(
                 period,
                 periods,
                 team,
-                &design.firing_costs(alloc)?,
+                &firing_costs(alloc, design)?,
             )
         }
         Placement::File => match options.policy {

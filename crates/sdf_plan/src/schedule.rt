@@ -1,18 +1,18 @@
-//! The schedule of a design for some workers, and its text.
+//! The schedule of a design for some workers.
 
-ghost use Rattle.std.specs.Prelude.{MatchResult, IfOk, string_bytes};
+ghost use Rattle.std.specs.Prelude.{MatchResult, IfOk};
 ghost use Rattle.sdf_actor.specs.Graphs.{graph_of};
 ghost use Rattle.sdf_kit.specs.Kit.{kit_steps};
 ghost use Rattle.sdf_prec.specs.Tables.{IsTable};
 ghost use Rattle.sdf_plan.specs.Placements.{rates_of, firings_of};
 ghost use Rattle.sdf_prec.specs.Long.{IsLongSize};
 ghost use Rattle.sdf_plan.specs.Plans.{AreSizes, IsScheduleBy};
-ghost use Rattle.sdf_plan.specs.Schedules.{IsScheduled, IsShown, IsShowFault};
+ghost use Rattle.sdf_plan.specs.Schedules.{IsScheduled, IsShowFault};
 
 use crate::placement::{blocking_by, table_by};
 use crate::planning::{period_by, size_fault};
 use sdf_faults::Fault;
-use sdf_file::{Design, schedule_text};
+use sdf_file::Design;
 use sdf_options::Options;
 use sdf_prec::Table;
 use sdf_sched::Period;
@@ -76,14 +76,4 @@ pub fn tabled(
     let periods = blocking_by(design, options, period);
     let table = table_by(alloc, design, period, options, periods)?;
     Ok(Block { periods, table })
-}
-
-/// Returns what the command `schedule` prints: the order by the policy, and the table by the placement. Its tests are
-/// the tests of `scheduled`.
-pub fn schedule(alloc: Global, design: &Design, options: &Options) -> Result<String, Fault>
-    ensures { MatchResult result (λ s. IsShown design.now options.now (string_bytes s))
-        (IsShowFault design.now options.now) }
-{
-    let DesignSchedule { period, block } = scheduled(alloc, design, options)?;
-    Ok(schedule_text(alloc, design, &period, &block.table)?)
 }

@@ -7,7 +7,7 @@ ghost use Rattle.sdf_actor.specs.Nets.{node};
 ghost use Rattle.sdf_kit.specs.Ports.{ArePortRates};
 ghost use Rattle.sdf_sched.specs.Period.{IsPeriodOf};
 ghost use Rattle.sdf_plan.specs.Placements.{rates_of};
-ghost use Rattle.sdf_plan.specs.Weights.{moved_by, products_of, as_cost, load_of, is_free_of_costs};
+ghost use Rattle.sdf_plan.specs.Weights.{moved_by, as_cost, load_of, is_free_of_costs};
 ghost use Rattle.sdf_plan.specs.Weights.{firing_weight, weights_by, weights_of};
 ghost use Rattle.sdf_prec.specs.Spread.{AreLoads};
 
@@ -33,17 +33,6 @@ fn moved_by(side: PortRates) -> u64
     }
 }
 
-/// Returns the products of a firing, which are counted for filters only.
-fn products_of(kit: &Kit) -> u64
-    ensures is { result ≡ products_of kit.now }
-    ensures few { result < 2 ^ 50 }
-{
-    match kit {
-        Kit::Fir(filter) => moved_by(filter.ports().outputs) * (filter.kept_len() as u64 + 1),
-        _ => 0,
-    }
-}
-
 /// Clamps `weight` to the limits of a cost.
 fn as_cost(weight: u64) -> u64
     ensures is { result ≡ as_cost weight }
@@ -64,7 +53,7 @@ fn load_of(node: &Node<Kit>) -> u64
         Node::Inner(kit) => {
             let ports = kit.ports();
             let moved = moved_by(ports.inputs) + moved_by(ports.outputs);
-            as_cost(products_of(kit) + SAMPLE_WEIGHT * moved)
+            as_cost(kit.products() + SAMPLE_WEIGHT * moved)
         }
     }
 }

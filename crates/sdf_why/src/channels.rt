@@ -4,7 +4,6 @@ ghost use Rattle.std.specs.Prelude.{◌≡◌, ℕ, length, map, slice_index_or,
 ghost use Rattle.std.specs.List.{range_with_len};
 ghost use Rattle.sdf_actor.specs.declared.node.Node.TheVariants.{Sink};
 ghost use Rattle.sdf_actor.specs.Graphs.{channel_of};
-ghost use Rattle.sdf_kit.specs.declared.ports.PortRates.TheVariants.{Every, InTurn};
 ghost use Rattle.sdf_kit.specs.Ports.{moved};
 ghost use Rattle.sdf_kit.specs.Kit.{kit_steps};
 ghost use Rattle.sdf_document.specs.Actors.{actor_view};
@@ -14,56 +13,29 @@ ghost use Rattle.sdf_why.specs.Channels.{ArePortsOf, nodes_of};
 
 use sdf_document::{ActorEntry, KindEntry, LinkEntry};
 use sdf_graph::Channel;
+use sdf_kinds::ports as rows;
 use sdf_kit::{PortRates, Ports};
 use std::alloc::{AllocError, Global};
 
-/// Returns one port, at which every firing moves `run` samples.
-fn every(run: u32) -> PortRates
-    ensures { result ≡ Every 1 run }
-{
-    PortRates::Every {
-        ports: 1,
-        rate: run,
-    }
-}
-
-/// Returns `ways` ports that are served in turn, with `run` samples at each.
-fn in_turn(ways: u32, run: u32) -> PortRates
-    ensures { result ≡ InTurn ways run }
-{
-    PortRates::InTurn {
-        ports: ways as usize,
-        rate: run,
-    }
-}
-
-/// Returns the ports of `kind`.
+/// Returns the ports of `kind`. An input and an output move a block at any port, as the graph of a net says.
 pub(crate) fn ports_of(kind: &KindEntry) -> Ports
     ensures { ArePortsOf result (node_of kind.now) }
 {
     match kind {
         KindEntry::Input { block, .. } => Ports::steady(0, *block, 1, *block),
         KindEntry::Output { block, .. } => Ports::steady(1, *block, 0, *block),
-        KindEntry::Fir { up, down, .. } => Ports::steady(1, *down, 1, *up),
-        KindEntry::Decimate { factor } => Ports::steady(1, *factor, 1, 1),
-        KindEntry::Interpolate { factor } => Ports::steady(1, 1, 1, *factor),
-        KindEntry::Add { ways } => Ports::steady(*ways as usize, 1, 1, 1),
-        KindEntry::Fork { ways } => Ports::steady(1, 1, *ways as usize, 1),
+        KindEntry::Fir { up, down, .. } => Ports::of_row(rows::fir(*up, *down, 1)),
+        KindEntry::Decimate { factor } => Ports::of_row(rows::decimate(*factor, 1)),
+        KindEntry::Interpolate { factor } => Ports::of_row(rows::interpolate(*factor, 1)),
+        KindEntry::Add { ways } => Ports::of_row(rows::add(*ways, 1)),
+        KindEntry::Fork { ways } => Ports::of_row(rows::fork(*ways, 1)),
         KindEntry::Gain { .. }
         | KindEntry::Delay { .. }
         | KindEntry::Table { .. }
         | KindEntry::Clip { .. }
-        | KindEntry::Offset { .. } => Ports::steady(1, 1, 1, 1),
-        KindEntry::Deal { ways, run } => Ports {
-            cycle: *ways,
-            inputs: every(*run),
-            outputs: in_turn(*ways, *run),
-        },
-        KindEntry::Gather { ways, run } => Ports {
-            cycle: *ways,
-            inputs: in_turn(*ways, *run),
-            outputs: every(*run),
-        },
+        | KindEntry::Offset { .. } => Ports::of_row(rows::pointwise(1)),
+        KindEntry::Deal { ways, run } => Ports::of_row(rows::deal(*ways, *run, 1)),
+        KindEntry::Gather { ways, run } => Ports::of_row(rows::gather(*ways, *run, 1)),
     }
 }
 

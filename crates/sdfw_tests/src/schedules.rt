@@ -2,9 +2,10 @@
 
 use crate::designs::{BLOCKS, CHAIN, INITIAL, PAIR, SECOND_DOUBLED};
 use crate::running::fault_told;
-use sdf_file::{Design, check_text, read_design};
+use sdf_file::{Design, read_design};
 use sdf_options::{Options, Placement, Policy};
-use sdf_plan::schedule::schedule;
+use sdf_texts::check_text;
+use sdf_texts::schedule::schedule;
 use std::alloc::{AllocError, Global};
 use std::test::Fail;
 use test_texts::{row_says, says};

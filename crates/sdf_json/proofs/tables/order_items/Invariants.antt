@@ -1,6 +1,6 @@
 use Rattle.std.proofs.Common.{◌≡◌, ◌++◌, ◌-◌, ◌≤◌, drop, map, length}
 use Rattle.serde_json.specs.View.{view}
-use Rattle.sdf_file.specs.Schedules.{stretches}
+use Rattle.sdf_texts.specs.Schedules.{stretches}
 use Rattle.sdf_json.specs.Tables.{stretch_value}
 use Rattle.sdf_json.proofs.tables.order_items.Given as goal
 

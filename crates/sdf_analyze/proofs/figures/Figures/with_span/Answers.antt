@@ -2,6 +2,7 @@ use Rattle.std.proofs.Common.{◌≡◌, ◌∙◌, ◌≤◌, ap, subst, sym, l
 use Rattle.sdf_actor.specs.Graphs.{graph_of}
 use Rattle.sdf_kit.specs.Kit.{kit_steps}
 use Rattle.sdf_prec.specs.Blocks.{block}
+use Rattle.sdf_prec.specs.Costs.{AreCosts}
 use Rattle.sdf_times.specs.Times.{work_of}
 use Rattle.sdf_analyze.specs.Figures.{Figured}
 use Rattle.sdf_analyze.proofs.Works.{figures_of, work_small}
@@ -26,9 +27,11 @@ invariant_of-result c =
     c.requires.period.least.is.all in
     let few_reps : length c.args.period.now.repetitions ≤ 64 = rw actors few in
     let within : length c.args.period.now.repetitions ≤ length c.args.design.now.net.nodes = omega (arith, actors) in
+    let priced : AreCosts (length c.args.design.now.net.nodes) c.args.design.now.costs =
+    record { all = c.net.ensures.whole.priced.all; each = c.net.ensures.whole.priced.each } in
     let small = work_small c.args.options.now.blocking c.args.period.now.repetitions c.args.design.now.costs
     (length c.args.design.now.net.nodes) (length c.args.period.now.repetitions) c.requires.short
-    c.net.ensures.whole.priced within in
+    priced within in
     let work = c.work-work.ensures
     ∙ (ap (λ reps. work_of (length reps) (slice_index (block c.args.options.now.blocking reps))
     (slice_index c.in_ok-costs.costs)) c.repetitions.ensures
