@@ -1,7 +1,7 @@
 //! The files of a design.
 
 use anyhow::Result;
-use sdf_file::{Design, design_files, read_design};
+use sdf_file::{CoefficientFile, Design, design_files, read_design};
 use std::fs;
 use std::rt::Files;
 
@@ -9,7 +9,7 @@ use std::rt::Files;
 #[derive(Drop)]
 pub(crate) struct Sources {
     pub(crate) graph: Vec<u8>,
-    pub(crate) beside: Vec<(String, Vec<u8>)>,
+    pub(crate) beside: Vec<CoefficientFile>,
 }
 
 /// Reads the graph file `graph`, and from the current directory the coefficient files that it names.
@@ -18,7 +18,7 @@ pub(crate) fn load<R: AllocGlobal + Files>(rt: &R, graph: &str) -> Result<Source
     let mut beside = Vec::new(rt.alloc());
     for name in design_files(rt.alloc(), &graph)? {
         let bytes = fs::read(rt, name.as_str())?;
-        beside.push((name, bytes))?;
+        beside.push(CoefficientFile { name, bytes })?;
     }
     Ok(Sources { graph, beside })
 }

@@ -41,8 +41,8 @@ fn refusals(alloc: Global, sources: &Sources) -> Result<String, AllocError> {
 /// Returns what the TOML reader reported about the files that are not TOML.
 fn no_documents(alloc: Global, sources: &Sources) -> Result<String, AllocError> {
     let mut text = toml_text(alloc, sources.path.as_str(), &sources.graph)?;
-    for (name, bytes) in &sources.files {
-        let line = toml_text(alloc, name.as_str(), bytes)?;
+    for file in &sources.files {
+        let line = toml_text(alloc, file.name.as_str(), &file.bytes)?;
         text.push_str(line.as_str())?;
     }
     Ok(text)

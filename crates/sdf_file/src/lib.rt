@@ -15,5 +15,5 @@ pub mod texts;
 pub use design::{Design, coefficient_files, design_files, make_design, parse_graph, read_design};
 pub use fault::FileFault;
 pub use schedule::{push_link, schedule_text, stretch_at};
-pub use sdf_document::{DocumentFault, GraphFile, Place};
+pub use sdf_document::{CoefficientFile, DocumentFault, GraphFile, Place};
 pub use texts::check_text;

@@ -18,7 +18,7 @@ use crate::near::{push_near_end, push_near_key};
 use crate::tables::{Source, actor_text, entry, first_saying, root, text_at, value_at};
 use crate::types::push_type;
 use crate::words::push_key;
-use sdf_document::{DocumentFault, Place};
+use sdf_document::{CoefficientFile, DocumentFault, Place};
 use sdf_kinds::keys_text;
 use sdf_limits::{MOST_ACTORS, MOST_LINKS};
 use std::alloc::{AllocError, Global};
@@ -343,7 +343,7 @@ pub fn document_text(
     alloc: Global,
     fault: &DocumentFault,
     graph: &[u8],
-    files: &[(String, Vec<u8>)],
+    files: &[CoefficientFile],
 ) -> Result<String, AllocError>
     ensures { IfOk result (λ text. string_bytes text ≡
         document_text (fault_view fault.now) graph.now (files_view files.now)) }

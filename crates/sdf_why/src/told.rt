@@ -24,15 +24,15 @@ use crate::net::push_net;
 use crate::sound::{Header, push_channels, push_rate};
 use crate::tables::{entry, root};
 use sdf_actor::NetFault;
-use sdf_file::{Design, FileFault, read_design};
+use sdf_file::{CoefficientFile, Design, FileFault, read_design};
 use std::alloc::{AllocError, Global};
 use toml::Value;
 
-/// The files of a design: its graph file, and each coefficient file with its name.
+/// The files of a design: its graph file, and its coefficient files.
 #[derive(Clone, Copy)]
 pub struct Sources<'a> {
     pub graph: &'a [u8],
-    pub files: &'a [(String, Vec<u8>)],
+    pub files: &'a [CoefficientFile],
 }
 
 /// Returns the part of a net's diagnostic that needs only the tables of the graph file.

@@ -16,7 +16,7 @@ use crate::links::push_link_key;
 use crate::tables::{Source, entry, root, value_at};
 use crate::values::push_unfit_at_key;
 use crate::words::push_key;
-use sdf_document::{Place, file_named};
+use sdf_document::{CoefficientFile, Place, file_named};
 use std::alloc::{AllocError, Global};
 use toml::Value;
 
@@ -142,7 +142,7 @@ fn push_unwhole_at(
 fn push_unwhole_in_file(
     alloc: Global,
     text: &mut String,
-    files: &[(String, Vec<u8>)],
+    files: &[CoefficientFile],
     name: &str,
     key: &str,
 ) -> Result<(), AllocError>
