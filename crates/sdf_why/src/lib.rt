@@ -41,5 +41,5 @@ pub use loops::loop_text;
 pub use said::{device_text, toml_text};
 pub use sound::Header;
 pub use told::{
-    Sources, block_text, channels_text, file_text, home_text, net_text, rate_text, stall_text,
+    DesignFiles, block_text, channels_text, file_text, home_text, net_text, rate_text, stall_text,
 };
