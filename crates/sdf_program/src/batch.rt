@@ -7,7 +7,8 @@ ghost use Rattle.sdf_words.specs.Limits.{IsCrew};
 use crate::desk::{Desk, Done};
 use crate::items::{Batching, Item, items_of, settle};
 use crate::outcome::Outcome;
-use crate::running::{Planned, Prepared, Running, plan_of, run_planned, workers_of};
+use crate::plans::{Prepared, plan_of, workers_of};
+use crate::running::{Planned, Running, run_planned};
 use sdf_commands::making::make_folder;
 use sdf_faults::Fault;
 use sdf_files::files::Sources;
@@ -343,7 +344,14 @@ pub(crate) fn run_batch<
 ) -> Result<u8, Fault>
     requires { IfSome batching.asked.now.parallel IsCrew }
 {
-    let prepared = plan_of(world.threads, err, running_of(batching, STANDARD, STANDARD))?;
+    let prepared = plan_of(
+        world.threads,
+        err,
+        &batching.loaded.design,
+        &batching.asked.options,
+        batching.asked.parallel,
+        batching.is_said,
+    )?;
     let course = Course {
         batching,
         prepared: &prepared,
