@@ -21,3 +21,4 @@ pub mod More
 pub mod Told
 pub mod Said
 pub mod Near
+pub mod Laws
