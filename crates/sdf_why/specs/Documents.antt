@@ -2,7 +2,7 @@
 use Rattle.std.specs.Prelude.{ℕ, List, [], ◌++◌, codes, decimal, Some, None, is_some, bytes_eq, if◌then◌else◌}
 use Rattle.toml.specs.Data.{Data, get}
 use Rattle.sdf_limits.specs.declared.TheConstants.{MOST_ACTORS, MOST_LINKS}
-use Rattle.sdf_document.specs.Fault.{Place, top, actor, link, file, Fault, actor_count, channel_count, kit_value}
+use Rattle.sdf_document.specs.Fault.{Place, actor, file, Fault, actor_count, channel_count, kit_value}
 use Rattle.sdf_document.specs.Fault.{not_toml, bad_format, unknown_key, missing_key, wrong_type, bad_name, name_twice}
 use Rattle.sdf_document.specs.Fault.{unknown_kind, bad_port, no_file}
 use Rattle.sdf_kinds.specs.Rows.{KeyRow}
