@@ -81,21 +81,11 @@ pub(crate) fn push_same(text: &mut String) -> Result<(), AllocError> {
     text.push_str(LAST)
 }
 
-/// Returns the coefficient file that they name.
-pub fn same_files(
-    alloc: Global,
-    numbers: &mut Numbers,
-) -> Result<Vec<(String, Vec<u8>)>, AllocError> {
-    let text = same_taps(alloc, numbers)?;
-    let bytes = Vec::from_slice(alloc, text.as_bytes())?;
-    let name = String::from_str(alloc, "taps.toml")?;
-    let mut files = Vec::new(alloc);
-    files.push((name, bytes))?;
-    Ok(files)
-}
+/// The name of the coefficient file that they name.
+pub const SAME_FILE: &str = "taps.toml";
 
-/// Returns the text of the coefficient file.
-fn same_taps(alloc: Global, numbers: &mut Numbers) -> Result<String, AllocError> {
+/// Returns the text of the coefficient file that they name.
+pub fn same_taps(alloc: Global, numbers: &mut Numbers) -> Result<String, AllocError> {
     let mut text = String::from_str(alloc, "format = 1\nvalues = ")?;
     push_array(&mut text, numbers, 1024, 300)?;
     Ok(text)

@@ -3,7 +3,7 @@
 use anyhow::Result;
 use bench_inputs::graphs::Graph;
 use bench_inputs::numbers::Numbers;
-use sdf_file::{Design, design_files, read_design};
+use sdf_file::{CoefficientFile, Design, design_files, read_design};
 use std::alloc::Global;
 use std::fs;
 use std::rt::Files;
@@ -14,15 +14,15 @@ fn bytes_at<R: AllocGlobal + Files>(rt: &R, folder: &str, name: &str) -> Result<
     Ok(fs::read(rt, path.as_str())?)
 }
 
-/// Adds a coefficient file, with its name.
+/// Adds a coefficient file.
 fn push_file<R: AllocGlobal + Files>(
     rt: &R,
     folder: &str,
     name: String,
-    files: &mut Vec<(String, Vec<u8>)>,
+    files: &mut Vec<CoefficientFile>,
 ) -> Result<()> {
     let bytes = bytes_at(rt, folder, &name)?;
-    Ok(files.push((name, bytes))?)
+    Ok(files.push(CoefficientFile { name, bytes })?)
 }
 
 /// Reads the coefficient files that a graph file names.
@@ -30,7 +30,7 @@ fn files_beside<R: AllocGlobal + Files>(
     rt: &R,
     folder: &str,
     graph: &[u8],
-) -> Result<Vec<(String, Vec<u8>)>> {
+) -> Result<Vec<CoefficientFile>> {
     let mut files = Vec::new(rt.alloc());
     for name in design_files(rt.alloc(), graph)? {
         push_file(rt, folder, name, &mut files)?;
@@ -39,11 +39,7 @@ fn files_beside<R: AllocGlobal + Files>(
 }
 
 /// Reads the design of a graph file and the coefficient files that it names.
-pub(crate) fn design_in(
-    alloc: Global,
-    graph: &[u8],
-    files: &[(String, Vec<u8>)],
-) -> Result<Design> {
+pub(crate) fn design_in(alloc: Global, graph: &[u8], files: &[CoefficientFile]) -> Result<Design> {
     Ok(read_design(alloc, graph, files)?)
 }
 

@@ -6,10 +6,10 @@
 //! `bench_jobs small SEED` does a little of every job that reads no file. Designs are read from the folder `designs`
 //! where the program runs.
 //!
-//! It depends on `bench_inputs` for graphs and noise. `sdf_process`, `sdf_plan`, `sdf_file`, `sdf_document`, `sdf_wav`
-//! and `sdf_options` play a design, or end with a fault of `sdf_faults`. `sdf_texts`, `sdf_analyze`, `sdf_draw` and
-//! `sdf_json` report on designs and schedules. `sdf_filters` and `sdf_profile` make texts. `sdf_kit`, `sdf_actor` and
-//! `sdf_graph` are below these. Begin with `main`, then `playing`, `tables` and `making`.
+//! It depends on `bench_inputs` for graphs and noise. `sdf_process`, `sdf_plan`, `sdf_file`, `sdf_wav` and
+//! `sdf_options` play a design, or end with a fault of `sdf_faults`. `sdf_texts`, `sdf_analyze`, `sdf_draw` and
+//! `sdf_json` report on designs and schedules. `sdf_filters` and `sdf_profile` make texts. Begin with `main`, then
+//! `playing`, `tables` and `making`.
 #![tactic(auto)]
 
 mod files;

@@ -4,10 +4,10 @@ use crate::files::design_in;
 use crate::playing::{Playing, Source, Way};
 use anyhow::{Result, bail};
 use bench_inputs::graphs::Graph;
-use bench_inputs::long::{same_costs, same_files};
+use bench_inputs::long::{SAME_FILE, same_costs, same_taps};
 use bench_inputs::noise::Level;
 use bench_inputs::numbers::{Numbers, show};
-use sdf_file::Design;
+use sdf_file::{CoefficientFile, Design};
 use sdf_filters::{Band, ConverterTexts, StageFile, Wanted, converter_texts, filter_texts};
 use sdf_profile::costed_text;
 use sdf_texts::check_text;
@@ -146,18 +146,23 @@ fn show_stages(rt: &impl Print, files: &[StageFile]) -> Result<()> {
     Ok(())
 }
 
-/// Adds the coefficient file of a stage.
-fn push_stage(alloc: Global, files: &mut Vec<(String, Vec<u8>)>, stage: &StageFile) -> Result<()> {
-    let bytes = Vec::from_slice(alloc, stage.text.as_bytes())?;
-    let name = stage.name.clone()?;
-    Ok(files.push((name, bytes))?)
+/// Adds a coefficient file with this `name` and this text, which is `said`.
+fn push_file(
+    alloc: Global,
+    files: &mut Vec<CoefficientFile>,
+    name: &str,
+    said: &str,
+) -> Result<()> {
+    let name = String::from_str(alloc, name)?;
+    let bytes = Vec::from_slice(alloc, said.as_bytes())?;
+    Ok(files.push(CoefficientFile { name, bytes })?)
 }
 
 /// Reads the design of a converter.
 pub(crate) fn converter_design(alloc: Global, texts: &ConverterTexts) -> Result<Design> {
     let mut files = Vec::new(alloc);
     for stage in &texts.files {
-        push_stage(alloc, &mut files, stage)?;
+        push_file(alloc, &mut files, &stage.name, &stage.text)?;
     }
     design_in(alloc, texts.graph.as_bytes(), &files)
 }
@@ -174,7 +179,9 @@ fn read_same<R: AllocGlobal + Files + Print + Sync + Threads>(
 ) -> Result<()> {
     let alloc = playing.rt.alloc();
     let graph = Graph::Same.text(alloc, &mut playing.numbers)?;
-    let files = same_files(alloc, &mut playing.numbers)?;
+    let taps = same_taps(alloc, &mut playing.numbers)?;
+    let mut files = Vec::new(alloc);
+    push_file(alloc, &mut files, SAME_FILE, &taps)?;
     write_costs(playing.rt, &mut playing.numbers, graph.as_bytes(), &files)?;
     play_same(playing, graph.as_bytes(), &files)
 }
@@ -183,7 +190,7 @@ fn read_same<R: AllocGlobal + Files + Print + Sync + Threads>(
 fn play_same<R: AllocGlobal + Files + Print + Sync + Threads>(
     playing: &mut Playing<'_, R>,
     graph: &[u8],
-    files: &[(String, Vec<u8>)],
+    files: &[CoefficientFile],
 ) -> Result<()> {
     playing.length = playing.length.part(35);
     let noise = playing.noise(1, Level::Half);
@@ -196,7 +203,7 @@ fn write_costs<R: AllocGlobal + Print>(
     rt: &R,
     numbers: &mut Numbers,
     graph: &[u8],
-    files: &[(String, Vec<u8>)],
+    files: &[CoefficientFile],
 ) -> Result<()> {
     let costs = same_costs(rt.alloc(), numbers)?;
     match costed_text(rt.alloc(), graph, files, &costs) {

@@ -9,7 +9,7 @@ use bench_inputs::graphs::Graph;
 use bench_inputs::noise::{Length, Level, Noise};
 use bench_inputs::numbers::{Numbers, show};
 use sdf_faults::Fault;
-use sdf_file::Design;
+use sdf_file::{CoefficientFile, Design};
 use sdf_options::{Options, Runner};
 use sdf_plan::Plan;
 use sdf_plan::parallel::parallel_plan;
@@ -28,7 +28,7 @@ const MOST_OUTPUTS: usize = 8;
 pub(crate) enum Source<'a> {
     Made(Graph),
     Shipped(&'a str, &'a str),
-    Text(&'a [u8], &'a [(String, Vec<u8>)]),
+    Text(&'a [u8], &'a [CoefficientFile]),
 }
 
 /// How a design is run.

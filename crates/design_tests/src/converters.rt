@@ -1,6 +1,6 @@
 //! Designs that convert between usual rates: each is accepted, and its rates are right.
 
-use sdf_file::{Design, read_design};
+use sdf_file::{CoefficientFile, Design, read_design};
 use sdf_filters::{ConverterTexts, converter_texts};
 use std::alloc::Global;
 use std::test::Fail;
@@ -14,8 +14,10 @@ const RATES: [u32; 11] = [
 fn design_of(alloc: Global, texts: &ConverterTexts) -> Result<Design, Fail> {
     let mut files = Vec::new(alloc);
     for file in &texts.files {
-        let name = String::from_str(alloc, file.name.as_str())?;
-        files.push((name, Vec::from_slice(alloc, file.text.as_bytes())?))?;
+        files.push(CoefficientFile {
+            name: file.name.clone()?,
+            bytes: Vec::from_slice(alloc, file.text.as_bytes())?,
+        })?;
     }
     Ok(read_design(alloc, texts.graph.as_bytes(), &files)?)
 }

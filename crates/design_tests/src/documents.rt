@@ -1,7 +1,6 @@
 //! Documents of format 1: what they say, and each fault with its place.
 
-use crate::readings::File;
-use sdf_document::{Document, ReadFault, read_document};
+use sdf_document::{CoefficientFile, Document, ReadFault, read_document};
 use std::alloc::Global;
 use std::test::Fail;
 use test_texts::{row_says, says};
@@ -54,7 +53,7 @@ pub(crate) fn read(
     graph: &str,
     old: &str,
     new: &str,
-    files: &[File],
+    files: &[CoefficientFile],
 ) -> Result<String, Fail> {
     let text = graph.replace(alloc, old, new)?;
     told(alloc, read_document(alloc, text.as_bytes(), files))

@@ -1,18 +1,18 @@
 //! Files for the tests, and the texts of what readings return.
 
+use sdf_file::CoefficientFile;
 use std::alloc::Global;
 use std::fmt;
 use std::test::Fail;
 
-/// A name and bytes, as a coefficient file is given.
-pub(crate) type File = (String, Vec<u8>);
-
 /// Returns files of the names and texts in `rows`.
-pub(crate) fn files(alloc: Global, rows: &[(&str, &str)]) -> Result<Vec<File>, Fail> {
+pub(crate) fn files(alloc: Global, rows: &[(&str, &str)]) -> Result<Vec<CoefficientFile>, Fail> {
     let mut files = Vec::new(alloc);
     for (name, text) in rows {
-        let bytes = Vec::from_slice(alloc, text.as_bytes())?;
-        files.push((String::from_str(alloc, name)?, bytes))?;
+        files.push(CoefficientFile {
+            name: String::from_str(alloc, name)?,
+            bytes: Vec::from_slice(alloc, text.as_bytes())?,
+        })?;
     }
     Ok(files)
 }

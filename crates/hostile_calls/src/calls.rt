@@ -8,7 +8,7 @@ ghost use Rattle.sdf_plan.specs.Plans.{Suits};
 
 use crate::by_hand::finish_twice;
 use crate::designs::{files_twice, plan_twice, read_twice};
-use crate::files::Sources;
+use crate::files::DesignFiles;
 use crate::runs::run_twice;
 use crate::sessions::{feed_twice, open_twice};
 use crate::sounds::process_twice;
@@ -81,7 +81,7 @@ fn make_on<R: AllocGlobal + Files + Print + Sync + Threads>(
 pub(crate) fn make<R: AllocGlobal + Files + Print + Sync + Threads>(
     rt: &R,
     call: &str,
-    sources: &Sources,
+    sources: &DesignFiles,
     input: &str,
     options: &Options,
 ) -> Result<()> {
@@ -91,6 +91,6 @@ pub(crate) fn make<R: AllocGlobal + Files + Print + Sync + Threads>(
         "plan" => return plan_twice(rt, sources, options),
         _ => {}
     }
-    let design = read_design(rt.alloc(), &sources.graph, &sources.beside)?;
+    let design = read_design(rt.alloc(), &sources.graph, &sources.files)?;
     make_on(rt, call, &design, input, options)
 }

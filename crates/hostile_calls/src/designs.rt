@@ -1,6 +1,6 @@
 //! Calls that return a design or a plan.
 
-use crate::files::Sources;
+use crate::files::DesignFiles;
 use crate::{TURNS, print_turn};
 use anyhow::Result;
 use sdf_faults::Fault;
@@ -74,7 +74,7 @@ fn show_plan(rt: &impl Print, answer: Result<Plan, Fault>) -> Result<()> {
 }
 
 /// Prints the names of the coefficient files, twice.
-pub(crate) fn files_twice<R: AllocGlobal + Print>(rt: &R, sources: &Sources) -> Result<()> {
+pub(crate) fn files_twice<R: AllocGlobal + Print>(rt: &R, sources: &DesignFiles) -> Result<()> {
     for turn in TURNS {
         print_turn(rt, turn)?;
         show_names(rt, design_files(rt.alloc(), &sources.graph))?;
@@ -83,10 +83,10 @@ pub(crate) fn files_twice<R: AllocGlobal + Print>(rt: &R, sources: &Sources) -> 
 }
 
 /// Reads the design and prints it, twice.
-pub(crate) fn read_twice<R: AllocGlobal + Print>(rt: &R, sources: &Sources) -> Result<()> {
+pub(crate) fn read_twice<R: AllocGlobal + Print>(rt: &R, sources: &DesignFiles) -> Result<()> {
     for turn in TURNS {
         print_turn(rt, turn)?;
-        show_design(rt, read_design(rt.alloc(), &sources.graph, &sources.beside))?;
+        show_design(rt, read_design(rt.alloc(), &sources.graph, &sources.files))?;
     }
     Ok(())
 }
@@ -94,10 +94,10 @@ pub(crate) fn read_twice<R: AllocGlobal + Print>(rt: &R, sources: &Sources) -> R
 /// Reads the design, and then plans it and prints the plan, twice.
 pub(crate) fn plan_twice<R: AllocGlobal + Print>(
     rt: &R,
-    sources: &Sources,
+    sources: &DesignFiles,
     options: &Options,
 ) -> Result<()> {
-    let design = read_design(rt.alloc(), &sources.graph, &sources.beside)?;
+    let design = read_design(rt.alloc(), &sources.graph, &sources.files)?;
     show_plans(rt, &design, options)
 }
 

@@ -5,7 +5,7 @@
 #![tactic(auto)]
 
 use anyhow::Result;
-use sdf_file::{Design, design_files, read_design};
+use sdf_file::{CoefficientFile, Design, design_files, read_design};
 use sdf_options::Options;
 use sdf_plan::planning::plan;
 use sdf_process::process::process;
@@ -21,7 +21,7 @@ fn load<R: AllocGlobal + Files>(rt: &R, path: &str) -> Result<Design> {
     let mut files = Vec::new(rt.alloc());
     for name in design_files(rt.alloc(), &graph)? {
         let bytes = fs::read(rt, name.as_str())?;
-        files.push((name, bytes))?;
+        files.push(CoefficientFile { name, bytes })?;
     }
     Ok(read_design(rt.alloc(), &graph, &files)?)
 }

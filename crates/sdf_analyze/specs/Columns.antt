@@ -2,11 +2,8 @@
 use Rattle.std.specs.Prelude.{ℕ, ◌-◌, ◌==◌, ◌&&◌, Bool, true, not, nat_lt, List, [], ◌∷◌, ◌++◌, if◌then◌else◌}
 use Rattle.std.specs.Prelude.{length, replicate, codes, decimal}
 use Rattle.std.specs.List.{flat_map, list_all}
+use Rattle.sdf_options.specs.Words.{policy_word, placement_word}
 use Rattle.sdf_texts.specs.Texts.{end}
-use Rattle.sdf_options.specs.declared.options.Policy.{Policy}
-use Rattle.sdf_options.specs.declared.options.Policy.TheVariants.{Round, Lean, Runs}
-use Rattle.sdf_options.specs.declared.options.Placement.{Placement}
-use Rattle.sdf_options.specs.declared.options.Placement.TheVariants.{Hu, Homed, File, Spread}
 use Rattle.sdf_analyze.specs.declared.columns.Column.{Column}
 use Rattle.sdf_analyze.specs.declared.columns.Column.TheVariants.{Makespan, Speedup, Rows, Samples}
 use Rattle.sdf_analyze.specs.declared.columns.Measures.{Measures}
@@ -14,17 +11,6 @@ use Rattle.sdf_analyze.specs.declared.columns.Outcome.{Outcome}
 use Rattle.sdf_analyze.specs.declared.columns.Outcome.TheVariants.{Made, Refused}
 use Rattle.sdf_analyze.specs.declared.columns.Entry.{Entry}
 use Rattle.sdf_analyze.specs.Texts.{with_point}
-
-abbrev pub policy_word : Policy → List ℕ
-policy_word Round = codes "round"
-policy_word Lean = codes "lean"
-policy_word Runs = codes "runs"
-
-abbrev pub placement_word : Placement → List ℕ
-placement_word Hu = codes "hu"
-placement_word Homed = codes "homed"
-placement_word File = codes "file"
-placement_word Spread = codes "spread"
 
 abbrev pub spaces : ℕ → List ℕ
 spaces n = replicate n 32

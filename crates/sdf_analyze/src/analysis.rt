@@ -42,10 +42,7 @@ fn figures_of(
         (AreFiguresOf design.now block.now.periods options.now.workers period.now block.now.table)
         (IsShowFault design.now options.now) }
 {
-    let placed = Options {
-        blocking: block.periods,
-        ..*options
-    };
+    let placed = options.with_blocking(block.periods);
     Ok(Figures::of(alloc, design, &placed, period, &block.table)?)
 }
 

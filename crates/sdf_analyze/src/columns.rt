@@ -2,13 +2,13 @@
 
 ghost use Rattle.std.specs.Prelude.{◌≡◌, ◌++◌, ◌-◌, IfOk, OnOk, length, string_bytes, codes};
 ghost use Rattle.std.specs.List.{flat_map};
-ghost use Rattle.sdf_analyze.specs.Columns.{policy_word, placement_word, spaces, left, right, value_in, beats, lets};
+ghost use Rattle.sdf_analyze.specs.Columns.{spaces, left, right, value_in, beats, lets};
 ghost use Rattle.sdf_analyze.specs.Columns.{is_best, value_text, places_of, heading, cell, outcome_text, way_text};
 ghost use Rattle.sdf_analyze.specs.Columns.{cells_text, blocking_text, made_text, refused_text, entry_line, head_line};
 ghost use Rattle.sdf_analyze.specs.Columns.{headings_text, comparison_text};
 
 use crate::lines::push_with_point;
-use sdf_options::{Options, Placement, Policy};
+use sdf_options::Options;
 use std::alloc::{AllocError, Global};
 
 /// A column of the comparison of schedules.
@@ -42,29 +42,6 @@ pub enum Outcome {
 pub struct Entry {
     pub options: Options,
     pub outcome: Outcome,
-}
-
-/// Returns the word of `policy` on the command line.
-pub fn policy_word(policy: Policy) -> &'static str
-    ensures { result.now ≡ policy_word policy }
-{
-    match policy {
-        Policy::Round => "round",
-        Policy::Lean => "lean",
-        Policy::Runs => "runs",
-    }
-}
-
-/// Returns the word of `placement` on the command line.
-pub fn placement_word(placement: Placement) -> &'static str
-    ensures { result.now ≡ placement_word placement }
-{
-    match placement {
-        Placement::Hu => "hu",
-        Placement::Homed => "homed",
-        Placement::File => "file",
-        Placement::Spread => "spread",
-    }
 }
 
 impl Column {
@@ -293,8 +270,8 @@ fn push_entry(
     let workers = format!(in alloc; "{workers}")?;
     push_way(
         text,
-        policy_word(options.policy),
-        placement_word(options.placement),
+        options.policy.word(),
+        options.placement.word(),
         workers.as_str(),
     )?;
     push_outcome(alloc, text, entries, outcome)?;

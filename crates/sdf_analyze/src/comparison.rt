@@ -90,10 +90,7 @@ fn made(
 {
     let block = tabled(alloc, design, options, period)?;
     let blocking = block.periods;
-    let placed = Options {
-        blocking,
-        ..*options
-    };
+    let placed = options.with_blocking(blocking);
     let span = span_once(alloc, design, spans, blocking, period)?;
     let figures = Figures::with_span(alloc, design, &placed, period, &block.table, span)?;
     Ok(measures_of(&block, &figures))

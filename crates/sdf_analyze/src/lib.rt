@@ -18,6 +18,6 @@ mod spans;
 mod ways;
 
 pub use analysis::{Analysis, analyze, figured};
-pub use columns::{Entry, Measures, Outcome, comparison_text, placement_word, policy_word};
+pub use columns::{Entry, Measures, Outcome, comparison_text};
 pub use comparison::{compare, compared};
 pub use figures::Figures;

@@ -2,7 +2,7 @@
 
 use crate::printing::{show, test_plan};
 use sdf_faults::Fault;
-use sdf_file::{Design, read_design};
+use sdf_file::{CoefficientFile, Design, read_design};
 use sdf_files::files::{Refused, Sources, make_at, note_left, refuse};
 use sdf_files::overwriting::{keep_file, only_path};
 use sdf_files::storage::Storage;
@@ -44,8 +44,10 @@ pub fn fir<S, T: AllocGlobal, O: Write, E: Write>(
 fn design_of(alloc: Global, texts: &ConverterTexts) -> Result<Design, Fault> {
     let mut files = Vec::new(alloc);
     for file in &texts.files {
-        let name = String::from_str(alloc, file.name.as_str())?;
-        files.push((name, Vec::from_slice(alloc, file.text.as_bytes())?))?;
+        files.push(CoefficientFile {
+            name: file.name.clone()?,
+            bytes: Vec::from_slice(alloc, file.text.as_bytes())?,
+        })?;
     }
     Ok(read_design(alloc, texts.graph.as_bytes(), &files)?)
 }

@@ -23,65 +23,72 @@ pub fn show<O: Write>(out: &mut O, answer: &str) -> Result<(), Fault> {
     put(out, answer.as_bytes())
 }
 
-/// Prints `answer` if it was made, otherwise returns its fault.
-pub fn show_made<O: Write>(out: &mut O, answer: Result<String, Fault>) -> Result<(), Fault> {
-    show(out, answer?.as_str())
-}
-
 /// Checks that `design` can be scheduled.
 pub(crate) fn test_plan(alloc: Global, design: &Design) -> Result<(), Fault> {
     plan(alloc, design, &Options::DEFAULT)?;
     Ok(())
 }
 
-/// Returns a description of `design`, if it can be scheduled.
-pub fn checked(alloc: Global, design: &Design, format: Format) -> Result<String, Fault> {
+/// Prints a description of `design`, if it can be scheduled.
+pub fn print_check<O: Write>(
+    alloc: Global,
+    out: &mut O,
+    design: &Design,
+    format: Format,
+) -> Result<(), Fault> {
     test_plan(alloc, design)?;
-    match format {
-        Format::Text => Ok(check_text(alloc, design)?),
-        Format::Json => Ok(check_json(alloc, design)?),
-    }
+    let text = match format {
+        Format::Text => check_text(alloc, design)?,
+        Format::Json => check_json(alloc, design)?,
+    };
+    show(out, text.as_str())
 }
 
-/// Returns the schedule of `design`.
-pub fn scheduled(
+/// Prints the schedule of `design`.
+pub fn print_schedule<O: Write>(
     alloc: Global,
+    out: &mut O,
     design: &Design,
     options: &Options,
     format: Format,
-) -> Result<String, Fault> {
-    match format {
-        Format::Text => schedule(alloc, design, options),
-        Format::Json => schedule_json(alloc, design, options),
-    }
+) -> Result<(), Fault> {
+    let text = match format {
+        Format::Text => schedule(alloc, design, options)?,
+        Format::Json => schedule_json(alloc, design, options)?,
+    };
+    show(out, text.as_str())
 }
 
-/// Returns the figures of the schedule of `design`.
-pub fn analyzed(
+/// Prints the figures of the schedule of `design`.
+pub fn print_analysis<O: Write>(
     alloc: Global,
+    out: &mut O,
     design: &Design,
     options: &Options,
     format: Format,
-) -> Result<String, Fault>
+) -> Result<(), Fault>
     requires { AreWithinLimits options.now }
 {
-    match format {
-        Format::Text => analyze(alloc, design, options),
-        Format::Json => analysis_json(alloc, design, options),
-    }
+    let text = match format {
+        Format::Text => analyze(alloc, design, options)?,
+        Format::Json => analysis_json(alloc, design, options)?,
+    };
+    show(out, text.as_str())
 }
 
-/// Returns the `picture` of `design`.
-pub fn drawn(
+/// Prints the `picture` of `design`.
+pub fn print_picture<O: Write>(
     alloc: Global,
+    out: &mut O,
     design: &Design,
     options: &Options,
     picture: Picture,
-) -> Result<String, Fault> {
-    match picture {
-        Picture::Svg => svg(alloc, design, options),
-        Picture::Dot => Ok(dot(alloc, design)?),
-    }
+) -> Result<(), Fault> {
+    let text = match picture {
+        Picture::Svg => svg(alloc, design, options)?,
+        Picture::Dot => dot(alloc, design)?,
+    };
+    show(out, text.as_str())
 }
 
 /// Returns the table of kinds.

@@ -9,8 +9,8 @@ use sdf_files::input::InputTrace;
 use sdf_options::Options;
 use sdf_prec::PrecFault;
 use sdf_why::{
-    Halt, block_text, channels_text, device_text, file_text, home_text, rate_text, stall_text,
-    toml_text,
+    DesignFiles, Halt, block_text, channels_text, device_text, file_text, home_text, rate_text,
+    stall_text, toml_text,
 };
 use sdf_words::{Format, Task, Words};
 use std::alloc::{AllocError, Global};
@@ -41,8 +41,8 @@ fn refusals(alloc: Global, sources: &Sources) -> Result<String, AllocError> {
 /// Returns what the TOML reader reported about the files that are not TOML.
 fn no_documents(alloc: Global, sources: &Sources) -> Result<String, AllocError> {
     let mut text = toml_text(alloc, sources.path.as_str(), &sources.graph)?;
-    for (name, bytes) in &sources.files {
-        let line = toml_text(alloc, name.as_str(), bytes)?;
+    for file in &sources.files {
+        let line = toml_text(alloc, file.name.as_str(), &file.bytes)?;
         text.push_str(line.as_str())?;
     }
     Ok(text)
@@ -53,7 +53,7 @@ fn design_text(
     alloc: Global,
     fault: &FileFault,
     sources: &Sources,
-    given: sdf_why::Sources<'_>,
+    given: DesignFiles<'_>,
 ) -> Result<String, AllocError> {
     let told = file_text(alloc, fault, given)?;
     let said = match fault {
@@ -81,7 +81,7 @@ fn sound_text(
     alloc: Global,
     fault: &Fault,
     trace: &InputTrace,
-    given: sdf_why::Sources<'_>,
+    given: DesignFiles<'_>,
 ) -> Result<String, AllocError> {
     match (fault, header_of(trace)) {
         (Fault::Wav(fault), _) => format_text(alloc, *fault, trace),
@@ -120,7 +120,7 @@ fn known(
     options: &Options,
     sources: &Sources,
 ) -> Result<String, AllocError> {
-    let given = sdf_why::Sources {
+    let given = DesignFiles {
         graph: sources.graph.as_slice(),
         files: sources.files.as_slice(),
     };

@@ -1,12 +1,12 @@
 -- Lists of whole numbers: in an array of their own, or in a coefficient file.
 use Rattle.std.specs.Prelude.{ℕ, ℤ, pos, negsuc, ◌&&◌, Bool, true, false, IsTrue, List, [], ◌∷◌, length, codes, map}
 use Rattle.std.specs.Prelude.{Option, Some, None, option_map, Result, Ok, Err, nat_le, int_le, bytes_eq, find}
-use Rattle.std.specs.Prelude.{if◌then◌else◌, string_bytes, String, Vec}
+use Rattle.std.specs.Prelude.{if◌then◌else◌, string_bytes}
 use Rattle.std.specs.List.{list_all}
-use Rattle.std.specs.declared.alloc.Global.{Global}
 use Rattle.toml.specs.Data.{Data, Members, get_member, as_str}
 use Rattle.sdf_kinds.specs.declared.row.Width.{Width}
 use Rattle.sdf_kinds.specs.declared.row.Width.TheVariants.{Bits16, Bits32}
+use Rattle.sdf_document.specs.declared.file.CoefficientFile.{CoefficientFile}
 use Rattle.sdf_document.specs.declared.file.Files.{Files as FilesGiven}
 use Rattle.sdf_document.specs.declared.file.Files.TheVariants as files
 use Rattle.sdf_document.specs.Fault.{actor, file, Fault, kit_value, not_toml, no_file, missing_key, wrong_type}
@@ -29,8 +29,8 @@ no_list = record { file = None; values = [] }
 abbrev pub Files : Type 0
 Files = List (List ℕ × List ℕ)
 
-abbrev pub files_view : List (String Global × Vec ℕ Global) → Files
-files_view fs = map (λ f. (string_bytes f.0, f.1.items)) fs
+abbrev pub files_view : List CoefficientFile → Files
+files_view fs = map (λ (f : CoefficientFile). (string_bytes f.name, f.bytes.items)) fs
 
 -- whether files are looked into, and which
 pub data Lookup : Type 0 where

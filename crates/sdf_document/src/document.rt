@@ -17,7 +17,7 @@ ghost use Rattle.sdf_document.specs.Document.{graph_table, document_in, file_nam
 use crate::actor::actor_at;
 use crate::entry::{ActorEntry, Document, KindEntry, LinkEntry};
 use crate::fault::{DocumentFault, Place, ReadFault, Spot};
-use crate::file::Files;
+use crate::file::{CoefficientFile, Files};
 use crate::link::link_at;
 use crate::name::put_name;
 use crate::table::{format_at, table_in, test_keys};
@@ -121,7 +121,7 @@ fn parts_at(alloc: Global, table: &Table) -> Result<Parts<'_>, ReadFault>
 fn document_in(
     alloc: Global,
     parts: Parts<'_>,
-    files: &[(String, Vec<u8>)],
+    files: &[CoefficientFile],
     names: &mut IndexSet<String>,
 ) -> Result<Document, ReadFault>
     requires { names_of names.old.keys ≡ [] }
@@ -235,13 +235,9 @@ impl GraphFile {
 
     /// Reads the actors and links of the graph file with its coefficient `files`, or returns the first failed test.
     ///
-    /// Each of `files` is a name and its bytes. If two have the same name, the first counts.
+    /// If two of `files` have the same name, the first counts.
     #[tactic(auto, unfolding(crate::specs::Document::document_in))]
-    pub fn document(
-        &self,
-        alloc: Global,
-        files: &[(String, Vec<u8>)],
-    ) -> Result<Document, ReadFault>
+    pub fn document(&self, alloc: Global, files: &[CoefficientFile]) -> Result<Document, ReadFault>
         ensures given { Gives document_view result (document_in (table_view self.now) (files_view files.now)) }
         ensures distinct { IfOk result (λ d. AreDistinct (names_in (map actor_view d.actors.items))) }
         ensures within { IfOk result (λ d. All (IsActorWithin true) d.actors.items) }
@@ -254,12 +250,12 @@ impl GraphFile {
 
 /// Reads `graph`, the bytes of a graph file, with its coefficient `files`, or returns the first failed test.
 ///
-/// Each of `files` is a name and its bytes. If two have the same name, the first counts.
+/// If two of `files` have the same name, the first counts.
 #[tactic(auto, unfolding(crate::specs::Document::document_of))]
 pub fn read_document(
     alloc: Global,
     graph: &[u8],
-    files: &[(String, Vec<u8>)],
+    files: &[CoefficientFile],
 ) -> Result<Document, ReadFault>
     ensures given { Gives document_view result (document_of graph.now (files_view files.now)) }
     ensures distinct { IfOk result (λ d. AreDistinct (names_in (map actor_view d.actors.items))) }

@@ -10,20 +10,27 @@ use crate::table::{format_at, table_in, test_keys};
 use crate::value::{at, integers_at};
 use std::alloc::Global;
 
-/// Coefficient files, each a name and its bytes, or `Unread` if no file is looked into.
+/// A coefficient file: its name and its bytes.
+#[derive(Drop)]
+pub struct CoefficientFile {
+    pub name: String,
+    pub bytes: Vec<u8>,
+}
+
+/// Coefficient files, or `Unread` if no file is looked into.
 #[derive(Clone, Copy)]
 pub(crate) enum Files<'a> {
     Unread,
-    Given(&'a [(String, Vec<u8>)]),
+    Given(&'a [CoefficientFile]),
 }
 
 /// Returns the bytes of the first of `files` that is called `name`.
-pub fn file_named<'a>(name: &str, files: &'a [(String, Vec<u8>)]) -> Option<&'a [u8]>
+pub fn file_named<'a>(name: &str, files: &'a [CoefficientFile]) -> Option<&'a [u8]>
     ensures { option_map (λ s. s.now) result ≡ file_named name.now (files_view files.now) }
 {
     for file in files {
-        if name == file.0.as_str() {
-            return Some(file.1.as_slice());
+        if name == file.name.as_str() {
+            return Some(file.bytes.as_slice());
         }
     }
     None

@@ -23,7 +23,7 @@ mod value;
 pub use document::{GraphFile, file_names, read_document, top_keys};
 pub use entry::{ActorEntry, Document, KindEntry, LinkEntry, ListEntry};
 pub use fault::{DocumentFault, Place, ReadFault};
-pub use file::{file_keys, file_named};
+pub use file::{CoefficientFile, file_keys, file_named};
 pub use kind::kind_named;
 pub use link::link_keys;
 pub use list::{Limits, fitting};

@@ -2,7 +2,6 @@
 
 ghost use Rattle.std.specs.Prelude.{◌≡◌, ◌<◌, ◌≤◌, ◌++◌, OnOk, length, slice_index, string_bytes, codes};
 ghost use Rattle.sdf_limits.specs.declared.TheConstants.{MOST_CYCLE, MOST_PORTS};
-ghost use Rattle.sdf_actor.specs.Nets.{wire};
 ghost use Rattle.sdf_draw.specs.Layouts.{IsNear, route};
 ghost use Rattle.sdf_draw.specs.Edges.{edge};
 ghost use Rattle.sdf_draw.specs.Arrows.{port_height, start_of, end_of, shift_of, curve_text, turns_text, way_text};
@@ -11,7 +10,7 @@ ghost use Rattle.sdf_draw.specs.Arrows.{dot_text, initial_text, ends_text};
 ghost use Rattle.sdf_draw.specs.Arrows.{arrow_text, arrows_text};
 
 use crate::layout::{Layout, PORT, Place, Route, lane_above};
-use crate::ports::{channel_of, ports_of};
+use crate::ports::{channel_of, ends_of, ports_of};
 use crate::texts::{COLOURS, push_number, push_pair, push_rate};
 use sdf_file::Design;
 use sdf_graph::Channel;
@@ -49,34 +48,6 @@ fn port_height(place: Place, ports: usize, port: usize) -> u64
     place.top() + rest / 2 + PORT * port as u64 + PORT / 2
 }
 
-/// Returns the actor and the port that `link` comes from.
-fn from_of(design: &Design, link: usize) -> (usize, usize)
-    requires { link < length design.now.net.wires }
-    ensures is { result ≡ (wire design.now.net link).from }
-    ensures known { result.0 < length design.now.net.nodes }
-    ensures port { result.1 < MOST_PORTS }
-{
-    let net = design.net();
-    let _ = net.graph();
-    let (actor, port) = net.link(link).from;
-    let _ = ports_of(design, actor);
-    (actor, port)
-}
-
-/// Returns the actor and the port that `link` goes to.
-fn to_of(design: &Design, link: usize) -> (usize, usize)
-    requires { link < length design.now.net.wires }
-    ensures is { result ≡ (wire design.now.net link).to }
-    ensures known { result.0 < length design.now.net.nodes }
-    ensures port { result.1 < MOST_PORTS }
-{
-    let net = design.net();
-    let _ = net.graph();
-    let (actor, port) = net.link(link).to;
-    let _ = ports_of(design, actor);
-    (actor, port)
-}
-
 /// Returns the point at which the arrow of `link` begins.
 fn start_of(design: &Design, layout: &Layout, link: usize) -> Spot
     requires link { link < length design.now.net.wires }
@@ -84,7 +55,7 @@ fn start_of(design: &Design, layout: &Layout, link: usize) -> Spot
     ensures is { result ≡ start_of design.now layout.now.places.items link }
     ensures near { IsNear result }
 {
-    let (actor, port) = from_of(design, link);
+    let (actor, port) = ends_of(design, link).from;
     let place = layout.places[actor];
     Spot {
         x: place.right(),
@@ -99,7 +70,7 @@ fn end_of(design: &Design, layout: &Layout, link: usize) -> Spot
     ensures is { result ≡ end_of design.now layout.now.places.items link }
     ensures near { IsNear result }
 {
-    let (actor, port) = to_of(design, link);
+    let (actor, port) = ends_of(design, link).to;
     let place = layout.places[actor];
     Spot {
         x: place.left(),

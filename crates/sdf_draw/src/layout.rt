@@ -2,13 +2,12 @@
 
 ghost use Rattle.std.specs.Prelude.{◌≡◌, ℕ, ◌+◌, ◌*◌, ◌<◌, ◌≤◌, ◌^◌, length, slice_index, max, IfOk};
 ghost use Rattle.sdf_limits.specs.declared.TheConstants.{MOST_ACTORS, MOST_LINKS, MOST_PERIOD, MOST_PORTS};
-ghost use Rattle.sdf_actor.specs.Nets.{wire};
 ghost use Rattle.sdf_plan.specs.Placements.{rates_of};
 ghost use Rattle.sdf_draw.specs.Layouts.{left_of, right_of, bottom_of, middle_of, stacked, place, lowest, rightmost};
 ghost use Rattle.sdf_draw.specs.Layouts.{lane_above, lane_below, ArePlaces, IsRoute, IsWithin, AreRoutes, IsLayout};
 
 use crate::depths::depths;
-use crate::ports::{PortCounts, ports_of};
+use crate::ports::{Ends, PortCounts, ends_of, ports_of};
 use sdf_file::Design;
 use std::alloc::{AllocError, Global};
 
@@ -147,19 +146,6 @@ fn places_of(
     Ok(places)
 }
 
-/// Returns the actor that `link` comes from and the actor that it goes to.
-fn actors_of(design: &Design, link: usize) -> (usize, usize)
-    requires { link < length design.now.net.wires }
-    ensures from { result.0 ≡ (wire design.now.net link).from.0 }
-    ensures to { result.1 ≡ (wire design.now.net link).to.0 }
-    ensures known { (result.0 < length design.now.net.nodes) × (result.1 < length design.now.net.nodes) }
-{
-    let net = design.net();
-    let _ = net.graph();
-    let link = net.link(link);
-    (link.from.0, link.to.0)
-}
-
 /// The numbers of lanes that are taken above the boxes and below them.
 #[derive(Clone, Copy)]
 struct Lanes {
@@ -200,8 +186,8 @@ fn routes_of(
     let mut routes = Vec::new(alloc);
     let mut lanes = Lanes { above: 0, below: 0 };
     for link in 0..design.net().channels() {
-        let (from, to) = actors_of(design, link);
-        let (route, taken) = route_between(depths[from], depths[to], lanes);
+        let Ends { from, to } = ends_of(design, link);
+        let (route, taken) = route_between(depths[from.0], depths[to.0], lanes);
         routes.push(route)?;
         lanes = taken;
     }

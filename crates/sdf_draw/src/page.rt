@@ -181,10 +181,7 @@ fn drawn(alloc: Global, design: &Design, options: &Options) -> Result<Drawing, F
 {
     let _ = design.net();
     let DesignSchedule { period, block } = scheduled(alloc, design, options)?;
-    let placed = Options {
-        blocking: block.periods,
-        ..*options
-    };
+    let placed = options.with_blocking(block.periods);
     let figures = Figures::of(alloc, design, &placed, &period, &block.table)?;
     let _ = figures.makespan();
     let layout = laid_out(alloc, design, period.order())?;

@@ -2,7 +2,7 @@
 
 ghost use Rattle.std.specs.Prelude.{◌≡◌, ◌<◌, ◌≤◌, length};
 ghost use Rattle.sdf_limits.specs.declared.TheConstants.{MOST_CYCLE, MOST_PORTS};
-ghost use Rattle.sdf_actor.specs.Nets.{node, inputs_of, outputs_of};
+ghost use Rattle.sdf_actor.specs.Nets.{node, wire, inputs_of, outputs_of};
 ghost use Rattle.sdf_kit.specs.Kit.{kit_steps};
 ghost use Rattle.sdf_draw.specs.Edges.{edge};
 ghost use Rattle.sdf_draw.specs.Shapes.{kit_shape, shape_of};
@@ -78,6 +78,30 @@ pub(crate) fn ports_of(design: &Design, actor: usize) -> PortCounts
         },
         Node::Inner(kit) => kit_ports(kit),
     }
+}
+
+/// The ends of a link, each an actor and its port.
+#[derive(Clone, Copy)]
+pub(crate) struct Ends {
+    pub(crate) from: (usize, usize),
+    pub(crate) to: (usize, usize),
+}
+
+/// Returns the ends of `link`.
+pub(crate) fn ends_of(design: &Design, link: usize) -> Ends
+    requires { link < length design.now.net.wires }
+    ensures from { result.from ≡ (wire design.now.net link).from }
+    ensures to { result.to ≡ (wire design.now.net link).to }
+    ensures actors { (result.from.0 < length design.now.net.nodes) × (result.to.0 < length design.now.net.nodes) }
+    ensures ports { (result.from.1 < MOST_PORTS) × (result.to.1 < MOST_PORTS) }
+{
+    let net = design.net();
+    let _ = net.graph();
+    let link = net.link(link);
+    let (from, to) = (link.from, link.to);
+    let _ = ports_of(design, from.0);
+    let _ = ports_of(design, to.0);
+    Ends { from, to }
 }
 
 /// Returns the channel of `link`, with what firings put on it and take from it.

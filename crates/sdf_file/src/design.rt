@@ -15,7 +15,7 @@ ghost use Rattle.sdf_file.specs.Designs.{IsNamesFault, IsDesignFrom, IsFaultFrom
 use crate::fault::FileFault;
 use crate::parts::{links_of, parts_of};
 use sdf_actor::Net;
-use sdf_document::{Document, GraphFile};
+use sdf_document::{CoefficientFile, Document, GraphFile};
 use sdf_kit::Kit;
 use std::alloc::Global;
 use std::marker::Model;
@@ -147,12 +147,11 @@ fn design_of(alloc: Global, document: Document) -> Result<Design, FileFault>
 
 /// Makes the design of `graph` and its coefficient `files`, or returns the first test that they fail.
 ///
-/// Each of `files` is a name and its bytes. If two have the same name, the first counts. Files that `graph` does not
-/// name are not read.
+/// If two of `files` have the same name, the first counts. Files that `graph` does not name are not read.
 pub fn make_design(
     alloc: Global,
     graph: &GraphFile,
-    files: &[(String, Vec<u8>)],
+    files: &[CoefficientFile],
 ) -> Result<Design, FileFault>
     ensures { MatchResult result (IsDesignFrom (document_in (table_view graph.now) (files_view files.now)))
         (IsFaultFrom (document_in (table_view graph.now) (files_view files.now))) }
@@ -164,13 +163,12 @@ pub fn make_design(
 /// Reads the design of `graph`, the bytes of a graph file, with its coefficient `files`, or returns the first test
 /// that they fail.
 ///
-/// Each of `files` is a name and its bytes. If two have the same name, the first counts. Files that the graph file does
-/// not name are not read.
+/// If two of `files` have the same name, the first counts. Files that the graph file does not name are not read.
 #[tactic(auto, using(crate::proofs::Parsed::document_parsed, crate::proofs::Parsed::document_unparsed))]
 pub fn read_design(
     alloc: Global,
     graph: &[u8],
-    files: &[(String, Vec<u8>)],
+    files: &[CoefficientFile],
 ) -> Result<Design, FileFault>
     ensures { MatchResult result (IsDesignOf graph.now (files_view files.now))
         (IsFileFault graph.now (files_view files.now)) }

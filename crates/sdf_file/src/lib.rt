@@ -11,4 +11,4 @@ mod parts;
 
 pub use design::{Design, coefficient_files, design_files, make_design, parse_graph, read_design};
 pub use fault::FileFault;
-pub use sdf_document::{DocumentFault, GraphFile, Place};
+pub use sdf_document::{CoefficientFile, DocumentFault, GraphFile, Place};

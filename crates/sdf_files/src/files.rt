@@ -7,7 +7,7 @@ ghost use Rattle.sdf_faults.specs.declared.fault.Fault.TheVariants.{OutOfMemory}
 use crate::input::InputTrace;
 use crate::storage::Storage;
 use sdf_faults::Fault;
-use sdf_file::{Design, GraphFile, coefficient_files, make_design, parse_graph};
+use sdf_file::{CoefficientFile, Design, GraphFile, coefficient_files, make_design, parse_graph};
 use std::alloc::{AllocError, Global};
 use std::io::{self, ErrorKind, Read, Write};
 use std::mem;
@@ -186,13 +186,13 @@ fn read_beside<S: Storage>(
     }
 }
 
-/// What was read so far: the graph file, its path, and its coefficient files that can be opened, each with its name.
+/// What was read so far: the graph file, its path, and its coefficient files that can be opened.
 /// The trace has what is known of the sound. `refused` has the files that the system refused.
 #[derive(Drop)]
 pub struct Sources {
     pub path: String,
     pub graph: Vec<u8>,
-    pub files: Vec<(String, Vec<u8>)>,
+    pub files: Vec<CoefficientFile>,
     pub trace: InputTrace,
     pub refused: Vec<Refused>,
 }
@@ -234,7 +234,7 @@ fn read_files<S: Storage>(
     let Sources { files, refused, .. } = sources;
     for name in names {
         if let Some(bytes) = read_beside(alloc, storage, graph, name.as_str(), most, refused)? {
-            files.push((name, bytes))?;
+            files.push(CoefficientFile { name, bytes })?;
         }
     }
     Ok(())
@@ -248,10 +248,10 @@ pub struct Loaded {
 }
 
 /// Returns the names of `files`.
-fn names_of(alloc: Global, files: &[(String, Vec<u8>)]) -> Result<Vec<String>, AllocError> {
+fn names_of(alloc: Global, files: &[CoefficientFile]) -> Result<Vec<String>, AllocError> {
     let mut names = Vec::new(alloc);
     for file in files {
-        names.push(file.0.clone()?)?;
+        names.push(file.name.clone()?)?;
     }
     Ok(names)
 }

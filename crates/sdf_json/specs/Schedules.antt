@@ -6,7 +6,7 @@ use Rattle.sdf_prec.specs.Tables.{Tabled}
 use Rattle.sdf_options.specs.declared.options.Options.{Options}
 use Rattle.sdf_file.specs.Designs.{DesignValue}
 use Rattle.sdf_plan.specs.Schedules.{IsScheduled}
-use Rattle.sdf_analyze.specs.Columns.{policy_word, placement_word}
+use Rattle.sdf_options.specs.Words.{policy_word, placement_word}
 use Rattle.sdf_json.specs.Values.{natural, object_of, list_of, each_to, IsLineOf}
 use Rattle.sdf_json.specs.Tables.{order_value, row_value, homed_value, capacity_value}
 

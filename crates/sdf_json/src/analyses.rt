@@ -71,10 +71,7 @@ pub fn analysis_json(alloc: Global, design: &Design, options: &Options) -> Resul
         (IsShowFault design.now options.now) }
 {
     let Analysis { block, figures } = figured(alloc, design, options)?;
-    let placed = Options {
-        blocking: block.periods,
-        ..*options
-    };
+    let placed = options.with_blocking(block.periods);
     let value = analysis_value(alloc, design, &placed, &block.table, &figures)?;
     Ok(line_of(alloc, &value)?)
 }

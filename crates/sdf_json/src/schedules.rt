@@ -9,7 +9,6 @@ ghost use Rattle.sdf_json.specs.Schedules.{asked, schedule_value, IsScheduleJson
 
 use crate::tables::{capacities, homed_actors, order_items, rows};
 use crate::values::{Members, line_of, put_number, put_text};
-use sdf_analyze::{placement_word, policy_word};
 use sdf_faults::Fault;
 use sdf_file::Design;
 use sdf_options::Options;
@@ -25,13 +24,8 @@ pub(crate) fn asked(alloc: Global, options: &Options) -> Result<Members, AllocEr
     ensures { IfOk result (λ m. members_view m.entries ≡ with no_members (asked options.now)) }
 {
     let mut members = Map::new(alloc);
-    put_text(&mut members, alloc, "policy", policy_word(options.policy))?;
-    put_text(
-        &mut members,
-        alloc,
-        "placement",
-        placement_word(options.placement),
-    )?;
+    put_text(&mut members, alloc, "policy", options.policy.word())?;
+    put_text(&mut members, alloc, "placement", options.placement.word())?;
     put_number(&mut members, alloc, "blocking", u64::from(options.blocking))?;
     put_number(&mut members, alloc, "workers", options.workers as u64)?;
     Ok(members)
@@ -69,10 +63,7 @@ pub fn schedule_json(alloc: Global, design: &Design, options: &Options) -> Resul
         (IsShowFault design.now options.now) }
 {
     let DesignSchedule { period, block } = scheduled(alloc, design, options)?;
-    let placed = Options {
-        blocking: block.periods,
-        ..*options
-    };
+    let placed = options.with_blocking(block.periods);
     let value = schedule_value(alloc, design, &placed, &period, &block.table)?;
     Ok(line_of(alloc, &value)?)
 }

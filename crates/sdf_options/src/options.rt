@@ -1,5 +1,8 @@
 //! The options of a schedule or a run, and the words for them.
 
+ghost use Rattle.std.specs.Prelude.{◌≡◌};
+ghost use Rattle.sdf_options.specs.Words.{policy_word, placement_word};
+
 /// A rule for which runnable actor fires next.
 #[derive(Clone, Copy, Debug, PartialEq, Eq)]
 pub enum Policy {
@@ -15,6 +18,15 @@ pub enum Policy {
 pub const POLICY_WORDS: &[&str] = &["round", "lean", "runs"];
 
 pub static POLICIES: [Policy; 3] = [Policy::Round, Policy::Lean, Policy::Runs];
+
+impl Policy {
+    /// Returns the word for this policy on the command line.
+    pub fn word(self) -> &'static str
+        ensures { result.now ≡ policy_word self }
+    {
+        POLICY_WORDS[self as usize]
+    }
+}
 
 /// A rule that assigns firings to the processors of a table.
 #[derive(Clone, Copy, Debug, PartialEq, Eq)]
@@ -38,6 +50,15 @@ pub static PLACEMENTS: [Placement; 4] = [
     Placement::File,
     Placement::Spread,
 ];
+
+impl Placement {
+    /// Returns the word for this placement on the command line.
+    pub fn word(self) -> &'static str
+        ensures { result.now ≡ placement_word self }
+    {
+        PLACEMENT_WORDS[self as usize]
+    }
+}
 
 /// The runner of a plan.
 #[derive(Clone, Copy, Debug, PartialEq, Eq)]
@@ -79,4 +100,11 @@ impl Options {
         runner: Runner::One,
         patience: 1000,
     };
+
+    /// Returns these options with `blocking` periods in a block.
+    pub fn with_blocking(&self, blocking: u32) -> Options
+        ensures { result ≡ record self.now { blocking = blocking } }
+    {
+        Options { blocking, ..*self }
+    }
 }

@@ -11,11 +11,11 @@ use crate::places::places_of;
 use crate::replaced::text_with;
 use crate::same::is_costed;
 use crate::unwritten::Unwritten;
-use sdf_document::{Document, ReadFault, read_document};
+use sdf_document::{CoefficientFile, Document, ReadFault, read_document};
 use std::alloc::Global;
 
 /// Reads a graph file with its coefficient `files`.
-fn document(alloc: Global, graph: &[u8], files: &[(String, Vec<u8>)]) -> Result<Document, Unwritten>
+fn document(alloc: Global, graph: &[u8], files: &[CoefficientFile]) -> Result<Document, Unwritten>
     ensures { MatchResult result
         (λ d. document_of graph.now (files_view files.now) ≡ Ok (document_view d))
         (λ fault. (fault ≡ OutOfMemory)
@@ -33,7 +33,7 @@ fn test_costed(
     alloc: Global,
     graph: &[u8],
     text: &[u8],
-    files: &[(String, Vec<u8>)],
+    files: &[CoefficientFile],
     costs: &[u32],
 ) -> Result<(), Unwritten>
     ensures { MatchResult result
@@ -66,11 +66,11 @@ fn made_text(alloc: Global, graph: &[u8], costs: &[u32]) -> Result<Vec<u8>, Unwr
 /// is, except the numbers behind `cost = `. If an actor has no cost, a line is added behind the last key of its table.
 ///
 /// Each actor's table must begin with a line that begins with `[[actor]]`. A cost must be written as `cost = 12` at
-/// the beginning of its line. Each of the coefficient `files` is a name and its bytes.
+/// the beginning of its line.
 pub fn costed_text(
     alloc: Global,
     graph: &[u8],
-    files: &[(String, Vec<u8>)],
+    files: &[CoefficientFile],
     costs: &[u32],
 ) -> Result<Vec<u8>, Unwritten>
     ensures text { IfOk result (λ text. DifferInCosts costs.now graph.now text.items) }

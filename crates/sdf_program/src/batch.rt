@@ -5,20 +5,19 @@ ghost use Rattle.sdf_plan.specs.Plans.{Suits};
 ghost use Rattle.sdf_words.specs.Limits.{IsCrew};
 
 use crate::desk::{Desk, Done};
+use crate::guards::keep_inputs;
 use crate::items::{Batching, Item, items_of, settle};
 use crate::outcome::Outcome;
-use crate::running::{Planned, Prepared, Running, plan_of, run_planned, workers_of};
+use crate::plans::{Prepared, plan_of, workers_of};
+use crate::running::{Planned, Running, run_planned};
 use sdf_commands::making::make_folder;
 use sdf_faults::Fault;
 use sdf_files::files::Sources;
-use sdf_files::overwriting::{Paths, keep_what_is_read, only_path, same_file};
 use sdf_files::storage::Storage;
-use sdf_files::world::{STANDARD, World};
-use sdf_options::printable::printable;
+use sdf_files::world::World;
 use sdf_words::{Batch, Crew, Run};
 use std::alloc::{AllocError, Global};
 use std::io::Write;
-use std::path::PathBuf;
 use std::sync::Mutex;
 use std::sync::atomic::{AtomicUsize, Ordering};
 use std::thread::{self, Threads};
@@ -64,72 +63,25 @@ struct Course<'a> {
     prepared: &'a Prepared,
 }
 
-/// Returns the canonical paths of the sounds that a batch reads, of those that exist.
-fn paths_read<S: Storage>(
-    alloc: Global,
-    storage: &S,
-    items: &[Item<'_>],
-) -> Result<Vec<PathBuf>, Fault> {
-    let mut paths = Vec::new(alloc);
-    for item in items {
-        if let Some(path) = only_path(alloc, storage, item.input)? {
-            paths.push(path)?;
-        }
-    }
-    Ok(paths)
-}
-
-/// Refuses an output, called `word`, whose canonical path `out` is in `read`.
-fn keep_read(alloc: Global, word: &str, read: &[PathBuf], out: &str) -> Result<(), Fault> {
-    for path in read {
-        if path.as_str() == out {
-            return Err(same_file(alloc, word, "IN"));
-        }
-    }
-    Ok(())
-}
-
-/// Errs if `path` leads to one of `read`, to the graph file or to a coefficient file, and names `path`.
-fn keep_inputs_from<S: Storage>(
-    alloc: Global,
-    storage: &S,
-    batching: Batching<'_>,
-    read: &[PathBuf],
-    path: &str,
-) -> Result<(), Fault> {
-    let Some(out) = only_path(alloc, storage, path)? else {
-        return Ok(());
+/// Runs a plan on the file of `item`, to the path of its output while it is written. Reports to `said`.
+fn run_part<S: Storage, T: Threads + AllocGlobal + Clock + Sync>(
+    world: &World<S, T>,
+    course: Course<'_>,
+    item: &Item<'_>,
+    said: &mut Vec<u8>,
+    heard: &mut Sources,
+) -> Result<(), Fault>
+    requires { Suits course.batching.loaded.now.design.net course.prepared.now.plan }
+{
+    let Course { batching, prepared } = course;
+    let planned = Planned {
+        running: running_of(batching, item.input, item.part.as_str()),
+        plan: &prepared.plan,
+        pace: prepared.pace,
     };
-    let shown = printable(alloc, path)?;
-    keep_read(alloc, shown.as_str(), read, out.as_str())?;
-    let paths = Paths {
-        graph: batching.graph,
-        input: STANDARD,
-        output: path,
-    };
-    keep_what_is_read(
-        alloc,
-        storage,
-        shown.as_str(),
-        paths,
-        &batching.loaded.names,
-    )
-}
-
-/// Errs if a run would write a file that any run of the batch reads, and names that file. Both places of an output are
-/// tested: where it is written, and where it is moved.
-fn keep_inputs<S: Storage>(
-    alloc: Global,
-    storage: &S,
-    batching: Batching<'_>,
-    items: &[Item<'_>],
-) -> Result<(), Fault> {
-    let read = paths_read(alloc, storage, items)?;
-    for item in items {
-        keep_inputs_from(alloc, storage, batching, &read, item.output.as_str())?;
-        keep_inputs_from(alloc, storage, batching, &read, item.part.as_str())?;
-    }
-    Ok(())
+    let mut nothing: &[u8] = b"";
+    let mut unwritten = Vec::new(world.threads.alloc());
+    run_planned(world, &mut nothing, &mut unwritten, said, planned, heard)
 }
 
 /// Runs a plan on the file of `item`, and returns the outcome.
@@ -141,24 +93,9 @@ fn run_item<'a, S: Storage, T: Threads + AllocGlobal + Clock + Sync>(
     requires { Suits course.batching.loaded.now.design.net course.prepared.now.plan }
 {
     let alloc = world.threads.alloc();
-    let Course { batching, prepared } = course;
-    let planned = Planned {
-        running: running_of(batching, item.input, item.part.as_str()),
-        plan: &prepared.plan,
-        pace: prepared.pace,
-    };
-    let mut nothing: &[u8] = b"";
-    let mut unwritten = Vec::new(alloc);
     let mut said = Vec::new(alloc);
     let mut heard = Sources::new(alloc);
-    let ended = run_planned(
-        world,
-        &mut nothing,
-        &mut unwritten,
-        &mut said,
-        planned,
-        &mut heard,
-    );
+    let ended = run_part(world, course, item, &mut said, &mut heard);
     let settled = settle(alloc, world.storage, item, ended, &mut heard.refused);
     if settled.is_ok() {
         // The outcome may wait for the outcomes of earlier files, and a file that is done needs no diagnostic.
@@ -256,6 +193,21 @@ fn files_at_once<T: Threads>(threads: &T, batch: &Batch<'_>) -> usize
     }
 }
 
+/// Reports what the workers could not hand over. Returns the greatest exit status of the runs.
+fn report_left<'a, O: Write, E: Write>(
+    alloc: Global,
+    mut desk: Desk<'_, 'a, O, E>,
+    left: Vec<Left<'a>>,
+) -> Result<u8, Fault> {
+    let mut all = Ok(());
+    for Left { mut done, ended } in left {
+        desk.tell_all(alloc, &mut done);
+        all = all.and(ended);
+    }
+    all?;
+    desk.worst()
+}
+
 /// Runs a plan on `items`, at most `files_at_once` of them at a time. Returns the greatest exit status of the runs.
 fn serve_items<
     'd,
@@ -289,13 +241,32 @@ fn serve_items<
     );
     let mut desk = desk.into_inner();
     desk.hide_count();
-    let mut all = Ok(());
-    for Left { mut done, ended } in left? {
-        desk.tell_all(alloc, &mut done);
-        all = all.and(ended);
-    }
-    all?;
-    desk.worst()
+    report_left(alloc, desk, left?)
+}
+
+/// Makes the folder of a batch, and runs a plan on `items`. Returns the greatest exit status of the runs.
+fn serve_into<
+    S: Storage,
+    T: Threads + AllocGlobal + Clock + Sync,
+    O: Write + Send,
+    E: Write + Send,
+>(
+    world: &World<S, T>,
+    out: &mut O,
+    err: &mut E,
+    course: Course<'_>,
+    items: &[Item<'_>],
+    sources: &mut Sources,
+) -> Result<u8, Fault>
+    requires { Suits course.batching.loaded.now.design.net course.prepared.now.plan }
+{
+    let alloc = world.threads.alloc();
+    let batching = course.batching;
+    keep_inputs(alloc, world.storage, batching, items)?;
+    let refused = &mut sources.refused;
+    make_folder(alloc, world.storage, batching.asked.folder, refused)?;
+    let desk = Desk::new(alloc, out, err, batching, items.len(), sources)?;
+    serve_items(world, course, items, desk)
 }
 
 /// Runs a plan on the files of a batch. Returns the greatest exit status of the runs.
@@ -313,18 +284,8 @@ fn serve_batch<
 ) -> Result<u8, Fault>
     requires { Suits course.batching.loaded.now.design.net course.prepared.now.plan }
 {
-    let alloc = world.threads.alloc();
-    let batching = course.batching;
-    let items = items_of(alloc, batching.asked)?;
-    keep_inputs(alloc, world.storage, batching, &items)?;
-    make_folder(
-        alloc,
-        world.storage,
-        batching.asked.folder,
-        &mut sources.refused,
-    )?;
-    let desk = Desk::new(alloc, out, err, batching, items.len(), sources)?;
-    serve_items(world, course, &items, desk)
+    let items = items_of(world.threads.alloc(), course.batching.asked)?;
+    serve_into(world, out, err, course, &items, sources)
 }
 
 /// Plans a design, and runs it on the files of a batch. Returns the greatest exit status of the runs. The output of a
@@ -343,7 +304,14 @@ pub(crate) fn run_batch<
 ) -> Result<u8, Fault>
     requires { IfSome batching.asked.now.parallel IsCrew }
 {
-    let prepared = plan_of(world.threads, err, running_of(batching, STANDARD, STANDARD))?;
+    let prepared = plan_of(
+        world.threads,
+        err,
+        &batching.loaded.design,
+        &batching.asked.options,
+        batching.asked.parallel,
+        batching.is_said,
+    )?;
     let course = Course {
         batching,
         prepared: &prepared,

@@ -47,27 +47,33 @@ fn bytes_at<S: Storage, T: AllocGlobal, I: Read>(
     }
 }
 
+/// Returns the mistake of a graph file that has not one line `[[actor]]` for each actor, but `lines` of them.
+fn lines_text(alloc: Global, design: &Design, lines: usize) -> Result<String, AllocError> {
+    let actors = design.costs().len();
+    format!(in alloc;
+        "GRAPH has {lines} line{} [[actor]] for {actors} actor{}: costs want one for each",
+        plural(lines as u64),
+        plural(actors as u64)
+    )
+}
+
+/// Returns the mistake of a graph file in which the cost of `actor` has no line of its own.
+fn cost_text(alloc: Global, design: &Design, actor: usize) -> Result<String, AllocError> {
+    let name = design.name(actor);
+    format!(in alloc; "the cost of the actor \"{name}\" is to be a line of GRAPH like `cost = 12`")
+}
+
+/// The mistake of a graph file that is read otherwise with costs.
+const OTHERWISE: &str =
+    "with costs GRAPH would say something else: each key wants a line of its own";
+
 /// Returns the usage error for a graph file whose text cannot take costs.
 fn unwritten(alloc: Global, design: &Design, fault: Unwritten) -> Result<Fault, AllocError> {
     let text = match fault {
         Unwritten::OutOfMemory => return Ok(Fault::OutOfMemory),
-        Unwritten::Tables(lines) => {
-            let actors = design.costs().len();
-            format!(in alloc;
-                "GRAPH has {lines} line{} [[actor]] for {actors} actor{}: costs want one for each",
-                plural(lines as u64),
-                plural(actors as u64)
-            )?
-        }
-        Unwritten::Cost(actor) => {
-            let name = design.name(actor);
-            format!(in alloc;
-                "the cost of the actor \"{name}\" is to be a line of GRAPH like `cost = 12`"
-            )?
-        }
-        Unwritten::Reading => format!(in alloc;
-            "with costs GRAPH would say something else: each key wants a line of its own"
-        )?,
+        Unwritten::Tables(lines) => lines_text(alloc, design, lines)?,
+        Unwritten::Cost(actor) => cost_text(alloc, design, actor)?,
+        Unwritten::Reading => String::from_str(alloc, OTHERWISE)?,
     };
     Ok(Fault::from(mistake(alloc, text.as_str())))
 }
@@ -132,8 +138,26 @@ fn write_measured<S: Storage, T: AllocGlobal, O: Write>(
     put_written(world, out, output, &written, profile, &mut sources.refused)
 }
 
-/// Measures a run, and writes the graph file with the costs to `output`. Before the run it checks that `output` is not
-/// a file that is read, and that costs can be written into the graph file.
+/// Errs if `output` is a file that is read, or if costs can't be written into the graph file.
+fn test_output<S: Storage, T: AllocGlobal>(
+    world: &World<S, T>,
+    asked: Profiling<'_>,
+    output: &str,
+    sources: &Sources,
+) -> Result<(), Fault> {
+    let alloc = world.threads.alloc();
+    let paths = Paths {
+        graph: asked.graph,
+        input: asked.input,
+        output,
+    };
+    keep_what_is_read(alloc, world.storage, "FILE", paths, &asked.loaded.names)?;
+    let design = &asked.loaded.design;
+    costed(alloc, sources, design, design.costs())?;
+    Ok(())
+}
+
+/// Measures a run, and writes the graph file with the costs to `output`. Tests `output` before the run.
 fn measure_into<S: Storage, T, O: Write>(
     world: &World<S, T>,
     out: &mut O,
@@ -145,21 +169,8 @@ fn measure_into<S: Storage, T, O: Write>(
 where
     T: Threads + AllocGlobal + Clock + Clone + Drop + Sync,
 {
-    let alloc = world.threads.alloc();
-    let Profiling {
-        graph,
-        loaded,
-        input,
-        ..
-    } = asked;
-    let paths = Paths {
-        graph,
-        input,
-        output,
-    };
-    keep_what_is_read(alloc, world.storage, "FILE", paths, &loaded.names)?;
-    let design = &loaded.design;
-    costed(alloc, sources, design, design.costs())?;
+    test_output(world, asked, output, sources)?;
+    let design = &asked.loaded.design;
     let measured = profile(world.threads, bytes, design)?;
     write_measured(world, out, design, output, sources, &measured)
 }

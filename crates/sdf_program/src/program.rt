@@ -3,6 +3,7 @@
 ghost use Rattle.std.specs.Prelude.{◌≡◌, ◌⊎◌, IfSome};
 ghost use Rattle.sdf_faults.specs.Statuses.{status_of};
 ghost use Rattle.sdf_faults.specs.declared.fault.Fault.TheVariants.{OutOfMemory};
+ghost use Rattle.sdf_options.specs.Limits.{AreWithinLimits};
 ghost use Rattle.sdf_words.specs.Limits.{IsCrew, IsTaskWithinLimits, IsWithinLimits};
 
 use crate::batch::run_batch;
@@ -12,7 +13,7 @@ use crate::running::{Running, run};
 use sdf_commands::comparing::print_comparison;
 use sdf_commands::making::{fir, resample};
 use sdf_commands::printing::{
-    analyzed, checked, drawn, print_kinds, print_meaning, scheduled, show, show_made,
+    print_analysis, print_check, print_kinds, print_meaning, print_picture, print_schedule, show,
 };
 use sdf_commands::telling::Background;
 use sdf_faults::{Fault, fault_text, status};
@@ -20,9 +21,9 @@ use sdf_files::files::{Loaded, Sources, load_into};
 use sdf_files::storage::Storage;
 use sdf_files::world::World;
 use sdf_json::{comparison_json, fault_json};
-use sdf_options::WordFault;
+use sdf_options::{Options, WordFault};
 use sdf_words::arguments::Given;
-use sdf_words::{Batch, Format, Task, Why, Words};
+use sdf_words::{Batch, Format, Run, Task, Why, Words};
 use std::alloc::{AllocError, Global};
 use std::io::{Read, Write};
 use std::thread::Threads;
@@ -46,6 +47,50 @@ struct Job<'a> {
     is_said: bool,
 }
 
+impl<'a> Job<'a> {
+    /// Returns the run that is `asked` for. Its progress is shown on a `terminal`, if reports are printed.
+    fn running(self, asked: Run<'a>, terminal: bool) -> Running<'a>
+        ensures loaded { result.loaded ≡ self.entry.loaded }
+        ensures asked { result.asked ≡ asked.entry }
+    {
+        Running {
+            graph: self.graph,
+            loaded: self.loaded,
+            asked,
+            is_said: self.is_said,
+            is_shown: self.is_said && terminal,
+        }
+    }
+
+    /// Returns the measurement of a run on `input`, whose costs are written to `write` if it is given.
+    fn profiling(self, input: &'a str, write: Option<&'a str>) -> Profiling<'a> {
+        Profiling {
+            graph: self.graph,
+            loaded: self.loaded,
+            input,
+            write,
+        }
+    }
+}
+
+/// Prints the comparison of the schedules of a design.
+fn compare<O: Write, E: Write>(
+    alloc: Global,
+    out: &mut O,
+    err: &mut E,
+    job: Job<'_>,
+    options: &Options,
+    format: Format,
+) -> Result<(), Fault>
+    requires { AreWithinLimits options.now }
+{
+    let design = &job.loaded.design;
+    match format {
+        Format::Text => print_comparison(alloc, out, err, design, options, job.is_said),
+        Format::Json => show(out, comparison_json(alloc, design, options)?.as_str()),
+    }
+}
+
 /// Does a task for a design that was read.
 fn work<
     S: Storage,
@@ -64,45 +109,19 @@ fn work<
     requires { IsTaskWithinLimits job.task }
 {
     let alloc = world.threads.alloc();
-    let Job {
-        graph,
-        task,
-        loaded,
-        is_said,
-    } = job;
-    let design = &loaded.design;
-    match task {
-        Task::Check { format } => show_made(out, checked(alloc, design, format)),
-        Task::Schedule { options, format } => show_made(
-            out,
-            scheduled(alloc, design, &options, format),
-        ),
-        Task::Analyze { options, format } => show_made(
-            out,
-            analyzed(alloc, design, &options, format),
-        ),
-        Task::Compare { options, format } => match format {
-            Format::Text => print_comparison(alloc, out, err, design, &options, is_said),
-            Format::Json => show_made(out, comparison_json(alloc, design, &options)),
-        },
-        Task::Draw { options, picture } => show_made(out, drawn(alloc, design, &options, picture)),
+    let design = &job.loaded.design;
+    match job.task {
+        Task::Check { format } => print_check(alloc, out, design, format),
+        Task::Schedule { options, format } => print_schedule(alloc, out, design, &options, format),
+        Task::Analyze { options, format } => print_analysis(alloc, out, design, &options, format),
+        Task::Compare { options, format } => compare(alloc, out, err, job, &options, format),
+        Task::Draw { options, picture } => print_picture(alloc, out, design, &options, picture),
         Task::Run(asked) => {
-            let running = Running {
-                graph,
-                loaded,
-                asked,
-                is_said,
-                is_shown: is_said && world.terminal,
-            };
+            let running = job.running(asked, world.terminal);
             run(world, stdin, out, err, running, sources)
         }
         Task::Profile { input, write } => {
-            let asked = Profiling {
-                graph,
-                input,
-                write,
-                loaded,
-            };
+            let asked = job.profiling(input, write);
             print_profile(world, stdin, out, asked, sources)
         }
     }

@@ -1,11 +1,10 @@
 //! The command that runs a design on a WAV file.
 
-ghost use Rattle.std.specs.Prelude.{◌≡◌, ◌≤◌, ℕ, IfOk, IfSome};
-ghost use Rattle.sdf_limits.specs.declared.TheConstants.{MOST_WORKERS};
+ghost use Rattle.std.specs.Prelude.{IfSome};
 ghost use Rattle.sdf_plan.specs.Plans.{Suits};
 ghost use Rattle.sdf_words.specs.Limits.{IsCrew};
-ghost use Rattle.sdf_words.specs.declared.asked.Crew.TheVariants as crews;
 
+use crate::plans::plan_of;
 use sdf_faults::Fault;
 use sdf_file::Design;
 use sdf_files::Levels;
@@ -19,20 +18,15 @@ use sdf_files::world::{STANDARD, World};
 use sdf_limits::MOST_WORKERS;
 use sdf_options::plural::plural;
 use sdf_plan::Plan;
-use sdf_plan::parallel::{Pace, Paced, parallel_plan};
-use sdf_plan::planning::plan;
+use sdf_plan::parallel::Pace;
 use sdf_process::cut::parts_at_once;
 use sdf_process::process::process;
 use sdf_wav::{FromRead, ToWrite};
-use sdf_why::loop_text;
-use sdf_words::{Crew, Run};
+use sdf_words::Run;
 use std::alloc::{AllocError, Global};
 use std::io::{ErrorKind, Read, Write};
-use std::thread::{Threads, available_parallelism};
+use std::thread::Threads;
 use std::time::Clock;
-
-/// The workers of a parallel run if the system does not report its processors.
-const WORKERS: usize = 4;
 
 /// A requested run, for a design that was read.
 #[derive(Clone, Copy)]
@@ -55,13 +49,6 @@ impl<'a> Running<'a> {
             output: self.asked.output,
         }
     }
-}
-
-/// The plan of a run, and how a parallel run uses it.
-#[derive(Drop)]
-pub(crate) struct Prepared {
-    pub(crate) plan: Plan,
-    pub(crate) pace: Option<Pace>,
 }
 
 /// A run and its plan.
@@ -285,101 +272,6 @@ pub(crate) fn run_planned<
     }
 }
 
-/// Returns the number of workers that `crew` asks for.
-pub(crate) fn workers_of<T: Threads>(threads: &T, crew: Crew) -> usize
-    requires { IsCrew crew }
-    ensures some { 1 ≤ result }
-    ensures few { result ≤ MOST_WORKERS }
-    ensures asked { (workers : ℕ) → crew ≡ crews.Workers workers → result ≡ workers }
-{
-    match crew {
-        Crew::Workers(workers) => workers,
-        Crew::Processors => match available_parallelism(threads) {
-            Ok(processors) => processors.get().min(MOST_WORKERS),
-            Err(_) => WORKERS,
-        },
-    }
-}
-
-/// Returns why a design that does not forget runs in one thread.
-fn lasting_text(alloc: Global, design: &Design) -> Result<String, AllocError> {
-    let told = loop_text(alloc, design)?;
-    if told.is_empty() {
-        return String::from_str(alloc, "one thread: the design keeps samples for too long\n");
-    }
-    format!(in alloc; "one thread: the loop {told} may keep its samples for ever\n")
-}
-
-/// Returns why a parallel run uses one thread, if that is known before it begins.
-fn pace_text(alloc: Global, design: &Design, pace: Pace) -> Result<String, AllocError> {
-    match pace {
-        Pace::Parts { .. } => Ok(String::new(alloc)),
-        Pace::Lasting => lasting_text(alloc, design),
-        Pace::Alone => String::from_str(alloc, "one thread: one worker is asked for\n"),
-    }
-}
-
-/// Reports why a parallel run uses one thread, if that is known before it begins.
-fn tell_pace<E: Write>(
-    alloc: Global,
-    err: &mut E,
-    design: &Design,
-    pace: Pace,
-) -> Result<(), AllocError> {
-    let text = pace_text(alloc, design, pace)?;
-    let _ = err.write_all(text.as_bytes());
-    Ok(())
-}
-
-/// Returns the plan of a parallel run. If `is_said` is set, reports why it uses one thread.
-fn crew_plan<T: Threads + AllocGlobal, E: Write>(
-    threads: &T,
-    err: &mut E,
-    design: &Design,
-    crew: Crew,
-    is_said: bool,
-) -> Result<Prepared, Fault>
-    requires { IsCrew crew }
-    ensures { IfOk result (λ prepared. Suits design.now.net prepared.plan) }
-{
-    let alloc = threads.alloc();
-    let Paced { plan, pace } = parallel_plan(alloc, design, workers_of(threads, crew))?;
-    let told = if is_said {
-        tell_pace(alloc, err, design, pace)
-    } else {
-        Ok(())
-    };
-    match told {
-        Ok(()) => Ok(Prepared {
-            plan,
-            pace: Some(pace),
-        }),
-        Err(refused) => {
-            drop(plan);
-            Err(Fault::from(refused))
-        }
-    }
-}
-
-/// Returns the plan of a run.
-pub(crate) fn plan_of<T: Threads + AllocGlobal, E: Write>(
-    threads: &T,
-    err: &mut E,
-    running: Running<'_>,
-) -> Result<Prepared, Fault>
-    requires { IfSome running.asked.parallel IsCrew }
-    ensures { IfOk result (λ prepared. Suits running.entry.loaded.now.design.net prepared.plan) }
-{
-    let design = &running.loaded.design;
-    match running.asked.parallel {
-        Some(crew) => crew_plan(threads, err, design, crew, running.is_said),
-        None => Ok(Prepared {
-            plan: plan(threads.alloc(), design, &running.asked.options)?,
-            pace: None,
-        }),
-    }
-}
-
 /// Plans a design, and runs it on a WAV file. The file is divided into parts if that is asked for and the design
 /// forgets.
 pub(crate) fn run<S: Storage, T: Threads + AllocGlobal + Clock + Sync, I: Read, O: Write, E: Write>(
@@ -392,7 +284,14 @@ pub(crate) fn run<S: Storage, T: Threads + AllocGlobal + Clock + Sync, I: Read, 
 ) -> Result<(), Fault>
     requires { IfSome running.asked.parallel IsCrew }
 {
-    let prepared = plan_of(world.threads, err, running)?;
+    let prepared = plan_of(
+        world.threads,
+        err,
+        &running.loaded.design,
+        &running.asked.options,
+        running.asked.parallel,
+        running.is_said,
+    )?;
     let planned = Planned {
         running,
         plan: &prepared.plan,

@@ -1,5 +1,5 @@
 -- The lines about an actor, from its table.
-use Rattle.std.specs.Prelude.{ℕ, List, [], ◌++◌, codes, Option, None, option_and_then}
+use Rattle.std.specs.Prelude.{ℕ, List, [], ◌++◌, codes, Option, option_and_then}
 use Rattle.std.specs.Option.{option_map_or}
 use Rattle.toml.specs.Data.{Data, get}
 use Rattle.sdf_limits.specs.declared.TheConstants.{MOST_ACTORS}
@@ -22,16 +22,12 @@ actor_told d a = lines_of (actor_is a) (entry (codes "actor") a d)
 unfoldable pub actor_limits : List ℕ → Data → Option (List ℕ)
 actor_limits key d = option_and_then (λ word. limits_of word key) (text_at (codes "kind") d)
 
-abbrev pub actor_key_is : ℕ → List ℕ → Data → List ℕ
-actor_key_is a key d = actor_is a d ++ key_line key (get key d) (actor_limits key d)
+-- the line of actor a, and the line of a key of its table
+abbrev pub actor_key_is : ℕ → List ℕ → Option (List ℕ) → Data → List ℕ
+actor_key_is a key limits d = actor_is a d ++ key_line key (get key d) limits
 
--- the line of actor a, and the line of a key of its table with the limits
-unfoldable pub actor_key : ℕ → List ℕ → Data → List ℕ
-actor_key a key d = lines_of (actor_key_is a key) (entry (codes "actor") a d)
-
--- the line of actor a, and the line of a key of its table without limits
-unfoldable pub actor_value : ℕ → List ℕ → Data → List ℕ
-actor_value a key d = lines_of (λ t. actor_is a t ++ key_line key (get key t) None) (entry (codes "actor") a d)
+unfoldable pub actor_key : ℕ → List ℕ → Option (List ℕ) → Data → List ℕ
+actor_key a key limits d = lines_of (actor_key_is a key limits) (entry (codes "actor") a d)
 
 -- the line of the first actor that has this text at a key
 unfoldable pub first_told : List ℕ → List ℕ → Data → List ℕ

@@ -2,7 +2,7 @@
 use Rattle.std.specs.Prelude.{ℕ, List, [], ◌++◌, codes, decimal, Some, None, is_some, bytes_eq, if◌then◌else◌}
 use Rattle.toml.specs.Data.{Data, get}
 use Rattle.sdf_limits.specs.declared.TheConstants.{MOST_ACTORS, MOST_LINKS}
-use Rattle.sdf_document.specs.Fault.{Place, top, actor, link, file, Fault, actor_count, channel_count, kit_value}
+use Rattle.sdf_document.specs.Fault.{Place, actor, file, Fault, actor_count, channel_count, kit_value}
 use Rattle.sdf_document.specs.Fault.{not_toml, bad_format, unknown_key, missing_key, wrong_type, bad_name, name_twice}
 use Rattle.sdf_document.specs.Fault.{unknown_kind, bad_port, no_file}
 use Rattle.sdf_kinds.specs.Rows.{KeyRow}
@@ -11,30 +11,23 @@ use Rattle.sdf_document.specs.Lists.{Files}
 use Rattle.sdf_why.specs.Limits.{keys_of}
 use Rattle.sdf_why.specs.Words.{end, key_line}
 use Rattle.sdf_why.specs.Tables.{root, text_at, entry, actor_text, first_saying}
-use Rattle.sdf_why.specs.Actors.{lines_of, actor_told, actor_key, actor_value}
+use Rattle.sdf_why.specs.Actors.{lines_of, actor_told}
 use Rattle.sdf_why.specs.Links.{link_key}
-use Rattle.sdf_why.specs.Coefficients.{file_user, file_key, values_told}
+use Rattle.sdf_why.specs.Coefficients.{file_user, values_told}
+use Rattle.sdf_why.specs.Places.{limits_at, place_key}
 use Rattle.sdf_why.specs.Types.{type_told}
 use Rattle.sdf_why.specs.Kinds.{kind_told}
 use Rattle.sdf_why.specs.Near.{near_key, near_end}
 
 -- ---- by place
 
--- what a place is, and the line of its key
-abbrev pub place_key : Place → List ℕ → Data → Files → List ℕ
-place_key top key d files = key_line key (get key d) None
-place_key (actor a) key d files = actor_key a key d
-place_key (link c) key d files = link_key c key None d
-place_key (file name) key d files = file_user name d ++ file_key name key None files
-
--- what a place is, and the line of its key without limits
-abbrev pub place_value : Place → List ℕ → Data → Files → List ℕ
-place_value (actor a) key d files = actor_value a key d
-place_value place key d files = place_key place key d files
+-- what a place is, and the line of its key with the limits
+abbrev pub place_within : Place → List ℕ → Data → Files → List ℕ
+place_within place key d files = place_key place key (limits_at place key d) d files
 
 -- the line of the key `format` at a place, with its limits
 abbrev pub place_format : Place → Data → Files → List ℕ
-place_format (file name) d files = file_user name d ++ file_key name (codes "format") (Some (codes "1")) files
+place_format (file name) d files = place_key (file name) (codes "format") (Some (codes "1")) d files
 place_format place d files = key_line (codes "format") (get (codes "format") d) (Some (codes "1 or 2"))
 
 -- ---- by fault
@@ -86,14 +79,14 @@ counted key least most d = key_line key (get key d) (Some (up_to least most))
 abbrev pub told : Fault → Data → Files → List ℕ
 told actor_count d files = counted (codes "actor") 1 MOST_ACTORS d
 told channel_count d files = counted (codes "link") 0 MOST_LINKS d
-told (kit_value place key) d files = place_key place key d files ++ values_told place key d files
+told (kit_value place key) d files = place_within place key d files ++ values_told place key d files
 told (not_toml place) d files = []
 told (bad_format place) d files = place_format place d files
 told (unknown_key place key) d files =
-    place_key place key d files ++ near_key place key d ++ known_keys place key d
-told (missing_key place key) d files = place_key place key d files
+    place_within place key d files ++ near_key place key d ++ known_keys place key d
+told (missing_key place key) d files = place_within place key d files
 told (wrong_type place key) d files = type_told place key d files
-told (bad_name place key) d files = place_value place key d files ++ name_rule key
+told (bad_name place key) d files = place_key place key None d files ++ name_rule key
 told (name_twice a) d files = twice a d
 told (unknown_kind a) d files = actor_told d a ++ kind_told a d
 told (bad_port c key) d files =

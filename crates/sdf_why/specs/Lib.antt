@@ -7,6 +7,7 @@ pub mod Links
 pub mod Loops
 pub mod Values
 pub mod Coefficients
+pub mod Places
 pub mod Types
 pub mod Kinds
 pub mod Documents
@@ -20,3 +21,4 @@ pub mod More
 pub mod Told
 pub mod Said
 pub mod Near
+pub mod Laws

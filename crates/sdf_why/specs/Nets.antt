@@ -11,18 +11,18 @@ use Rattle.sdf_actor.specs.declared.fault.NetFault.{NetFault}
 use Rattle.sdf_actor.specs.declared.fault.NetFault.TheVariants.{OutOfMemory, Graph, NoPort, PortTwice, PortOpen}
 use Rattle.sdf_actor.specs.declared.fault.NetFault.TheVariants.{ExtTwice, InputRates, OutputRates, NoInput, NoOutput}
 use Rattle.sdf_why.specs.Tables.{entry, actor_text, says, first_saying}
-use Rattle.sdf_why.specs.Actors.{lines_of, actor_told, actor_value}
+use Rattle.sdf_why.specs.Actors.{lines_of, actor_told, actor_key}
 use Rattle.sdf_why.specs.Links.{link_told, link_key, ends_told, first_meeting}
 
 -- ---- actors that are compared
 
 -- the first actor of a kind, and the line of a key of its table
 unfoldable pub first_of : List ℕ → List ℕ → Data → List ℕ
-first_of kind key d = lines_of (λ a. actor_value a key d) (first_saying (codes "kind") kind d MOST_ACTORS)
+first_of kind key d = lines_of (λ a. actor_key a key None d) (first_saying (codes "kind") kind d MOST_ACTORS)
 
 -- actor a if it is of a kind, and the line of a key of its table
 unfoldable pub one_of : List ℕ → List ℕ → Data → ℕ → List ℕ
-one_of kind key d a = if says (codes "kind") kind d a then actor_value a key d else []
+one_of kind key d a = if says (codes "kind") kind d a then actor_key a key None d else []
 
 -- all actors of a kind, and the lines of a key of their tables
 unfoldable pub all_of : List ℕ → List ℕ → Data → List ℕ
@@ -55,11 +55,11 @@ first_rival d a n = find (rival d a) (range_with_len 0 n)
 
 -- actor a, its channel, and the earlier actor with the same kind and channel
 unfoldable pub rivals : Data → ℕ → List ℕ
-rivals d a = actor_value a (codes "channel") d ++ lines_of (actor_told d) (first_rival d a a)
+rivals d a = actor_key a (codes "channel") None d ++ lines_of (actor_told d) (first_rival d a a)
 
 -- actor a with its block, and the first actor of a kind with its block
 unfoldable pub beside_first : List ℕ → Data → ℕ → List ℕ
-beside_first kind d a = actor_value a (codes "block") d ++ first_of kind (codes "block") d
+beside_first kind d a = actor_key a (codes "block") None d ++ first_of kind (codes "block") d
 
 -- link c, and the first link before it that shares an end with it
 unfoldable pub meeting : Data → ℕ → List ℕ
@@ -87,7 +87,7 @@ net_told OutOfMemory d = []
 net_told (Graph fault) d = graph_told fault d
 net_told (NoPort c) d = ends_told d c
 net_told (PortTwice c) d = meeting d c
-net_told (PortOpen a side port) d = actor_value a (codes "ways") d
+net_told (PortOpen a side port) d = actor_key a (codes "ways") None d
 net_told (ExtTwice a) d = rivals d a
 net_told (InputRates a) d = beside_first (codes "input") d a
 net_told (OutputRates a) d = beside_first (codes "output") d a

@@ -1,15 +1,13 @@
 -- The type that a key needs, for a value of another type.
 use Rattle.std.specs.Prelude.{ℕ, ◌||◌, Bool, List, [], ◌++◌, codes, Option, Some, None, bytes_eq}
 use Rattle.std.specs.Prelude.{option_and_then, if◌then◌else◌}
-use Rattle.toml.specs.Data.{Data, get}
+use Rattle.toml.specs.Data.{Data}
 use Rattle.sdf_document.specs.Fault.{Place, top, actor, link, file}
 use Rattle.sdf_document.specs.Lists.{Files, file_named}
-use Rattle.sdf_why.specs.Words.{key_line}
 use Rattle.sdf_why.specs.Tables.{root, entry}
-use Rattle.sdf_why.specs.Actors.{lines_of, actor_is, actor_limits}
-use Rattle.sdf_why.specs.Links.{link_key}
+use Rattle.sdf_why.specs.Actors.{lines_of}
 use Rattle.sdf_why.specs.Values.{unfit_at_key}
-use Rattle.sdf_why.specs.Coefficients.{file_user, file_key}
+use Rattle.sdf_why.specs.Places.{limits_at, place_key}
 
 -- keys of texts, and of lists; `types_of_rows` compares them with the forms of rows
 abbrev pub is_text_key : List ℕ → Bool
@@ -36,19 +34,9 @@ limits_behind (Some limits) = codes ", " ++ limits
 abbrev pub type_within : List ℕ → Option (List ℕ) → List ℕ
 type_within key limits = type_of key ++ (if is_text_key key then [] else limits_behind limits)
 
--- the line of actor a, and the line of a key of its table with the type and the limits
-abbrev pub actor_type_is : ℕ → List ℕ → Data → List ℕ
-actor_type_is a key d = actor_is a d ++ key_line key (get key d) (Some (type_within key (actor_limits key d)))
-
-unfoldable pub actor_type : ℕ → List ℕ → Data → List ℕ
-actor_type a key d = lines_of (actor_type_is a key) (entry (codes "actor") a d)
-
--- what a place is, and the line of its key with the type that it needs
+-- what a place is, and the line of its key with the type that it needs and the limits
 abbrev pub place_type : Place → List ℕ → Data → Files → List ℕ
-place_type top key d files = key_line key (get key d) (Some (type_of key))
-place_type (actor a) key d files = actor_type a key d
-place_type (link c) key d files = link_key c key (Some (type_of key)) d
-place_type (file name) key d files = file_user name d ++ file_key name key (Some (type_of key)) files
+place_type place key d files = place_key place key (Some (type_within key (limits_at place key d))) d files
 
 -- the table of a place
 abbrev pub table_of : Place → Data → Files → Option Data

@@ -2,7 +2,7 @@
 
 ghost use Rattle.std.specs.Prelude.{◌≡◌, ◌++◌, IfOk, OnOk, option_map, string_bytes};
 ghost use Rattle.toml.specs.View.{view};
-ghost use Rattle.sdf_why.specs.Actors.{actor_is, actor_told, actor_limits, actor_key, actor_value, first_told};
+ghost use Rattle.sdf_why.specs.Actors.{actor_is, actor_told, actor_limits, actor_key, first_told};
 
 use crate::limits::limits_of;
 use crate::tables::{entry, first_saying, text_at, value_at};
@@ -60,7 +60,7 @@ pub(crate) fn actor_limits(
     }
 }
 
-/// Adds the line of the actor `number`, and the line of its `key` with the limits.
+/// Adds the line of the actor `number`, and the line of its `key`.
 #[tactic(auto, unfolding(crate::specs::Actors::actor_key))]
 pub(crate) fn push_actor_key(
     alloc: Global,
@@ -68,35 +68,16 @@ pub(crate) fn push_actor_key(
     graph: &Value,
     number: usize,
     key: &str,
+    limits: Option<&str>,
 ) -> Result<(), AllocError>
     ensures { OnOk result (string_bytes text.new ≡ string_bytes text.old
-        ++ actor_key number key.now (view graph.now)) }
+        ++ actor_key number key.now (option_map (λ s. s.now) limits.entry) (view graph.now)) }
 {
     let Some(actor) = entry(graph, "actor", number) else {
         return Ok(());
     };
     push_actor_table(alloc, text, number, actor)?;
-    let limits = actor_limits(alloc, key, actor)?;
-    push_key(alloc, text, key, value_at(actor, key), limits.as_deref())
-}
-
-/// Adds the line of the actor `number`, and the line of its `key` without limits.
-#[tactic(auto, unfolding(crate::specs::Actors::actor_value))]
-pub(crate) fn push_actor_value(
-    alloc: Global,
-    text: &mut String,
-    graph: &Value,
-    number: usize,
-    key: &str,
-) -> Result<(), AllocError>
-    ensures { OnOk result (string_bytes text.new ≡ string_bytes text.old
-        ++ actor_value number key.now (view graph.now)) }
-{
-    let Some(actor) = entry(graph, "actor", number) else {
-        return Ok(());
-    };
-    push_actor_table(alloc, text, number, actor)?;
-    push_key(alloc, text, key, value_at(actor, key), None)
+    push_key(alloc, text, key, value_at(actor, key), limits)
 }
 
 /// Adds the first actor that has the text `said` at `key`.

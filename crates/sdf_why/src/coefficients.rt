@@ -14,7 +14,7 @@ use crate::limits::kind_limits;
 use crate::tables::{Source, entry, root, text_at, value_at};
 use crate::values::{push_unfit, push_unfit_at_key};
 use crate::words::{push_key, push_quoted};
-use sdf_document::{Limits, Place, file_named};
+use sdf_document::{CoefficientFile, Limits, Place, file_named};
 use sdf_kinds::Width;
 use std::alloc::{AllocError, Global};
 use toml::Value;
@@ -24,7 +24,7 @@ use toml::Value;
 pub(crate) fn push_file_key(
     alloc: Global,
     text: &mut String,
-    files: &[(String, Vec<u8>)],
+    files: &[CoefficientFile],
     name: &str,
     key: &str,
     limits: Option<&str>,
@@ -139,7 +139,7 @@ fn push_list_of(
 fn push_file(
     alloc: Global,
     text: &mut String,
-    files: &[(String, Vec<u8>)],
+    files: &[CoefficientFile],
     limits: Limits,
     name: &str,
 ) -> Result<(), AllocError>
@@ -159,7 +159,7 @@ fn push_file(
 fn push_named(
     alloc: Global,
     text: &mut String,
-    files: &[(String, Vec<u8>)],
+    files: &[CoefficientFile],
     actor: &Value,
     limits: Limits,
 ) -> Result<(), AllocError>
@@ -183,7 +183,7 @@ fn limits_of(actor: &Value) -> Option<Limits>
 fn push_table(
     alloc: Global,
     text: &mut String,
-    files: &[(String, Vec<u8>)],
+    files: &[CoefficientFile],
     actor: &Value,
 ) -> Result<(), AllocError>
     ensures { OnOk result (string_bytes text.new ≡ string_bytes text.old
@@ -211,7 +211,7 @@ fn push_listed(alloc: Global, text: &mut String, key: &str, actor: &Value) -> Re
 fn push_actor_values(
     alloc: Global,
     text: &mut String,
-    files: &[(String, Vec<u8>)],
+    files: &[CoefficientFile],
     key: &str,
     actor: &Value,
 ) -> Result<(), AllocError>

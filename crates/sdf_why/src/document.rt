@@ -5,26 +5,27 @@ ghost use Rattle.toml.specs.View.{view};
 ghost use Rattle.sdf_document.specs.Fault.{place_view, fault_view, kit_value, unknown_key, bad_name, unknown_kind};
 ghost use Rattle.sdf_document.specs.Fault.{bad_port};
 ghost use Rattle.sdf_document.specs.Lists.{files_view};
-ghost use Rattle.sdf_why.specs.Documents.{place_key, place_value, place_format, beside_is, listed_at, row_is};
+ghost use Rattle.sdf_why.specs.Documents.{place_within, place_format, beside_is, listed_at, row_is};
 ghost use Rattle.sdf_why.specs.Documents.{keys_are, known_keys, same_name, twice, counted, name_rule, told};
 ghost use Rattle.sdf_why.specs.Documents.{document_text};
 
-use crate::actors::{push_actor_key, push_actor_of, push_actor_value, push_first};
-use crate::coefficients::{push_file_key, push_values};
+use crate::actors::{push_actor_of, push_first};
+use crate::coefficients::push_values;
 use crate::kind::push_kind;
 use crate::limits::keys_of;
 use crate::links::push_link_key;
 use crate::near::{push_near_end, push_near_key};
+use crate::places::{limits_at, push_place_key};
 use crate::tables::{Source, actor_text, entry, first_saying, root, text_at, value_at};
 use crate::types::push_type;
 use crate::words::push_key;
-use sdf_document::{DocumentFault, Place};
+use sdf_document::{CoefficientFile, DocumentFault, Place};
 use sdf_kinds::keys_text;
 use sdf_limits::{MOST_ACTORS, MOST_LINKS};
 use std::alloc::{AllocError, Global};
 use toml::Value;
 
-/// Adds what `place` is, and the line of its `key`.
+/// Adds what `place` is, and the line of its `key` with the limits.
 fn push_place(
     alloc: Global,
     text: &mut String,
@@ -32,35 +33,11 @@ fn push_place(
     place: &Place,
     key: &str,
 ) -> Result<(), AllocError>
-    ensures { OnOk result (string_bytes text.new ≡ string_bytes text.old ++ place_key
+    ensures { OnOk result (string_bytes text.new ≡ string_bytes text.old ++ place_within
         (place_view place.now) key.now (view source.entry.graph.now) (files_view source.entry.files.now)) }
 {
-    match place {
-        Place::Top => push_key(alloc, text, key, value_at(source.graph, key), None),
-        Place::Actor(number) => push_actor_key(alloc, text, source.graph, *number, key),
-        Place::Link(number) => push_link_key(alloc, text, source.graph, *number, key, None),
-        Place::File(name) => {
-            push_first(alloc, text, source.graph, "file", name.as_str())?;
-            push_file_key(alloc, text, source.files, name.as_str(), key, None)
-        }
-    }
-}
-
-/// Adds what `place` is, and the line of its `key` without limits.
-fn push_place_value(
-    alloc: Global,
-    text: &mut String,
-    source: Source<'_>,
-    place: &Place,
-    key: &str,
-) -> Result<(), AllocError>
-    ensures { OnOk result (string_bytes text.new ≡ string_bytes text.old ++ place_value
-        (place_view place.now) key.now (view source.entry.graph.now) (files_view source.entry.files.now)) }
-{
-    match place {
-        Place::Actor(number) => push_actor_value(alloc, text, source.graph, *number, key),
-        _ => push_place(alloc, text, source, place, key),
-    }
+    let limits = limits_at(alloc, source.graph, place, key)?;
+    push_place_key(alloc, text, source, place, key, limits.as_deref())
 }
 
 /// Adds the line of the key `format` at `place`, with its limits.
@@ -74,17 +51,7 @@ fn push_format(
         (place_view place.now) (view source.entry.graph.now) (files_view source.entry.files.now)) }
 {
     match place {
-        Place::File(name) => {
-            push_first(alloc, text, source.graph, "file", name.as_str())?;
-            push_file_key(
-                alloc,
-                text,
-                source.files,
-                name.as_str(),
-                "format",
-                Some("1"),
-            )
-        }
+        Place::File(_) => push_place_key(alloc, text, source, place, "format", Some("1")),
         _ => {
             let format = value_at(source.graph, "format");
             push_key(alloc, text, "format", format, Some("1 or 2"))
@@ -271,7 +238,7 @@ fn push_bad_name(
         ++ told (bad_name (place_view place.now) key.now) (view source.entry.graph.now)
         (files_view source.entry.files.now)) }
 {
-    push_place_value(alloc, text, source, place, key)?;
+    push_place_key(alloc, text, source, place, key, None)?;
     push_name_rule(text, key)
 }
 
@@ -343,7 +310,7 @@ pub fn document_text(
     alloc: Global,
     fault: &DocumentFault,
     graph: &[u8],
-    files: &[(String, Vec<u8>)],
+    files: &[CoefficientFile],
 ) -> Result<String, AllocError>
     ensures { IfOk result (λ text. string_bytes text ≡
         document_text (fault_view fault.now) graph.now (files_view files.now)) }

@@ -3,13 +3,13 @@
 //! It depends on `sdf_document`, whose faults it explains, and on the table of `sdf_kinds`. `sdf_file` reads a design
 //! again, and its net needs `sdf_actor`, `sdf_graph` and `sdf_kit`. `sdf_options` makes a text printable, and
 //! `sdf_similar` finds names that are like a word. Begin at `told`. `document`, `net`, `cycle`, `block` and `sound`
-//! have the lines of each fault, `loops` a loop that may keep samples. `limits` has the limits of a key, `types` its
-//! type, `values` the first value of a list that does not fit, and `coefficients` the lines of a coefficient file.
-//! `near` has what may have been meant, and `kind` also the format that it needs. `more` has what the tables of a net
-//! do not show. It needs the graph that `channels` makes, and `ports` for the ports of its actors. The definitions are
-//! in `specs/Told.antt`, `specs/Documents.antt`, `specs/Types.antt`, `specs/Values.antt`, `specs/Coefficients.antt`,
-//! `specs/Kinds.antt`, `specs/Near.antt`, `specs/Nets.antt`, `specs/More.antt`, `specs/Ports.antt`,
-//! `specs/Cycles.antt` and `specs/Words.antt`.
+//! have the lines of each fault, `loops` a loop that may keep samples. `limits` has the limits of a key, `places` its
+//! line at a place, `types` its type, `values` the first value of a list that does not fit, and `coefficients` the
+//! lines of a coefficient file. `near` has what may have been meant, and `kind` also the format that it needs. `more`
+//! has what the tables of a net do not show. It needs the graph that `channels` makes, and `ports` for the ports of its
+//! actors. The definitions are in `specs/Told.antt`, `specs/Documents.antt`, `specs/Places.antt`, `specs/Types.antt`,
+//! `specs/Values.antt`, `specs/Coefficients.antt`, `specs/Kinds.antt`, `specs/Near.antt`, `specs/Nets.antt`,
+//! `specs/More.antt`, `specs/Ports.antt`, `specs/Cycles.antt` and `specs/Words.antt`.
 #![tactic(auto)]
 
 mod actors;
@@ -26,6 +26,7 @@ mod marks;
 mod more;
 mod near;
 mod net;
+mod places;
 mod ports;
 mod said;
 mod sound;
@@ -41,5 +42,5 @@ pub use loops::loop_text;
 pub use said::{device_text, toml_text};
 pub use sound::Header;
 pub use told::{
-    Sources, block_text, channels_text, file_text, home_text, net_text, rate_text, stall_text,
+    DesignFiles, block_text, channels_text, file_text, home_text, net_text, rate_text, stall_text,
 };

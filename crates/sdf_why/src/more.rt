@@ -20,7 +20,7 @@ use crate::channels::channels_of;
 use crate::links::end_at;
 use crate::ports::ports_text;
 use crate::tables::{actor_text, root};
-use crate::told::Sources;
+use crate::told::DesignFiles;
 use crate::words::{push_end, push_name};
 use sdf_actor::NetFault;
 use sdf_document::{Document, ReadFault, read_document};
@@ -254,7 +254,7 @@ fn net_more(
 pub(crate) fn more_text(
     alloc: Global,
     fault: NetFault,
-    sources: Sources<'_>,
+    sources: DesignFiles<'_>,
 ) -> Result<String, AllocError>
     ensures { IfOk result (λ text. IsMore fault sources.entry.graph.now (files_view sources.entry.files.now)
         (string_bytes text)) }

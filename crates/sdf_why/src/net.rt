@@ -5,7 +5,7 @@ ghost use Rattle.toml.specs.View.{view};
 ghost use Rattle.sdf_why.specs.Nets.{first_of, one_of, all_of, number_at, same_number, same_text, rival, first_rival};
 ghost use Rattle.sdf_why.specs.Nets.{rivals, beside_first, meeting, begun, graph_told, net_told};
 
-use crate::actors::{push_actor_of, push_actor_value};
+use crate::actors::{push_actor_key, push_actor_of};
 use crate::links::{first_meeting, push_ends, push_link_key, push_link_of};
 use crate::tables::{actor_text, entry, first_saying, says, value_at};
 use sdf_actor::NetFault;
@@ -27,7 +27,7 @@ fn push_first_of(
         ++ first_of kind.now key.now (view graph.now)) }
 {
     match first_saying(graph, "kind", kind, MOST_ACTORS) {
-        Some(actor) => push_actor_value(alloc, text, graph, actor, key),
+        Some(actor) => push_actor_key(alloc, text, graph, actor, key, None),
         None => Ok(()),
     }
 }
@@ -46,7 +46,7 @@ fn push_one_of(
         ++ one_of kind.now key.now (view graph.now) actor) }
 {
     if says(graph, "kind", kind, actor) {
-        push_actor_value(alloc, text, graph, actor, key)
+        push_actor_key(alloc, text, graph, actor, key, None)
     } else {
         Ok(())
     }
@@ -129,7 +129,7 @@ fn push_rivals(
     ensures { OnOk result (string_bytes text.new ≡ string_bytes text.old
         ++ rivals (view graph.now) actor) }
 {
-    push_actor_value(alloc, text, graph, actor, "channel")?;
+    push_actor_key(alloc, text, graph, actor, "channel", None)?;
     match first_rival(graph, actor, actor) {
         Some(earlier) => push_actor_of(alloc, text, graph, earlier),
         None => Ok(()),
@@ -148,7 +148,7 @@ fn push_beside_first(
     ensures { OnOk result (string_bytes text.new ≡ string_bytes text.old
         ++ beside_first kind.now (view graph.now) actor) }
 {
-    push_actor_value(alloc, text, graph, actor, "block")?;
+    push_actor_key(alloc, text, graph, actor, "block", None)?;
     push_first_of(alloc, text, graph, kind, "block")
 }
 
@@ -222,7 +222,7 @@ pub(crate) fn push_net(
         NetFault::Graph(fault) => push_graph(alloc, text, graph, fault),
         NetFault::NoPort { link } => push_ends(alloc, text, graph, link),
         NetFault::PortTwice { link } => push_meeting(alloc, text, graph, link),
-        NetFault::PortOpen { actor, .. } => push_actor_value(alloc, text, graph, actor, "ways"),
+        NetFault::PortOpen { actor, .. } => push_actor_key(alloc, text, graph, actor, "ways", None),
         NetFault::ExtTwice { actor } => push_rivals(alloc, text, graph, actor),
         NetFault::InputRates { actor } => push_beside_first(alloc, text, graph, "input", actor),
         NetFault::OutputRates { actor } => {

@@ -5,6 +5,7 @@ ghost use Rattle.toml.specs.View.{view};
 ghost use Rattle.toml.specs.Data.{get};
 ghost use Rattle.sdf_why.specs.Tables.{root, text_at, entry, actor_text, says, first_saying};
 
+use sdf_document::CoefficientFile;
 use std::alloc::{AllocError, Global};
 use toml::Value;
 
@@ -12,7 +13,7 @@ use toml::Value;
 #[derive(Clone, Copy)]
 pub(crate) struct Source<'a> {
     pub(crate) graph: &'a Value,
-    pub(crate) files: &'a [(String, Vec<u8>)],
+    pub(crate) files: &'a [CoefficientFile],
 }
 
 /// Parses `bytes` as a TOML document, if they are one.

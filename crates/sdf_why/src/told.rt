@@ -24,15 +24,15 @@ use crate::net::push_net;
 use crate::sound::{Header, push_channels, push_rate};
 use crate::tables::{entry, root};
 use sdf_actor::NetFault;
-use sdf_file::{Design, FileFault, read_design};
+use sdf_file::{CoefficientFile, Design, FileFault, read_design};
 use std::alloc::{AllocError, Global};
 use toml::Value;
 
-/// The files of a design: its graph file, and each coefficient file with its name.
+/// The files of a design: its graph file, and its coefficient files.
 #[derive(Clone, Copy)]
-pub struct Sources<'a> {
+pub struct DesignFiles<'a> {
     pub graph: &'a [u8],
-    pub files: &'a [(String, Vec<u8>)],
+    pub files: &'a [CoefficientFile],
 }
 
 /// Returns the part of a net's diagnostic that needs only the tables of the graph file.
@@ -48,7 +48,11 @@ fn tables_text(alloc: Global, fault: NetFault, graph: &[u8]) -> Result<String, A
 }
 
 /// Returns the diagnostic for a `fault` of a net.
-pub fn net_text(alloc: Global, fault: NetFault, sources: Sources<'_>) -> Result<String, AllocError>
+pub fn net_text(
+    alloc: Global,
+    fault: NetFault,
+    sources: DesignFiles<'_>,
+) -> Result<String, AllocError>
     ensures { IfOk result (λ text. IsNetText fault sources.entry.graph.now (files_view sources.entry.files.now)
         (string_bytes text)) }
 {
@@ -62,7 +66,7 @@ pub fn net_text(alloc: Global, fault: NetFault, sources: Sources<'_>) -> Result<
 pub fn file_text(
     alloc: Global,
     fault: &FileFault,
-    sources: Sources<'_>,
+    sources: DesignFiles<'_>,
 ) -> Result<String, AllocError>
     ensures { IfOk result (λ text. IsFileText fault.now sources.entry.graph.now (files_view sources.entry.files.now)
         (string_bytes text)) }
@@ -157,7 +161,7 @@ fn no_design(fault: &FileFault) -> Result<Option<Design>, AllocError>
 }
 
 /// Returns the design of `sources`, if they give one.
-fn design_of(alloc: Global, sources: Sources<'_>) -> Result<Option<Design>, AllocError>
+fn design_of(alloc: Global, sources: DesignFiles<'_>) -> Result<Option<Design>, AllocError>
     ensures { IfOk result (λ r. MatchOption r (SaysNone sources.entry.graph.now (files_view sources.entry.files.now))
         (IsDesignOf sources.entry.graph.now (files_view sources.entry.files.now))) }
 {
@@ -168,7 +172,7 @@ fn design_of(alloc: Global, sources: Sources<'_>) -> Result<Option<Design>, Allo
 }
 
 /// Returns the tables and the design of `sources`, if they give one.
-fn read(alloc: Global, sources: Sources<'_>) -> Result<Option<Basis>, AllocError>
+fn read(alloc: Global, sources: DesignFiles<'_>) -> Result<Option<Basis>, AllocError>
     ensures { IfOk result (λ r. MatchOption r (SaysNone sources.entry.graph.now (files_view sources.entry.files.now))
         (λ x. Says sources.entry.graph.now (files_view sources.entry.files.now) (view x.document) x.design)) }
 {
@@ -195,7 +199,11 @@ fn stall_of(
 }
 
 /// Returns the diagnostic for a deadlock whose actors stopped as in `halts`.
-pub fn stall_text(alloc: Global, halts: &[Halt], sources: Sources<'_>) -> Result<String, AllocError>
+pub fn stall_text(
+    alloc: Global,
+    halts: &[Halt],
+    sources: DesignFiles<'_>,
+) -> Result<String, AllocError>
     ensures { IfOk result (λ text. IsStallText sources.entry.graph.now (files_view sources.entry.files.now) halts.now
         (string_bytes text)) }
 {
@@ -224,7 +232,7 @@ fn channels_of(
 pub fn channels_text(
     alloc: Global,
     header: Header,
-    sources: Sources<'_>,
+    sources: DesignFiles<'_>,
 ) -> Result<String, AllocError>
     ensures { IfOk result (λ text. IsChannelsText sources.entry.graph.now (files_view sources.entry.files.now) header
         (string_bytes text)) }
@@ -246,7 +254,11 @@ fn rate_of(alloc: Global, header: Header, design: &Design) -> Result<String, All
 }
 
 /// Returns the diagnostic for a sound for which the rate of the output is not a whole number.
-pub fn rate_text(alloc: Global, header: Header, sources: Sources<'_>) -> Result<String, AllocError>
+pub fn rate_text(
+    alloc: Global,
+    header: Header,
+    sources: DesignFiles<'_>,
+) -> Result<String, AllocError>
     ensures { IfOk result (λ text. IsRateText sources.entry.graph.now (files_view sources.entry.files.now) header
         (string_bytes text)) }
 {
@@ -266,7 +278,7 @@ fn block_of(alloc: Global, design: &Design) -> Result<String, AllocError>
 }
 
 /// Returns the firings of a period and the greatest `--blocking`, or no text if the files give no design.
-pub fn block_text(alloc: Global, sources: Sources<'_>) -> Result<String, AllocError>
+pub fn block_text(alloc: Global, sources: DesignFiles<'_>) -> Result<String, AllocError>
     ensures { IfOk result (λ text. IsBlockText sources.entry.graph.now (files_view sources.entry.files.now)
         (string_bytes text)) }
 {

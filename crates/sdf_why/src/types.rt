@@ -8,15 +8,12 @@ ghost use Rattle.sdf_why.specs.Tables.{root};
 ghost use Rattle.sdf_why.specs.Actors.{lines_of};
 ghost use Rattle.sdf_why.specs.Values.{unfit_at_key};
 ghost use Rattle.sdf_why.specs.Types.{is_text_key, is_list_key, type_of, limits_behind, type_within};
-ghost use Rattle.sdf_why.specs.Types.{actor_type, place_type, unwhole_told, type_told};
+ghost use Rattle.sdf_why.specs.Types.{place_type, unwhole_told, type_told};
 
-use crate::actors::{actor_limits, push_actor_table, push_first};
-use crate::coefficients::push_file_key;
-use crate::links::push_link_key;
-use crate::tables::{Source, entry, root, value_at};
+use crate::places::{limits_at, push_place_key};
+use crate::tables::{Source, entry, root};
 use crate::values::push_unfit_at_key;
-use crate::words::push_key;
-use sdf_document::{Place, file_named};
+use sdf_document::{CoefficientFile, Place, file_named};
 use std::alloc::{AllocError, Global};
 use toml::Value;
 
@@ -72,34 +69,7 @@ fn type_within(alloc: Global, key: &str, limits: Option<&str>) -> Result<String,
     Ok(text)
 }
 
-/// Adds the line of the actor `number`, and the line of its `key` with the type and the limits.
-#[tactic(auto, unfolding(crate::specs::Types::actor_type))]
-fn push_actor_type(
-    alloc: Global,
-    text: &mut String,
-    graph: &Value,
-    number: usize,
-    key: &str,
-) -> Result<(), AllocError>
-    ensures { OnOk result (string_bytes text.new ≡ string_bytes text.old
-        ++ actor_type number key.now (view graph.now)) }
-{
-    let Some(actor) = entry(graph, "actor", number) else {
-        return Ok(());
-    };
-    push_actor_table(alloc, text, number, actor)?;
-    let limits = actor_limits(alloc, key, actor)?;
-    let wanted = type_within(alloc, key, limits.as_deref())?;
-    push_key(
-        alloc,
-        text,
-        key,
-        value_at(actor, key),
-        Some(wanted.as_str()),
-    )
-}
-
-/// Adds what `place` is, and the line of its `key` with the type that it needs.
+/// Adds what `place` is, and the line of its `key` with the type that it needs and the limits.
 fn push_place(
     alloc: Global,
     text: &mut String,
@@ -110,16 +80,9 @@ fn push_place(
     ensures { OnOk result (string_bytes text.new ≡ string_bytes text.old ++ place_type
         (place_view place.now) key.now (view source.entry.graph.now) (files_view source.entry.files.now)) }
 {
-    let wanted = Some(type_of(key));
-    match place {
-        Place::Top => push_key(alloc, text, key, value_at(source.graph, key), wanted),
-        Place::Actor(number) => push_actor_type(alloc, text, source.graph, *number, key),
-        Place::Link(number) => push_link_key(alloc, text, source.graph, *number, key, wanted),
-        Place::File(name) => {
-            push_first(alloc, text, source.graph, "file", name.as_str())?;
-            push_file_key(alloc, text, source.files, name.as_str(), key, wanted)
-        }
-    }
+    let limits = limits_at(alloc, source.graph, place, key)?;
+    let wanted = type_within(alloc, key, limits.as_deref())?;
+    push_place_key(alloc, text, source, place, key, Some(wanted.as_str()))
 }
 
 /// Adds the first value that is not a whole number in the list at `key` of `table`, if there is a table.
@@ -142,7 +105,7 @@ fn push_unwhole_at(
 fn push_unwhole_in_file(
     alloc: Global,
     text: &mut String,
-    files: &[(String, Vec<u8>)],
+    files: &[CoefficientFile],
     name: &str,
     key: &str,
 ) -> Result<(), AllocError>

@@ -2,7 +2,7 @@
 
 use crate::running::{fault_told, file_of, process_design};
 use sdf_faults::Fault;
-use sdf_file::{Design, read_design};
+use sdf_file::{CoefficientFile, Design, read_design};
 use sdf_options::Options;
 use sdf_run::NoGate;
 use sdf_wav::{FromRead, ToWrite, Wav, Writer, read_wav};
@@ -147,10 +147,13 @@ const ROWS: &[Row] = &[
     },
 ];
 
-/// Returns the coefficient file with `values` values, and its name.
-fn coefficients(alloc: Global, values: usize) -> Result<(String, Vec<u8>), AllocError> {
+/// Returns the coefficient file with `values` values.
+fn coefficients(alloc: Global, values: usize) -> Result<CoefficientFile, AllocError> {
     let list = with_list(alloc, "format = 1\nvalues = [LIST]", values)?;
-    Ok((String::from_str(alloc, "list.toml")?, list.into_bytes()))
+    Ok(CoefficientFile {
+        name: String::from_str(alloc, "list.toml")?,
+        bytes: list.into_bytes(),
+    })
 }
 
 /// Returns a row's design, which may read the coefficient file.

@@ -1,6 +1,6 @@
 //! Diagnostics for graph files that are not read.
 
-use sdf_document::{ReadFault, read_document};
+use sdf_document::{CoefficientFile, ReadFault, read_document};
 use sdf_why::document_text;
 use std::alloc::Global;
 use std::test::Fail;
@@ -280,11 +280,13 @@ static FILES: [(&str, &str); 3] = [
     ("d.toml", "format = 1\nvalues = [1, 0.5]\n"),
 ];
 
-fn files(alloc: Global) -> Result<Vec<(String, Vec<u8>)>, Fail> {
+fn files(alloc: Global) -> Result<Vec<CoefficientFile>, Fail> {
     let mut files = Vec::new(alloc);
     for (name, text) in &FILES {
-        let bytes = Vec::from_slice(alloc, text.as_bytes())?;
-        files.push((String::from_str(alloc, name)?, bytes))?;
+        files.push(CoefficientFile {
+            name: String::from_str(alloc, name)?,
+            bytes: Vec::from_slice(alloc, text.as_bytes())?,
+        })?;
     }
     Ok(files)
 }

@@ -1,7 +1,7 @@
 //! Diagnostics for graph files whose nets are refused.
 
 use sdf_file::read_design;
-use sdf_why::{Sources, file_text};
+use sdf_why::{DesignFiles, file_text};
 use std::alloc::Global;
 use std::test::Fail;
 use test_texts::row_says;
@@ -129,7 +129,7 @@ static ROWS: [Row; 11] = [
 fn told(alloc: Global, row: &Row) -> Result<String, Fail> {
     let (actors, links) = (row.actors, row.links);
     let graph = format!(in alloc; "format = 2\nactor = [{actors}]\nlink = [{links}]\n")?;
-    let sources = Sources {
+    let sources = DesignFiles {
         graph: graph.as_bytes(),
         files: &[],
     };

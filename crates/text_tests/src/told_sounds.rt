@@ -1,7 +1,7 @@
 //! Diagnostics for deadlocks, sounds, blocks and homes, and for files with a message.
 
 use sdf_why::{
-    Halt, Header, Sources, block_text, channels_text, device_text, home_text, rate_text,
+    DesignFiles, Halt, Header, block_text, channels_text, device_text, home_text, rate_text,
     stall_text, toml_text,
 };
 use std::alloc::{AllocError, Global};
@@ -32,8 +32,8 @@ actor = [{ name = \"left\", kind = \"input\", channel = 0, block = 3 },
 link = [{ from = \"left\", to = \"sum:0\" }, { from = \"right\", to = \"sum:1\" }, { from = \"sum\", to = \"less\" },
     { from = \"less\", to = \"out\" }]";
 
-fn sources(text: &str) -> Sources<'_> {
-    Sources {
+fn sources(text: &str) -> DesignFiles<'_> {
+    DesignFiles {
         graph: text.as_bytes(),
         files: &[],
     }

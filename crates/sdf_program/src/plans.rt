@@ -1,0 +1,127 @@
+//! The plan of a run.
+
+ghost use Rattle.std.specs.Prelude.{◌≡◌, ◌≤◌, ℕ, IfOk, IfSome};
+ghost use Rattle.sdf_limits.specs.declared.TheConstants.{MOST_WORKERS};
+ghost use Rattle.sdf_plan.specs.Plans.{Suits};
+ghost use Rattle.sdf_words.specs.Limits.{IsCrew};
+ghost use Rattle.sdf_words.specs.declared.asked.Crew.TheVariants as crews;
+
+use sdf_faults::Fault;
+use sdf_file::Design;
+use sdf_limits::MOST_WORKERS;
+use sdf_options::Options;
+use sdf_plan::Plan;
+use sdf_plan::parallel::{Pace, Paced, parallel_plan};
+use sdf_plan::planning::plan;
+use sdf_why::loop_text;
+use sdf_words::Crew;
+use std::alloc::{AllocError, Global};
+use std::io::Write;
+use std::thread::{Threads, available_parallelism};
+
+/// The workers of a parallel run if the system does not report its processors.
+const WORKERS: usize = 4;
+
+/// The plan of a run, and how a parallel run uses it.
+#[derive(Drop)]
+pub(crate) struct Prepared {
+    pub(crate) plan: Plan,
+    pub(crate) pace: Option<Pace>,
+}
+
+/// Returns the number of workers that `crew` asks for.
+pub(crate) fn workers_of<T: Threads>(threads: &T, crew: Crew) -> usize
+    requires { IsCrew crew }
+    ensures some { 1 ≤ result }
+    ensures few { result ≤ MOST_WORKERS }
+    ensures asked { (workers : ℕ) → crew ≡ crews.Workers workers → result ≡ workers }
+{
+    match crew {
+        Crew::Workers(workers) => workers,
+        Crew::Processors => match available_parallelism(threads) {
+            Ok(processors) => processors.get().min(MOST_WORKERS),
+            Err(_) => WORKERS,
+        },
+    }
+}
+
+/// Returns why a design that does not forget runs in one thread.
+fn lasting_text(alloc: Global, design: &Design) -> Result<String, AllocError> {
+    let told = loop_text(alloc, design)?;
+    if told.is_empty() {
+        return String::from_str(alloc, "one thread: the design keeps samples for too long\n");
+    }
+    format!(in alloc; "one thread: the loop {told} may keep its samples for ever\n")
+}
+
+/// Returns why a parallel run uses one thread, if that is known before it begins.
+fn pace_text(alloc: Global, design: &Design, pace: Pace) -> Result<String, AllocError> {
+    match pace {
+        Pace::Parts { .. } => Ok(String::new(alloc)),
+        Pace::Lasting => lasting_text(alloc, design),
+        Pace::Alone => String::from_str(alloc, "one thread: one worker is asked for\n"),
+    }
+}
+
+/// Reports why a parallel run uses one thread, if that is known before it begins.
+fn tell_pace<E: Write>(
+    alloc: Global,
+    err: &mut E,
+    design: &Design,
+    pace: Pace,
+) -> Result<(), AllocError> {
+    let text = pace_text(alloc, design, pace)?;
+    let _ = err.write_all(text.as_bytes());
+    Ok(())
+}
+
+/// Returns the plan of a parallel run. If `is_said` is set, reports why it uses one thread.
+fn crew_plan<T: Threads + AllocGlobal, E: Write>(
+    threads: &T,
+    err: &mut E,
+    design: &Design,
+    crew: Crew,
+    is_said: bool,
+) -> Result<Prepared, Fault>
+    requires { IsCrew crew }
+    ensures { IfOk result (λ prepared. Suits design.now.net prepared.plan) }
+{
+    let alloc = threads.alloc();
+    let Paced { plan, pace } = parallel_plan(alloc, design, workers_of(threads, crew))?;
+    let told = if is_said {
+        tell_pace(alloc, err, design, pace)
+    } else {
+        Ok(())
+    };
+    match told {
+        Ok(()) => Ok(Prepared {
+            plan,
+            pace: Some(pace),
+        }),
+        Err(refused) => {
+            drop(plan);
+            Err(Fault::from(refused))
+        }
+    }
+}
+
+/// Returns the plan of a run. If `is_said` is set, reports why a parallel run uses one thread.
+pub(crate) fn plan_of<T: Threads + AllocGlobal, E: Write>(
+    threads: &T,
+    err: &mut E,
+    design: &Design,
+    options: &Options,
+    parallel: Option<Crew>,
+    is_said: bool,
+) -> Result<Prepared, Fault>
+    requires { IfSome parallel IsCrew }
+    ensures { IfOk result (λ prepared. Suits design.now.net prepared.plan) }
+{
+    match parallel {
+        Some(crew) => crew_plan(threads, err, design, crew, is_said),
+        None => Ok(Prepared {
+            plan: plan(threads.alloc(), design, options)?,
+            pace: None,
+        }),
+    }
+}
