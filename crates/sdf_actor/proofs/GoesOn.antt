@@ -42,9 +42,9 @@ take_past xs n i =
 pub begin_anew : {r : Rates} {k : ℕ → ℕ} → RatesBeginAnew r k
 begin_anew {r = r} {k = k} period a j c l = (
   (λ e. let at : k a + j ≡ j + k (r.target c) = let own : k (r.target c) ≡ k a = ap k e in omega arith in
-  ap (r.consumed c) at ∙ period.consumed_anew c j l),
+      ap (r.consumed c) at ∙ period.consumed_anew c j l),
   (λ e. let at : k a + j ≡ j + k (r.source c) = let own : k (r.source c) ≡ k a = ap k e in omega arith in
-  ap (r.produced c) at ∙ (period.produced_anew c j l ∙ ap (λ n. r.produced c j + n) (period.balanced c l))),
+      ap (r.produced c) at ∙ (period.produced_anew c j l ∙ ap (λ n. r.produced c j + n) (period.balanced c l))),
 )
 
 -- a history V of whole periods on wiring f, and a history U on a wiring g like it, whose channels begin with the

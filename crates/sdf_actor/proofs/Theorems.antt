@@ -6,7 +6,7 @@ use Rattle.sdf_graph.proofs.Theorems.{graphs_have_periods}
 use Rattle.sdf_actor.specs.GoingOn.{HistoriesGoOn, RestsGoOn, ArrivalsGoOn, PeriodsAreWhole}
 use Rattle.sdf_actor.specs.Laws.{HistoryIsUnique, HistoriesGrow, NetsAreWired, PortsHaveChannels, TakenStays}
 use Rattle.sdf_actor.specs.Laws.{PutIsDealt, PutStays, AcceptedIsLawful, RatesBeginAnew, ListsAreBelow, PartsAgree}
-use Rattle.sdf_actor.specs.Laws.{PartsAreBehind, FrontsGoOn, PiecesJoin, PiecesPart}
+use Rattle.sdf_actor.specs.Laws.{PartsAreBehind, FrontsGoOn, PiecesJoin, PiecesPart, BlocksAreRates}
 use Rattle.sdf_actor.specs.Locals.{LocalsBegin, LocalsGrow, LocalsMeet}
 use Rattle.sdf_actor.specs.Nets.{wiring, answers}
 use Rattle.sdf_actor.specs.Steps.{Steps}
@@ -17,7 +17,7 @@ use Rattle.sdf_actor.proofs.Dealt.{put_is_dealt as is_dealt}
 use Rattle.sdf_actor.proofs.GoesOn.{begin_anew as rates_begin_anew, between_past as part_past}
 use Rattle.sdf_actor.proofs.HistoryLaws.{history_is_unique as is_unique, histories_grow as all_grow}
 use Rattle.sdf_actor.proofs.Locals.{local_begins, local_grows, locals_are_history}
-use Rattle.sdf_actor.proofs.Making.{is_lawful}
+use Rattle.sdf_actor.proofs.Making.{is_lawful, block_small}
 use Rattle.sdf_actor.proofs.Netlists.{wired, to_port_is, from_port_is}
 use Rattle.sdf_actor.proofs.Pieces.{between_agree as parts_agree, take_on as front_goes_on, take_begun}
 use Rattle.sdf_actor.proofs.Pieces.{flat_map_same as all_same, flat_map_apart as all_apart}
@@ -31,6 +31,9 @@ histories_grow = all_grow
 
 pub accepted_is_lawful : {A S T : Type 0} (s : Steps A S T) → AcceptedIsLawful s
 accepted_is_lawful = is_lawful
+
+pub blocks_are_rates : {A S T : Type 0} (s : Steps A S T) → BlocksAreRates s
+blocks_are_rates s n good shape = block_small s n good shape
 
 pub nets_are_wired : {A S T : Type 0} (s : Steps A S T) → NetsAreWired s
 nets_are_wired = wired

@@ -46,12 +46,20 @@ module _ {A S T : Type 0} (s : Steps A S T) (n : Netlist A T) where
       ∙ length-map-range_with_len (rate_of s Input (node n (wire n c).to.0) (wire n c).to.1) 0
       (cycle_of s (node n (wire n c).to.0))
 
-  -- the rates of a firing are those of its phase
-  turn : (cycle : List ℕ) (many i : ℕ) → length cycle ≡ many → rate_at cycle i ≡ rate_at cycle (i % many)
-  turn cycle many i e = ap (λ k. get_or cycle k 0) (sym (mod-mod i (length cycle)) ∙ ap (λ m. i % m % length cycle) e)
-
-  sum_more : (f : ℕ → ℕ) (i : ℕ) → sum_to f (i + 1) ≡ sum_to f i + f i
-  sum_more f i = rw add-one refl
+  -- a firing moves on a channel what the row of its phase says
+  moved_more : (on : Edge → List ℕ) (row : List ℕ) (many i c : ℕ) → c < length (graph_of s n).channels →
+      row ≡ map (λ (e : Edge). rate_at (on e) (i % many)) (graph_of s n).channels →
+      length (on (channel (graph_of s n) c)) ≡ many →
+      sum_to (rate_at (on (channel (graph_of s n) c))) (i + 1) ≡
+      sum_to (rate_at (on (channel (graph_of s n) c))) i + get_or row c 0
+  moved_more on row many i c known is all =
+      let cycle : List ℕ = on (channel (graph_of s n) c) in
+      let size : get_or row c 0 ≡ rate_at cycle (i % many) = ap (λ xs. get_or xs c 0) is
+      ∙ get_or-map (λ (e : Edge). rate_at (on e) (i % many)) (graph_of s n).channels c no_channel 0 known in
+      let turn : rate_at cycle i ≡ rate_at cycle (i % many) =
+      ap (λ k. get_or cycle k 0) (sym (mod-mod i (length cycle)) ∙ ap (λ m. i % m % length cycle) all) in
+      let more : sum_to (rate_at cycle) (i + 1) ≡ sum_to (rate_at cycle) i + rate_at cycle i = rw add-one refl in
+      omega (arith, more, size, turn)
 
   module _ (alike : IsAlike (rates (graph_of s n)) (wiring s n).rates)
       (some : (a : ℕ) → a < length n.nodes → 0 < cycle_of s (node n a))
@@ -78,35 +86,21 @@ module _ {A S T : Type 0} (s : Steps A S T) (n : Netlist A T) where
                 ∙ (length-map (graph_of s n).channels (λ (e : Edge). rate_at e.put j) ∙ wires_all);
             taken = λ c h e.
                 let known : c < length (graph_of s n).channels = omega (arith, wires_all, h) in
-                let size : get_or (at_phase takes j) c 0 ≡ rate_at (channel (graph_of s n) c).take j =
-                ap (λ xs. get_or xs c 0) (takes_are j (below a i l))
-                ∙ get_or-map (λ (e : Edge). rate_at e.take j) (graph_of s n).channels c no_channel 0 known in
-                let same : rate_at (channel (graph_of s n) c).take i ≡ rate_at (channel (graph_of s n) c).take j =
-                turn (channel (graph_of s n) c).take (cycle_of s (node n a)) i
-                (take_long c h ∙ ap (λ b. cycle_of s (node n b)) e) in
                 omega (
                   arith,
                   alike.consumed c i known,
                   alike.consumed c (i + 1) known,
-                  sum_more (rate_at (channel (graph_of s n) c).take) i,
-                  size,
-                  same,
+                  moved_more (λ (d : Edge). d.take) (at_phase takes j) (cycle_of s (node n a)) i c known
+                      (takes_are j (below a i l)) (take_long c h ∙ ap (λ b. cycle_of s (node n b)) e),
                 );
             put = λ c h e.
                 let known : c < length (graph_of s n).channels = omega (arith, wires_all, h) in
-                let size : get_or (at_phase puts j) c 0 ≡ rate_at (channel (graph_of s n) c).put j =
-                ap (λ xs. get_or xs c 0) (puts_are j (below a i l))
-                ∙ get_or-map (λ (e : Edge). rate_at e.put j) (graph_of s n).channels c no_channel 0 known in
-                let same : rate_at (channel (graph_of s n) c).put i ≡ rate_at (channel (graph_of s n) c).put j =
-                turn (channel (graph_of s n) c).put (cycle_of s (node n a)) i
-                (put_long c h ∙ ap (λ b. cycle_of s (node n b)) e) in
                 omega (
                   arith,
                   alike.produced c i known,
                   alike.produced c (i + 1) known,
-                  sum_more (rate_at (channel (graph_of s n) c).put) i,
-                  size,
-                  same,
+                  moved_more (λ (d : Edge). d.put) (at_phase puts j) (cycle_of s (node n a)) i c known
+                      (puts_are j (below a i l)) (put_long c h ∙ ap (λ b. cycle_of s (node n b)) e),
                 );
           };
     }

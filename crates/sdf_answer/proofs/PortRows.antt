@@ -7,10 +7,11 @@ use Rattle.std.proofs.lemmas.Nat.{mod_below}
 use Rattle.sdf_actor.specs.declared.sides.Side.{Side}
 use Rattle.sdf_actor.specs.declared.sides.Side.TheVariants.{Input, Output}
 use Rattle.sdf_actor.specs.Steps.{Steps}
-use Rattle.sdf_actor.specs.Nets.{Netlist, node, wire, to_port, from_port, cycle_of, consumed_at, produced_at, IsNet}
+use Rattle.sdf_actor.specs.Nets.{Netlist, node, to_port, from_port, cycle_of, consumed_at, produced_at, IsNet}
 use Rattle.sdf_actor.specs.Sides.{ports_of, channel_at, channels_at}
 use Rattle.sdf_actor.proofs.Theorems.{nets_are_wired, ports_have_channels}
 use Rattle.sdf_answer.specs.Sizes.{Rows, AreSizes, AreRows, IsPlan, at_phase, phase_of, rows_on, sizes}
+use Rattle.sdf_answer.proofs.Routes.{at_end}
 
 module _ {A S T : Type 0} {s : Steps A S T} {n : Netlist A T} {z : Rows} (good : IsNet s n) (are : AreSizes s n z)
     (a : ℕ) (known : a < length n.nodes) where
@@ -37,22 +38,12 @@ module _ {A S T : Type 0} {s : Steps A S T} {n : Netlist A T} {z : Rows} (good :
       sizes s side (node n a) k p
   moves Input k p h =
       let is = (ports_have_channels s n a p good known).0 h in
-      let c : ℕ = to_port n a p in
-      let all = (are.plan a k known).taken c (good.to_all a p known h) is.0 in
-      let after : consumed_at s (node n (wire n c).to.0) (wire n c).to.1 (k + 1) ≡ consumed_at s (node n a) p (k + 1) =
-      λ j. consumed_at s (node n (is.0 j)) (is.1 j) (k + 1) in
-      let before : consumed_at s (node n (wire n c).to.0) (wire n c).to.1 k ≡ consumed_at s (node n a) p k =
-      λ j. consumed_at s (node n (is.0 j)) (is.1 j) k in
-      omega (arith, all, after, before)
+      let all = (are.plan a k known).taken (to_port n a p) (good.to_all a p known h) is.0 in
+      omega (arith, all, at_end n (consumed_at s) is (k + 1), at_end n (consumed_at s) is k)
   moves Output k p h =
       let is = (ports_have_channels s n a p good known).1 h in
-      let c : ℕ = from_port n a p in
-      let all = (are.plan a k known).put c (good.from_all a p known h) is.0 in
-      let after : produced_at s (node n (wire n c).from.0) (wire n c).from.1 (k + 1) ≡
-      produced_at s (node n a) p (k + 1) = λ j. produced_at s (node n (is.0 j)) (is.1 j) (k + 1) in
-      let before : produced_at s (node n (wire n c).from.0) (wire n c).from.1 k ≡ produced_at s (node n a) p k =
-      λ j. produced_at s (node n (is.0 j)) (is.1 j) k in
-      omega (arith, all, after, before)
+      let all = (are.plan a k known).put (from_port n a p) (good.from_all a p known h) is.0 in
+      omega (arith, all, at_end n (produced_at s) is (k + 1), at_end n (produced_at s) is k)
 
   pub are_rows : (side : Side) (rows : List (List ℕ)) → length rows ≡ cycle_of s (node n a) →
       ((j : ℕ) → j < cycle_of s (node n a) → at_phase rows j ≡

@@ -63,6 +63,11 @@ produced_more s (Source ext block) p i h = omega arith
 produced_more s (Sink ext block) p i h = absurd (omega (arith, h))
 produced_more s (Inner x) p i h = rw add-one refl
 
+-- what a node moves at an end of a channel, by the node and port that it is
+pub at_end : {A T : Type 0} (n : Netlist A T) (f : Node A → ℕ → ℕ → ℕ) {b q a p : ℕ} → (b ≡ a) × (q ≡ p) → (k : ℕ) →
+    f (node n b) q k ≡ f (node n a) p k
+at_end n f is k = λ j. f (node n (is.0 j)) (is.1 j) k
+
 module _ {A S T : Type 0} {s : Steps A S T} {n : Netlist A T} (good : IsNet s n) where
   pub at_port : (a p d : ℕ) → p < inputs_of s (node n a) → get_or ((wiring s n).ins a) p d ≡ to_port n a p
   at_port a p d h = get_or-map-range_with_len (to_port n a) 0 (inputs_of s (node n a)) p p d h (omega arith)
@@ -116,15 +121,13 @@ module _ {A S T : Type 0} {s : Steps A S T} {n : Netlist A T} (good : IsNet s n)
         (inputs_of s (node n a))
         (λ p h.
         let is = (ports_have_channels s n a p good l).0 h in
-        let c : ℕ = to_port n a p in
-        let all : consumed_at s (node n (wire n c).to.0) (wire n c).to.1 (i + 1) ≡
-        consumed_at s (node n (wire n c).to.0) (wire n c).to.1 i + get_or takes c 0 =
-        plan.taken c (good.to_all a p l h) is.0 in
-        let after : consumed_at s (node n (wire n c).to.0) (wire n c).to.1 (i + 1) ≡
-        consumed_at s (node n a) p (i + 1) = λ j. consumed_at s (node n (is.0 j)) (is.1 j) (i + 1) in
-        let before : consumed_at s (node n (wire n c).to.0) (wire n c).to.1 i ≡ consumed_at s (node n a) p i =
-        λ j. consumed_at s (node n (is.0 j)) (is.1 j) i in
-        omega (arith, consumed_more s (node n a) p i h))
+        omega (
+          arith,
+          plan.taken (to_port n a p) (good.to_all a p l h) is.0,
+          at_end n (consumed_at s) is (i + 1),
+          at_end n (consumed_at s) is i,
+          consumed_more s (node n a) p i h,
+        ))
         0 (inputs_of s (node n a)) (omega arith)
 
     pub sum_put : sum_by (λ c. get_or puts c 0) ((wiring s n).outs a) ≡ out_all s (node n a) i
@@ -133,13 +136,11 @@ module _ {A S T : Type 0} {s : Steps A S T} {n : Netlist A T} (good : IsNet s n)
         (outputs_of s (node n a))
         (λ p h.
         let is = (ports_have_channels s n a p good l).1 h in
-        let c : ℕ = from_port n a p in
-        let all : produced_at s (node n (wire n c).from.0) (wire n c).from.1 (i + 1) ≡
-        produced_at s (node n (wire n c).from.0) (wire n c).from.1 i + get_or puts c 0 =
-        plan.put c (good.from_all a p l h) is.0 in
-        let after : produced_at s (node n (wire n c).from.0) (wire n c).from.1 (i + 1) ≡
-        produced_at s (node n a) p (i + 1) = λ j. produced_at s (node n (is.0 j)) (is.1 j) (i + 1) in
-        let before : produced_at s (node n (wire n c).from.0) (wire n c).from.1 i ≡ produced_at s (node n a) p i =
-        λ j. produced_at s (node n (is.0 j)) (is.1 j) i in
-        omega (arith, produced_more s (node n a) p i h))
+        omega (
+          arith,
+          plan.put (from_port n a p) (good.from_all a p l h) is.0,
+          at_end n (produced_at s) is (i + 1),
+          at_end n (produced_at s) is i,
+          produced_more s (node n a) p i h,
+        ))
         0 (outputs_of s (node n a)) (omega arith)

@@ -30,7 +30,7 @@ nets_have_periods s n accepted p period =
 
 pub blocks_are_small : {A S T : Type 0} (s : Steps A S T) → BlocksAreSmall s
 blocks_are_small s n accepted =
-    let facts = has_facts s n accepted in blocks_small s n facts.net facts.graph facts.alike
+    let facts = has_facts s n accepted in blocks_small s n facts.net facts.graph
 
 pub nets_can_run : {A S T : Type 0} (s : Steps A S T) → NetsCanRun s
 nets_can_run = can_run

@@ -58,11 +58,16 @@ short_front xs peak w low = each1 (FitsSigned w16) xs
     fits_signed_from_abs w16 (get_or xs k (pos 0)) (omega arith))
 
 -- the numbers that are held have 16 bits
-pub high_short : (way : Way) (high low : List ℤ) (n : ℕ) (limits : Limits) → AreHeld way high low n limits →
+high_short : (way : Way) (high low : List ℤ) (n : ℕ) (limits : Limits) → AreHeld way high low n limits →
     Each1 (FitsSigned w16) (take n high)
 high_short Quiet high low n limits are = short_front (take n high) limits.peak are.within are.small
 high_short Wide high low n limits are = are.within.1
 high_short Split high low n limits are = short_front (take n high) limits.peak are.within.0 are.small
+
+pub high_fits : {way : Way} {high low x : List ℤ} {n : ℕ} {limits : Limits} → AreHeld way high low n limits →
+    x ≡ take n high → Each1 (FitsSigned w16) x
+high_fits {way} {high} {low} {x} {n} {limits} are is =
+    subst (λ xs. Each1 (FitsSigned w16) xs) (sym is) (high_short way high low n limits are)
 
 pub low_short : (high low : List ℤ) (n : ℕ) (limits : Limits) → AreHeld Split high low n limits →
     Each1 (FitsSigned w16) (take n low)
@@ -153,20 +158,23 @@ module _ {way : Way} {high low : List ℤ} {n : ℕ} {limits : Limits} (are : Ar
       ∙ (ap (λ y. wrap (dot h (seen h y at))) is
       ∙ (quiet_value h high low n at limits (held_are Quiet e) branch_held.quiet (room_as Quiet e at room)).0)))
 
-  -- where the samples x have 16 bits
-  pub wide_small : (x : List ℤ) → Each1 (FitsSigned w16) x → (at : ℕ) →
-      unsigned_abs (dot h (seen h x at)) ≤ 2 ^ 56
-  wide_small x short at =
+  -- by a sum a in 64 bits
+  pub wide_small : {x : List ℤ} → x ≡ take n high → (at : ℕ) → unsigned_abs (dot h (seen h x at)) ≤ 2 ^ 56
+  wide_small {x} is at =
       let small = dot_small h (seen h x at) branch_held.vectors.short
-      (Each1-chunk (FitsSigned w16) at (length h) x short) in
+      (Each1-chunk (FitsSigned w16) at (length h) x (high_fits are is)) in
       omega (arith, branch_held.vectors.few)
 
-  pub wide_sent : (x : List ℤ) → Each1 (FitsSigned w16) x → (at : ℕ) → {a : ℤ} → a ≡ dot h (seen h x at) →
+  pub wide_sent : {x : List ℤ} → x ≡ take n high → (at : ℕ) → {a : ℤ} → a ≡ dot h (seen h x at) →
       to_z w64 (of_z w64 a) ≡ dot h (seen h x at)
-  wide_sent x short at {a} is =
+  wide_sent {x} is at {a} sums =
       let fits : FitsSigned w64 (dot h (seen h x at)) =
-      fits_signed_from_abs w64 (dot h (seen h x at)) (omega (arith, wide_small x short at)) in
-      to_z-of_z w64 a (subst (FitsSigned w64) (sym is) fits) ∙ is
+      fits_signed_from_abs w64 (dot h (seen h x at)) (omega (arith, wide_small is at)) in
+      to_z-of_z w64 a (subst (FitsSigned w64) (sym sums) fits) ∙ sums
+
+  pub wide_settles : {x : List ℤ} → x ≡ take n high → (at : ℕ) → {a : ℤ} → a ≡ dot h (seen h x at) →
+      unsigned_abs (to_z w64 (of_z w64 a)) ≤ 2 ^ 56
+  wide_settles is at sums = subst (λ z. unsigned_abs z ≤ 2 ^ 56) (sym (wide_sent is at sums)) (wide_small is at)
 
   pub wide_output : way ≡ Wide → {x : List ℤ} → x ≡ take n high → (a : ℤ) {r : ℤ} (at shift : ℕ) →
       a ≡ dot h (seen h x at) → r ≡ settled a shift → FitsSigned w32 r →

@@ -1,21 +1,16 @@
-use Rattle.std.proofs.Common.{◌+◌, ◌*◌, ap, get_or, pos, FitsSigned, sym, subst, refl, inl, inr, unsigned_abs}
-use Rattle.std.proofs.Common.{◌≤◌, ◌^◌, arith}
+use Rattle.std.proofs.Common.{◌+◌, ◌*◌, ap, get_or, pos, FitsSigned, sym, subst, refl, inl, inr, arith}
 use Rattle.std.specs.Int.{w16}
 use Rattle.std.specs.Simd.Lanes.{Each1}
 use Rattle.sdf_kit.specs.declared.window.Way.TheVariants.{Split}
-use Rattle.sdf_kit.proofs.Windows.{high_short, low_short, front_long, read, held_are, quiet_small, quiet_output}
-use Rattle.sdf_kit.proofs.Windows.{wide_small, wide_sent, wide_output, split_output}
+use Rattle.sdf_kit.proofs.Windows.{high_fits, low_short, front_long, read, held_are, quiet_small, quiet_output}
+use Rattle.sdf_kit.proofs.Windows.{wide_sent, wide_settles, wide_output, split_output}
 use Rattle.sdf_kit.proofs.window.Window.four.Goals as goal
 
 pub four_dots-a-requires-clause-samples : goal.four_dots-a-requires-clause-samples
-four_dots-a-requires-clause-samples c = subst (λ xs. Each1 (FitsSigned w16) xs) (sym c.front-high.ensures)
-    (high_short c.self.inside.way c.self.inside.high c.self.inside.low c.self.inside.len c.self.inside.limits
-    c.self.invariant)
+four_dots-a-requires-clause-samples c = high_fits c.self.invariant c.front-high.ensures
 
 pub four_dots-a-requires-in-Split-clause-samples : goal.four_dots-a-requires-in-Split-clause-samples
-four_dots-a-requires-in-Split-clause-samples c = subst (λ xs. Each1 (FitsSigned w16) xs) (sym c.front-high.ensures)
-    (high_short c.self.inside.way c.self.inside.high c.self.inside.low c.self.inside.len c.self.inside.limits
-    c.self.invariant)
+four_dots-a-requires-in-Split-clause-samples c = high_fits c.self.invariant c.front-high.ensures
 
 pub four_dots-b-requires-clause-samples : goal.four_dots-b-requires-clause-samples
 four_dots-b-requires-clause-samples c = subst (λ xs. Each1 (FitsSigned w16) xs) (sym c.front.ensures)
@@ -60,53 +55,23 @@ settle_small-requires-in-Quiet-3-clause-small c =
 
 pub settle-requires-clause-small : goal.settle-requires-clause-small
 settle-requires-clause-small c =
-    let short : Each1 (FitsSigned w16) c.front-high.result.now =
-    subst (λ xs. Each1 (FitsSigned w16) xs) (sym c.front-high.ensures)
-    (high_short c.self.inside.way c.self.inside.high c.self.inside.low c.self.inside.len c.self.inside.limits
-    c.self.invariant) in
-    subst (λ z. unsigned_abs z ≤ 2 ^ 56)
-    (sym (wide_sent c.self.invariant c.self.view_is c.requires.branch c.front-high.result.now short c.args.at
-    c.four_wide_dots-sums.ensures.a))
-    (wide_small c.self.invariant c.self.view_is c.requires.branch c.front-high.result.now short c.args.at)
+    wide_settles c.self.invariant c.self.view_is c.requires.branch c.front-high.ensures c.args.at
+    c.four_wide_dots-sums.ensures.a
 
 pub settle-requires-in-Wide-clause-small : goal.settle-requires-in-Wide-clause-small
 settle-requires-in-Wide-clause-small c =
-    let short : Each1 (FitsSigned w16) c.front-high.result.now =
-    subst (λ xs. Each1 (FitsSigned w16) xs) (sym c.front-high.ensures)
-    (high_short c.self.inside.way c.self.inside.high c.self.inside.low c.self.inside.len c.self.inside.limits
-    c.self.invariant) in
-    subst (λ z. unsigned_abs z ≤ 2 ^ 56)
-    (sym (wide_sent c.self.invariant c.self.view_is c.requires.branch c.front-high.result.now short
-    (c.args.at + c.args.step)
-    c.four_wide_dots-sums.ensures.b))
-    (wide_small c.self.invariant c.self.view_is c.requires.branch c.front-high.result.now short
-    (c.args.at + c.args.step))
+    wide_settles c.self.invariant c.self.view_is c.requires.branch c.front-high.ensures (c.args.at + c.args.step)
+    c.four_wide_dots-sums.ensures.b
 
 pub settle-requires-in-Wide-2-clause-small : goal.settle-requires-in-Wide-2-clause-small
 settle-requires-in-Wide-2-clause-small c =
-    let short : Each1 (FitsSigned w16) c.front-high.result.now =
-    subst (λ xs. Each1 (FitsSigned w16) xs) (sym c.front-high.ensures)
-    (high_short c.self.inside.way c.self.inside.high c.self.inside.low c.self.inside.len c.self.inside.limits
-    c.self.invariant) in
-    subst (λ z. unsigned_abs z ≤ 2 ^ 56)
-    (sym (wide_sent c.self.invariant c.self.view_is c.requires.branch c.front-high.result.now short
-    (c.args.at + 2 * c.args.step)
-    c.four_wide_dots-sums.ensures.c))
-    (wide_small c.self.invariant c.self.view_is c.requires.branch c.front-high.result.now short
-    (c.args.at + 2 * c.args.step))
+    wide_settles c.self.invariant c.self.view_is c.requires.branch c.front-high.ensures (c.args.at + 2 * c.args.step)
+    c.four_wide_dots-sums.ensures.c
 
 pub settle-requires-in-Wide-3-clause-small : goal.settle-requires-in-Wide-3-clause-small
 settle-requires-in-Wide-3-clause-small c =
-    let short : Each1 (FitsSigned w16) c.front-high.result.now =
-    subst (λ xs. Each1 (FitsSigned w16) xs) (sym c.front-high.ensures)
-    (high_short c.self.inside.way c.self.inside.high c.self.inside.low c.self.inside.len c.self.inside.limits
-    c.self.invariant) in
-    subst (λ z. unsigned_abs z ≤ 2 ^ 56)
-    (sym (wide_sent c.self.invariant c.self.view_is c.requires.branch c.front-high.result.now short
-    (c.args.at + 3 * c.args.step)
-    c.four_wide_dots-sums.ensures.d))
-    (wide_small c.self.invariant c.self.view_is c.requires.branch c.front-high.result.now short
-    (c.args.at + 3 * c.args.step))
+    wide_settles c.self.invariant c.self.view_is c.requires.branch c.front-high.ensures (c.args.at + 3 * c.args.step)
+    c.four_wide_dots-sums.ensures.d
 
 pub returns-in-Quiet : goal.returns-in-Quiet
 returns-in-Quiet c =
@@ -130,26 +95,22 @@ returns-in-Quiet c =
 
 pub returns-in-Wide : goal.returns-in-Wide
 returns-in-Wide c =
-    let short : Each1 (FitsSigned w16) c.front-high.result.now =
-    subst (λ xs. Each1 (FitsSigned w16) xs) (sym c.front-high.ensures)
-    (high_short c.self.inside.way c.self.inside.high c.self.inside.low c.self.inside.len c.self.inside.limits
-    c.self.invariant) in
     let r0 = wide_output c.self.invariant c.self.view_is c.requires.branch c.in-Wide.is c.front-high.ensures
     _ c.args.at c.args.shift
-    (wide_sent c.self.invariant c.self.view_is c.requires.branch c.front-high.result.now short c.args.at
+    (wide_sent c.self.invariant c.self.view_is c.requires.branch c.front-high.ensures c.args.at
     c.four_wide_dots-sums.ensures.a) c.settle.ensures (record { sfits = c.settle.type_inv }) in
     let r1 = wide_output c.self.invariant c.self.view_is c.requires.branch c.in-Wide.is c.front-high.ensures
     _ (c.args.at + c.args.step) c.args.shift
-    (wide_sent c.self.invariant c.self.view_is c.requires.branch c.front-high.result.now short (c.args.at + c.args.step)
+    (wide_sent c.self.invariant c.self.view_is c.requires.branch c.front-high.ensures (c.args.at + c.args.step)
     c.four_wide_dots-sums.ensures.b) c.settle-in-Wide.ensures (record { sfits = c.settle-in-Wide.type_inv }) in
     let r2 = wide_output c.self.invariant c.self.view_is c.requires.branch c.in-Wide.is c.front-high.ensures
     _ (c.args.at + 2 * c.args.step) c.args.shift
-    (wide_sent c.self.invariant c.self.view_is c.requires.branch c.front-high.result.now short
+    (wide_sent c.self.invariant c.self.view_is c.requires.branch c.front-high.ensures
     (c.args.at + 2 * c.args.step)
     c.four_wide_dots-sums.ensures.c) c.settle-in-Wide-2.ensures (record { sfits = c.settle-in-Wide-2.type_inv }) in
     let r3 = wide_output c.self.invariant c.self.view_is c.requires.branch c.in-Wide.is c.front-high.ensures
     _ (c.args.at + 3 * c.args.step) c.args.shift
-    (wide_sent c.self.invariant c.self.view_is c.requires.branch c.front-high.result.now short
+    (wide_sent c.self.invariant c.self.view_is c.requires.branch c.front-high.ensures
     (c.args.at + 3 * c.args.step)
     c.four_wide_dots-sums.ensures.d) c.settle-in-Wide-3.ensures (record { sfits = c.settle-in-Wide-3.type_inv }) in
     rw (r0, r1, r2, r3) refl

@@ -4,19 +4,15 @@ use Rattle.std.specs.Simd.Lanes.{Each1}
 use Rattle.std.proofs.lemmas.Int.{to_z-of_z}
 use Rattle.sdf_kit.specs.Dots.{dot}
 use Rattle.sdf_kit.specs.declared.window.Way.TheVariants.{Split}
-use Rattle.sdf_kit.proofs.Windows.{high_short, low_short, front_long, passed, held_are, quiet_small, quiet_output}
+use Rattle.sdf_kit.proofs.Windows.{high_fits, low_short, front_long, passed, held_are, quiet_small, quiet_output}
 use Rattle.sdf_kit.proofs.Windows.{wide_small, wide_output, split_output}
 use Rattle.sdf_kit.proofs.window.Window.one.Goals as goal
 
 pub one_dot-requires-clause-samples : goal.one_dot-requires-clause-samples
-one_dot-requires-clause-samples c = subst (λ xs. Each1 (FitsSigned w16) xs) (sym c.front-high.ensures)
-    (high_short c.self.inside.way c.self.inside.high c.self.inside.low c.self.inside.len c.self.inside.limits
-    c.self.invariant)
+one_dot-requires-clause-samples c = high_fits c.self.invariant c.front-high.ensures
 
 pub one_dot-a-requires-clause-samples : goal.one_dot-a-requires-clause-samples
-one_dot-a-requires-clause-samples c = subst (λ xs. Each1 (FitsSigned w16) xs) (sym c.front-high.ensures)
-    (high_short c.self.inside.way c.self.inside.high c.self.inside.low c.self.inside.len c.self.inside.limits
-    c.self.invariant)
+one_dot-a-requires-clause-samples c = high_fits c.self.invariant c.front-high.ensures
 
 pub one_dot-b-requires-clause-samples : goal.one_dot-b-requires-clause-samples
 one_dot-b-requires-clause-samples c = subst (λ xs. Each1 (FitsSigned w16) xs) (sym c.front.ensures)
@@ -42,10 +38,7 @@ settle-requires-clause-small c =
     subst (λ z. unsigned_abs z ≤ 2 ^ 56)
     (sym (to_z-of_z w64 c.wide_dot.result (record { sfits = c.wide_dot.type_inv })
     ∙ (c.wide_dot.ensures ∙ ap (dot c.args.branch.taps.now) c.piece.ensures)))
-    (wide_small c.self.invariant c.self.view_is c.requires.branch c.front-high.result.now
-    (subst (λ xs. Each1 (FitsSigned w16) xs) (sym c.front-high.ensures)
-    (high_short c.self.inside.way c.self.inside.high c.self.inside.low c.self.inside.len c.self.inside.limits
-    c.self.invariant)) c.args.at)
+    (wide_small c.self.invariant c.self.view_is c.requires.branch c.front-high.ensures c.args.at)
 
 pub returns-in-Quiet : goal.returns-in-Quiet
 returns-in-Quiet c =
