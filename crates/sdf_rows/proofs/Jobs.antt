@@ -6,14 +6,26 @@ use Rattle.std.proofs.lemmas.List.{length-append, length-take-le, same_lists, ge
 use Rattle.std.proofs.lemmas.List.Sums.{sum_by-cons}
 use Rattle.sdf_actor.specs.Steps.{Steps}
 use Rattle.sdf_actor.specs.declared.node.Node.{Node}
+use Rattle.sdf_actor.specs.declared.node.Node.TheVariants.{Source, Sink, Inner}
 use Rattle.sdf_actor.specs.Nets.{Netlist, node, wiring}
-use Rattle.sdf_node.specs.Nodes.{puts_of, CanStep}
+use Rattle.sdf_node.specs.Nodes.{takes_of, puts_of, CanStep}
 use Rattle.sdf_rows.specs.declared.job.Job.{Job}
 use Rattle.sdf_answer.specs.Held.{Held}
 use Rattle.sdf_answer.specs.Blocks.{samples, HoldBlocks, front}
-use Rattle.sdf_answer.specs.Sizes.{Rows, at_phase}
+use Rattle.sdf_answer.specs.Sizes.{Rows, at_phase, phase_of, in_all, out_all}
 use Rattle.sdf_rows.specs.Jobs.{JobFits}
 use Rattle.sdf_rows.specs.Stage.{actors_of}
+
+-- what a firing moves in all is that of its phase
+pub in_is : {A S T : Type 0} (s : Steps A S T) (x : Node A) (i : ℕ) → in_all s x i ≡ takes_of s x (phase_of s x i)
+in_is s (Source ext block) i = refl
+in_is s (Sink ext block) i = omega arith
+in_is s (Inner x) i = refl
+
+pub out_is : {A S T : Type 0} (s : Steps A S T) (x : Node A) (i : ℕ) → out_all s x i ≡ puts_of s x (phase_of s x i)
+out_is s (Source ext block) i = omega arith
+out_is s (Sink ext block) i = refl
+out_is s (Inner x) i = refl
 
 -- jobs of these actors
 pub actors_are : {A S T : Type 0} (jobs : List (Job A T S)) (acts : List ℕ) → length jobs ≡ length acts →

@@ -1,6 +1,6 @@
 -- A row's firings settled, one by one.
 use Rattle.std.proofs.Common.{◌≡◌, ℕ, ◌+◌, ◌*◌, ◌^◌, ◌≤◌, ◌<◌, List, [], ◌∷◌, ◌++◌, length, get_or, set, take, drop}
-use Rattle.std.proofs.Common.{refl, sym, ap, ◌∙◌, subst, inl, inr, ◌⊎◌, arith}
+use Rattle.std.proofs.Common.{sym, ap, ◌∙◌, subst, inl, inr, ◌⊎◌, arith}
 use Rattle.std.specs.List.{sum_by}
 use Rattle.std.proofs.Math.Nat.{mul-le-mul_left}
 use Rattle.std.proofs.lemmas.List.{length-drop, get_or-set_same, get_or-set_other, length-set}
@@ -21,23 +21,13 @@ use Rattle.sdf_node.specs.declared.node.NodeState.{NodeState}
 use Rattle.sdf_rows.specs.declared.job.Job.{Job}
 use Rattle.sdf_answer.specs.Held.{Held}
 use Rattle.sdf_answer.specs.Blocks.{samples, room, at_ports, ArePorts, HoldBlocks}
-use Rattle.sdf_answer.specs.Sizes.{Rows, IsPlan, AreSizes, at_phase, phase_of, in_all, out_all}
+use Rattle.sdf_answer.specs.Sizes.{Rows, IsPlan, AreSizes, at_phase, phase_of}
 use Rattle.sdf_rows.specs.Stage.{CanSettle, HasSettled}
 use Rattle.sdf_rows.specs.Stands.{IsBack, IsStage, IsSettling}
 use Rattle.sdf_answer.specs.Laws.{FiringsMoveOn}
 use Rattle.sdf_answer.specs.Moves.{FitsPorts, MovesOn}
 use Rattle.sdf_answer.proofs.Theorems.{plans_fit}
-
--- what a firing moves in all is that of its phase
-pub in_is : {A S T : Type 0} (s : Steps A S T) (x : Node A) (i : ℕ) → in_all s x i ≡ takes_of s x (phase_of s x i)
-in_is s (Source ext block) i = refl
-in_is s (Sink ext block) i = omega arith
-in_is s (Inner x) i = refl
-
-pub out_is : {A S T : Type 0} (s : Steps A S T) (x : Node A) (i : ℕ) → out_all s x i ≡ puts_of s x (phase_of s x i)
-out_is s (Source ext block) i = omega arith
-out_is s (Sink ext block) i = refl
-out_is s (Inner x) i = refl
+use Rattle.sdf_rows.proofs.Jobs.{in_is, out_is}
 
 -- inputs that are long enough are so for fewer firings
 reach_within : {A T : Type 0} (inputs : List (List T)) (k m : ℕ → ℕ) (a : ℕ) (x : Node A) → k a ≤ m a →
@@ -292,8 +282,7 @@ module _ {A S T : Type 0} {s : Steps A S T} {n : Netlist A T} {z : Rows} {inputs
     W = after_firing s n inputs k V a
 
     moves : MovesOn s n inputs k m a V (at_phase z.takes job.phase) (at_phase z.puts job.phase) (samples ls)
-    moves = x.moves n inputs k m a V (at_phase z.takes job.phase) (at_phase z.puts job.phase)
-        (samples ls) x.good
+    moves = x.moves n inputs k m a V (at_phase z.takes job.phase) (at_phase z.puts job.phase) (samples ls) x.good
         known on one others reach st.is sized st.left
 
     left_then : (c : ℕ) → c < length n.wires → samples ls' c ≡

@@ -1,7 +1,6 @@
 -- Lists with others behind them.
-use Rattle.std.proofs.Common.{◌≡◌, ℕ, zero, suc, ◌≤◌, List, [], ◌∷◌, length, get_or, refl, sym, ap, append-nil, arith}
+use Rattle.std.proofs.Common.{◌≡◌, ℕ, zero, suc, List, [], ◌∷◌, length, get_or, refl, sym, ap, append-nil, arith}
 use Rattle.std.proofs.lemmas.List.{ext_get_or}
-use Rattle.sdf_split.specs.Cuts.{join}
 use Rattle.sdf_split.specs.Laws.{ListsJoin, JoinedAreAsMany}
 
 pub joined_is : {T : Type 0} → ListsJoin T
