@@ -47,7 +47,7 @@ none_ahead b g f none flows = record {
       (let z : 0 * b.blocking * (exchange_in b).made ≡ 0 = omega arith in z));
 }
 
--- frames in whole lists can be written, if so many are owed
+-- whole frames can be written, if no fewer are owed
 pub can_put : {Z : Type 0} (o : Owed) (channels frames : ℕ) (made ps : List (Vec ℤ Z)) → o.channels ≡ channels →
     ps ≡ made → AreWhole channels frames (items_of made) → frames ≤ o.missing → CanPut o (items_of ps)
 can_put {Z} o channels frames made ps same is whole fewer = (frames, rw (is, same) whole, fewer)
