@@ -71,6 +71,11 @@ module _ {A S T : Type 0} {s : Steps A S T} {n : Netlist A T} {inputs : List (Li
       ∙ ((λ i. get_or (at_phase rows (one i k)) p 0)
       ∙ ((λ i. get_or (at_phase rows (sym one i x.done)) p 0) ∙ are.each x.done p l))
 
+-- and is always at its phase
+pub at_zero : {A S T : Type 0} {s : Steps A S T} {n : Netlist A T} {inputs : List (List T)} {x : Stand A T S} →
+    IsStand s n inputs x → GoesInRuns s n x.actor → 0 ≡ phase_at x.state
+at_zero {x = x} st goes = sym (phase_is st ∙ (ap (λ c. x.done % c) goes.one_phase ∙ mod-one x.done))
+
 -- what so many of its firings take or put at each port, where each moves the same
 module _ {A S T : Type 0} (s : Steps A S T) (n : Netlist A T) (x : Stand A T S) (many : ℕ) where
   abbrev pub run_in : List T → ℕ → List T
@@ -196,7 +201,7 @@ module _ {A S T : Type 0} {s : Steps A S T} {n : Netlist A T} (good : IsNet s n)
 
   -- by the rows of its one phase
   pub zero_phase : 0 ≡ phase_at x.state
-  zero_phase = sym (phase_is st ∙ (λ k. one k x.done))
+  zero_phase = at_zero st can.goes
 
   module _ {z : Node A} (z_is : z ≡ node n x.actor) {r : RunBlocks} where
     pub in_ports : r.size ≡ takes_of s z 0 → r.sizes.now ≡ at_phase (lists x.takes.items) 0 → {ports : ℕ} →
@@ -313,11 +318,8 @@ module _ {A S T : Type 0} {s : Steps A S T} {n : Netlist A T} {inputs : List (Li
     (st : IsStand s n inputs x) (goes : GoesInRuns s n x.actor) {z : Node A} (z_is : z ≡ node n x.actor)
     {takes puts : List ℕ} (takes_is : takes ≡ at_phase (lists x.takes.items) 0)
     (puts_is : puts ≡ at_phase (lists x.puts.items) 0) where
-  at_zero : (i : ℕ) → phase_of s (node n x.actor) i ≡ 0
-  at_zero i = ap (λ c. i % c) goes.one_phase ∙ mod-one i
-
   first : 0 ≡ phase_at x.state
-  first = sym (phase_is st ∙ at_zero x.done)
+  first = at_zero st goes
 
   pub can_run : {size made by_taken by_put held free most : ℕ} → size ≡ takes_of s z 0 → made ≡ puts_of s z 0 →
       x.done + most ≤ x.asked → by_taken ≤ most → by_taken * size ≤ length x.taken.items → by_put ≤ by_taken →

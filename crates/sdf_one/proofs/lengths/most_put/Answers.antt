@@ -1,4 +1,5 @@
-use Rattle.std.proofs.Common.{◌≡◌, ◌*◌, ◌≤◌, ℕ, length, get_or, inl, inr, ap, ◌∙◌, arith, below_more, subst, ⊎_elim}
+use Rattle.std.proofs.Common.{◌≡◌, ◌*◌, ◌≤◌, ℕ, length, get_or, inl, inr, sym, ap, ◌∙◌, arith, below_more, subst}
+use Rattle.std.proofs.Common.{⊎_elim}
 use Rattle.std.proofs.lemmas.Bool.{cases_lt}
 use Rattle.std.proofs.lemmas.List.{length-map}
 use Rattle.sdf_graph.specs.Rates.{Shape, rates, rate_at, sum_to}
@@ -48,3 +49,13 @@ returns g c =
     ) in
     subst (λ m. IsMostPut (rates (graph_of g.A.Actor.steps n)) c.args.repetitions.now m c.loop-channel.most) all
     c.loop-channel.invariant
+
+pub put_in-requires-clause-small : goal.put_in-requires-clause-small
+put_in-requires-clause-small g c = λ k.
+    let i : ℕ = c.loop-channel.channel-index in
+    let l = c.loop-channel-test.true in
+    let list = c.channels-channel-items.ensures.list in
+    let edge = the_channel c.channels-channel-items.result.now c.graph-graph.result.now c.channel-item.result i
+    c.channel-item.is l list in
+    let cycle = c.channels-channel-items.ensures.shape.put i (omega (arith, l, ap length list)) in
+    subst (λ e. get_or e.put k 0 ≤ 1024) (sym edge) (cycle.small k)

@@ -1,4 +1,4 @@
-use Rattle.std.proofs.Common.{◌<◌, length, arith, ◌∙◌, subst}
+use Rattle.std.proofs.Common.{◌<◌, length, sym, arith, ◌∙◌, subst}
 use Rattle.sdf_node.specs.Collected.{IsCollected}
 use Rattle.sdf_answer.proofs.Theorems.{accepted_nets}
 use Rattle.sdf_rings.specs.Rests.{stand_of}
@@ -25,3 +25,13 @@ loop-a-preserved g c =
 pub returns-clause-each : goal.returns-clause-each
 returns-clause-each g c = λ a ext block made e d l is at. c.loop-a.invariant.given a ext block made e d
     (omega arith) is at
+
+pub collect_from-requires-clause-list : goal.collect_from-requires-clause-list
+collect_from-requires-clause-list g c κs within = λ ext block x.
+    let sinks = (accepted_nets g.A.Actor.steps c.args.net.now c.node.ensures.accepted).sinks in
+    omega (
+      arith,
+      sinks.below c.loop-a.a ext block (omega arith) (sym c.node.ensures.value ∙ x),
+      c.loop-a.invariant.all,
+      c.requires.outputs,
+    )

@@ -163,3 +163,19 @@ row-requires g c =
 pub row-requires-2 : goal.row-requires-2
 row-requires-2 g c =
     row_known c.requires.stand c.requires.stand.puts c.phase-phase.ensures
+
+pub take_front-requires-clause-ports : goal.take_front-requires-clause-ports
+take_front-requires-clause-ports g c =
+    let st = c.requires.stand in
+    ends_row st st.takes c.phase-phase.ensures c.row.ensures c.as_mut_slice.result.now
+    (c.as_mut_slice.ensures.len ∙ st.ins_all)
+
+pub take_front-requires-clause-long : goal.take_front-requires-clause-long
+take_front-requires-clause-long g c =
+    subst (λ ts. c.takes-many.result ≤ length ts) (sym c.as_mut_slice-2.ensures.value)
+    (taken_fits c.requires.stand c.node-node.ensures.value c.phase-phase.ensures c.requires.left c.takes-many.ensures)
+
+pub step_front-requires-clause-long : goal.step_front-requires-clause-long
+step_front-requires-clause-long g c = λ κs within.
+    subst (λ ts. c.puts-more.result ≤ length ts) (sym c.as_mut_slice-3.ensures.value)
+    (put_fits c.requires.stand c.node-node.ensures.value c.phase-phase.ensures c.requires.left c.puts-more.ensures)

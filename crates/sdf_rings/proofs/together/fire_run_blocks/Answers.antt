@@ -3,7 +3,8 @@ use Rattle.std.specs.Vec.{with_items}
 use Rattle.std.proofs.lemmas.List.{with_items_is, length-take-le}
 use Rattle.sdf_node.specs.Nodes.{takes_of, puts_of}
 use Rattle.sdf_rings.proofs.RunFired.{in_ports, out_ports, holds_run, room_run, drew_run, gave_run, can_step_run}
-use Rattle.sdf_rings.proofs.RunFired.{taken_within, put_within, run_fired}
+use Rattle.sdf_rings.proofs.RunFired.{taken_within, put_within, run_fired, at_zero}
+use Rattle.sdf_rings.proofs.Standing.{row_known}
 use Rattle.sdf_rings.proofs.together.fire_run_blocks.Goals as goal
 
 pub take_front-requires-clause-ports : goal.take_front-requires-clause-ports
@@ -94,3 +95,11 @@ returns-clause-done g c = refl
 
 pub returns-clause-asked : goal.returns-clause-asked
 returns-clause-asked g c = refl
+
+pub row-requires : goal.row-requires
+row-requires g c =
+    row_known c.requires.stand c.requires.stand.takes (at_zero c.requires.stand c.requires.can.goes)
+
+pub row-requires-2 : goal.row-requires-2
+row-requires-2 g c =
+    row_known c.requires.stand c.requires.stand.puts (at_zero c.requires.stand c.requires.can.goes)
