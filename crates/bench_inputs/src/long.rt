@@ -81,10 +81,10 @@ pub(crate) fn push_same(text: &mut String) -> Result<(), AllocError> {
     text.push_str(LAST)
 }
 
-/// The name of the coefficient file that they name.
+/// The name of the coefficient file of these filters.
 pub const SAME_FILE: &str = "taps.toml";
 
-/// Returns the text of the coefficient file that they name.
+/// Returns the text of their coefficient file.
 pub fn same_taps(alloc: Global, numbers: &mut Numbers) -> Result<String, AllocError> {
     let mut text = String::from_str(alloc, "format = 1\nvalues = ")?;
     push_array(&mut text, numbers, 1024, 300)?;

@@ -146,7 +146,7 @@ fn show_stages(rt: &impl Print, files: &[StageFile]) -> Result<()> {
     Ok(())
 }
 
-/// Adds a coefficient file with this `name` and this text, which is `said`.
+/// Adds a coefficient file with this `name`, whose text is `said`.
 fn push_file(
     alloc: Global,
     files: &mut Vec<CoefficientFile>,

@@ -8,7 +8,7 @@ use Rattle.sdf_actor.specs.declared.node.Node.TheVariants.{Sink}
 use Rattle.sdf_actor.specs.declared.sides.Lists.TheVariants.{Inputs, Outputs}
 use Rattle.sdf_actor.specs.Graphs.{graph_of}
 use Rattle.sdf_actor.specs.Histories.{taken, taken_before}
-use Rattle.sdf_actor.specs.NetFaults.{IsAccepted}
+use Rattle.sdf_actor.specs.NetFaults.{WasAccepted}
 use Rattle.sdf_actor.specs.Nets.{Netlist, node, wiring, arrived, IsNet, InputsReach, IsHistoryOf}
 use Rattle.sdf_actor.specs.Sides.{list_count, period_samples}
 use Rattle.sdf_actor.specs.Steps.{Steps}
@@ -20,17 +20,17 @@ use Rattle.sdf_answer.specs.Sizes.{IsPlan}
 
 -- an accepted net has what every run depends on
 abbrev pub NetsHaveFacts : {A S T : Type 0} → Steps A S T → Type 0
-NetsHaveFacts {A} {S} {T} s = (n : Netlist A T) → ((q : List ℕ) × IsAccepted s n q) → HasFacts s n
+NetsHaveFacts {A} {S} {T} s = (n : Netlist A T) → WasAccepted s n → HasFacts s n
 
 -- an accepted net and any period of it have what the laws of runs ask for
 abbrev pub NetsHavePeriods : {A S T : Type 0} → Steps A S T → Type 0
 NetsHavePeriods {A} {S} {T} s =
-    (n : Netlist A T) → ((q : List ℕ) × IsAccepted s n q) → (p : Schedule) → IsPeriodOf (rates (graph_of s n)) p →
+    (n : Netlist A T) → WasAccepted s n → (p : Schedule) → IsPeriodOf (rates (graph_of s n)) p →
     HasPeriod s n p
 
 -- a block of few firings of an accepted net reads and makes few samples
 abbrev pub BlocksAreSmall : {A S T : Type 0} → Steps A S T → Type 0
-BlocksAreSmall {A} {S} {T} s = (n : Netlist A T) → ((q : List ℕ) × IsAccepted s n q) → AreBlocksSmall s n
+BlocksAreSmall {A} {S} {T} s = (n : Netlist A T) → WasAccepted s n → AreBlocksSmall s n
 
 -- each list is the beginning of the later list of its number
 abbrev pub Begin : {T : Type 0} → List (List T) → List (List T) → Type 0

@@ -9,7 +9,7 @@ use Rattle.sdf_actor.specs.declared.node.Node.TheVariants.{Source, Sink}
 use Rattle.sdf_actor.specs.declared.sides.Lists.{Lists}
 use Rattle.sdf_actor.specs.declared.sides.Lists.TheVariants.{Outputs}
 use Rattle.sdf_actor.specs.Graphs.{graph_of}
-use Rattle.sdf_actor.specs.NetFaults.{IsAccepted}
+use Rattle.sdf_actor.specs.NetFaults.{WasAccepted}
 use Rattle.sdf_actor.specs.Nets.{Netlist, node, wiring, cycle_of, IsNet, InputsReach}
 use Rattle.sdf_actor.specs.Sides.{list_count, period_samples}
 use Rattle.sdf_actor.specs.Steps.{Steps}
@@ -20,7 +20,7 @@ pub record HasPeriod {A S T : Type 0} (s : Steps A S T) (n : Netlist A T) (p : S
   pub net : IsNet s n
   pub shape : IsShape (graph_of s n)
   pub alike : IsAlike (rates (graph_of s n)) (wiring s n).rates
-  pub accepted : (q : List ℕ) × IsAccepted s n q
+  pub accepted : WasAccepted s n
   pub period : IsPeriodOf (rates (graph_of s n)) p
 
 -- no two sinks make one output list

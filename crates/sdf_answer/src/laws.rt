@@ -1,11 +1,11 @@
 //! Laws of runs. Each law is the contract of a function that computes nothing.
 
-ghost use Rattle.std.specs.Prelude.{◌<◌, ℕ, List, length};
+ghost use Rattle.std.specs.Prelude.{◌<◌, ℕ, length};
 ghost use Rattle.sdf_graph.specs.Rates.{rates, IsShape, IsAlike};
 ghost use Rattle.sdf_sched.specs.Period.{Schedule, IsPeriodOf};
 ghost use Rattle.sdf_actor.specs.Graphs.{graph_of};
 ghost use Rattle.sdf_actor.specs.Nets.{node, wiring, cycle_of, IsNet};
-ghost use Rattle.sdf_actor.specs.NetFaults.{IsAccepted};
+ghost use Rattle.sdf_actor.specs.NetFaults.{WasAccepted};
 ghost use Rattle.sdf_answer.specs.Feeds.{FeedsGoOn, BegunNetsAsk, BegunNetsMake, SinksMakeRuns, NothingRuns};
 ghost use Rattle.sdf_answer.specs.Feeds.{PeriodsMayLeave, BegunRunsGoOn, BegunRunsFail};
 ghost use Rattle.sdf_answer.specs.Periods.{HasPeriod, HasSinks, AreBlocksSmall};
@@ -21,7 +21,7 @@ pub fn net_facts<A: Actor>(net: &Net<A>)
     ensures net { IsNet A.steps net.now }
     ensures graph { IsShape (graph_of A.steps net.now) }
     ensures alike { IsAlike (rates (graph_of A.steps net.now)) (wiring A.steps net.now).rates }
-    ensures accepted { (q : List ℕ) × IsAccepted A.steps net.now q }
+    ensures accepted { WasAccepted A.steps net.now }
     ensures phases { (a : ℕ) → a < length net.now.nodes → 0 < cycle_of A.steps (node net.now a) }
     ensures sinks { HasSinks net.now }
 {

@@ -1,5 +1,5 @@
 //! Designs.
-ghost use Rattle.std.specs.Prelude.{◌≡◌, ◌<◌, ℕ, List, [], true, map, slice_index_or};
+ghost use Rattle.std.specs.Prelude.{◌≡◌, ◌<◌, [], true, map, slice_index_or};
 ghost use Rattle.std.specs.Prelude.{MatchResult, Ok};
 ghost use Rattle.std.specs.List.{All};
 ghost use Rattle.sdf_document.specs.Lists.{files_view};
@@ -7,7 +7,7 @@ ghost use Rattle.sdf_document.specs.Actors.{actor_view, names_in, IsActorWithin}
 ghost use Rattle.sdf_document.specs.Document.{document_view, AreDistinct};
 ghost use Rattle.sdf_document.specs.Document.{table_view, graph_table, document_in, file_names_in};
 ghost use Rattle.sdf_document.specs.Names.{names_of};
-ghost use Rattle.sdf_actor.specs.NetFaults.{IsAccepted};
+ghost use Rattle.sdf_actor.specs.NetFaults.{WasAccepted};
 ghost use Rattle.sdf_kit.specs.Kit.{kit_steps};
 ghost use Rattle.sdf_file.specs.Designs.{design_of, IsDesign, IsDesignOf, IsFileFault, IsMadeFault, AreFileNames};
 ghost use Rattle.sdf_file.specs.Designs.{IsNamesFault, IsDesignFrom, IsFaultFrom, IsReadFault};
@@ -130,7 +130,7 @@ fn design_of(alloc: Global, document: Document) -> Result<Design, FileFault>
     requires distinct { AreDistinct (names_in (map actor_view document.actors.items)) }
     requires within { All (IsActorWithin true) document.actors.items }
     ensures { MatchResult result
-        (λ d. (d ≡ design_of (document_view document)) × ((q : List ℕ) × IsAccepted kit_steps d.net q))
+        (λ d. (d ≡ design_of (document_view document)) × WasAccepted kit_steps d.net)
         (IsMadeFault (design_of (document_view document)).net) }
 {
     let Document { actors, links } = document;

@@ -8,10 +8,8 @@ use Rattle.sdf_kit.specs.declared.kit.Kit.{Kit}
 use Rattle.sdf_kit.specs.Kit.{kit_steps}
 use Rattle.sdf_kinds.specs.declared.row.Kind.{Kind}
 use Rattle.sdf_kinds.specs.declared.row.Kind.TheVariants as kind
-use Rattle.sdf_kinds.specs.declared.ports.SideRow.{SideRow}
-use Rattle.sdf_kinds.specs.declared.ports.SideRow.TheVariants.{Every, InTurn}
 use Rattle.sdf_kinds.specs.declared.ports.PortRow.{PortRow}
-use Rattle.sdf_kinds.specs.Ports.{ports_in}
+use Rattle.sdf_kinds.specs.Ports.{ports_in, samples_in}
 use Rattle.sdf_kinds.specs.Ports as rows
 use Rattle.sdf_document.specs.declared.key.KeyValue.{KeyValue}
 use Rattle.sdf_kinds.specs.Rows.{KeyRow, row_of}
@@ -53,10 +51,11 @@ amount_in k vs Factor = value_of (codes "factor") (row_of k).keys vs
 amount_in k vs Ways = value_of (codes "ways") (row_of k).keys vs
 amount_in k vs Run = value_of (codes "run") (row_of k).keys vs
 
--- the samples that a firing at phase j moves at port p of a side
-abbrev pub moved_at : SideRow Amount → (Amount → ℕ) → ℕ → ℕ → ℕ
-moved_at (Every ports samples) amount p j = amount samples
-moved_at (InTurn ports samples) amount p j = cond (p == j) (amount samples) 0
+-- the samples that a firing at phase j moves at port p of a side: only at port j, if the cycle and the side's ports are
+-- both `ways`
+abbrev pub moved_by : Amount → Amount → ℕ → ℕ → ℕ → ℕ
+moved_by Ways Ways n p j = cond (p == j) n 0
+moved_by cycle ports n p j = n
 
 -- a node has the ports and the firings of the row, and moves the row's samples at each port
 pub record HasPorts (row : PortRow Amount) (amount : Amount → ℕ) (node : Node Kit) : Type 0 where
@@ -64,9 +63,11 @@ pub record HasPorts (row : PortRow Amount) (amount : Amount → ℕ) (node : Nod
   pub outputs : outputs_of kit_steps node ≡ amount (ports_in row.outputs)
   pub cycle : cycle_of kit_steps node ≡ amount row.cycle
   pub takes : (p j : ℕ) → p < amount (ports_in row.inputs) →
-      rate_of kit_steps Input node p j ≡ moved_at row.inputs amount p j
+      rate_of kit_steps Input node p j ≡
+      moved_by row.cycle (ports_in row.inputs) (amount (samples_in row.inputs)) p j
   pub puts : (p j : ℕ) → p < amount (ports_in row.outputs) →
-      rate_of kit_steps Output node p j ≡ moved_at row.outputs amount p j
+      rate_of kit_steps Output node p j ≡
+      moved_by row.cycle (ports_in row.outputs) (amount (samples_in row.outputs)) p j
 
 abbrev pub KindsHaveTheirPorts : Type 0
 KindsHaveTheirPorts = (k : Kind) (vs : List KeyValue) →

@@ -1,4 +1,5 @@
-//! The ports of each kind, by numbers of any type: the values of its keys, or their names.
+//! The ports of each kind, by numbers of any type: the values of its keys, or their names. Kinds take the number one of
+//! that type as `one`, and its zero as `zero`.
 
 ghost use Rattle.std.specs.Prelude.{◌≡◌};
 ghost use Rattle.sdf_kinds.specs.Ports.{ports_in, samples_in, steady, input, output, fir, decimate, interpolate};

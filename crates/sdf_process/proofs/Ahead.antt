@@ -1,7 +1,6 @@
 -- A run that is ahead of its output: the frames that are made and not written yet.
-use Rattle.std.proofs.Common.{◌≡◌, inl, Err, ℕ, zero, suc, ◌+◌, ◌-◌, ◌*◌, ◌≤◌, ◌<◌, ℤ, List, [], ◌++◌, length, get_or}
-use Rattle.std.proofs.Common.{Option, Vec}
-use Rattle.std.proofs.Common.{append-nil, false, refl, sym, ap, ◌∙◌, subst, arith}
+use Rattle.std.proofs.Common.{◌≡◌, inl, Err, ℕ, zero, suc, ◌+◌, ◌-◌, ◌*◌, ◌≤◌, ◌<◌, ℤ, List, [], ◌++◌, length, Option}
+use Rattle.std.proofs.Common.{Vec, append-nil, false, refl, sym, ap, ◌∙◌, subst, arith}
 use Rattle.std.specs.Io.KnownBytes.{Appends}
 use Rattle.std.proofs.Math.Nat.{mul-le-mul_right}
 use Rattle.sdf_actor.specs.Wires.{lists as items_of}
@@ -15,13 +14,11 @@ use Rattle.sdf_faults.specs.declared.fault.Fault.TheVariants.{Write}
 use Rattle.sdf_process.specs.declared.exchange.Exchange.{Exchange}
 use Rattle.sdf_process.specs.declared.flow.Flow.{Flow}
 use Rattle.sdf_process.specs.Flows.{CameTo, CanFlow, Flows, IsAhead, Progress, Start, StreamsFrom, blocks_on}
-use Rattle.sdf_process.specs.Flows.{exchange_in}
-use Rattle.sdf_process.specs.Flows.{reading_in, samples_run}
+use Rattle.sdf_process.specs.Flows.{exchange_in, reading_in, samples_run}
 use Rattle.sdf_process.specs.Output.{in_turn, periods_for}
-use Rattle.sdf_process.specs.Streams.{AreWhole, Makes, StandsAt}
+use Rattle.sdf_process.specs.Streams.{AreWhole, Makes, StandsAt, CanPut}
 use Rattle.sdf_process.proofs.Came.{came_to}
 use Rattle.sdf_process.proofs.Flowing.{within_size}
-use Rattle.sdf_process.proofs.Lists.{length-lists}
 use Rattle.sdf_process.proofs.Outcomes.{appends_join, front_join, keeps_same}
 use Rattle.sdf_process.proofs.Pieces.{appends_none}
 use Rattle.sdf_process.proofs.Sizes.{cancel, less_twice, periods_fit}
@@ -49,6 +46,11 @@ none_ahead b g f none flows = record {
       (no_frames (exchange_in b).outputs (0 * b.blocking * (exchange_in b).made)
       (let z : 0 * b.blocking * (exchange_in b).made ≡ 0 = omega arith in z));
 }
+
+-- whole frames can be written, if no fewer are owed
+pub can_put : {Z : Type 0} (o : Owed) (channels frames : ℕ) (made ps : List (Vec ℤ Z)) → o.channels ≡ channels →
+    ps ≡ made → AreWhole channels frames (items_of made) → frames ≤ o.missing → CanPut o (items_of ps)
+can_put {Z} o channels frames made ps same is whole fewer = (frames, rw (is, same) whole, fewer)
 
 module _ (b : Start) (can : CanFlow b) (g : Progress) (f : Flow) {r : ReaderState} {w : WriterState}
     (ahead : IsAhead b g f r w) where
@@ -91,25 +93,13 @@ module _ (b : Start) (can : CanFlow b) (g : Progress) (f : Flow) {r : ReaderStat
   channels_are : f.output.channels ≡ x.outputs
   channels_are = ap (λ (y : Owed). y.channels) here.owed
 
-  -- they can be written
-  room_samples : length (in_turn made) ≤ f.output.missing * f.output.channels
-  room_samples = subst (λ (k : ℕ). length (in_turn made) ≤ f.output.missing * k) (sym channels_are)
-      (subst (λ (k : ℕ). k ≤ f.output.missing * x.outputs) (sym ahead.whole.all) (mul-le-mul_right x.outputs room))
-
-  each_whole : (i : ℕ) → i < length made → (k : ℕ) × (length (get_or made i []) ≡ k * f.output.channels)
-  each_whole i l =
-      let own = ahead.whole.each i l in
-      (own.0, own.1 ∙ ap (λ (k : ℕ). own.0 * k) (sym channels_are))
-
   all_frames : length (in_turn made) ≡ ahead.more * b.blocking * x.made * f.output.channels
   all_frames = ahead.whole.all ∙ ap (λ (k : ℕ). ahead.more * b.blocking * x.made * k) (sym channels_are)
 
-  pub each_of : (ps : _) → ps ≡ f.made.items → (i : ℕ) → i < length ps →
-      (k : ℕ) × (length (get_or (items_of ps) i []) ≡ k * f.output.channels)
-  each_of ps is i l = rw is (each_whole i (omega (arith, l, ap length is, length-lists f.made.items)))
-
-  pub room_of : (ps : _) → ps ≡ f.made.items → length (in_turn (items_of ps)) ≤ f.output.missing * f.output.channels
-  room_of ps is = rw is room_samples
+  -- they can be written
+  pub room_of : (ps : _) → ps ≡ f.made.items → CanPut f.output (items_of ps)
+  room_of ps is =
+      can_put f.output x.outputs (ahead.more * b.blocking * x.made) f.made.items ps channels_are is ahead.whole room
 
   pub frames_of : (ps : _) → ps ≡ f.made.items →
       length (in_turn (items_of ps)) ≡ ahead.more * b.blocking * x.made * f.output.channels
@@ -197,21 +187,3 @@ made_ahead b g f blocks frames left flows makes all there = record {
   };
   whole = subst (λ (k : ℕ). AreWhole (exchange_in b).outputs k (items_of f.made.items)) all makes.whole;
 }
-
--- frames in whole lists can be written, if so many are owed
-pub can_write : {Z : Type 0} (o : Owed) (channels frames : ℕ) (made ps : List (Vec ℤ Z)) → o.channels ≡ channels →
-    ps ≡ made →
-    AreWhole channels frames (items_of made) → frames ≤ o.missing →
-    ((i : ℕ) → i < length ps → (k : ℕ) × (length (get_or (items_of ps) i []) ≡ k * o.channels))
-    × (length (in_turn (items_of ps)) ≤ o.missing * o.channels)
-can_write {Z} o channels frames made ps same is whole fewer = (
-  λ i l. rw is (each i (omega (arith, l, ap length is, length-lists made))),
-  rw is less,
-)
-  where
-    each : (i : ℕ) → i < length (items_of made) → (k : ℕ) × (length (get_or (items_of made) i []) ≡ k * o.channels)
-    each i l = let own = whole.each i l in (own.0, own.1 ∙ ap (λ (k : ℕ). own.0 * k) (sym same))
-
-    less : length (in_turn (items_of made)) ≤ o.missing * o.channels
-    less = subst (λ (k : ℕ). length (in_turn (items_of made)) ≤ o.missing * k) (sym same)
-        (subst (λ (k : ℕ). k ≤ o.missing * channels) (sym whole.all) (mul-le-mul_right channels fewer))

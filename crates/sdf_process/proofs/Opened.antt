@@ -86,28 +86,6 @@ pub owed_is : (x : Exchange) (s : Sound) (e : Extent) (o : Owed) → IsExtent x 
 owed_is x s e o extent is =
     is ∙ ap (λ (p : ℕ). record { channels = x.outputs; missing = p * x.made; spent = false }) extent.periods
 
--- ---- what is said of an exchange that is the net's
-
-pub extent_as : {x y : Exchange} {a b : Announced} {e : Extent} → x ≡ y → a ≡ b → IsExtent x a e → IsExtent y b e
-extent_as {x} {y} {a} {b} {e} same told is =
-    subst (λ (z : Exchange). IsExtent z b e) same (subst (λ (z : Announced). IsExtent x z e) told is)
-
-pub fault_as : {x y : Exchange} {a b : Announced} {f : Fault} → x ≡ y → a ≡ b → announced_fault x a ≡ Some f →
-    announced_fault y b ≡ Some f
-fault_as {x} {y} {a} {b} {f} same told is =
-    subst (λ (z : Exchange). announced_fault z b ≡ Some f) same
-    (subst (λ (z : Announced). announced_fault x z ≡ Some f) told is)
-
-pub owed_as : {x y : Exchange} {o : Owed} (e : Extent) → x ≡ y →
-    o ≡ record { channels = x.outputs; missing = e.periods * x.made; spent = false } →
-    o ≡ record { channels = y.outputs; missing = e.periods * y.made; spent = false }
-owed_as e same is =
-    is ∙ ap (λ (z : Exchange). record { channels = z.outputs; missing = e.periods * z.made; spent = false }) same
-
-pub header_as : {x y : Exchange} (e : Extent) → x ≡ y →
-    file_header e.rate x.outputs (e.periods * x.made) ≡ file_header e.rate y.outputs (e.periods * y.made)
-header_as e same = ap (λ (z : Exchange). file_header e.rate z.outputs (e.periods * z.made)) same
-
 -- ---- what is behind the opening
 
 module _ (r mid : ReaderState) (c : Reading) (opened : IsOpened r mid c) where

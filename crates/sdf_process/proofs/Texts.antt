@@ -1,21 +1,23 @@
 -- The texts that a run writes begin a canonical file.
-use Rattle.std.proofs.Common.{◌≡◌, inl, inr, ℕ, ◌-◌, ◌*◌, ◌%◌, ◌≤◌, ◌<◌, ◌^◌, ℤ, pos, List, [], ◌++◌, length, replicate}
-use Rattle.std.proofs.Common.{Some, None, refl, sym, ap, ◌∙◌, subst, arith, append_assoc, length-append}
+use Rattle.std.proofs.Common.{false, ◌≡◌, inl, inr, ℕ, ◌-◌, ◌*◌, ◌%◌, ◌≤◌, ◌<◌, ◌^◌, ℤ, pos, List, [], ◌++◌, length}
+use Rattle.std.proofs.Common.{replicate, Some, None, refl, sym, ap, ◌∙◌, subst, arith, append_assoc, length-append}
 use Rattle.std.proofs.Math.Nat.{mul-mod_left, mul-le-mul_left, mul-le-mul_right}
 use Rattle.std.proofs.lemmas.List.{length-replicate}
 use Rattle.sdf_actor.specs.Nets.{Netlist}
 use Rattle.sdf_kit.specs.declared.kit.Kit.{Kit}
 use Rattle.sdf_wav.specs.Sound.{Sound}
 use Rattle.sdf_wav.specs.Canonical.{header, sample_bytes, write_fault, IsCanonical}
-use Rattle.sdf_wav.specs.PiecesOut.{file_header}
+use Rattle.sdf_wav.specs.PiecesOut.{file_header, Owed}
 use Rattle.sdf_wav.proofs.Theorems.{files_are_canonical, puts_join}
 use Rattle.sdf_process.specs.declared.exchange.Announced.{Announced}
 use Rattle.sdf_process.specs.declared.exchange.Exchange.{Exchange}
 use Rattle.sdf_process.specs.declared.exchange.Extent.{Extent}
 use Rattle.sdf_process.specs.Output.{exchange_of, interleaved, output_header, rate_for, IsExchange, IsExtent}
+use Rattle.sdf_process.specs.Output.{announced_fault}
 use Rattle.sdf_process.specs.Run.{AreFrames}
 use Rattle.sdf_process.proofs.Refusals.{Begins}
 use Rattle.sdf_process.proofs.Sounds.{length-interleaved, size_fits}
+use Rattle.sdf_faults.specs.declared.fault.Fault.{Fault}
 
 pub bytes_append : (xs ys : List ℤ) → sample_bytes (xs ++ ys) ≡ sample_bytes xs ++ sample_bytes ys
 bytes_append xs ys = sym (puts_join (Some []) (Some (sample_bytes xs)) (Some (sample_bytes xs ++ sample_bytes ys))
@@ -86,3 +88,25 @@ text_begins n q a e limits is s periods bytes few (inr (lists, made, same)) =
     mul-le-mul_right x.outputs (mul-le-mul_right x.made few) in
     subst (λ (b : List ℕ). Begins (output_header x a ++ b)) (sym same)
     (begins_of x a e limits is frames (subst (λ (k : ℕ). k ≤ e.periods * x.made * x.outputs) (sym long) fewer))
+
+-- ---- what is said of an exchange that is the net's
+
+pub extent_as : {x y : Exchange} {a b : Announced} {e : Extent} → x ≡ y → a ≡ b → IsExtent x a e → IsExtent y b e
+extent_as {x} {y} {a} {b} {e} same told is =
+    subst (λ (z : Exchange). IsExtent z b e) same (subst (λ (z : Announced). IsExtent x z e) told is)
+
+pub fault_as : {x y : Exchange} {a b : Announced} {f : Fault} → x ≡ y → a ≡ b → announced_fault x a ≡ Some f →
+    announced_fault y b ≡ Some f
+fault_as {x} {y} {a} {b} {f} same told is =
+    subst (λ (z : Exchange). announced_fault z b ≡ Some f) same
+    (subst (λ (z : Announced). announced_fault x z ≡ Some f) told is)
+
+pub owed_as : {x y : Exchange} {o : Owed} (e : Extent) → x ≡ y →
+    o ≡ record { channels = x.outputs; missing = e.periods * x.made; spent = false } →
+    o ≡ record { channels = y.outputs; missing = e.periods * y.made; spent = false }
+owed_as e same is =
+    is ∙ ap (λ (z : Exchange). record { channels = z.outputs; missing = e.periods * z.made; spent = false }) same
+
+pub header_as : {x y : Exchange} (e : Extent) → x ≡ y →
+    file_header e.rate x.outputs (e.periods * x.made) ≡ file_header e.rate y.outputs (e.periods * y.made)
+header_as e same = ap (λ (z : Exchange). file_header e.rate z.outputs (e.periods * z.made)) same

@@ -24,7 +24,7 @@ use Rattle.sdf_process.proofs.Taken.{heard_puts, taken_whole, unheard_sound, who
 use Rattle.sdf_graph.specs.Rates.{rates}
 use Rattle.sdf_graph.proofs.Theorems.{one_least_period}
 use Rattle.sdf_actor.specs.Graphs.{graph_of}
-use Rattle.sdf_actor.specs.NetFaults.{IsAccepted}
+use Rattle.sdf_actor.specs.NetFaults.{WasAccepted}
 use Rattle.sdf_process.specs.declared.playing.Score.{Score}
 
 -- ---- a session
@@ -40,7 +40,7 @@ session_goes n p j v is stands =
 -- ---- a player
 
 -- its blocks, which are single periods, have few firings
-pub one_short : (t : Score) → IsScore t → ((q : List ℕ) × IsAccepted kit_steps t.net.now q) →
+pub one_short : (t : Score) → IsScore t → WasAccepted kit_steps t.net.now →
     1 * sum t.period.now.repetitions ≤ MOST_BLOCK
 one_short t is accepted =
     let same : accepted.0 ≡ t.period.now.repetitions =

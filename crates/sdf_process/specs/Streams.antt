@@ -19,6 +19,7 @@ use Rattle.sdf_sched.specs.Period.{Schedule, IsPeriodOf}
 use Rattle.sdf_wav.specs.Canonical.{sample_bytes}
 use Rattle.sdf_wav.specs.Device.{AppendsFront, one_more, ReaderState, WriterState}
 use Rattle.sdf_wav.specs.PiecesIn.{Reading, sound_read}
+use Rattle.sdf_wav.specs.PiecesOut.{Owed}
 use Rattle.sdf_wav.specs.Sound.{Sound, frames_of}
 use Rattle.sdf_wav.specs.declared.wav.TheConstants.{MOST_CHANNELS}
 use Rattle.sdf_faults.specs.declared.fault.Fault.{Fault}
@@ -108,6 +109,10 @@ pub record CanRun (n : Netlist Kit ℤ) (p : Schedule) (j : ℕ) (y : Portion) :
 pub record AreWhole (channels frames : ℕ) (made : List (List ℤ)) : Type 0 where
   pub each : (i : ℕ) → i < length made → (k : ℕ) × (length (slice_index_or made i []) ≡ k * channels)
   pub all : length (in_turn made) ≡ frames * channels
+
+-- lists of whole frames, no more than are owed
+abbrev pub CanPut : Owed → List (List ℤ) → Type 0
+CanPut o made = (frames : ℕ) × AreWhole o.channels frames made × (frames ≤ o.missing)
 
 -- The next blocks were run behind the first `few`, and these are the first frames that they made.
 pub record Makes (n : Netlist Kit ℤ) (p : Schedule) (j : ℕ) (s : Sound) (few blocks frames : ℕ) (bytes : List ℕ)

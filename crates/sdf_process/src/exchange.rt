@@ -1,15 +1,15 @@
 //! I/O rates: the channels and samples that a net exchanges with WAV files in a period. With them the rate and size of
 //! an output follow from its input.
 
-ghost use Rattle.std.specs.Prelude.{◌≡◌, ◌≤◌, ◌<◌, ◌+◌, ◌*◌, ◌/◌, ℕ, List, length, nat_lt, MatchResult, Some};
+ghost use Rattle.std.specs.Prelude.{◌≡◌, ◌≤◌, ◌<◌, ◌*◌, ◌/◌, ℕ, List, length, nat_lt, MatchResult, Some};
 ghost use Rattle.sdf_graph.specs.Periods.{IsLeastPeriod};
 ghost use Rattle.sdf_graph.specs.Rates.{rates};
 ghost use Rattle.sdf_actor.specs.declared.sides.Lists.TheVariants.{Inputs, Outputs};
 ghost use Rattle.sdf_actor.specs.Graphs.{graph_of};
-ghost use Rattle.sdf_actor.specs.NetFaults.{IsAccepted};
+ghost use Rattle.sdf_actor.specs.NetFaults.{WasAccepted};
 ghost use Rattle.sdf_actor.specs.Sides.{list_count};
 ghost use Rattle.sdf_kit.specs.Kit.{kit_steps};
-ghost use Rattle.sdf_process.specs.Output.{exchange_of, announced_by, announced_fault, periods_for, rate_for};
+ghost use Rattle.sdf_process.specs.Output.{exchange_of, announced_by, announced_fault, periods_for};
 ghost use Rattle.sdf_process.specs.Output.{IsExchange, IsExtent};
 
 use sdf_actor::Net;
@@ -66,7 +66,7 @@ impl Exchange {
         ensures value { (q : List ℕ) → IsLeastPeriod (rates (graph_of kit_steps net.now)) q →
             result ≡ exchange_of net.now q }
         ensures limits { IsExchange result }
-        ensures accepted { (q : List ℕ) × IsAccepted kit_steps net.now q }
+        ensures accepted { WasAccepted kit_steps net.now }
     {
         Exchange {
             inputs: net.inputs(),

@@ -2,13 +2,13 @@
 //! periods before left, and their memory, which it uses again.
 
 ghost use Rattle.std.specs.Prelude.{◌≡◌, ◌*◌, ◌≤◌, ◌<◌, [], IfErr, IfOk, IfSome, IfNone, MatchResult, Some, is_some};
-ghost use Rattle.std.specs.Prelude.{true, ℕ, List};
+ghost use Rattle.std.specs.Prelude.{true};
 ghost use Rattle.sdf_actor.specs.Wires.{lists as items_of};
 ghost use Rattle.sdf_answer.specs.declared.fault.RunFault.TheVariants as run;
 ghost use Rattle.sdf_fission.specs.WarmUps.{IsLasting};
 ghost use Rattle.sdf_graph.specs.Rates.{rates};
 ghost use Rattle.sdf_actor.specs.Graphs.{graph_of};
-ghost use Rattle.sdf_actor.specs.NetFaults.{IsAccepted};
+ghost use Rattle.sdf_actor.specs.NetFaults.{WasAccepted};
 ghost use Rattle.sdf_kit.specs.Kit.{kit_steps};
 ghost use Rattle.sdf_sched.specs.Period.{IsPeriodOf};
 ghost use Rattle.sdf_faults.specs.declared.fault.Fault.TheVariants.{OutOfMemory};
@@ -141,7 +141,7 @@ impl<'a> Player<'a> {
     pub(crate) fn open(alloc: Global, score: Score<'a>) -> Result<Player<'a>, Fault>
         requires score { IsScore score }
         requires taken { 0 < (exchange_of score.net.now score.period.now.repetitions).taken }
-        requires accepted { (q : List ℕ) × IsAccepted kit_steps score.net.now q }
+        requires accepted { WasAccepted kit_steps score.net.now }
         ensures player { MatchResult result
             (λ v. IsPlayer v × (v.net ≡ score.entry.net) × (v.period ≡ score.entry.period))
             (λ e. e ≡ OutOfMemory) }

@@ -1,10 +1,11 @@
 //! Writing of samples to a file whose header is written.
 
-ghost use Rattle.std.specs.Prelude.{◌≡◌, ◌-◌, ◌*◌, ◌≤◌, ◌<◌, ℕ, [], false, length, slice_index_or, IfOk};
+ghost use Rattle.std.specs.Prelude.{◌≡◌, ◌-◌, ◌*◌, ◌≤◌, ℕ, false, length, IfOk};
 ghost use Rattle.sdf_actor.specs.Wires.{lists as items_of};
 ghost use Rattle.sdf_wav.specs.Canonical.{sample_bytes};
 ghost use Rattle.sdf_process.specs.Output.{in_turn};
 ghost use Rattle.sdf_process.specs.Stages.{PutsHeader};
+ghost use Rattle.sdf_process.specs.Streams.{CanPut};
 
 use sdf_faults::Fault;
 use sdf_wav::{ContentOut, Writer};
@@ -17,9 +18,7 @@ pub(crate) fn put_in_turn<W: Writer>(
 ) -> Result<(), Fault>
     requires unspent { output.old.spent ≡ false }
     requires some { 1 ≤ output.old.channels }
-    requires whole { (i : ℕ) → i < length parts.now → (frames : ℕ)
-        × (length (slice_index_or (items_of parts.now) i []) ≡ frames * output.old.channels) }
-    requires missing { length (in_turn (items_of parts.now)) ≤ output.old.missing * output.old.channels }
+    requires room { CanPut output.old (items_of parts.now) }
     ensures puts { PutsHeader (W.state writer.old) (W.state writer.new)
         (sample_bytes (in_turn (items_of parts.now))) result }
     ensures owed { (frames : ℕ) → length (in_turn (items_of parts.now)) ≡ frames * output.old.channels →

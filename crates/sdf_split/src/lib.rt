@@ -1,9 +1,9 @@
 //! Runs that are split in time: the parts of one run, computed in parallel.
 //!
 //! It depends on `sdf_fission`, `sdf_one`, `sdf_answer`, `sdf_actor`, `sdf_graph` and `sdf_sched`. Begin with `split`:
-//! a run in parts goes on from a net's state as a run on one thread does (`sdf_one::resume_one`). Then read `ends` (what
-//! parts read, and what their outputs become), `workers` (which run the parts, in memory that lasts), `beside` (how
-//! they are started), `part` (one of the parts, in stretches) and `size` (how long it is).
+//! a run in parts goes on from a net's state as a run on one thread does (`sdf_one::resume_one`). Then read `ends`,
+//! what parts read and what their outputs become, and `workers`, which run the parts in memory that lasts. `beside`
+//! starts them, `part` is one of the parts, in stretches, and `size` says how long it is.
 #![tactic(auto)]
 
 mod beside;

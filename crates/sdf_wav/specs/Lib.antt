@@ -12,3 +12,4 @@ pub mod WavIn
 pub mod Grammar
 pub mod Fault
 pub mod Adapters
+pub mod Laws

@@ -17,7 +17,7 @@ use sdf_kinds::ports as rows;
 use sdf_kit::{PortRates, Ports};
 use std::alloc::{AllocError, Global};
 
-/// Returns the ports of `kind`. An input and an output move a block at any port, as the graph of a net says.
+/// Returns the ports of `kind`. An input and an output move a block at any port, as in the graph of a net.
 pub(crate) fn ports_of(kind: &KindEntry) -> Ports
     ensures { ArePortsOf result (node_of kind.now) }
 {

@@ -1,5 +1,5 @@
-use Rattle.std.proofs.Common.{ℕ, List, subst}
-use Rattle.sdf_actor.specs.NetFaults.{IsAccepted}
+use Rattle.std.proofs.Common.{subst}
+use Rattle.sdf_actor.specs.NetFaults.{WasAccepted}
 use Rattle.sdf_answer.proofs.Theorems.{accepted_nets}
 use Rattle.sdf_kit.specs.Kit.{kit_steps}
 use Rattle.sdf_process.proofs.Outputs.{one_output_of}
@@ -7,7 +7,7 @@ use Rattle.sdf_process.proofs.laws.one_output.Goals as goal
 
 pub returns : goal.returns
 returns c =
-    let accepted = subst (λ n. (q : List ℕ) × IsAccepted kit_steps n q) c.net-net.ensures.value
+    let accepted = subst (WasAccepted kit_steps) c.net-net.ensures.value
     c.graph.ensures.accepted in
     let facts = accepted_nets kit_steps c.args.design.now.net accepted in
     one_output_of c.args.design.now facts.net facts.graph facts.alike accepted.1.lists

@@ -1,5 +1,5 @@
-use Rattle.std.proofs.Common.{◌≡◌, ◌<◌, ◌+◌, ◌-◌, ◌*◌, ◌++◌, ℕ, [], length, get_or, take, drop, ap, sym, subst}
-use Rattle.std.proofs.Common.{◌∙◌, arith, refl, take_all, length-append}
+use Rattle.std.proofs.Common.{◌≡◌, ◌<◌, ◌+◌, ◌-◌, ◌*◌, ◌++◌, ℕ, [], length, get_or, take, drop, ap, sym, subst, ◌∙◌}
+use Rattle.std.proofs.Common.{arith, refl, take_all, length-append, ◌≤◌}
 use Rattle.std.specs.Io.KnownBytes.{Appends}
 use Rattle.sdf_actor.specs.Wires.{lists as items_of}
 use Rattle.sdf_wav.specs.Canonical.{sample_bytes}
@@ -11,13 +11,14 @@ use Rattle.sdf_process.proofs.Pieces.{put_stopped, fewer_missing, owed_on, whole
 use Rattle.sdf_process.proofs.InTurn.{at_most, in_turn_grown, in_turn_split, one_count}
 use Rattle.sdf_wav.proofs.Theorems.{puts_join}
 use Rattle.sdf_process.proofs.putting.put_in_turn.Goals as goal
+use Rattle.std.proofs.Math.Nat.{mul-le-mul_right}
 
 pub put-requires-clause-whole : goal.put-requires-clause-whole
 put-requires-clause-whole g c =
     let i : ℕ = c.loop-list.list-index in
     let item : c.deref.result.now ≡ get_or (items_of c.args.parts.now) i [] =
     c.deref.ensures.value ∙ list_read c.args.parts.now i c.list-item.result c.loop-list-test.true c.list-item.is in
-    let own = c.requires.whole i c.loop-list-test.true in
+    let own = c.requires.room.1.each i (omega (arith, c.loop-list-test.true, length-lists c.args.parts.now)) in
     whole_frames own.0 c.args.output.now.channels (length c.deref.result.now) c.loop-list.output.channels
     (ap length item ∙ own.1) (ap (λ (o : Owed). o.channels) c.loop-list.invariant.owed.2)
 
@@ -28,10 +29,12 @@ put-requires-clause-missing g c =
     let within : i < length xs = omega (arith, c.loop-list-test.true, length-lists c.args.parts.now) in
     let item : c.deref.result.now ≡ get_or xs i [] =
     c.deref.ensures.value ∙ list_read c.args.parts.now i c.list-item.result c.loop-list-test.true c.list-item.is in
-    let own = c.requires.whole i c.loop-list-test.true in
+    let own = c.requires.room.1.each i within in
     let owed = c.loop-list.invariant.owed in
+    let all : length (in_turn xs) ≤ c.args.output.now.missing * c.args.output.now.channels =
+    omega (arith, c.requires.room.1.all, mul-le-mul_right c.args.output.now.channels c.requires.room.2) in
     let left = at_most xs i within c.args.output.now.missing owed.0 own.0 c.args.output.now.channels c.requires.some
-    owed.1 own.1 c.requires.missing in
+    owed.1 own.1 all in
     let missing : c.loop-list.output.missing ≡ c.args.output.now.missing - owed.0 =
     ap (λ (o : Owed). o.missing) owed.2 in
     fewer_missing own.0 c.args.output.now.channels c.loop-list.output.missing (length c.deref.result.now)
@@ -62,7 +65,7 @@ loop-list-preserved g c =
     let within : i < length xs = omega (arith, c.loop-list-test.true, length-lists c.args.parts.now) in
     let item : c.deref.result.now ≡ get_or xs i [] =
     c.deref.ensures.value ∙ list_read c.args.parts.now i c.list-item.result c.loop-list-test.true c.list-item.is in
-    let own = c.requires.whole i c.loop-list-test.true in
+    let own = c.requires.room.1.each i within in
     let owed = c.loop-list.invariant.owed in
     let o = c.args.output.now in
     let unspent = ap (λ (z : Owed). z.spent) owed.2 ∙ c.requires.unspent in

@@ -2,9 +2,9 @@ use Rattle.std.proofs.Common.{Err, refl, subst}
 use Rattle.std.specs.Io.KnownBytes.{Appends}
 use Rattle.sdf_process.specs.Output.{IsExchange}
 use Rattle.sdf_process.specs.Stages.{PutsHeader}
-use Rattle.sdf_process.proofs.Opened.{announced_same, extent_as, fault_as, header_as, header_failed_ahead, owed_as}
-use Rattle.sdf_process.proofs.Opened.{refused_ahead, streamed}
+use Rattle.sdf_process.proofs.Opened.{announced_same, header_failed_ahead, refused_ahead, streamed}
 use Rattle.sdf_process.proofs.Pieces.{stage_fails}
+use Rattle.sdf_process.proofs.Texts.{extent_as, fault_as, header_as, owed_as}
 use Rattle.sdf_process.proofs.running.run_ahead.Goals as goal
 
 pub returns-in_err-extent : goal.returns-in_err-extent

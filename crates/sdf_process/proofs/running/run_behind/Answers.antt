@@ -6,9 +6,9 @@ use Rattle.sdf_process.specs.Run.{IsRun}
 use Rattle.sdf_process.specs.Stages.{PutsHeader}
 use Rattle.sdf_process.proofs.Finished.{answered}
 use Rattle.sdf_process.proofs.Came.{allowed_lower}
-use Rattle.sdf_process.proofs.Opened.{extent_as, fault_as, header_as, owed_as}
 use Rattle.sdf_process.proofs.Pieces.{stage_fails}
 use Rattle.sdf_process.proofs.Taken.{heard_puts, unheard_sound}
+use Rattle.sdf_process.proofs.Texts.{extent_as, fault_as, header_as, owed_as}
 use Rattle.sdf_process.proofs.Unsized.{content_failed_behind, refused_behind, header_failed_behind, heard_behind}
 use Rattle.sdf_process.proofs.running.run_behind.Goals as goal
 

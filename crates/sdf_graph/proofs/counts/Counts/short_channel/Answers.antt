@@ -20,8 +20,8 @@ returns c =
     c.deref.ensures.value first in
     subst (λ (t : Tally). MatchOption c.first_short.result (IsEnabled (rates t.graph) (counts t) c.args.actor)
     (IsShortChannel (rates t.graph) (counts t) c.args.actor)) c.self.view_is
-    (short_or_enabled _ c.self.inside.held.items c.self.invariant c.args.actor c.incoming.result.now c.incoming.ensures.channels
-    c.first_short.result
+    (short_or_enabled _ c.self.inside.held.items c.self.invariant c.args.actor c.incoming.result.now
+    c.incoming.ensures.channels c.first_short.result
     (subst (λ (chs : List Edge). MatchOption c.first_short.result
     (HoldEnough chs (get_or c.self.inside.fired.items c.args.actor 0) c.self.inside.held.items
     c.incoming.result.now (length c.incoming.result.now))

@@ -5,20 +5,15 @@ use Rattle.sdf_wav.specs.Canonical.{sample_bytes}
 use Rattle.sdf_wav.specs.Device.{AppendsFront}
 use Rattle.sdf_wav.specs.PiecesOut.{Owed}
 use Rattle.sdf_process.specs.Output.{in_turn}
-use Rattle.sdf_process.proofs.Ahead.{each_of, frames_of, room_of, writing_failed, wrote}
+use Rattle.sdf_process.proofs.Ahead.{frames_of, room_of, writing_failed, wrote}
 use Rattle.sdf_process.proofs.Refusals.{fails_by}
 use Rattle.sdf_process.proofs.flow.Flow.write.Goals as goal
 
 pub put_in_turn-requires-clause-unspent : goal.put_in_turn-requires-clause-unspent
 put_in_turn-requires-clause-unspent g c = ap (λ (o : Owed). o.spent) c.requires.4.flows.owed
 
-pub put_in_turn-requires-clause-whole : goal.put_in_turn-requires-clause-whole
-put_in_turn-requires-clause-whole g c =
-    let h = c.requires in
-    each_of h.0 h.3 h.1 c.args.self.now h.4 c.deref.result.now c.deref.ensures.value
-
-pub put_in_turn-requires-clause-missing : goal.put_in_turn-requires-clause-missing
-put_in_turn-requires-clause-missing g c =
+pub put_in_turn-requires-clause-room : goal.put_in_turn-requires-clause-room
+put_in_turn-requires-clause-room g c =
     let h = c.requires in
     room_of h.0 h.3 h.1 c.args.self.now h.4 c.deref.result.now c.deref.ensures.value
 

@@ -11,7 +11,7 @@ use Rattle.sdf_process.specs.Flows.{StreamsFrom, exchange_in, reading_in}
 use Rattle.sdf_process.specs.Output.{in_turn}
 use Rattle.sdf_process.specs.Stages.{PutsHeader}
 use Rattle.sdf_process.specs.Streams.{Makes, left_by}
-use Rattle.sdf_process.proofs.Ahead.{can_write}
+use Rattle.sdf_process.proofs.Ahead.{can_put}
 use Rattle.sdf_process.proofs.Ending.{ended, ended_whole}
 use Rattle.sdf_process.proofs.Flowing.{memory_refused}
 use Rattle.sdf_process.proofs.LastBlocks.{few_periods, just_enough, last_made, last_next}
@@ -115,8 +115,8 @@ put_in_turn-requires-clause-some g c =
       h.2.1.ready.can.outputs,
     )
 
-pub put_in_turn-requires-clause-whole : goal.put_in_turn-requires-clause-whole
-put_in_turn-requires-clause-whole g c =
+pub put_in_turn-requires-clause-room : goal.put_in_turn-requires-clause-room
+put_in_turn-requires-clause-room g c =
     let h = c.requires.on in
     let w = c.in_ok-write.ensures h.0 h.2.0 h.1 h.2.1.ready.can h.2.1.ahead in
     let sound = c.take_kept-input.ensures.sound in
@@ -124,24 +124,10 @@ put_in_turn-requires-clause-whole g c =
     let makes = last_made h.0 h.2.0 c.args.self.now h.2.1 c.write.new.self w c.requires.all c.missing-frames.result
     c.div_ceil-blocks.result c.missing-frames.ensures c.div_ceil-blocks.ensures _ refl refl
     (ap (λ (y : Sound). y.channels) sound) (ap (λ (y : Sound). y.samples) sound) _ _ c.in_ok-made.ensures.runs in
-    (can_write c.take_kept-input.new.self.output (exchange_in h.0).outputs c.missing-frames.result
+    can_put c.take_kept-input.new.self.output (exchange_in h.0).outputs c.missing-frames.result
     c.in_ok-made.made.items c.deref.result.now
     (ap (λ (f : Flow). f.output.channels) stays ∙ ap (λ (z : Owed). z.channels) w.flows.owed) c.deref.ensures.value
-    makes.whole (omega (arith, c.missing-frames.ensures, ap (λ (f : Flow). f.output.missing) stays))).0
-
-pub put_in_turn-requires-clause-missing : goal.put_in_turn-requires-clause-missing
-put_in_turn-requires-clause-missing g c =
-    let h = c.requires.on in
-    let w = c.in_ok-write.ensures h.0 h.2.0 h.1 h.2.1.ready.can h.2.1.ahead in
-    let sound = c.take_kept-input.ensures.sound in
-    let stays = c.take_kept-input.ensures.stays in
-    let makes = last_made h.0 h.2.0 c.args.self.now h.2.1 c.write.new.self w c.requires.all c.missing-frames.result
-    c.div_ceil-blocks.result c.missing-frames.ensures c.div_ceil-blocks.ensures _ refl refl
-    (ap (λ (y : Sound). y.channels) sound) (ap (λ (y : Sound). y.samples) sound) _ _ c.in_ok-made.ensures.runs in
-    (can_write c.take_kept-input.new.self.output (exchange_in h.0).outputs c.missing-frames.result
-    c.in_ok-made.made.items c.deref.result.now
-    (ap (λ (f : Flow). f.output.channels) stays ∙ ap (λ (z : Owed). z.channels) w.flows.owed) c.deref.ensures.value
-    makes.whole (omega (arith, c.missing-frames.ensures, ap (λ (f : Flow). f.output.missing) stays))).1
+    makes.whole (omega (arith, c.missing-frames.ensures, ap (λ (f : Flow). f.output.missing) stays))
 
 pub returns : goal.returns
 returns g c = λ b r on.
