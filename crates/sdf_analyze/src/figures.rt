@@ -100,7 +100,6 @@ impl Figures {
             (λ fault. fault ≡ OutOfMemory) }
     {
         let graph = design.net().graph();
-        let _ = graph.channels();
         let costs = firing_costs(alloc, design)?;
         let times = Times::of(alloc, graph, table, options.workers, &costs)?;
         let work = work(period.repetitions(), options.blocking, &costs);

@@ -37,7 +37,6 @@ pub(crate) fn block_span(
         (λ fault. fault ≡ OutOfMemory) }
 {
     let graph = design.net().graph();
-    let _ = graph.channels();
     let costs = firing_costs(alloc, design)?;
     span(alloc, graph, period, periods, &costs)
 }

@@ -2,8 +2,6 @@
 use Rattle.std.specs.Prelude.{ℕ, ◌+◌, ◌-◌, ◌*◌, ◌/◌, ◌%◌, ◌==◌, List, [], ◌++◌, if◌then◌else◌, codes, length}
 use Rattle.std.specs.Prelude.{slice_index}
 use Rattle.sdf_graph.specs.Rates.{Edge}
-use Rattle.sdf_actor.specs.Nets.{wire, node, inputs_of, outputs_of}
-use Rattle.sdf_kit.specs.Kit.{kit_steps}
 use Rattle.sdf_file.specs.Designs.{DesignValue}
 use Rattle.sdf_analyze.specs.Texts.{lines_to}
 use Rattle.sdf_draw.specs.declared.arrows.TheConstants.{STUB, TAIL, SHIFTS, SHIFT, DOT}
@@ -12,9 +10,10 @@ use Rattle.sdf_draw.specs.declared.layout.TheConstants.{PORT}
 use Rattle.sdf_draw.specs.declared.layout.Place.{Place}
 use Rattle.sdf_draw.specs.declared.layout.Route.{Route}
 use Rattle.sdf_draw.specs.declared.layout.Route.TheVariants.{Across, Above, Below}
+use Rattle.sdf_draw.specs.declared.ports.End.{End}
 use Rattle.sdf_draw.specs.declared.texts.TheConstants.{COLOURS}
 use Rattle.sdf_draw.specs.Layouts.{place, route, left_of, right_of, lane_above, lane_below}
-use Rattle.sdf_draw.specs.Edges.{edge}
+use Rattle.sdf_draw.specs.Edges.{edge, from_end, to_end}
 use Rattle.sdf_draw.specs.Texts.{number_text, pair_text, rate_text}
 
 -- the y of a port at a box: the ports of a side are centred on it
@@ -22,23 +21,11 @@ abbrev pub port_height : Place → ℕ → ℕ → ℕ
 port_height p ports port = p.y + (p.height - PORT * ports) / 2 + PORT * port + PORT / 2
 
 -- a link begins at the right side of a box, and ends at the left side of a box
-abbrev pub start_at : DesignValue → List Place → ℕ × ℕ → Spot
-start_at d ps e = record {
-  x = right_of (place ps e.0);
-  y = port_height (place ps e.0) (outputs_of kit_steps (node d.net e.0)) e.1;
-}
+abbrev pub start_of : List Place → End → Spot
+start_of ps e = record { x = right_of (place ps e.actor); y = port_height (place ps e.actor) e.ports e.port }
 
-abbrev pub end_at : DesignValue → List Place → ℕ × ℕ → Spot
-end_at d ps e = record {
-  x = left_of (place ps e.0);
-  y = port_height (place ps e.0) (inputs_of kit_steps (node d.net e.0)) e.1;
-}
-
-abbrev pub start_of : DesignValue → List Place → ℕ → Spot
-start_of d ps c = start_at d ps (wire d.net c).from
-
-abbrev pub end_of : DesignValue → List Place → ℕ → Spot
-end_of d ps c = end_at d ps (wire d.net c).to
+abbrev pub end_of : List Place → End → Spot
+end_of ps e = record { x = left_of (place ps e.actor); y = port_height (place ps e.actor) e.ports e.port }
 
 -- a curve across a gap
 unfoldable pub curve_text : Spot → Spot → List ℕ
@@ -116,7 +103,7 @@ between_text e capacity ps r c start end =
 
 abbrev pub arrow_text : DesignValue → List ℕ → List Place → List Route → ℕ → List ℕ
 arrow_text d caps ps rs c =
-    between_text (edge d c) (slice_index caps c) ps (route rs c) c (start_of d ps c) (end_of d ps c)
+    between_text (edge d c) (slice_index caps c) ps (route rs c) c (start_of ps (from_end d c)) (end_of ps (to_end d c))
 
 -- an arrow for each link, in order
 abbrev pub arrows_text : DesignValue → List ℕ → List Place → List Route → List ℕ

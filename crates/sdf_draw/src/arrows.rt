@@ -10,7 +10,7 @@ ghost use Rattle.sdf_draw.specs.Arrows.{dot_text, initial_text, ends_text};
 ghost use Rattle.sdf_draw.specs.Arrows.{arrow_text, arrows_text};
 
 use crate::layout::{Layout, PORT, Place, Route, lane_above};
-use crate::ports::{channel_of, ends_of, ports_of};
+use crate::ports::{End, Ends, channel_of, ends_of};
 use crate::texts::{COLOURS, push_number, push_pair, push_rate};
 use sdf_file::Design;
 use sdf_graph::Channel;
@@ -48,33 +48,31 @@ fn port_height(place: Place, ports: usize, port: usize) -> u64
     place.top() + rest / 2 + PORT * port as u64 + PORT / 2
 }
 
-/// Returns the point at which the arrow of `link` begins.
-fn start_of(design: &Design, layout: &Layout, link: usize) -> Spot
-    requires link { link < length design.now.net.wires }
-    requires boxes { length layout.now.places.items ≡ length design.now.net.nodes }
-    ensures is { result ≡ start_of design.now layout.now.places.items link }
+/// Returns the point at which the arrow of a link begins, which comes from the end `from`.
+fn start_of(layout: &Layout, from: End) -> Spot
+    requires actor { from.actor < length layout.now.places.items }
+    requires port { (from.ports ≤ MOST_PORTS) × (from.port < MOST_PORTS) }
+    ensures is { result ≡ start_of layout.now.places.items from }
     ensures near { IsNear result }
 {
-    let (actor, port) = ends_of(design, link).from;
-    let place = layout.places[actor];
+    let place = layout.places[from.actor];
     Spot {
         x: place.right(),
-        y: port_height(place, ports_of(design, actor).outputs, port),
+        y: port_height(place, from.ports, from.port),
     }
 }
 
-/// Returns the point at which the arrow of `link` ends.
-fn end_of(design: &Design, layout: &Layout, link: usize) -> Spot
-    requires link { link < length design.now.net.wires }
-    requires boxes { length layout.now.places.items ≡ length design.now.net.nodes }
-    ensures is { result ≡ end_of design.now layout.now.places.items link }
+/// Returns the point at which the arrow of a link ends, which goes to the end `to`.
+fn end_of(layout: &Layout, to: End) -> Spot
+    requires actor { to.actor < length layout.now.places.items }
+    requires port { (to.ports ≤ MOST_PORTS) × (to.port < MOST_PORTS) }
+    ensures is { result ≡ end_of layout.now.places.items to }
     ensures near { IsNear result }
 {
-    let (actor, port) = ends_of(design, link).to;
-    let place = layout.places[actor];
+    let place = layout.places[to.actor];
     Spot {
         x: place.left(),
-        y: port_height(place, ports_of(design, actor).inputs, port),
+        y: port_height(place, to.ports, to.port),
     }
 }
 
@@ -262,8 +260,9 @@ fn push_arrow(
         layout.now.places.items layout.now.routes.items link) }
 {
     let channel = channel_of(design, link);
-    let start = start_of(design, layout, link);
-    let end = end_of(design, layout, link);
+    let Ends { from, to } = ends_of(design, link);
+    let start = start_of(layout, from);
+    let end = end_of(layout, to);
     push_line(text, layout, link, channel.from % COLOURS, start, end)?;
     push_ends(text, channel, start, end)?;
     push_capacity(text, table.cap(link), end)?;

@@ -1,7 +1,6 @@
 //! The bars of a table against time.
 
 ghost use Rattle.std.specs.Prelude.{◌≡◌, ℕ, ◌++◌, ◌<◌, length, slice_index, IfOk, Some};
-ghost use Rattle.std.specs.List.{All};
 ghost use Rattle.sdf_prec.specs.declared.firing.Firing.{Firing};
 ghost use Rattle.sdf_prec.specs.Tables.{row, cell};
 ghost use Rattle.sdf_times.specs.Times.{start_in};
@@ -100,8 +99,7 @@ pub(crate) fn bars_in(
     requires wide { (i : ℕ) → i < length table.now.rows → column < length (row table.now.rows i) }
     requires each { (i : ℕ) (f : Firing) → cell table.now.rows i column ≡ Some f →
         IsDrawable costs.now figures.now.starts f }
-    ensures actors { IfOk result (λ v. All (λ b. b.actor < length costs.now) v.items) }
-    ensures are { IfOk result (λ v. v.items ≡ bars_to joined
+    ensures { IfOk result (λ v. v.items ≡ bars_to joined
         (bar_of (slice_index costs.now) (start_in figures.now.starts)) table.now.rows column (length table.now.rows)) }
 {
     let mut bars = Vec::new(alloc);

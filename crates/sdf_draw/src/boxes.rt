@@ -143,7 +143,6 @@ fn push_label(
     actor: usize,
     place: Place,
 ) -> Result<(), AllocError>
-    requires { actor < length design.now.net.nodes }
     ensures { OnOk result (string_bytes text.new ≡ string_bytes text.old ++ label_text design.now actor place) }
 {
     push_line(

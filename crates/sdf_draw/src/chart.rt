@@ -1,7 +1,7 @@
 //! The text of a table against time.
 
 ghost use Rattle.std.specs.Prelude.{◌≡◌, ℕ, ◌<◌, ◌≤◌, ◌*◌, ◌++◌, OnOk, length, string_bytes, codes};
-ghost use Rattle.std.specs.List.{All, flat_map};
+ghost use Rattle.std.specs.List.{flat_map};
 ghost use Rattle.sdf_limits.specs.declared.TheConstants.{MOST_WORKERS};
 ghost use Rattle.sdf_prec.specs.declared.firing.Firing.{Firing};
 ghost use Rattle.sdf_prec.specs.Tables.{row};
@@ -63,7 +63,6 @@ fn push_title(
     start: u64,
     end: u64,
 ) -> Result<(), AllocError>
-    requires { actor < length design.now.net.nodes }
     ensures { OnOk result (string_bytes text.new ≡ string_bytes text.old ++ title_text design.now actor start end) }
 {
     push_name(text, design, actor)?;
@@ -73,8 +72,7 @@ fn push_title(
 
 /// Adds a bar of `worker`. Its position and its width are times.
 fn push_bar(text: &mut String, design: &Design, worker: usize, bar: Bar) -> Result<(), AllocError>
-    requires worker { worker < MOST_WORKERS }
-    requires actor { bar.actor < length design.now.net.nodes }
+    requires { worker < MOST_WORKERS }
     ensures { OnOk result (string_bytes text.new ≡ string_bytes text.old ++ bar_text design.now worker bar) }
 {
     let Bar { actor, start, end } = bar;
@@ -90,8 +88,7 @@ fn push_bars(
     worker: usize,
     bars: &[Bar],
 ) -> Result<(), AllocError>
-    requires worker { worker < MOST_WORKERS }
-    requires actors { All (λ b. b.actor < length design.now.net.nodes) bars.now }
+    requires { worker < MOST_WORKERS }
     ensures { OnOk result (string_bytes text.new ≡
         string_bytes text.old ++ flat_map (bar_text design.now worker) bars.now) }
 {
@@ -118,7 +115,6 @@ fn push_lane(
     ensures { OnOk result (string_bytes text.new ≡
         string_bytes text.old ++ lane_text design.now table.now figures.now.starts worker) }
 {
-    let _ = design.net();
     let joined = table.order().len() > MOST_BARS;
     let bars = bars_in(alloc, table, figures, design.costs(), worker, joined)?;
     push_bars(text, design, worker, bars.as_slice())

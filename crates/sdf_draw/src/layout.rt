@@ -7,7 +7,7 @@ ghost use Rattle.sdf_draw.specs.Layouts.{left_of, right_of, bottom_of, middle_of
 ghost use Rattle.sdf_draw.specs.Layouts.{lane_above, lane_below, ArePlaces, IsRoute, IsWithin, AreRoutes, IsLayout};
 
 use crate::depths::depths;
-use crate::ports::{Ends, PortCounts, ends_of, ports_of};
+use crate::ports::{PortCounts, ports_of};
 use sdf_file::Design;
 use std::alloc::{AllocError, Global};
 
@@ -185,9 +185,10 @@ fn routes_of(
 {
     let mut routes = Vec::new(alloc);
     let mut lanes = Lanes { above: 0, below: 0 };
-    for link in 0..design.net().channels() {
-        let Ends { from, to } = ends_of(design, link);
-        let (route, taken) = route_between(depths[from.0], depths[to.0], lanes);
+    let net = design.net();
+    for link in 0..net.channels() {
+        let ends = net.link(link);
+        let (route, taken) = route_between(depths[ends.from.0], depths[ends.to.0], lanes);
         routes.push(route)?;
         lanes = taken;
     }
@@ -206,7 +207,6 @@ pub(crate) fn laid_out(
     ensures few { IfOk result (λ l. (l.above ≤ MOST_LINKS) × (l.below ≤ MOST_LINKS)) }
 {
     let graph = design.net().graph();
-    let _ = graph.channels();
     let depths = depths(alloc, graph, order)?;
     let (routes, lanes) = routes_of(alloc, design, depths.as_slice())?;
     let top = HEAD + LANE * u64::from(lanes.above) + GAP;

@@ -2,9 +2,9 @@
 
 ghost use Rattle.std.specs.Prelude.{◌≡◌, ◌<◌, ◌≤◌, length};
 ghost use Rattle.sdf_limits.specs.declared.TheConstants.{MOST_CYCLE, MOST_PORTS};
-ghost use Rattle.sdf_actor.specs.Nets.{node, wire, inputs_of, outputs_of};
+ghost use Rattle.sdf_actor.specs.Nets.{node, inputs_of, outputs_of};
 ghost use Rattle.sdf_kit.specs.Kit.{kit_steps};
-ghost use Rattle.sdf_draw.specs.Edges.{edge};
+ghost use Rattle.sdf_draw.specs.Edges.{edge, from_end, to_end};
 ghost use Rattle.sdf_draw.specs.Shapes.{kit_shape, shape_of};
 
 use sdf_actor::Node;
@@ -80,28 +80,45 @@ pub(crate) fn ports_of(design: &Design, actor: usize) -> PortCounts
     }
 }
 
-/// The ends of a link, each an actor and its port.
+/// An end of a link: an actor, its port, and how many ports the actor has on that side.
+#[derive(Clone, Copy)]
+pub(crate) struct End {
+    pub(crate) actor: usize,
+    pub(crate) port: usize,
+    pub(crate) ports: usize,
+}
+
+/// The ends of a link.
 #[derive(Clone, Copy)]
 pub(crate) struct Ends {
-    pub(crate) from: (usize, usize),
-    pub(crate) to: (usize, usize),
+    pub(crate) from: End,
+    pub(crate) to: End,
 }
 
 /// Returns the ends of `link`.
 pub(crate) fn ends_of(design: &Design, link: usize) -> Ends
     requires { link < length design.now.net.wires }
-    ensures from { result.from ≡ (wire design.now.net link).from }
-    ensures to { result.to ≡ (wire design.now.net link).to }
-    ensures actors { (result.from.0 < length design.now.net.nodes) × (result.to.0 < length design.now.net.nodes) }
-    ensures ports { (result.from.1 < MOST_PORTS) × (result.to.1 < MOST_PORTS) }
+    ensures from { result.from ≡ from_end design.now link }
+    ensures to { result.to ≡ to_end design.now link }
+    ensures actors { (result.from.actor < length design.now.net.nodes)
+        × (result.to.actor < length design.now.net.nodes) }
+    ensures ports { (result.from.port < MOST_PORTS) × (result.to.port < MOST_PORTS) }
+    ensures few { (result.from.ports ≤ MOST_PORTS) × (result.to.ports ≤ MOST_PORTS) }
 {
-    let net = design.net();
-    let _ = net.graph();
-    let link = net.link(link);
+    let link = design.net().link(link);
     let (from, to) = (link.from, link.to);
-    let _ = ports_of(design, from.0);
-    let _ = ports_of(design, to.0);
-    Ends { from, to }
+    Ends {
+        from: End {
+            actor: from.0,
+            port: from.1,
+            ports: ports_of(design, from.0).outputs,
+        },
+        to: End {
+            actor: to.0,
+            port: to.1,
+            ports: ports_of(design, to.0).inputs,
+        },
+    }
 }
 
 /// Returns the channel of `link`, with what firings put on it and take from it.

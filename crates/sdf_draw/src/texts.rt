@@ -1,6 +1,6 @@
 //! Parts of the texts.
 
-ghost use Rattle.std.specs.Prelude.{◌≡◌, ◌++◌, ◌<◌, ◌≤◌, length, string_bytes, sum, OnOk};
+ghost use Rattle.std.specs.Prelude.{◌≡◌, ◌++◌, ◌≤◌, length, string_bytes, sum, OnOk};
 ghost use Rattle.sdf_limits.specs.declared.TheConstants.{MOST_CYCLE};
 ghost use Rattle.sdf_draw.specs.Texts.{number_text, pair_text, escaped_char, escaped, name_text, rate_text};
 
@@ -69,7 +69,6 @@ pub(crate) fn push_escaped(text: &mut String, within: Within, word: &str) -> Res
 /// Adds the name of `actor`, escaped for markup.
 #[tactic(auto, unfolding(crate::specs::Texts::name_text))]
 pub(crate) fn push_name(text: &mut String, design: &Design, actor: usize) -> Result<(), AllocError>
-    requires { actor < length design.now.net.nodes }
     ensures { OnOk result (string_bytes text.new ≡ string_bytes text.old ++ name_text design.now actor) }
 {
     push_escaped(text, Within::Marks, design.name(actor))

@@ -216,8 +216,6 @@ pub fn plan(alloc: Global, design: &Design, options: &Options) -> Result<Plan, F
     // was refused.
     ensures decides { ArePassed options.now → Decides design.now result }
 {
-    let net = design.net();
-    let _ = net.repetitions();
-    let _ = net.graph().channels();
+    let _ = design.net().repetitions();
     planned(alloc, design, options)
 }

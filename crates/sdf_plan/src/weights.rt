@@ -90,11 +90,9 @@ fn weights_by(
     ensures are { IfOk result (λ v. v.items ≡ weights_by design.now by_kind period.now.repetitions) }
     ensures loads { IfOk result (λ v. AreLoads (length design.now.net.nodes) v.items) }
 {
-    let net = design.net();
-    net.graph().channels();
     let repetitions = period.repetitions();
     let mut weights = Vec::new(alloc);
-    for actor in 0..net.len() {
+    for actor in 0..design.net().graph().actors() {
         weights.push(u64::from(repetitions[actor]) * firing_weight(design, by_kind, actor))?;
     }
     Ok(weights)

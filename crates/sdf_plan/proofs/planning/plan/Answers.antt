@@ -2,6 +2,7 @@ use Rattle.std.proofs.Common.{subst}
 use Rattle.sdf_graph.specs.Rates.{rates, IsShape}
 use Rattle.sdf_graph.specs.Periods.{IsLeastPeriod}
 use Rattle.sdf_actor.specs.Graphs.{graph_of}
+use Rattle.sdf_actor.proofs.Theorems.{accepted_is_lawful}
 use Rattle.sdf_kit.specs.Kit.{kit_steps}
 use Rattle.sdf_plan.proofs.Deadlocks.{live_or_not, decides_of}
 use Rattle.sdf_plan.proofs.Suiting.{suits_of}
@@ -13,8 +14,8 @@ returns-clause-suits c = suits_of c.args.design.now c.args.options.now c.planned
 pub returns-clause-decides : goal.returns-clause-decides
 returns-clause-decides c passed =
     let least = subst (λ n. IsLeastPeriod (rates (graph_of kit_steps n)) c.repetitions.result.now)
-    c.net-net.ensures.value c.repetitions.ensures.least in
-    let shape = subst (λ n. IsShape (graph_of kit_steps n)) c.net-net.ensures.value
-    (subst IsShape c.graph.ensures.value c.channels.ensures.shape) in
+    c.net.ensures.value c.repetitions.ensures.least in
+    let lawful = accepted_is_lawful kit_steps c.net.result.now c.repetitions.result.now c.repetitions.ensures.accepted in
+    let shape = subst (λ n. IsShape (graph_of kit_steps n)) c.net.ensures.value lawful.graph in
     decides_of c.args.design.now c.args.options.now c.planned.result passed c.planned.ensures
     (live_or_not c.args.design.now c.repetitions.result.now least shape)

@@ -1,5 +1,6 @@
 use Rattle.std.proofs.Common.{◌≡◌, ◌∙◌, ◌≤◌, ap, subst, sym, length, slice_index, arith}
 use Rattle.sdf_actor.specs.Graphs.{graph_of}
+use Rattle.sdf_actor.proofs.Theorems.{accepted_is_lawful}
 use Rattle.sdf_kit.specs.Kit.{kit_steps}
 use Rattle.sdf_prec.specs.Blocks.{block}
 use Rattle.sdf_prec.specs.Costs.{AreCosts}
@@ -11,18 +12,18 @@ use Rattle.sdf_analyze.proofs.figures.Figures.with_span.Goals as goal
 
 pub work-work-requires-clause-few : goal.work-work-requires-clause-few
 work-work-requires-clause-few c =
-    let graph : c.graph-graph.result.now ≡ graph_of kit_steps c.args.design.now.net =
-    c.graph-graph.ensures.value ∙ ap (graph_of kit_steps) c.net.ensures.value in
+    let lawful = accepted_is_lawful kit_steps c.net.result.now c.graph-graph.ensures.accepted.0
+    c.graph-graph.ensures.accepted.1 in
     let few : (graph_of kit_steps c.args.design.now.net).actors ≤ 64 =
-    subst (λ g. g.actors ≤ 64) graph c.channels.ensures.shape.few in
+    subst (λ n. (graph_of kit_steps n).actors ≤ 64) c.net.ensures.value lawful.graph.few in
     rw c.repetitions.ensures (rw c.requires.period.least.is.all few)
 
 pub invariant_of-result : goal.invariant_of-result
 invariant_of-result c =
-    let graph : c.graph-graph.result.now ≡ graph_of kit_steps c.args.design.now.net =
-    c.graph-graph.ensures.value ∙ ap (graph_of kit_steps) c.net.ensures.value in
+    let lawful = accepted_is_lawful kit_steps c.net.result.now c.graph-graph.ensures.accepted.0
+    c.graph-graph.ensures.accepted.1 in
     let few : (graph_of kit_steps c.args.design.now.net).actors ≤ 64 =
-    subst (λ g. g.actors ≤ 64) graph c.channels.ensures.shape.few in
+    subst (λ n. (graph_of kit_steps n).actors ≤ 64) c.net.ensures.value lawful.graph.few in
     let actors : length c.args.period.now.repetitions ≡ (graph_of kit_steps c.args.design.now.net).actors =
     c.requires.period.least.is.all in
     let few_reps : length c.args.period.now.repetitions ≤ 64 = rw actors few in
