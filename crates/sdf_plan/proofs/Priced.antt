@@ -1,5 +1,5 @@
 -- Lawful costs of a graph's actors are accepted.
-use Rattle.std.proofs.Common.{◌≡◌, ◌∙◌, ◌<◌, ℕ, List, Result, Ok, Err, inl, inr, subst, sym, arith}
+use Rattle.std.proofs.Common.{◌≡◌, ◌∙◌, ℕ, List, Result, Ok, Err, inl, inr, subst, sym, arith}
 use Rattle.std.specs.Prelude.{MatchResult}
 use Rattle.sdf_prec.specs.declared.fault.PrecFault.{PrecFault}
 use Rattle.sdf_prec.specs.declared.fault.PrecFault.TheVariants.{OutOfMemory, BadCost}

@@ -19,7 +19,7 @@ pub returns-clause-loads : goal.returns-clause-loads
 returns-clause-loads c =
     let d = c.args.design.now in
     let graph = c.graph.ensures.value ∙ ap (graph_of kit_steps) c.net.ensures.value in
-    let few : length d.net.nodes ≤ 64 = subst (λ g. g.actors ≤ 64) graph c.actors.ensures.shape.few in
+    let few : length d.net.nodes ≤ 64 = subst (λ g. g.actors ≤ 64) graph c.actors-actor-end.ensures.shape.few in
     let are : c.loop-actor.weights.items ≡ weights_by d c.args.by_kind c.args.period.now.repetitions = search rules in
     subst (AreLoads (length d.net.nodes)) (sym are)
     (are_loads d c.args.by_kind c.args.period.now c.net.ensures.whole c.requires few)
