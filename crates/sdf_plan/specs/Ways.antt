@@ -1,5 +1,5 @@
 -- The ways in which a design is run.
-use Rattle.std.specs.Prelude.{◌≡◌, ℕ, Some, None}
+use Rattle.std.specs.Prelude.{◌≡◌, Some, None}
 use Rattle.sdf_prec.specs.declared.block_table.BlockTable.{BlockTable}
 use Rattle.sdf_options.specs.declared.options.Runner.TheVariants as runners
 use Rattle.sdf_plan.specs.declared.plan.Way.{Way}

@@ -1,5 +1,5 @@
 -- Weights: the loads of a design's actors, by which they are spread over workers.
-use Rattle.std.specs.Prelude.{ℕ, ◌+◌, ◌*◌, Bool, true, ◌==◌, min, max, if◌then◌else◌, List, length, map}
+use Rattle.std.specs.Prelude.{ℕ, ◌+◌, ◌*◌, Bool, ◌==◌, min, max, if◌then◌else◌, List, length, map}
 use Rattle.std.specs.Prelude.{slice_index}
 use Rattle.std.specs.List.{list_all, range_with_len}
 use Rattle.sdf_limits.specs.declared.TheConstants.{MOST_COST}

@@ -1,4 +1,4 @@
-use Rattle.std.proofs.Common.{◌≡◌, ◌≤◌, ℕ, List, IfNone, IfSome, subst, sym}
+use Rattle.std.proofs.Common.{◌≤◌, ℕ, List, IfNone, IfSome, subst, sym}
 use Rattle.sdf_graph.specs.Periods.{IsLeastPeriod}
 use Rattle.sdf_graph.specs.Rates.{rates}
 use Rattle.sdf_actor.specs.Graphs.{graph_of}

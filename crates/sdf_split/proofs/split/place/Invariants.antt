@@ -1,4 +1,3 @@
-use Rattle.std.proofs.Common.{◌≡◌, length}
 use Rattle.sdf_split.specs.Parts.{AreDone, AreMade}
 use Rattle.sdf_split.proofs.split.place.Given as goal
 

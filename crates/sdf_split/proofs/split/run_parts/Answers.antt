@@ -1,4 +1,4 @@
-use Rattle.std.proofs.Common.{◌<◌, subst, rules, arith}
+use Rattle.std.proofs.Common.{subst, rules, arith}
 use Rattle.std.proofs.iter.Serving.{serving}
 use Rattle.sdf_split.specs.Parts.{AreDone}
 use Rattle.sdf_split.proofs.split.run_parts.Goals as goal
