@@ -1,7 +1,7 @@
 //! Figures of a design's schedule, and a comparison of schedules, as numbers and as texts.
 //!
 //! It depends on `sdf_plan`, which schedules a design, and on `sdf_times`, which computes the times of a schedule.
-//! `sdf_options` has the options, `sdf_faults` the reasons that there is no schedule, `sdf_file` the names of actors,
+//! `sdf_options` has the options, and `sdf_faults` the faults of a schedule. `sdf_file` has the names of actors,
 //! `sdf_texts` the texts of links, and `sdf_limits` the limits. Designs and tables are values of `sdf_kit`,
 //! `sdf_actor`, `sdf_prec`, `sdf_sched` and `sdf_graph`. Begin at `figures` and `analysis`, then `comparison`. The
 //! definitions are in `specs/Figures.antt`, `specs/Texts.antt`, `specs/Ways.antt` and `specs/Columns.antt`.

@@ -47,7 +47,7 @@ fn bytes_at<S: Storage, T: AllocGlobal, I: Read>(
     }
 }
 
-/// Returns the mistake of a graph file with `lines` lines `[[actor]]`, which are not as many as its actors.
+/// Returns the message for a graph file that needs a line `[[actor]]` for each actor of `design`, but has `lines`.
 fn lines_text(alloc: Global, design: &Design, lines: usize) -> Result<String, AllocError> {
     let actors = design.costs().len();
     format!(in alloc;
