@@ -81,7 +81,8 @@ examples: build
 	scripts/pipes
 	scripts/terminal
 
-# Every proof from nothing, the must-fail edits, the tests, and each program as two compilers build it.
+# Each proof that did not pass on this machine before, from nothing, the must-fail edits, the tests, and each program as
+# two compilers build it.
 test:
 	RT_JOBS=$$(scripts/lanes) rt ci
 

@@ -81,7 +81,7 @@ pub(crate) fn push_same(text: &mut String) -> Result<(), AllocError> {
     text.push_str(LAST)
 }
 
-/// The name of the coefficient file of these filters.
+/// The name of the coefficient file that the filters of `Graph::Same` share.
 pub const SAME_FILE: &str = "taps.toml";
 
 /// Returns the text of their coefficient file.

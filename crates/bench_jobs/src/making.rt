@@ -146,7 +146,7 @@ fn show_stages(rt: &impl Print, files: &[StageFile]) -> Result<()> {
     Ok(())
 }
 
-/// Adds a coefficient file with this `name`, whose text is `said`.
+/// Adds the coefficient file `name` with the text `said`.
 fn push_file(
     alloc: Global,
     files: &mut Vec<CoefficientFile>,

@@ -14,8 +14,8 @@
 //! A plan, the words of a line and an answer with a fault of a design end by `drop(value)`, which is proved once. At
 //! the end of a scope each of their variants would be proved again.
 //!
-//! It depends on `sdf_words` and `sdf_options` for the words of a call, on `sdf_file` and `sdf_texts` for designs and
-//! their texts, and on `sdf_plan`, `sdf_faults`, `sdf_process` and `sdf_wav` for runs of files. Calls of single layers
+//! It depends on `sdf_words` and `sdf_options` for the words of a call, and on `sdf_file` and `sdf_texts` for designs
+//! and their texts. `sdf_plan`, `sdf_faults`, `sdf_process` and `sdf_wav` run files. Calls of single layers
 //! also use `sdf_run`, `sdf_rings`, `sdf_prec`, `sdf_sched`, `sdf_kit`, `sdf_actor` and `sdf_graph`.
 //! Begin at `main`, then `calls`, which names every call. `designs` has the calls that make a design or a plan.
 //! `runs`, `sessions`, `by_hand` and `sounds` have the calls that begin with a plan. `disturbing` has the gates, and

@@ -20,8 +20,8 @@ use Rattle.sdf_answer.proofs.Periods.{has_facts}
 use Rattle.sdf_answer.proofs.Samples.{blocks_small}
 use Rattle.sdf_answer.proofs.Wholes.{can_run, may_leave}
 
-pub accepted_nets : {A S T : Type 0} (s : Steps A S T) → NetsHaveFacts s
-accepted_nets = has_facts
+pub nets_have_facts : {A S T : Type 0} (s : Steps A S T) → NetsHaveFacts s
+nets_have_facts = has_facts
 
 pub nets_have_periods : {A S T : Type 0} (s : Steps A S T) → NetsHavePeriods s
 nets_have_periods s n accepted p period =
@@ -29,8 +29,7 @@ nets_have_periods s n accepted p period =
     record { net = facts.net; shape = facts.graph; alike = facts.alike; accepted = accepted; period = period }
 
 pub blocks_are_small : {A S T : Type 0} (s : Steps A S T) → BlocksAreSmall s
-blocks_are_small s n accepted =
-    let facts = has_facts s n accepted in blocks_small s n facts.net facts.graph
+blocks_are_small = blocks_small
 
 pub nets_can_run : {A S T : Type 0} (s : Steps A S T) → NetsCanRun s
 nets_can_run = can_run

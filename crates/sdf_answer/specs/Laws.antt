@@ -1,7 +1,7 @@
 -- Statements of the laws.
 use Rattle.std.specs.Prelude.{◌≡◌, ◌≢◌, ℕ, ◌+◌, ◌*◌, ◌≤◌, ◌<◌, ◌==◌, cond, List, [], length, map, take, slice_index_or}
 use Rattle.std.specs.List.{flat_map, Contains}
-use Rattle.sdf_graph.specs.Rates.{rates}
+use Rattle.sdf_graph.specs.Rates.{rates, IsShape}
 use Rattle.sdf_graph.specs.Sequences.{IsEnabled}
 use Rattle.sdf_sched.specs.Period.{Schedule, IsPeriodOf}
 use Rattle.sdf_actor.specs.declared.node.Node.TheVariants.{Sink}
@@ -28,9 +28,9 @@ NetsHavePeriods {A} {S} {T} s =
     (n : Netlist A T) → WasAccepted s n → (p : Schedule) → IsPeriodOf (rates (graph_of s n)) p →
     HasPeriod s n p
 
--- a block of few firings of an accepted net reads and makes few samples
+-- a block of few firings reads and makes few samples
 abbrev pub BlocksAreSmall : {A S T : Type 0} → Steps A S T → Type 0
-BlocksAreSmall {A} {S} {T} s = (n : Netlist A T) → WasAccepted s n → AreBlocksSmall s n
+BlocksAreSmall {A} {S} {T} s = (n : Netlist A T) → IsNet s n → IsShape (graph_of s n) → AreBlocksSmall s n
 
 -- each list is the beginning of the later list of its number
 abbrev pub Begin : {T : Type 0} → List (List T) → List (List T) → Type 0

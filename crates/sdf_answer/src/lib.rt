@@ -4,7 +4,7 @@
 //! `specs/Answer.antt`: the inputs of a run, and its outputs as lists of the histories. Then read `inputs` and
 //! `outputs`, the tests and the lists of a run; `sizes`, the samples that firings move; `queue`, the samples on a
 //! channel; `blocks`, the samples that a firing moves at its ports; `many_blocks`, the samples of batched firings
-//! (`parts`: at one port; `pairs`: at two); `rooms`, how many samples fit on a channel. Every runner's proof uses
+//! (`parts`: at one port; `pairs`: at two); and `rooms`, how many samples fit on a channel. Every runner's proof uses
 //! `laws`.
 #![tactic(auto)]
 

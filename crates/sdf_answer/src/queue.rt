@@ -136,14 +136,6 @@ impl<T: Copy> Queue<T> {
         self.room
     }
 
-    /// Proves that the number of samples, and the number it has room for, fit in 64 bits.
-    pub fn is_small(&self)
-        ensures held { length self.now.samples < 2 ^ 64 }
-        ensures room { self.now.room < 2 ^ 64 }
-    {
-        let _items = &self.items;
-    }
-
     /// Puts `block` behind the samples.
     pub fn put(&mut self, block: &[T])
         requires { length self.old.samples + length block.now ≤ self.old.room }
@@ -178,6 +170,15 @@ impl<T: Copy> Queue<T> {
         &self.items[self.start..end]
     }
 
+    /// Returns the `times` oldest blocks of `size` samples, in place.
+    pub fn oldest_blocks(&self, times: usize, size: usize) -> &[T]
+        requires { times * size ≤ length self.now.samples }
+        ensures { result.now ≡ take (times * size) self.now.samples }
+    {
+        let last = self.start + times * size;
+        &self.items[self.start..last]
+    }
+
     /// Drops the `many` oldest samples.
     pub fn release(&mut self, many: usize)
         requires { many ≤ length self.old.samples }
@@ -186,18 +187,18 @@ impl<T: Copy> Queue<T> {
         self.start += many;
     }
 
-    /// Fires an actor in one batch, which writes its `made` samples in place, behind the samples of the queue.
+    /// Fires an actor in one batch. Each firing writes its `size` samples in place, behind the samples of the queue.
     pub fn put_fired<A: Actor<Token = T>>(
         &mut self,
         firings: Firings<'_, A>,
         state: &mut A::State,
         taken: &[T],
-        made: usize,
+        size: usize,
     )
         requires phase { firings.phase < A.steps.cycle firings.actor.now }
         requires taken { length taken.now ≡ sum_in A.steps firings.actor.now firings.phase firings.times }
-        requires made { made ≡ sum_out A.steps firings.actor.now firings.phase firings.times }
-        requires room { length self.old.samples + made ≤ self.old.room }
+        requires made { firings.times * size ≡ sum_out A.steps firings.actor.now firings.phase firings.times }
+        requires room { length self.old.samples + firings.times * size ≤ self.old.room }
         ensures state { state.new ≡ state_at A.steps firings.entry.actor.now firings.entry.phase state.old taken.now
             firings.entry.times }
         ensures queue { self.new ≡ record self.old {
@@ -205,15 +206,15 @@ impl<T: Copy> Queue<T> {
               ++ puts_to A.steps firings.entry.actor.now firings.entry.phase state.old taken.now firings.entry.times;
         } }
         ensures long { length (puts_to A.steps firings.entry.actor.now firings.entry.phase state.old taken.now
-            firings.entry.times) ≡ made }
+            firings.entry.times) ≡ firings.entry.times * size }
     {
         let Firings {
             actor,
             phase,
             times,
         } = firings;
-        let place = place_for(&mut self.items, self.start, self.end, made);
-        let end = place.1 + made;
+        let place = place_for(&mut self.items, self.start, self.end, times * size);
+        let end = place.1 + times * size;
         actor.fire_many(phase, times, state, taken, &mut self.items[place.1..end]);
         self.start = place.0;
         self.end = end;

@@ -48,7 +48,7 @@ fn port_height(place: Place, ports: usize, port: usize) -> u64
     place.top() + rest / 2 + PORT * port as u64 + PORT / 2
 }
 
-/// Returns the point at which the arrow of a link begins, which comes from the end `from`.
+/// Returns the point at which an arrow from `from` begins.
 fn start_of(layout: &Layout, from: End) -> Spot
     requires actor { from.actor < length layout.now.places.items }
     requires port { (from.ports ≤ MOST_PORTS) × (from.port < MOST_PORTS) }
@@ -62,7 +62,7 @@ fn start_of(layout: &Layout, from: End) -> Spot
     }
 }
 
-/// Returns the point at which the arrow of a link ends, which goes to the end `to`.
+/// Returns the point at which an arrow to `to` ends.
 fn end_of(layout: &Layout, to: End) -> Spot
     requires actor { to.actor < length layout.now.places.items }
     requires port { (to.ports ≤ MOST_PORTS) × (to.port < MOST_PORTS) }

@@ -1,5 +1,5 @@
-//! The table of the kinds of actors: a row for each kind, with its word, its keys and their limits. Beside it, the ports
-//! of each kind.
+//! The table of the kinds of actors: a row for each kind, with its word, its keys and their limits. Beside it, the
+//! ports of each kind.
 //!
 //! `kinds` returns all kinds, `row_of` the row of one kind, and `kinds_text` the table as a text; `keys_text` and
 //! `limits_text` return parts of it. `ports` has the ports of each kind, by the values of its keys or by their names.

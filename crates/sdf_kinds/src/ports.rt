@@ -1,5 +1,5 @@
-//! The ports of each kind, by numbers of any type: the values of its keys, or their names. Kinds take the number one of
-//! that type as `one`, and its zero as `zero`.
+//! The ports of each kind, by numbers of any type: the values of its keys, or their names. `one` and `zero` are the one
+//! and the zero of that type.
 
 ghost use Rattle.std.specs.Prelude.{◌≡◌};
 ghost use Rattle.sdf_kinds.specs.Ports.{ports_in, samples_in, steady, input, output, fir, decimate, interpolate};
@@ -32,7 +32,7 @@ impl<N: Copy> SideRow<N> {
         }
     }
 
-    /// Returns the number of samples that a port moves when it moves any.
+    /// Returns the number of samples that a firing moves at a port that it serves.
     pub fn samples(self) -> N
         ensures { result ≡ samples_in self }
     {

@@ -7,7 +7,8 @@
 //! 3. a variant, a constructor and an arm of each `match` below, and a row of `specs/Kit.antt`;
 //! 4. a case in `specs/PutsFit.antt` (its blocks have their lengths) and in `proofs/Formulas.antt` (it puts its
 //!   formula);
-//! 5. a lemma in `proofs/KindRuns.antt`: what its `run` puts is what the firings put one by one.
+//! 5. a lemma in `proofs/KindRuns.antt`: what its `run` puts is what the firings put one by one;
+//! 6. if it multiplies, its products in `firing_products.rt` and `specs/FiringProducts.antt`.
 
 ghost use Rattle.std.specs.Prelude.{◌≡◌, ◌≤◌};
 ghost use Rattle.sdf_actor.specs.Steps.{Steps, total_in, total_out, PutsFit};

@@ -22,7 +22,7 @@ fn side_of(row: SideRow<u32>) -> PortRates
 }
 
 impl Ports {
-    /// Returns the ports that `row` gives, with the values of a kind's keys in it.
+    /// Returns the ports of `row`, which has the values of a kind's keys.
     pub fn of_row(row: PortRow<u32>) -> Ports
         ensures { result ≡ ports_of row }
     {

@@ -5,6 +5,7 @@ use Rattle.sdf_graph.specs.Rates.{rates}
 use Rattle.sdf_sched.specs.Period.{IsPeriodOf}
 use Rattle.sdf_actor.specs.declared.sides.Lists.TheVariants.{Outputs}
 use Rattle.sdf_actor.specs.Graphs.{graph_of}
+use Rattle.sdf_actor.specs.NetFaults.{WasAccepted}
 use Rattle.sdf_actor.specs.Nets.{Netlist, IsNet}
 use Rattle.sdf_actor.specs.Sides.{list_count, period_samples}
 use Rattle.sdf_actor.specs.Steps.{Steps}
@@ -17,8 +18,9 @@ use Rattle.sdf_one.specs.declared.work.Work.{Work}
 use Rattle.sdf_one.specs.declared.work.Work.TheVariants.{Source, Sink, Inner}
 use Rattle.sdf_one.specs.Runs.{Stands}
 
--- a schedule of the net's period, and inputs that hold all periods of the passage
+-- a net that was accepted, a schedule of its period, and inputs that hold all periods of the passage
 pub record IsPassage {A S T : Type 0} (s : Steps A S T) (p : Passage A T S) : Type 0 where
+  pub accepted : WasAccepted s p.net.now
   pub period : IsPeriodOf (rates (graph_of s p.net.now)) p.period.now
   pub inputs : HasInputs p.net.now p.period.now.repetitions p.periods (lists p.inputs.now)
 

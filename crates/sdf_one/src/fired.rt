@@ -9,7 +9,6 @@ use crate::lengths::block_periods;
 use crate::run::Run;
 use crate::setup::make_works;
 use sdf_actor::{Actor, Net};
-use sdf_answer::laws::net_facts;
 use sdf_answer::rooms::renew_queues;
 use sdf_answer::{Queue, Sizes};
 use sdf_sched::Period;
@@ -52,7 +51,6 @@ pub(crate) fn fired<'a, A: Actor>(
         periods,
         inputs,
     } = passage;
-    net_facts(net);
     let sizes = Sizes::new(alloc, net)?;
     let cycles = make_cycles(alloc, net)?;
     let works = make_works(alloc, net, &sizes, filler)?;

@@ -15,6 +15,7 @@ use sdf_answer::blocks::{Ports, take_block};
 use sdf_answer::many_blocks::whole_blocks;
 use sdf_answer::queue::{Firings, lengthen};
 use sdf_answer::{Queue, Sizes};
+use sdf_node::append;
 
 /// The runtime of a node: what it does in a firing.
 #[derive(Drop)]
@@ -160,12 +161,11 @@ fn fire_through<A: Actor>(
 {
     let from = ports.ins.channels[0];
     let to = ports.outs.channels[0];
-    queues[from].is_small();
-    queues[to].is_small();
-    let many = firings.times * ports.ins.sizes[from];
-    let more = firings.times * ports.outs.sizes[to];
+    let size = ports.outs.sizes[to];
     let mut target = queues[to].lift();
-    target.put_fired(firings, state, queues[from].oldest(many), more);
+    let taken = queues[from].oldest_blocks(firings.times, ports.ins.sizes[from]);
+    let many = taken.len();
+    target.put_fired(firings, state, taken, size);
     queues[from].release(many);
     queues[to] = target;
 }
@@ -250,9 +250,10 @@ impl<'a, A: Actor> Work<'a, A> {
             }
             Work::Sink { ext } => {
                 let from = ports.ins.channels[0];
-                queues[from].is_small();
-                let many = times * ports.ins.sizes[from];
-                queues[from].take(many, &mut outputs[*ext]);
+                let blocks = queues[from].oldest_blocks(times, ports.ins.sizes[from]);
+                let length = blocks.len();
+                append(&mut outputs[*ext], blocks);
+                queues[from].release(length);
             }
             Work::Inner {
                 actor,

@@ -1,4 +1,4 @@
-//! Tables of the blocks of a period.
+//! What workers follow: a period, and a table of a block of it.
 
 use crate::table::Table;
 use sdf_sched::Period;

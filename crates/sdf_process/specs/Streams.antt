@@ -1,8 +1,7 @@
 -- A run that takes its input and writes its output as it goes.
 use Rattle.std.specs.Prelude.{◌≡◌, ◌⊎◌, ℕ, ◌+◌, ◌*◌, ◌<◌, ◌≤◌, ℤ, List, [], ◌++◌, length, slice_index_or, Option, Some}
-use Rattle.std.specs.Prelude.{sum, Bool, Result, Ok, Err, false, is_some}
+use Rattle.std.specs.Prelude.{Bool, Result, Ok, Err, false, is_some}
 use Rattle.std.specs.Io.KnownBytes.{Appends}
-use Rattle.sdf_limits.specs.declared.TheConstants.{MOST_BLOCK}
 use Rattle.sdf_graph.specs.Rates.{rates}
 use Rattle.sdf_actor.specs.Graphs.{graph_of}
 use Rattle.sdf_actor.specs.Nets.{Netlist}
@@ -15,6 +14,7 @@ use Rattle.sdf_answer.specs.Periods.{HasPeriod}
 use Rattle.sdf_kit.specs.declared.kit.Kit.{Kit}
 use Rattle.sdf_kit.specs.Kit.{kit_steps}
 use Rattle.sdf_run.specs.Sessions.{SessionValue, IsLive}
+use Rattle.sdf_prec.specs.Blocks.{IsShort}
 use Rattle.sdf_sched.specs.Period.{Schedule, IsPeriodOf}
 use Rattle.sdf_wav.specs.Canonical.{sample_bytes}
 use Rattle.sdf_wav.specs.Device.{AppendsFront, one_more, ReaderState, WriterState}
@@ -133,7 +133,7 @@ pub record IsOpened (t : Opened) : Type 0 where
   pub goes : GoesBy t.net.now t.period.now t.blocking t.runner
   pub stands : (s : Sound) → StandsAt t.net.now t.period.now t.blocking s 0 0 [] (left_by t.runner)
   pub some : 0 < t.blocking
-  pub fits : t.blocking * sum t.period.now.repetitions ≤ MOST_BLOCK
+  pub fits : IsShort t.blocking t.period.now.repetitions
   pub first : 0 < t.first
   pub piece : 0 < t.frames
 

@@ -63,7 +63,8 @@ struct Course<'a> {
     prepared: &'a Prepared,
 }
 
-/// Runs a plan on the file of `item`, to the path of its output while it is written. Reports to `said`.
+/// Runs a plan on the file of `item`. Writes to `item.part`, the path of an output that is not complete. Reports to
+/// `said`.
 fn run_part<S: Storage, T: Threads + AllocGlobal + Clock + Sync>(
     world: &World<S, T>,
     course: Course<'_>,

@@ -9,7 +9,7 @@ use sdf_options::printable::printable;
 use std::alloc::Global;
 use std::path::PathBuf;
 
-/// Returns the canonical paths of the sounds that a batch reads, of those that exist.
+/// Returns the canonical paths of the sounds that a batch reads, if they exist.
 fn paths_read<S: Storage>(
     alloc: Global,
     storage: &S,

@@ -6,8 +6,8 @@
 //! measures a run. `sdf_faults` has the faults. The project's main promise is the contract of `sdf_process::process`.
 //! Devices of `sdf_wav` read and write the bytes of a WAV file. Begin at `program::serve`, then `running`, `batch` and
 //! `profiling`, which have the commands that run a net. `plans` makes the plan of a run. `items` has the places where
-//! the files of a batch are written, and `guards` keeps them apart from what it reads. `desk` reports their outcomes
-//! (`outcome`) in file order, and `count` shows how many are done.
+//! the files of a batch are written, and `guards` refuses places that would overwrite what the batch reads. `desk`
+//! reports their outcomes (`outcome`) in file order, and `count` shows how many are done.
 #![tactic(auto)]
 
 mod batch;

@@ -57,13 +57,13 @@ fn lines_text(alloc: Global, design: &Design, lines: usize) -> Result<String, Al
     )
 }
 
-/// Returns the mistake of a graph file in which the cost of `actor` has no line of its own.
+/// Returns the message for a graph file in which the cost of `actor` has no line of its own.
 fn cost_text(alloc: Global, design: &Design, actor: usize) -> Result<String, AllocError> {
     let name = design.name(actor);
     format!(in alloc; "the cost of the actor \"{name}\" is to be a line of GRAPH like `cost = 12`")
 }
 
-/// The mistake of a graph file that is read otherwise with costs.
+/// The message for a graph file in which new costs would change more than costs.
 const OTHERWISE: &str =
     "with costs GRAPH would say something else: each key wants a line of its own";
 

@@ -62,7 +62,7 @@ impl<'a> Job<'a> {
         }
     }
 
-    /// Returns the measurement of a run on `input`, whose costs are written to `write` if it is given.
+    /// Returns the request to measure a run on `input`, and to write its costs to `write` if that is given.
     fn profiling(self, input: &'a str, write: Option<&'a str>) -> Profiling<'a> {
         Profiling {
             graph: self.graph,

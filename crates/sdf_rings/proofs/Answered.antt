@@ -24,7 +24,7 @@ use Rattle.sdf_prec.specs.BlockTables.{IsTableOf}
 use Rattle.sdf_rings.specs.Asks.{IsPlanned}
 use Rattle.sdf_rings.specs.Outcome.{HasRunInRounds, HasEnded}
 use Rattle.sdf_rings.specs.Prepared.{IsPrepared}
-use Rattle.sdf_rings.specs.Rests.{InHand, AreRings, HaveMet}
+use Rattle.sdf_rings.specs.Rests.{InHand, HaveMet}
 use Rattle.sdf_rings.specs.Totals.{total_left}
 use Rattle.sdf_rings.proofs.Lengths.{left_few, left_some}
 
@@ -67,15 +67,14 @@ module _ {A S T : Type 0} (s : Steps A S T) (n : Netlist A T) (p : Schedule) (ha
       let all : 1 * 1 ≤ b * (j * get_or q 0 0) = mul-le-mul more some in
       omega (arith, all, ap (λ m. b * m) each, blocks.counts 0 known)
 
-  module _ (inputs : List (List T)) (r : InHand A S T) (rings : AreRings s r)
-      (prepared : IsPrepared s n inputs t b r) where
+  module _ (inputs : List (List T)) (r : InHand A S T) (prepared : IsPrepared s n inputs t b r) where
     -- what is asked, of the net in hand
     pub asked : IsPlanned s r.net r.seats r.places (repeated b t.order) (λ c. get_or t.caps c 0)
     asked = subst (λ m. IsPlanned s m r.seats r.places (repeated b t.order) (λ c. get_or t.caps c 0))
         (sym prepared.net_is) prepared.planned
 
     few_left : total_left r.seats ≤ length (repeated b t.order)
-    few_left = left_few s r.net r.inputs r.seats r.places rings (repeated b t.order)
+    few_left = left_few s r.net r.inputs r.seats r.places prepared.rings (repeated b t.order)
         (λ c. get_or t.caps c 0) asked
 
     pub few_rounds : b < 2 ^ 32 → total_left r.seats < 2 ^ 64
@@ -102,7 +101,7 @@ module _ {A S T : Type 0} (s : Steps A S T) (n : Netlist A T) (p : Schedule) (ha
           planned = kept (repeated b t.order) (λ c. get_or t.caps c 0) asked;
           counts = subst (λ m. AreCountsOf m (repeated b t.order) (periods_of q (b * j))) (sym net) counts_are;
           rounds_few = omega (arith, most, few_left, order_long);
-          rounds_some = λ more. least (left_some s r.net r.inputs r.seats r.places rings (repeated b t.order)
+          rounds_some = λ more. least (left_some s r.net r.inputs r.seats r.places prepared.rings (repeated b t.order)
               (λ c. get_or t.caps c 0) asked 0
               (subst (λ m. 0 < length m.nodes) (sym prepared.net_is) some_node)
               (λ e d. prepared.undone 0 e d some_node) (some_asked more));

@@ -8,6 +8,7 @@ use Rattle.rtrb.specs.declared.AnyItems.{AnyItems}
 use Rattle.std.specs.List.{count_by}
 use Rattle.sdf_actor.specs.Steps.{Steps}
 use Rattle.rtrb.specs.Ring.{sent, received}
+use Rattle.sdf_actor.specs.NetFaults.{WasAccepted}
 use Rattle.sdf_actor.specs.Nets.{Netlist, wire, node, wiring, inputs_of, outputs_of, cycle_of, IsNet}
 use Rattle.sdf_actor.specs.Wires.{lists}
 use Rattle.sdf_node.specs.Nodes.{CanBegin}
@@ -45,8 +46,10 @@ pub record CanStart {A S T : Type 0} (s : Steps A S T) (n : Netlist A T) (inputs
   pub begin : (a : ℕ) → a < length n.nodes → CanBegin inputs (asked a) room (node n a)
   pub fillers : (a : ℕ) → a < length n.nodes → filler ≡ None → asked a ≡ 0
 
--- what a run begins with: nodes that can start, what their firings move, and how many are asked of each
+-- what a run of an accepted net begins with: nodes that can start, what their firings move, and how many are asked of
+-- each
 pub record IsStart {A S T : Type 0} (s : Steps A S T) (x : Start A T S) : Type 0 where
+  pub accepted : WasAccepted s x.net.now
   pub can : CanStart s x.net.now (lists x.inputs.now) (slice_index x.asked.items) x.room x.filler
   pub sizes_are : AreSizes s x.net.now x.sizes
   pub asked_all : vec_len x.asked ≡ length x.net.now.nodes

@@ -6,19 +6,23 @@ use Rattle.sdf_actor.specs.Steps.{Steps}
 use Rattle.sdf_answer.specs.declared.fault.RunFault.{RunFault}
 use Rattle.sdf_answer.specs.declared.fault.RunFault.TheVariants.{OutOfMemory, NotHomed, InputLength}
 use Rattle.sdf_answer.specs.Answer.{HasInputs}
+use Rattle.sdf_actor.specs.NetFaults.{WasAccepted}
 use Rattle.sdf_actor.specs.Nets.{Netlist}
 use Rattle.sdf_rings.specs.declared.stand.Stand.{Stand}
 use Rattle.sdf_rings.specs.declared.seat.Seat.{Seat}
-use Rattle.sdf_rings.specs.Rests.{stand_of, InHand, HaveMet}
+use Rattle.sdf_rings.specs.Rests.{stand_of, InHand, AreRings, HaveMet}
 use Rattle.sdf_rings.specs.Asks.{IsPlanned}
 use Rattle.sdf_rings.specs.MachineLaws.{MachinePlan, IsMachinePlan, firings}
 use Rattle.sdf_rings.specs.Begun.{place}
 
--- there is a seat for each processor of the table, and each node is on the seat of its home. Nothing has fired, all
--- ends are synchronized, this number of blocks of the table is asked, and the rings have room for its capacities
+-- the net was accepted. There is a seat for each processor of the table, and each node is on the seat of its home.
+-- Nothing has fired, all ends are synchronized, this number of blocks of the table is asked, and the rings have room for
+-- its capacities
 pub record IsPrepared {A S T : Type 0} (s : Steps A S T) (n : Netlist A T) (inputs : List (List T)) (t : Tabled)
     (blocks : ℕ) (r : InHand A S T) : Type 0 where
   pub net_is : r.net ≡ n
+  pub accepted : WasAccepted s n
+  pub rings : AreRings s r
   pub inputs_are : r.inputs ≡ inputs
   pub columns : (i : ℕ) → i < length t.rows → length (row t.rows i) ≡ length r.seats
   pub processors : (i : ℕ) (e : Seat A T S) → i < length r.seats → (slice_index_or r.seats i e).processor ≡ i

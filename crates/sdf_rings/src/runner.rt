@@ -10,7 +10,6 @@ ghost use Rattle.sdf_rings.specs.Outcome.{HasRunInRounds, HasEnded, IsRingsFault
 use crate::rings::Rings;
 use crate::workers::Workers;
 use sdf_actor::{Actor, Net};
-use sdf_answer::laws::nets_have_periods;
 use sdf_answer::{Ran, RunFault};
 use sdf_limits::MOST_PATIENCE;
 use sdf_node::Gate;
@@ -33,7 +32,6 @@ pub(crate) fn run_through<'a, R: Threads + AllocGlobal + Sync, A: Actor, G: Gate
         workers.entry.patience ran.0 ran.1)
         (IsRingsFault net.now q (blocks * j) (lists inputs.now) t.table workers.entry.patience) }
 {
-    nets_have_periods(net);
     if !table.table.homed() {
         return Err(RunFault::NotHomed);
     }
@@ -41,7 +39,6 @@ pub(crate) fn run_through<'a, R: Threads + AllocGlobal + Sync, A: Actor, G: Gate
         return Err(RunFault::Patience);
     }
     let mut rings = Rings::prepare(workers.rt.alloc(), net, table, blocks, inputs)?;
-    rings.facts();
     let rounds = rings.run(workers);
     Ok((rings, rounds))
 }

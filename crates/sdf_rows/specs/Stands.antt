@@ -4,6 +4,7 @@ use Rattle.std.specs.Prelude.{slice_index_or, vec_capacity}
 use Rattle.sdf_graph.specs.Sequences.{IsEnabled}
 use Rattle.sdf_actor.specs.Steps.{Steps}
 use Rattle.sdf_actor.specs.Histories.{taken, taken_before}
+use Rattle.sdf_actor.specs.NetFaults.{WasAccepted}
 use Rattle.sdf_actor.specs.Nets.{Netlist, node, wiring, answers, IsNet, IsHistoryOf, InputsReach}
 use Rattle.sdf_node.specs.Nodes.{takes_of, puts_of, IsAt}
 use Rattle.sdf_node.specs.declared.node.NodeState.{NodeState}
@@ -97,7 +98,8 @@ pub record IsRow {A S T : Type 0} (s : Steps A S T) (n : Netlist A T) (k high : 
   pub able : (i : ℕ) → i < length acts → IsEnabled (wiring s n).rates k (slice_index acts i)
   pub within : (i : ℕ) → i < length acts → k (slice_index acts i) < high (slice_index acts i)
 
--- a net, and the sizes of its firings
+-- a net that was accepted, and the sizes of its firings
 pub record IsScene {A S T : Type 0} (s : Steps A S T) (n : Netlist A T) (z : Rows) : Type 0 where
   pub good : IsNet s n
+  pub accepted : WasAccepted s n
   pub sizes : AreSizes s n z

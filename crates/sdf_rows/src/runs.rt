@@ -14,7 +14,6 @@ use crate::job::Job;
 use crate::scene::Scene;
 use crate::stage::{Stage, run_row};
 use sdf_actor::Actor;
-use sdf_answer::laws::net_facts;
 use sdf_node::Gate;
 use sdf_prec::Table;
 use std::thread::Threads;
@@ -61,7 +60,6 @@ pub(crate) fn run_block<R: Threads + Sync, A: Actor, G: Gate>(
     ensures counts { length stage.new.done.items ≡ length stage.old.done.items }
     ensures blocks { KeepBlocks jobs.old jobs.new }
 {
-    net_facts(scene.net);
     for i in 0..timetable.table.rows() {
         run_row(rt, scene, timetable.table.row(i), jobs, stage);
     }
@@ -89,7 +87,6 @@ pub(crate) fn run_blocks<R: Threads + Sync, A: Actor, G: Gate>(
     ensures over { IsResting A.steps scene.now.net.now (lists scene.now.inputs.now) timetable.now.repetitions.now
         timetable.now.j blocks blocks (slice_index stage.new.done.items) stage.new.states.items stage.new.queues.items }
 {
-    net_facts(scene.net);
     for _ in 0..blocks {
         run_block(rt, scene, timetable, jobs, stage);
     }

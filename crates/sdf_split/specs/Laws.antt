@@ -7,6 +7,6 @@ use Rattle.sdf_split.specs.Cuts.{join}
 abbrev pub ListsJoin : Type 0 → Type 0
 ListsJoin T = (xs ys : List (List T)) → length ys ≤ length xs → AreJoined xs ys (join xs ys)
 
--- joined lists are as many as the lists before
+-- joining keeps the number of lists
 abbrev pub JoinedAreAsMany : Type 0 → Type 0
 JoinedAreAsMany T = (xs ys : List (List T)) → length (join xs ys) ≡ length xs

@@ -2,5 +2,5 @@
 use Rattle.sdf_why.specs.Laws.{LineIsAdded}
 use Rattle.sdf_why.proofs.Lines.{line_added as added}
 
-pub line_added : LineIsAdded
-line_added line n first before after = added line n first before after
+pub line_added : {X : Type 0} → LineIsAdded X
+line_added = added

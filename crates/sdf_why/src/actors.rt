@@ -60,7 +60,7 @@ pub(crate) fn actor_limits(
     }
 }
 
-/// Adds the line of the actor `number`, and the line of its `key`.
+/// Adds the line of the actor `number`, and the line of its `key`, with `limits` if there are any.
 #[tactic(auto, unfolding(crate::specs::Actors::actor_key))]
 pub(crate) fn push_actor_key(
     alloc: Global,

@@ -34,7 +34,7 @@ pub(crate) fn limits_at(
     }
 }
 
-/// Adds what `place` is, and the line of its `key`.
+/// Adds what `place` is, and the line of its `key`, with `limits` if there are any.
 pub(crate) fn push_place_key(
     alloc: Global,
     text: &mut String,

@@ -1,9 +1,9 @@
-use Rattle.sdf_answer.proofs.Theorems.{accepted_nets}
+use Rattle.sdf_answer.proofs.Theorems.{nets_have_facts}
 use Rattle.sdf_answer.proofs.laws.net_facts.Goals as goal
 
 pub returns : goal.returns
 returns g c =
-    let facts = accepted_nets g.A.Actor.steps c.args.net.now c.graph.ensures.accepted in
+    let facts = nets_have_facts g.A.Actor.steps c.args.net.now c.graph.ensures.accepted in
     record {
       net = facts.net;
       graph = facts.graph;

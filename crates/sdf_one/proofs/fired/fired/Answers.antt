@@ -8,7 +8,7 @@ use Rattle.sdf_actor.specs.Nets.{wiring}
 use Rattle.sdf_actor.specs.Wires.{lists}
 use Rattle.sdf_actor.proofs.Theorems.{nets_are_wired}
 use Rattle.sdf_answer.specs.Answer.{periods_of}
-use Rattle.sdf_answer.proofs.Theorems.{histories_begin, nets_can_run, nets_have_periods}
+use Rattle.sdf_answer.proofs.Theorems.{nets_have_facts, histories_begin, nets_can_run, nets_have_periods}
 use Rattle.sdf_answer.specs.Blocks.{room}
 use Rattle.sdf_one.specs.Runs.{Stands}
 use Rattle.sdf_one.specs.Sweeps.{Sweeps}
@@ -26,7 +26,7 @@ can g c =
     (sym c.repetitions-repetitions.ensures)
     (nets_can_run g.A.Actor.steps c.args.passage.net.now c.args.passage.period.now c.args.passage.periods
     (lists c.args.passage.inputs.now)
-    (nets_have_periods g.A.Actor.steps c.args.passage.net.now c.net_facts.ensures.accepted
+    (nets_have_periods g.A.Actor.steps c.args.passage.net.now c.requires.passage.accepted
     c.args.passage.period.now c.requires.passage.period)
     c.requires.passage.inputs)
 
@@ -57,28 +57,29 @@ begun g c =
     let n = c.args.passage.net.now in
     let q = c.repetitions-repetitions.result.now in
     let step = (can g c).paced in
+    let net = nets_have_facts s n c.requires.passage.accepted in
     record {
-      good = c.net_facts.ensures.net;
-      apart = c.net_facts.ensures.sinks.apart;
+      good = net.net;
+      apart = net.sinks.apart;
       sizes = c.in_ok-sizes.ensures;
       cycles = c.in_ok-cycles.ensures;
       reach = (can g c).reach;
       paced = step;
       short = c.requires.short;
       under = omega arith;
-      stands = begun_stands s n (nets_are_wired s n c.net_facts.ensures.net)
+      stands = begun_stands s n (nets_are_wired s n net.net)
           (lists c.args.passage.inputs.now)
           (periods_of q c.args.passage.periods) (λ a. get_or c.in_ok-done.done.items a 0)
           c.in_ok-works.works.items c.in_ok-queues.queues.items c.args.outputs.items (none g c)
           (histories_begin s n (lists c.args.passage.inputs.now)
           (λ a. get_or c.in_ok-done.done.items a 0)
-          c.net_facts.ensures.net (λ a l. none g c a))
+          net.net (λ a l. none g c a))
           (omega (arith, c.in_ok-queues.ensures.0)) (omega (arith, c.in_ok-works.ensures.0))
           (λ d l. ap (λ x. x.samples) (c.in_ok-queues.ensures.1 d l))
           c.in_ok-works.ensures.1
           (can g c).reads
           (λ a ext block l x.
-          let known = c.net_facts.ensures.sinks.below a ext block l x in
+          let known = net.sinks.below a ext block l x in
           let below : ext < length c.args.outputs.items = omega (arith, known, c.requires.outputs.0) in
           let e = c.requires.outputs.1 ext known in
           let room_is = e.1 ∙ ap (λ r. c.args.passage.periods * period_samples n.nodes Outputs r)
@@ -122,7 +123,7 @@ returns g c =
     (λ a. get_or made.done.items a 0) made.works.items made.queues.items made.outputs.items) repetitions
     c.fire_all.ensures.swept.stands))) in
     record {
-      good = c.net_facts.ensures.net;
+      good = (nets_have_facts s c.args.passage.net.now c.requires.passage.accepted).net;
       outputs = keeps.outputs ∙ c.requires.outputs.0;
       done = same;
       stands = stands;

@@ -15,7 +15,8 @@ pub returns-clause-decides : goal.returns-clause-decides
 returns-clause-decides c passed =
     let least = subst (λ n. IsLeastPeriod (rates (graph_of kit_steps n)) c.repetitions.result.now)
     c.net.ensures.value c.repetitions.ensures.least in
-    let lawful = accepted_is_lawful kit_steps c.net.result.now c.repetitions.result.now c.repetitions.ensures.accepted in
+    let accepted = c.repetitions.ensures.accepted in
+    let lawful = accepted_is_lawful kit_steps c.net.result.now c.repetitions.result.now accepted in
     let shape = subst (λ n. IsShape (graph_of kit_steps n)) c.net.ensures.value lawful.graph in
     decides_of c.args.design.now c.args.options.now c.planned.result passed c.planned.ensures
     (live_or_not c.args.design.now c.repetitions.result.now least shape)

@@ -1,6 +1,6 @@
 use Rattle.std.proofs.Common.{◌<◌, length, sym, arith, ◌∙◌, subst}
 use Rattle.sdf_node.specs.Collected.{IsCollected}
-use Rattle.sdf_answer.proofs.Theorems.{accepted_nets}
+use Rattle.sdf_answer.proofs.Theorems.{nets_have_facts}
 use Rattle.sdf_rings.specs.Rests.{stand_of}
 use Rattle.sdf_rings.proofs.Collects.{stands_more, rest_more, given_more}
 use Rattle.sdf_rings.proofs.finish.collect.Goals as goal
@@ -11,7 +11,7 @@ loop-a-preserved g c =
     let a = c.loop-a.a in
     let known : a < length n.nodes = omega arith in
     let was = c.loop-a.invariant in
-    let sinks = (accepted_nets g.A.Actor.steps n c.node.ensures.accepted).sinks in
+    let sinks = (nets_have_facts g.A.Actor.steps n c.node.ensures.accepted).sinks in
     let outputs = c.collect_from.new.outputs in
     record {
       all = c.collect_from.auto.outputs ∙ was.all;
@@ -28,7 +28,7 @@ returns-clause-each g c = λ a ext block made e d l is at. c.loop-a.invariant.gi
 
 pub collect_from-requires-clause-list : goal.collect_from-requires-clause-list
 collect_from-requires-clause-list g c κs within = λ ext block x.
-    let sinks = (accepted_nets g.A.Actor.steps c.args.net.now c.node.ensures.accepted).sinks in
+    let sinks = (nets_have_facts g.A.Actor.steps c.args.net.now c.node.ensures.accepted).sinks in
     omega (
       arith,
       sinks.below c.loop-a.a ext block (omega arith) (sym c.node.ensures.value ∙ x),

@@ -94,6 +94,9 @@ new-requires-clause-rings g c κs within =
     let here = goal.at.new-requires-clause-rings g c in
     begun.are_rings (laid g here.In_ok-seats (asked g here.After-len))
 
+pub new-requires-clause-accepted : goal.new-requires-clause-accepted
+new-requires-clause-accepted g c κs within = c.requires.start.accepted
+
 pub returns : goal.returns
 returns g c =
     let here = goal.at.returns g c in
@@ -103,6 +106,8 @@ returns g c =
     c.args.table.now c.args.blocks r) (sym c.new.ensures)
     (record {
       net_is = refl;
+      accepted = c.requires.start.accepted;
+      rings = begun.are_rings all;
       inputs_are = refl;
       columns = λ i h. c.columns.ensures i h ∙ sym (many g here.In_ok-seats);
       processors = λ i e h. (all.each i e h).processor_is;

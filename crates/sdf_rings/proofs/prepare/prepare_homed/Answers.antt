@@ -3,7 +3,7 @@ use Rattle.std.specs.Prelude.{sum}
 use Rattle.std.proofs.lemmas.List.{length-map}
 use Rattle.sdf_actor.specs.Wires.{lists}
 use Rattle.sdf_actor.specs.declared.sides.Lists.TheVariants.{Outputs}
-use Rattle.sdf_answer.proofs.Theorems.{accepted_nets, blocks_are_small, nets_have_periods}
+use Rattle.sdf_answer.proofs.Theorems.{nets_have_facts, blocks_are_small, nets_have_periods}
 use Rattle.sdf_rings.proofs.Lists.{vec_long}
 use Rattle.sdf_rings.proofs.Starting.{can_start, is_asked}
 use Rattle.sdf_rings.proofs.prepare.prepare_homed.Goals as goal
@@ -24,10 +24,11 @@ lay_out-requires-clause-start g c κs within =
     let j = c.args.table.now.factor in
     let asked = c.in_ok-asked.ensures ∙ ap (map (λ q. b * (j * q))) c.repetitions.ensures in
     record {
+      accepted = accepted;
       can = can_start g.A.Actor.steps n p
           (nets_have_periods g.A.Actor.steps n accepted p c.requires.fits.period) b j c.in_ok-asked.field-0.items asked
           (lists c.args.inputs.now) c.samples_of_blocks.result c.first_sample.result
-          (accepted_nets g.A.Actor.steps n accepted).phases c.requires.inputs
+          (nets_have_facts g.A.Actor.steps n accepted).phases c.requires.inputs
           (c.samples_of_blocks.ensures ∙ ap (λ m. b * j * m)
           (c.samples_out.ensures.value p.repetitions c.requires.fits.period.least)) c.first_sample.ensures
           c.requires.some
@@ -53,7 +54,8 @@ lay_out-requires-clause-plan g c κs within =
 pub samples_of_blocks-requires : goal.samples_of_blocks-requires
 samples_of_blocks-requires g c =
     let q = c.args.table.now.period.repetitions in
-    let few = blocks_are_small g.A.Actor.steps c.args.net.now c.samples_out.ensures.accepted
+    let net = nets_have_facts g.A.Actor.steps c.args.net.now c.samples_out.ensures.accepted in
+    let few = blocks_are_small g.A.Actor.steps c.args.net.now net.net net.graph
     c.args.table.now.factor q Outputs c.requires.fits.period.least c.requires.fits.table.short in
     omega (
       arith,

@@ -1,5 +1,6 @@
 use Rattle.std.proofs.Common.{sym, subst, arith}
 use Rattle.sdf_actor.specs.Wires.{lists}
+use Rattle.sdf_answer.proofs.Theorems.{nets_have_periods}
 use Rattle.sdf_rings.specs.Rests.{HaveMet}
 use Rattle.sdf_rings.proofs.Answered.{few_rounds, has_ended}
 use Rattle.sdf_rings.proofs.runner.run_through.Goals as goal
@@ -13,10 +14,11 @@ pub run-rounds-requires-clause-count : goal.run-rounds-requires-clause-count
 run-rounds-requires-clause-count g c κs within =
     few_rounds
     g.A.Actor.steps c.args.net.now c.args.table.now.period
-    (c.nets_have_periods.ensures c.args.table.now.period c.requires.fits.period)
+    (nets_have_periods g.A.Actor.steps c.args.net.now c.in_ok-rings.ensures.2.accepted c.args.table.now.period
+    c.requires.fits.period)
     c.args.table.now.factor c.args.table.now.table
     c.requires.fits.table c.args.blocks (lists c.args.inputs.now) c.in_ok-rings.rings
-    c.facts.ensures c.in_ok-rings.ensures.2
+    c.in_ok-rings.ensures.2
     (omega (arith, c.ranges.blocks.fits))
 
 pub returns : goal.returns
@@ -24,10 +26,11 @@ returns g c =
     let run = c.run-rounds.ensures in
     has_ended
     g.A.Actor.steps c.args.net.now c.args.table.now.period
-    (c.nets_have_periods.ensures c.args.table.now.period c.requires.fits.period)
+    (nets_have_periods g.A.Actor.steps c.args.net.now c.in_ok-rings.ensures.2.accepted c.args.table.now.period
+    c.requires.fits.period)
     c.args.table.now.factor c.args.table.now.table
     c.requires.fits.table c.args.blocks (lists c.args.inputs.now) c.in_ok-rings.rings
-    c.facts.ensures c.in_ok-rings.ensures.2
+    c.in_ok-rings.ensures.2
     c.run-rounds.new.self c.args.workers.patience c.run-rounds.result c.in_ok-rings.ensures.0
     (omega (arith, c.if-workers-gt-MOST_PATIENCE.false)) c.in_ok-rings.ensures.1
     run.same run.planned run.met run.done run.rounds run.some

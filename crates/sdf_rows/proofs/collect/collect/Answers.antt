@@ -1,7 +1,7 @@
 use Rattle.std.proofs.Common.{◌<◌, ◌∙◌, length, get_or, sym, subst, arith}
 use Rattle.std.proofs.lemmas.List.{get_or-set_other, get_or_default, length-set}
 use Rattle.sdf_node.specs.Collected.{IsCollected}
-use Rattle.sdf_answer.proofs.Theorems.{accepted_nets}
+use Rattle.sdf_answer.proofs.Theorems.{nets_have_facts}
 use Rattle.sdf_rows.proofs.Lists.{collected_more}
 use Rattle.sdf_rows.proofs.collect.collect.Goals as goal
 
@@ -10,7 +10,7 @@ loop-a-preserved g c =
     let n = c.args.net.now in
     let a = c.loop-a.a in
     let known : a < length n.nodes = omega arith in
-    let sinks = (accepted_nets g.A.Actor.steps n c.node.ensures.accepted).sinks in
+    let sinks = (nets_have_facts g.A.Actor.steps n c.node.ensures.accepted).sinks in
     record {
       all = c.collect_at.ensures.all ∙ c.loop-a.invariant.all;
       nodes = length-set c.loop-a.states a c.collect_at.new.state ∙ c.loop-a.invariant.nodes;
@@ -27,7 +27,7 @@ loop-a-preserved g c =
 
 pub collect_at-requires-after_bounds : goal.collect_at-requires-after_bounds
 collect_at-requires-after_bounds g c κs within = λ ext block x.
-    let sinks = (accepted_nets g.A.Actor.steps c.args.net.now c.node.ensures.accepted).sinks in
+    let sinks = (nets_have_facts g.A.Actor.steps c.args.net.now c.node.ensures.accepted).sinks in
     omega (
       arith,
       sinks.below c.loop-a.a ext block (omega arith) (sym c.node.ensures.value ∙ x),

@@ -4,7 +4,7 @@ use Rattle.sdf_graph.specs.Rates.{rates}
 use Rattle.sdf_actor.specs.Graphs.{graph_of}
 use Rattle.sdf_actor.specs.Wires.{lists}
 use Rattle.sdf_actor.specs.declared.sides.Lists.TheVariants.{Inputs}
-use Rattle.sdf_answer.proofs.Theorems.{blocks_are_small}
+use Rattle.sdf_answer.proofs.Theorems.{blocks_are_small, nets_have_facts}
 use Rattle.sdf_rows.proofs.Counts.{rows_few}
 use Rattle.sdf_rows.proofs.Readings.{given, asked}
 use Rattle.sdf_rows.proofs.feed.feed_rows.Goals as goal
@@ -34,7 +34,8 @@ returns g c =
 pub samples_of_blocks-least-requires : goal.samples_of_blocks-least-requires
 samples_of_blocks-least-requires g c =
     let q = c.args.plan.now.table.now.period.repetitions in
-    let few = blocks_are_small g.A.Actor.steps c.args.net.now c.samples_in.ensures.accepted
+    let net = nets_have_facts g.A.Actor.steps c.args.net.now c.samples_in.ensures.accepted in
+    let few = blocks_are_small g.A.Actor.steps c.args.net.now net.net net.graph
     c.args.plan.now.table.now.factor q Inputs c.requires.fits.period.least c.requires.fits.table.short in
     omega (
       arith,

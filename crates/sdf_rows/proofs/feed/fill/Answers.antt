@@ -7,7 +7,7 @@ use Rattle.sdf_actor.specs.declared.sides.Lists.TheVariants.{Outputs}
 use Rattle.sdf_actor.specs.Sides.{list_count}
 use Rattle.sdf_answer.specs.Answer.{periods_of}
 use Rattle.sdf_answer.specs.Feeds.{HasRun}
-use Rattle.sdf_answer.proofs.Theorems.{accepted_nets, nothing_runs}
+use Rattle.sdf_answer.proofs.Theorems.{nets_have_facts, nothing_runs}
 use Rattle.sdf_rows.specs.Collect.{AreCollected, AreKept}
 use Rattle.sdf_rows.proofs.Readings.{vec_long}
 use Rattle.sdf_rows.proofs.Ends.{row_run}
@@ -36,7 +36,7 @@ returns-in_ok-held-in-Some g c =
     subst (λ v. HasRun s n (lists c.args.inputs.now) (periods_of q (p.blocks * p.table.now.factor)) (lists v)
     rest) (sym whole)
     (row_run s n (lists c.args.inputs.now) q p.table.now.factor p.blocks over.0 run.states.items run.queues.items over.1
-    (accepted_nets s n c.outputs.ensures.accepted).net
+    (nets_have_facts s n c.outputs.ensures.accepted).net
     made collected count rest c.in_ok-kept_by-in-Some.ensures.all
     (subst (λ ws. AreKept n ws rest.states.items) c.deref.ensures.value c.in_ok-kept_by-in-Some.ensures.each)
     (c.in_ok-held-in-Some.ensures ∙ ap (map (λ queue. queue.samples)) c.deref-in-Some.ensures.value))
@@ -49,7 +49,7 @@ returns-in_ok-first_rest-in-None g c =
     nothing_runs g.A.Actor.steps n p.table.now.period.repetitions (p.blocks * p.table.now.factor)
     (lists c.args.inputs.now)
     (lists c.in_ok-outputs.outputs.items) c.in_ok-first_rest-in-None.field-0
-    (accepted_nets g.A.Actor.steps n c.outputs.ensures.accepted).net c.requires.inputs (omega
+    (nets_have_facts g.A.Actor.steps n c.outputs.ensures.accepted).net c.requires.inputs (omega
     (arith, c.requires.inputs.count, c.outputs.ensures.accepted.1.lists.input)) c.requires.some
     (rw c.in-None.is at c.first_sample.ensures)
     (many_out ∙ (c.in_ok-outputs.ensures.0 ∙ c.outputs.ensures.count))

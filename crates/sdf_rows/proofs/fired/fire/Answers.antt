@@ -12,7 +12,7 @@ use Rattle.sdf_actor.specs.declared.sides.Lists.TheVariants.{Outputs}
 use Rattle.sdf_actor.proofs.Theorems.{nets_are_wired}
 use Rattle.sdf_answer.specs.Periods.{CanRun}
 use Rattle.sdf_prec.specs.BlockTables.{IsTableOf}
-use Rattle.sdf_answer.proofs.Theorems.{accepted_nets, blocks_are_small, nets_can_run, nets_have_periods}
+use Rattle.sdf_answer.proofs.Theorems.{nets_have_facts, blocks_are_small, nets_can_run, nets_have_periods}
 use Rattle.sdf_rows.specs.Blocks.{IsResting}
 use Rattle.sdf_prec.specs.Tables.{row}
 use Rattle.sdf_rows.proofs.Counts.{factor_few, firings_few}
@@ -32,7 +32,7 @@ run_blocks-requires-clause-start g c = λ κs within.
     let same = c.repetitions-repetitions.ensures in
     let least = subst (IsLeastPeriod (rates (graph_of s n))) (sym same) c.requires.fits.period.least in
     let accepted = c.samples_out.ensures.accepted in
-    let net = (accepted_nets s n accepted).net in
+    let net = (nets_have_facts s n accepted).net in
     let has = nets_have_periods s n accepted p.table.now.period c.requires.fits.period in
     let can = subst (λ r. CanRun s n r (p.blocks * p.table.now.factor) (lists c.args.inputs.now)) (sym same)
     (nets_can_run g.A.Actor.steps n p.table.now.period (p.blocks * p.table.now.factor) (lists c.args.inputs.now)
@@ -78,7 +78,8 @@ returns g c =
 pub run_blocks-requires-clause-scene : goal.run_blocks-requires-clause-scene
 run_blocks-requires-clause-scene g c = λ κs within.
     record {
-      good = (accepted_nets g.A.Actor.steps c.args.net.now c.samples_out.ensures.accepted).net;
+      good = (nets_have_facts g.A.Actor.steps c.args.net.now c.samples_out.ensures.accepted).net;
+      accepted = c.samples_out.ensures.accepted;
       sizes = c.in_ok-new.ensures;
     }
 
@@ -116,13 +117,14 @@ make_queues-requires-clause-short g c = λ κs within. λ a l.
 pub make_queues-requires-clause-few : goal.make_queues-requires-clause-few
 make_queues-requires-clause-few g c = λ κs within.
     factor_few c.args.plan.now.table.now.factor c.args.plan.now.table.now.period.repetitions
-    (accepted_nets g.A.Actor.steps c.args.net.now c.samples_out.ensures.accepted).graph.some
+    (nets_have_facts g.A.Actor.steps c.args.net.now c.samples_out.ensures.accepted).graph.some
     c.requires.fits.period.least.is.all c.requires.fits.period.least.is.positive c.requires.fits.table.short
 
 pub samples_of_blocks-room-requires : goal.samples_of_blocks-room-requires
 samples_of_blocks-room-requires g c =
     let j = c.args.plan.now.table.now.factor in
     let q = c.args.plan.now.table.now.period.repetitions in
-    let few = blocks_are_small g.A.Actor.steps c.args.net.now c.samples_out.ensures.accepted j q Outputs
+    let net = nets_have_facts g.A.Actor.steps c.args.net.now c.samples_out.ensures.accepted in
+    let few = blocks_are_small g.A.Actor.steps c.args.net.now net.net net.graph j q Outputs
     c.requires.fits.period.least c.requires.fits.table.short in
     omega (arith, few, ap (λ m. j * m) (c.samples_out.ensures.value q c.requires.fits.period.least))

@@ -3,6 +3,7 @@ use Rattle.sdf_graph.specs.Rates.{rates}
 use Rattle.sdf_graph.specs.Sequences.{times}
 use Rattle.sdf_graph.proofs.Theorems.{graphs_are_sound}
 use Rattle.sdf_actor.specs.Graphs.{graph_of}
+use Rattle.sdf_answer.proofs.Theorems.{nets_have_facts}
 use Rattle.sdf_prec.specs.Blocks.{block}
 use Rattle.sdf_prec.specs.Tables.{row, firings}
 use Rattle.sdf_rows.specs.Stage.{row_actors}
@@ -19,8 +20,8 @@ next : (g : Rattle.sdf_rows.proofs.runs.run_block.Given.Over) (c : In-loop-i g) 
     (λ a. get_or c.args.stage.now.done.items a 0))
     (row_actors (row c.args.timetable.now.table.now.rows c.loop-i.i))
 next g c =
-    row_is c.net_facts.ensures.alike (graphs_are_sound (graph_of g.A.Actor.steps c.args.scene.now.net.now)
-    c.net_facts.ensures.graph) c.requires.table.table.valid c.requires.round c.loop-i.i
+    let net = nets_have_facts g.A.Actor.steps c.args.scene.now.net.now c.requires.scene.accepted in
+    row_is net.alike (graphs_are_sound (graph_of g.A.Actor.steps c.args.scene.now.net.now) net.graph) c.requires.table.table.valid c.requires.round c.loop-i.i
     (omega (arith, c.loop-i-test.true, c.rows-i-end.ensures)) c.loop-i.invariant.done
 
 pub run_row-requires-clause-between : goal.run_row-requires-clause-between
@@ -81,4 +82,5 @@ returns-clause-done g c = λ a l.
     (λ a. get_or (block c.args.timetable.now.j c.args.timetable.now.repetitions.now) a 0)
     c.args.timetable.now.table.now.rows c.loop-i.i a
     c.requires.table.table.valid (omega (arith, c.loop-i-test.false, c.rows-i-end.ensures))
-    (omega (arith, l, c.net_facts.ensures.alike.actors)))
+    (omega (arith, l,
+    (nets_have_facts g.A.Actor.steps c.args.scene.now.net.now c.requires.scene.accepted).alike.actors)))

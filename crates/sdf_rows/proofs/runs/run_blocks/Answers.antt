@@ -2,6 +2,7 @@ use Rattle.std.proofs.Common.{◌≡◌, ◌*◌, get_or, subst, ◌∙◌, arit
 use Rattle.sdf_graph.proofs.Theorems.{graphs_are_sound, graphs_have_periods}
 use Rattle.sdf_actor.specs.Graphs.{graph_of}
 use Rattle.sdf_actor.specs.Wires.{lists}
+use Rattle.sdf_answer.proofs.Theorems.{nets_have_facts}
 use Rattle.sdf_rows.specs.Blocks.{IsResting}
 use Rattle.sdf_rows.proofs.Keeps.{keep_twice, keep_have}
 use Rattle.sdf_rows.proofs.Rounds.{round_here, block_begins, block_ends}
@@ -11,21 +12,21 @@ pub run_block-requires-clause-start : goal.run_block-requires-clause-start
 run_block-requires-clause-start g c = λ κs within.
     let s = g.A.Actor.steps in
     let n = c.args.scene.now.net.now in
-    let graph = c.net_facts.ensures.graph in
+    let net = nets_have_facts s n c.requires.scene.accepted in
     let q = c.args.timetable.now.repetitions.now in (
       (λ a. c.args.blocks * (c.args.timetable.now.j * get_or q a 0)),
-      block_begins s n c.net_facts.ensures.alike (graphs_are_sound (graph_of s n) graph) q
-          (graphs_have_periods (graph_of s n) q graph c.requires.period.is) c.loop.invariant.rests c.loop-test.true,
+      block_begins s n net.alike (graphs_are_sound (graph_of s n) net.graph) q
+          (graphs_have_periods (graph_of s n) q net.graph c.requires.period.is) c.loop.invariant.rests c.loop-test.true,
     )
 
 pub run_block-requires-clause-round : goal.run_block-requires-clause-round
 run_block-requires-clause-round g c = λ κs within.
     let s = g.A.Actor.steps in
     let n = c.args.scene.now.net.now in
-    let graph = c.net_facts.ensures.graph in
+    let net = nets_have_facts s n c.requires.scene.accepted in
     let q = c.args.timetable.now.repetitions.now in
-    round_here s n c.net_facts.ensures.alike (graphs_are_sound (graph_of s n) graph) q
-    (graphs_have_periods (graph_of s n) q graph c.requires.period.is) c.loop.invariant.rests
+    round_here s n net.alike (graphs_are_sound (graph_of s n) net.graph) q
+    (graphs_have_periods (graph_of s n) q net.graph c.requires.period.is) c.loop.invariant.rests
 
 pub run_block-requires-clause-blocks : goal.run_block-requires-clause-blocks
 run_block-requires-clause-blocks g c = λ κs within.
@@ -36,14 +37,14 @@ pub loop-preserved : goal.loop-preserved
 loop-preserved g c =
     let s = g.A.Actor.steps in
     let n = c.args.scene.now.net.now in
-    let alike = c.net_facts.ensures.alike in
-    let sound = graphs_are_sound (graph_of s n) c.net_facts.ensures.graph in
+    let net = nets_have_facts s n c.requires.scene.accepted in
+    let sound = graphs_are_sound (graph_of s n) net.graph in
     let q = c.args.timetable.now.repetitions.now in
-    let period = graphs_have_periods (graph_of s n) q c.net_facts.ensures.graph c.requires.period.is in
+    let period = graphs_have_periods (graph_of s n) q net.graph c.requires.period.is in
     record {
-      rests = block_ends s n alike sound q period c.loop.invariant.rests c.run_block.ensures.done
+      rests = block_ends s n net.alike sound q period c.loop.invariant.rests c.run_block.ensures.done
           (c.run_block.ensures.over (λ a. c.args.blocks * (c.args.timetable.now.j * get_or q a 0))
-          (block_begins s n alike sound q period c.loop.invariant.rests c.loop-test.true));
+          (block_begins s n net.alike sound q period c.loop.invariant.rests c.loop-test.true));
       counts = c.run_block.ensures.counts ∙ c.loop.invariant.counts;
       blocks = keep_twice c.args.jobs.now c.loop.jobs c.run_block.new.jobs c.loop.invariant.blocks
           c.run_block.ensures.blocks;

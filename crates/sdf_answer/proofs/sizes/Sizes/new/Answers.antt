@@ -5,7 +5,7 @@ use Rattle.sdf_actor.specs.Graphs.{graph_of}
 use Rattle.sdf_actor.specs.Wires.{lists}
 use Rattle.sdf_answer.proofs.Cycles.{are_sizes}
 use Rattle.sdf_answer.proofs.Readings.{vec_long}
-use Rattle.sdf_answer.proofs.Theorems.{accepted_nets}
+use Rattle.sdf_answer.proofs.Theorems.{nets_have_facts}
 use Rattle.sdf_answer.proofs.sizes.Sizes.new.Goals as goal
 
 pub returns : goal.returns
@@ -14,7 +14,7 @@ returns g c =
     let n = c.args.net.now in
     let chans : c.channels-channels.result.now ≡ (graph_of s n).channels =
     c.channels-channels.ensures.list ∙ ap (λ (x : Shape). x.channels) c.graph.ensures.value in
-    let facts = accepted_nets s n c.graph.ensures.accepted in
+    let facts = nets_have_facts s n c.graph.ensures.accepted in
     are_sizes s n facts.alike facts.phases c.longest_cycle-phases.result
     c.longest_cycle-phases.ensures (lists c.in_ok-takes.takes.items) (lists c.in_ok-puts.puts.items)
     (length-map c.in_ok-takes.takes.items (λ v. v.items) ∙ (vec_long c.in_ok-takes.takes ∙ c.in_ok-takes.ensures.0))

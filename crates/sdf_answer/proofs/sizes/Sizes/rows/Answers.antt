@@ -6,12 +6,12 @@ use Rattle.sdf_actor.specs.Wires.{lists}
 use Rattle.sdf_answer.specs.Sizes.{at_phase, rows_on}
 use Rattle.sdf_answer.proofs.PortRows.{phase_known, sized, are_rows}
 use Rattle.sdf_answer.proofs.Readings.{vec_long}
-use Rattle.sdf_answer.proofs.Theorems.{accepted_nets}
+use Rattle.sdf_answer.proofs.Theorems.{nets_have_facts}
 use Rattle.sdf_answer.proofs.sizes.Sizes.rows.Goals as goal
 
 pub on-requires : goal.on-requires
 on-requires g c =
-    let facts = accepted_nets g.A.Actor.steps c.args.net.now c.node.ensures.accepted in
+    let facts = nets_have_facts g.A.Actor.steps c.args.net.now c.node.ensures.accepted in
     phase_known facts.net c.requires.sizes c.args.a c.requires.known c.args.side
     c.loop-phase.phase (omega (
       arith,
@@ -22,7 +22,7 @@ on-requires g c =
 
 pub at_channels-requires : goal.at_channels-requires
 at_channels-requires g c =
-    let facts = accepted_nets g.A.Actor.steps c.args.net.now c.node.ensures.accepted in
+    let facts = nets_have_facts g.A.Actor.steps c.args.net.now c.node.ensures.accepted in
     subst (λ row. (p : ℕ) → p < length c.channels_of-channels.result.now →
     get_or c.channels_of-channels.result.now p 0 < length row) (sym c.on.ensures)
     (subst (λ cs. (p : ℕ) → p < length cs → get_or cs p 0 <
@@ -65,7 +65,7 @@ returns g c =
     (let e : c.loop-phase.phase ≡ c.cycle-phase-end.result =
     omega (arith, c.loop-phase-test.false, c.loop-phase.auto.phase-end) in e) ∙
     (c.cycle-phase-end.ensures ∙ ap (cycle_of g.A.Actor.steps) c.node.ensures.value) in
-    let facts = accepted_nets g.A.Actor.steps c.args.net.now c.node.ensures.accepted in
+    let facts = nets_have_facts g.A.Actor.steps c.args.net.now c.node.ensures.accepted in
     are_rows facts.net c.requires.sizes c.args.a c.requires.known c.args.side
     (lists c.loop-phase.rows.items) (length-map c.loop-phase.rows.items (λ v. v.items)
     ∙ (vec_long c.loop-phase.rows ∙ (c.loop-phase.invariant.len ∙ cycle)))

@@ -1,5 +1,5 @@
 use Rattle.std.proofs.Common.{arith}
-use Rattle.sdf_answer.proofs.Theorems.{accepted_nets}
+use Rattle.sdf_answer.proofs.Theorems.{nets_have_facts}
 use Rattle.sdf_kit.specs.Kit.{kit_steps}
 use Rattle.sdf_process.proofs.Pieced.{first_stands}
 use Rattle.sdf_process.proofs.playing.Player.open.Goals as goal
@@ -7,5 +7,5 @@ use Rattle.sdf_process.proofs.playing.Player.open.Goals as goal
 pub returns-clause-stands : goal.returns-clause-stands
 returns-clause-stands c = λ s.
     first_stands c.args.score.net.now c.args.score.period.now c.in_ok-rest.rest
-    (accepted_nets kit_steps c.args.score.net.now c.requires.accepted).net
+    (nets_have_facts kit_steps c.args.score.net.now c.requires.accepted).net
     (omega (arith, c.requires.accepted.1.lists.input)) c.requires.taken c.in_ok-rest.ensures s
