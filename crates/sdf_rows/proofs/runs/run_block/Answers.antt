@@ -82,5 +82,8 @@ returns-clause-done g c = λ a l.
     (λ a. get_or (block c.args.timetable.now.j c.args.timetable.now.repetitions.now) a 0)
     c.args.timetable.now.table.now.rows c.loop-i.i a
     c.requires.table.table.valid (omega (arith, c.loop-i-test.false, c.rows-i-end.ensures))
-    (omega (arith, l,
-    (nets_have_facts g.A.Actor.steps c.args.scene.now.net.now c.requires.scene.accepted).alike.actors)))
+    (omega (
+      arith,
+      l,
+      (nets_have_facts g.A.Actor.steps c.args.scene.now.net.now c.requires.scene.accepted).alike.actors,
+    )))
