@@ -8,7 +8,6 @@ ghost use Rattle.sdf_rings.specs.Quiescence.{AreQuiescent};
 ghost use Rattle.sdf_rings.specs.Asks.{IsPlanned};
 ghost use Rattle.sdf_rings.specs.Totals.{total_left};
 ghost use Rattle.sdf_actor.specs.Laws.{AreCountsOf};
-ghost use Rattle.sdf_actor.specs.NetFaults.{WasAccepted};
 ghost use Rattle.sdf_actor.specs.Sides.{list_count};
 ghost use Rattle.sdf_actor.specs.Wires.{lists};
 ghost use Rattle.sdf_actor.specs.declared.sides.Lists.TheVariants.{Outputs};
@@ -23,6 +22,7 @@ use crate::seat::{Seat, work};
 use crate::workers::Workers;
 use sdf_actor::{Actor, Net, Rest};
 use sdf_answer::RunFault;
+use sdf_answer::laws::net_facts;
 use sdf_node::Gate;
 use std::alloc::{AllocError, Global};
 use std::marker::Model;
@@ -43,7 +43,6 @@ pub struct Rings<'a, A: Actor> {
 impl<'a, A: Actor> Model for Rings<'a, A> {
     ghost use Rattle.std.specs.Prelude.{◌≡◌, length};
     ghost use Rattle.sdf_actor.specs.declared.sides.Lists.TheVariants.{Outputs};
-    ghost use Rattle.sdf_actor.specs.NetFaults.{WasAccepted};
     ghost use Rattle.sdf_actor.specs.Sides.{list_count};
     ghost use Rattle.sdf_actor.specs.Wires.{lists};
     ghost use Rattle.sdf_rings.specs.Rests.{InHand, AreRings};
@@ -63,7 +62,7 @@ impl<'a, A: Actor> Model for Rings<'a, A> {
       seats = r.seats.items;
       places = r.places.items;
     })
-        × (length r.outputs.items ≡ list_count Outputs r.net.now.nodes) × WasAccepted A.steps r.net.now };
+        × (length r.outputs.items ≡ list_count Outputs r.net.now.nodes) };
 }
 
 impl<'a, A: Actor> Rings<'a, A> {
@@ -83,7 +82,6 @@ impl<'a, A: Actor> Rings<'a, A> {
           places = places.items;
         }) }
         requires outputs { length outputs.items ≡ list_count Outputs net.now.nodes }
-        requires accepted { WasAccepted A.steps net.now }
         ensures { result ≡ record {
           net = net.now;
           inputs = lists inputs.now;
@@ -207,7 +205,9 @@ impl<'a, A: Actor> Rings<'a, A> {
         requires met { HaveMet self.now.net self.now.seats self.now.places }
         ensures rest { AreAtRest A.steps self.now.net self.now.inputs self.now.seats self.now.places }
         ensures quiescent { AreQuiescent A.steps self.now }
-    {}
+    {
+        net_facts(self.net);
+    }
 
     /// Runs one round of all workers, and then synchronizes the ends.
     fn round<R: Threads + Sync, G: Gate>(&mut self, workers: Workers<'_, R, G>)
@@ -265,6 +265,7 @@ impl<'a, A: Actor> Rings<'a, A> {
             places,
             mut outputs,
         } = self;
+        net_facts(net);
         meet_all(alloc, net, inputs, &mut seats, &places);
         collect(net, &mut seats, &places, &mut outputs);
         outputs
@@ -288,6 +289,7 @@ impl<'a, A: Actor> Rings<'a, A> {
             places,
             mut outputs,
         } = self;
+        net_facts(net);
         let rest = leave(alloc, net, &mut seats, &places)?;
         collect(net, &mut seats, &places, &mut outputs);
         Ok((outputs, rest))

@@ -92,6 +92,10 @@ begun g c =
       fits = λ d l. omega (arith, step.put 0 d l, step.taken 0 d l, rooms g c d l);
     }
 
+pub make_works-requires-clause-net : goal.make_works-requires-clause-net
+make_works-requires-clause-net g c κs within =
+    (nets_have_facts g.A.Actor.steps c.args.passage.net.now c.requires.passage.accepted).net
+
 pub fire_all-requires-clause-swept : goal.fire_all-requires-clause-swept
 fire_all-requires-clause-swept g c = λ κs within. begun g c
 

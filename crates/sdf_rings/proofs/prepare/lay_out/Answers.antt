@@ -94,9 +94,6 @@ new-requires-clause-rings g c κs within =
     let here = goal.at.new-requires-clause-rings g c in
     begun.are_rings (laid g here.In_ok-seats (asked g here.After-len))
 
-pub new-requires-clause-accepted : goal.new-requires-clause-accepted
-new-requires-clause-accepted g c κs within = c.requires.start.accepted
-
 pub returns : goal.returns
 returns g c =
     let here = goal.at.returns g c in

@@ -67,20 +67,25 @@ returns-in-Sink g c =
     let qs = c.args.queues.now in
     let takes = c.args.ports.now.ins.sizes.now in
     let from : ℕ = get_or c.args.ports.now.ins.channels.now 0 0 in
-    let x = c.index-queues-from-in-Sink.result in
+    let x = c.index-queues-from.result in
     let known : from < length qs = c.requires.ins_are.known 0 (omega (arith, can.1)) in
-    let same : get_or qs from c.index-queues-from-2.result ≡ get_or qs from x =
-    get_or_default qs from c.index-queues-from-2.result nothing known ∙ sym (get_or_default qs from x nothing known) in
-    let many : c.len-length.result ≡ c.args.times * get_or takes from 0 =
-    c.len-length.ensures ∙ (ap length c.oldest_blocks.ensures
-    ∙ length-take-le (c.args.times * get_or takes from 0) (get_or qs from x).samples c.oldest_blocks.requires) in
+    let same : get_or qs from c.index-queues-from-in-Sink.result ≡ get_or qs from x =
+    get_or_default qs from c.index-queues-from-in-Sink.result nothing known ∙ sym (get_or_default qs from x nothing known) in
+    let many : length c.oldest_blocks-blocks.result.now ≡ c.args.times * get_or takes from 0 =
+    ap length c.oldest_blocks-blocks.ensures
+    ∙ length-take-le (c.args.times * get_or takes from 0) (get_or qs from x).samples
+    (omega (
+      arith,
+      c.requires.held 0 (omega (arith, can.1)),
+      ap (λ q. length q.samples) (get_or_default qs from x nothing known),
+    )) in
     fired_sink g.A.Actor.steps (lists c.args.inputs.now) c.args.times c.args.ports.now.ins.channels.now
     c.args.ports.now.outs.channels.now takes c.args.ports.now.outs.sizes.now qs
     c.args.outputs.now
     c.args.self.now c.in-Sink.ext c.append.new.list c.index-outputs-ext.result c.release.new.self
     x c.in-Sink.is c.requires
     (c.append.ensures.items ∙ ap (λ b. (get_or c.args.outputs.now c.in-Sink.ext c.index-outputs-ext.result).items ++ b)
-    c.oldest_blocks.ensures)
+    c.oldest_blocks-blocks.ensures)
     c.append.ensures.capacity
     (ap (λ q. q.samples) c.release.ensures ∙ (λ i. drop (many i) (same i).samples))
     (ap (λ q. q.room) c.release.ensures ∙ ap (λ q. q.room) same)

@@ -18,5 +18,6 @@ returns-clause-quiescent g c =
     let x = c.self.inside in
     let s = g.A.Actor.steps in
     let met = subst (λ (v : InHand _ _ _). HaveMet v.net v.seats v.places) (sym c.self.view_is) c.requires.met in
+    let accepted = c.net_facts.ensures.accepted in
     subst (λ (v : InHand _ _ _). AreQuiescent s v) c.self.view_is
-    (are_quiescent c.self.invariant.0 met c.self.invariant.2.1)
+    (are_quiescent c.self.invariant.0 met accepted.1)

@@ -46,5 +46,6 @@ returns g c = λ order cap k plan counts.
     let room = c.deref_mut-3.ensures.len in
     let outputs = with_items_is x.outputs c.collect.new.outputs (omega arith) in
     let count = made ∙ (ap length c.deref_mut-3.ensures.value ∙ c.self.invariant.1) in
+    let accepted = c.net_facts.ensures.accepted in
     rw outputs (subst (λ (v : InHand _ _ _). AreOutputs s v.net v.inputs k (lists c.collect.new.outputs)) c.self.view_is
-    (outputs_given rings mine left rest c.self.invariant.2.1 times c.collect.new.outputs count given))
+    (outputs_given rings mine left rest accepted.1 times c.collect.new.outputs count given))

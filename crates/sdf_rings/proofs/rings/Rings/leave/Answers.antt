@@ -54,6 +54,7 @@ returns g c = λ order cap k plan counts.
     (c.deref_mut-2.ensures.value ∙ moved) c.collect.ensures.each) in
     let given = given_kept c.self.invariant.0.placed kept
     (length n.nodes) c.collect.new.outputs collected in
+    let accepted = c.net_facts.ensures.accepted in
     rw same (subst (λ (v : InHand _ _ _). HasRun s v.net v.inputs k (lists c.collect.new.outputs)
     c.in_ok-rest.rest) c.self.view_is
-    (run_given c.self.invariant.0 mine left rest c.self.invariant.2.1 asked c.collect.new.outputs count given held))
+    (run_given c.self.invariant.0 mine left rest accepted.1 asked c.collect.new.outputs count given held))

@@ -21,7 +21,7 @@ invariant_of-self g c =
     let rounded = rw v at c.run_round.ensures in
     let rings = rings_all c.self.invariant.0 c.run_round.new.seats len (λ j e h. (rounded j e h).seat)
     (λ j e h. (rounded j e h).worked) in
-    (rw same rings, c.self.invariant.1, c.self.invariant.2)
+    (rw same rings, c.self.invariant.1)
 
 pub returns-clause-rounded : goal.returns-clause-rounded
 returns-clause-rounded g c =

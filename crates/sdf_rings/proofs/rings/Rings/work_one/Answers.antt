@@ -17,7 +17,6 @@ invariant_of-self g c =
     let inside : c.args.seat < length c.self.inside.seats.items = omega (arith, l, c.requires) in (
       rings_worked c.self.invariant.0 inside c.index_mut.ensures.value c.work.ensures.worked c.work.ensures.seat,
       c.self.invariant.1,
-      c.self.invariant.2,
     )
 
 pub returns-clause-stopped : goal.returns-clause-stopped
