@@ -187,18 +187,20 @@ impl<T: Copy> Queue<T> {
         self.start += many;
     }
 
-    /// Fires an actor in one batch. Each firing writes its `size` samples in place, behind the samples of the queue.
+    /// Fires an actor in one batch, which writes `many` blocks of `size` samples in place, behind the samples of the
+    /// queue: a block for each firing, for each cycle of phases, or one for all.
     pub fn put_fired<A: Actor<Token = T>>(
         &mut self,
         firings: Firings<'_, A>,
         state: &mut A::State,
         taken: &[T],
+        many: usize,
         size: usize,
     )
         requires phase { firings.phase < A.steps.cycle firings.actor.now }
         requires taken { length taken.now ≡ sum_in A.steps firings.actor.now firings.phase firings.times }
-        requires made { firings.times * size ≡ sum_out A.steps firings.actor.now firings.phase firings.times }
-        requires room { length self.old.samples + firings.times * size ≤ self.old.room }
+        requires made { many * size ≡ sum_out A.steps firings.actor.now firings.phase firings.times }
+        requires room { length self.old.samples + many * size ≤ self.old.room }
         ensures state { state.new ≡ state_at A.steps firings.entry.actor.now firings.entry.phase state.old taken.now
             firings.entry.times }
         ensures queue { self.new ≡ record self.old {
@@ -206,15 +208,15 @@ impl<T: Copy> Queue<T> {
               ++ puts_to A.steps firings.entry.actor.now firings.entry.phase state.old taken.now firings.entry.times;
         } }
         ensures long { length (puts_to A.steps firings.entry.actor.now firings.entry.phase state.old taken.now
-            firings.entry.times) ≡ firings.entry.times * size }
+            firings.entry.times) ≡ many * size }
     {
         let Firings {
             actor,
             phase,
             times,
         } = firings;
-        let place = place_for(&mut self.items, self.start, self.end, times * size);
-        let end = place.1 + times * size;
+        let place = place_for(&mut self.items, self.start, self.end, many * size);
+        let end = place.1 + many * size;
         actor.fire_many(phase, times, state, taken, &mut self.items[place.1..end]);
         self.start = place.0;
         self.end = end;

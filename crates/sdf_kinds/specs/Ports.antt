@@ -8,7 +8,7 @@ abbrev pub ports_in : {N : Type 0} → SideRow N → N
 ports_in (Every ports samples) = ports
 ports_in (InTurn ports samples) = ports
 
--- the number of samples that a port moves when it moves any
+-- the number of samples that a firing moves at a port that it serves
 abbrev pub samples_in : {N : Type 0} → SideRow N → N
 samples_in (Every ports samples) = samples
 samples_in (InTurn ports samples) = samples

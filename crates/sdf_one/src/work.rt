@@ -165,7 +165,7 @@ fn fire_through<A: Actor>(
     let mut target = queues[to].lift();
     let taken = queues[from].oldest_blocks(firings.times, ports.ins.sizes[from]);
     let many = taken.len();
-    target.put_fired(firings, state, taken, size);
+    target.put_fired(firings, state, taken, firings.times, size);
     queues[from].release(many);
     queues[to] = target;
 }

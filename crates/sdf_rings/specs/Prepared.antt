@@ -16,8 +16,8 @@ use Rattle.sdf_rings.specs.MachineLaws.{MachinePlan, IsMachinePlan, firings}
 use Rattle.sdf_rings.specs.Begun.{place}
 
 -- the net was accepted. There is a seat for each processor of the table, and each node is on the seat of its home.
--- Nothing has fired, all ends are synchronized, this number of blocks of the table is asked, and the rings have room for
--- its capacities
+-- Nothing has fired, all ends are synchronized, this number of blocks of the table is asked, and the rings have room
+-- for its capacities
 pub record IsPrepared {A S T : Type 0} (s : Steps A S T) (n : Netlist A T) (inputs : List (List T)) (t : Tabled)
     (blocks : ℕ) (r : InHand A S T) : Type 0 where
   pub net_is : r.net ≡ n

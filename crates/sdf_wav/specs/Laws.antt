@@ -40,6 +40,7 @@ SomeOutcome =
 abbrev pub OneSound : Type 0
 OneSound = (bytes : List ℕ) (s t : Sound) (x y : List ℕ) → IsWav bytes s x → IsWav bytes t y → (s ≡ t) × (x ≡ y)
 
+-- an input has one fault
 abbrev pub OneFault : Type 0
 OneFault = (bytes : List ℕ) (f g : FormatFault) → HasFault bytes f → HasFault bytes g → f ≡ g
 
@@ -49,6 +50,7 @@ NotBoth = (bytes : List ℕ) (s : Sound) (x : List ℕ) (f : FormatFault) → Is
 
 -- ---- pieces that are read in turn
 
+-- every file opens
 abbrev pub FilesOpen : Type 0
 FilesOpen =
     (input : List ℕ) (s : Sound) (rest : List ℕ) → IsWav input s rest →
@@ -72,13 +74,13 @@ FewEnd =
     IsReadTo input r before bytes → next_at r frames bytes ≡ Ok (samples, rest) →
     length samples < frames * r.channels → IsEnded (record r { gone = r.gone + 2 * length samples }) rest
 
--- at the end the input is a file of them
+-- at the end the input is a file of the samples read
 abbrev pub PiecesEnd : Type 0
 PiecesEnd =
     (input : List ℕ) (r : Reading) (samples : List ℤ) (rest : List ℕ) → IsReadTo input r samples rest →
     IsEnded r rest → IsWav input (sound_read r samples) rest
 
--- a fault among them is a fault of the input
+-- a fault of a piece is a fault of the input
 abbrev pub PiecesFall : Type 0
 PiecesFall =
     (input : List ℕ) (r : Reading) (before : List ℤ) (bytes : List ℕ) (frames : ℕ) (f : FormatFault) →

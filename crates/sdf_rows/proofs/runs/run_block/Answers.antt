@@ -21,7 +21,8 @@ next : (g : Rattle.sdf_rows.proofs.runs.run_block.Given.Over) (c : In-loop-i g) 
     (row_actors (row c.args.timetable.now.table.now.rows c.loop-i.i))
 next g c =
     let net = nets_have_facts g.A.Actor.steps c.args.scene.now.net.now c.requires.scene.accepted in
-    row_is net.alike (graphs_are_sound (graph_of g.A.Actor.steps c.args.scene.now.net.now) net.graph) c.requires.table.table.valid c.requires.round c.loop-i.i
+    row_is net.alike (graphs_are_sound (graph_of g.A.Actor.steps c.args.scene.now.net.now) net.graph)
+    c.requires.table.table.valid c.requires.round c.loop-i.i
     (omega (arith, c.loop-i-test.true, c.rows-i-end.ensures)) c.loop-i.invariant.done
 
 pub run_row-requires-clause-between : goal.run_row-requires-clause-between

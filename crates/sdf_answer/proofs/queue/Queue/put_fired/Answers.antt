@@ -9,7 +9,7 @@ pub returns-clause-queue : goal.returns-clause-queue
 returns-clause-queue g c =
     let i = c.self.inside in
     let to : ℕ = c.place_for-place.result.1 in
-    let made : ℕ = c.args.firings.times * c.args.size in
+    let made : ℕ = c.args.many * c.args.size in
     holds_more c.place_for-place.new.list c.deref_mut.result.now c.fire_many.new.put
     (puts_to g.A.Actor.steps c.args.firings.actor.now c.args.firings.phase c.args.state.now c.args.taken.now
     c.args.firings.times) (between i.start i.end i.items.items) i.room c.args.self.now

@@ -70,7 +70,8 @@ returns-in-Sink g c =
     let x = c.index-queues-from.result in
     let known : from < length qs = c.requires.ins_are.known 0 (omega (arith, can.1)) in
     let same : get_or qs from c.index-queues-from-in-Sink.result ≡ get_or qs from x =
-    get_or_default qs from c.index-queues-from-in-Sink.result nothing known ∙ sym (get_or_default qs from x nothing known) in
+    get_or_default qs from c.index-queues-from-in-Sink.result nothing known
+    ∙ sym (get_or_default qs from x nothing known) in
     let many : length c.oldest_blocks-blocks.result.now ≡ c.args.times * get_or takes from 0 =
     ap length c.oldest_blocks-blocks.ensures
     ∙ length-take-le (c.args.times * get_or takes from 0) (get_or qs from x).samples
