@@ -99,8 +99,8 @@ tried:
 times:
 	scripts/times $(CRATE)
 
-# How many requests for memory a short run and a long one make, by each runner, and schedules: as many, but for threads
-# (needs python3 and gcc).
+# Counts the requests for memory of a short run and of a long one, by each runner, and of schedules: the numbers are
+# equal, apart from those that start threads (needs python3 and gcc).
 allocations:
 	scripts/allocations
 
