@@ -127,7 +127,7 @@ const WHY: &[Row] = &[
     (
         "a channel that is not there",
         "run right.toml in.wav out.wav --why",
-        "4\n--\nsdfw: 59 ChannelsMissing\n  \"in.wav\": has 44100 samples a second in 1 channel\n  the design reads 2 \
+        "4\n--\nsdfw: 59 ChannelsMissing\n  \"in.wav\": has 44100 samples a second in 1 channel\n  the design needs 2 \
          channels, the sound has 1\n  actor 0 is \"left\", \
          an input\n  channel = 0\n  actor 1 is \"right\", an input\n  channel = 1\n--\n",
     ),

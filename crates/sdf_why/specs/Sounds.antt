@@ -4,9 +4,9 @@ use Rattle.toml.specs.Data.{Data}
 use Rattle.sdf_why.specs.Words.{end}
 use Rattle.sdf_why.specs.Nets.{all_of}
 
--- how many channels the design reads, and how many the sound has
-unfoldable pub reads_text : ℕ → List ℕ
-reads_text wanted = codes "  the design reads " ++ decimal wanted ++ codes " channels"
+-- how many channels the design needs, and how many the sound has
+unfoldable pub needs_text : ℕ → List ℕ
+needs_text wanted = codes "  the design needs " ++ decimal wanted ++ codes " channels"
 
 unfoldable pub has_text : ℕ → List ℕ
 has_text channels = codes ", the sound has " ++ decimal channels ++ end
@@ -14,7 +14,7 @@ has_text channels = codes ", the sound has " ++ decimal channels ++ end
 -- the numbers of channels of the design and of the sound, and all inputs with their channels
 unfoldable pub channels_told : Data → ℕ → ℕ → List ℕ
 channels_told d wanted channels =
-    reads_text wanted ++ has_text channels ++ all_of (codes "input") (codes "channel") d
+    needs_text wanted ++ has_text channels ++ all_of (codes "input") (codes "channel") d
 
 -- the formula for the output's rate
 unfoldable pub product_text : ℕ → ℕ → ℕ → List ℕ

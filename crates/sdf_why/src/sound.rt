@@ -3,7 +3,7 @@
 ghost use Rattle.std.specs.Prelude.{◌≡◌, ◌++◌, ◌*◌, ◌<◌, ◌≤◌, OnOk, string_bytes};
 ghost use Rattle.toml.specs.View.{view};
 ghost use Rattle.sdf_limits.specs.declared.TheConstants.{MOST_PERIOD, MOST_RATE};
-ghost use Rattle.sdf_why.specs.Sounds.{reads_text, has_text, channels_told, product_text, quotient_text, rate_line};
+ghost use Rattle.sdf_why.specs.Sounds.{needs_text, has_text, channels_told, product_text, quotient_text, rate_line};
 
 use crate::net::push_all_of;
 use std::alloc::{AllocError, Global};
@@ -16,12 +16,12 @@ pub struct Header {
     pub channels: u32,
 }
 
-/// Adds how many channels a design reads.
-#[tactic(auto, unfolding(crate::specs::Sounds::reads_text))]
-fn push_reads(text: &mut String, wanted: usize) -> Result<(), AllocError>
-    ensures { OnOk result (string_bytes text.new ≡ string_bytes text.old ++ reads_text wanted) }
+/// Adds how many channels a design needs.
+#[tactic(auto, unfolding(crate::specs::Sounds::needs_text))]
+fn push_needs(text: &mut String, wanted: usize) -> Result<(), AllocError>
+    ensures { OnOk result (string_bytes text.new ≡ string_bytes text.old ++ needs_text wanted) }
 {
-    write!(text, "  the design reads {wanted} channels")?;
+    write!(text, "  the design needs {wanted} channels")?;
     Ok(())
 }
 
@@ -34,7 +34,7 @@ fn push_has(text: &mut String, channels: u32) -> Result<(), AllocError>
     Ok(())
 }
 
-/// Adds how many channels a design reads and a sound has, and the inputs of the design.
+/// Adds how many channels a design needs and a sound has, and the inputs of the design.
 #[tactic(auto, unfolding(crate::specs::Sounds::channels_told))]
 pub(crate) fn push_channels(
     alloc: Global,
@@ -46,7 +46,7 @@ pub(crate) fn push_channels(
     ensures { OnOk result (string_bytes text.new ≡ string_bytes text.old
         ++ channels_told (view graph.now) wanted header.channels) }
 {
-    push_reads(text, wanted)?;
+    push_needs(text, wanted)?;
     push_has(text, header.channels)?;
     push_all_of(alloc, text, graph, "input", "channel")
 }

@@ -140,7 +140,7 @@ fn sounds_are_told(rt: HostRuntime) -> Result<(), Fail> {
     says(told(stall_text(alloc, &LATER, sources(BEHIND))), ENTERED)?;
     says(
         told(channels_text(alloc, header, sources(DESIGN))),
-        "  the design reads 2 channels, the sound has 1\n  actor 0 is \"left\", an input\n  channel = 0\n  \
+        "  the design needs 2 channels, the sound has 1\n  actor 0 is \"left\", an input\n  channel = 0\n  \
         actor 1 is \"right\", an input\n  channel = 1\n",
     )?;
     says(
