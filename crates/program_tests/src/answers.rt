@@ -94,8 +94,8 @@ const HELP: &[Row] = &[
         "help",
         "check -h",
         "0\nChecks a graph file and prints its period\n\nUsage: sdfw check [OPTIONS] <GRAPH>\n\nArguments:\n  \
-         <GRAPH>  The graph file\n\nOptions:\n      --why     Says more of a fault: names, values and limits\n      \
-         --no-why  Says no more at a terminal than to a pipe or a log\n      --json    Answers in JSON, also of a \
+         <GRAPH>  The graph file\n\nOptions:\n      --why     Says more about a fault: names, values and limits\n      \
+         --no-why  Says no more at a terminal than to a pipe or a log\n      --json    Prints JSON, also for a \
          fault\n  -h, --help    Print help (see more with '--help')\n\n\
          Examples:\n  sdfw check graph.toml\n  sdfw check graph.toml --why\n--\n--\n",
     ),
@@ -103,8 +103,8 @@ const HELP: &[Row] = &[
         "longer help",
         "help kinds",
         "0\nLists the kinds of actors, their keys and limits: a line for each kind, and a last one for the keys\n\
-         that every actor may have. A number in parentheses stands where the key is absent.\n\n\
-         Usage: sdfw kinds [OPTIONS]\n\nOptions:\n      --json\n          Answers in JSON, with the ports of each \
+         that every actor may have. A number in parentheses is the default.\n\n\
+         Usage: sdfw kinds [OPTIONS]\n\nOptions:\n      --json\n          Prints JSON, with the ports of each \
          kind: one value on one line. A fault is one too, on standard error\n\n  -h, --help\n          \
          Print help (see a summary with '-h')\n\nExamples:\n  \
          sdfw kinds\n  sdfw kinds | grep fir\n  sdfw kinds --json\n--\n--\n",

@@ -60,7 +60,7 @@ const BATCHES: &[Row] = &[
     (
         "two files of one name",
         "run plain.toml --into made in.wav other/in.wav",
-        "2\n--\nerror: two files IN have the name in.wav\n--\n",
+        "2\n--\nerror: two IN files have the name in.wav\n--\n",
     ),
     (
         "a file of the name of a part",
@@ -97,7 +97,7 @@ const SAID: &[Row] = &[
         "a file that ends well, and one that does not",
         "run plain.toml --into made in.wav one.toml",
         "4\nin.wav: done\none.toml: 34 NotRiff\n--\n\r0 of 2 files done\x1b[K…\r\x1b[Kin.wav: output 0: 2 frames, peak \
-         -76.3 dB, 0 samples at full scale\n…  \"one.toml\": has \"form\" at byte 0, wants \"RIFF\"\n--\n<5 -5>",
+         -76.3 dB, 0 samples at full scale\n…  \"one.toml\": has \"form\" at byte 0, needs \"RIFF\"\n--\n<5 -5>",
     ),
     (
         "the levels of two files, each by its name",
@@ -125,7 +125,7 @@ const SAID: &[Row] = &[
     (
         "how a parallel run goes, once",
         "run plain.toml --into made in.wav --parallel 1",
-        "0\nin.wav: done\n--\none thread: one worker is asked for\n\r0 of 1 file done\x1b[K\r\x1b[Kin.wav: output 0: \
+        "0\nin.wav: done\n--\none thread: there is one worker\n\r0 of 1 file done\x1b[K\r\x1b[Kin.wav: output 0: \
          2 frames, peak -76.3 dB, 0 samples at full scale\n--\n<5 -5>",
     ),
     (
@@ -138,7 +138,7 @@ const SAID: &[Row] = &[
     (
         "how many files are done, one after the other",
         "run plain.toml --into made in.wav silence.wav --parallel 1",
-        "0\nin.wav: done\nsilence.wav: done\n--\none thread: one worker is asked for\n\r0 of 2 files done\x1b[K\r\x1b[K\
+        "0\nin.wav: done\nsilence.wav: done\n--\none thread: there is one worker\n\r0 of 2 files done\x1b[K\r\x1b[K\
          in.wav: output 0: …\n\r1 of 2 files done\x1b[K\r\x1b[Ksilence.wav: output 0: …",
     ),
     (

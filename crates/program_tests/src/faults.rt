@@ -77,27 +77,27 @@ const WHY: &[Row] = &[
         "a deadlock, and its cycle",
         "check stuck.toml --why",
         "3\n--\nsdfw: 10 Deadlock\nin 1 of 1\nadd 0 of 1 short link 3\nfork 0 of 1 short link 1\nout 0 of 1 short \
-         link 2\n  link 3 is fork:1 -> add:1, holds 0, wants 1\n  link 1 is add:0 -> fork:0, holds 0, wants 1\n  \
+         link 2\n  link 3 is fork:1 -> add:1, holds 0, needs 1\n  link 1 is add:0 -> fork:0, holds 0, needs 1\n  \
          link 2 is fork:0 -> out:0\n--\n",
     ),
     (
         "the same of a schedule",
         "schedule stuck.toml --why",
         "3\n--\nsdfw: 10 Deadlock\nin 1 of 1\nadd 0 of 1 short link 3\nfork 0 of 1 short link 1\nout 0 of 1 short \
-         link 2\n  link 3 is fork:1 -> add:1, holds 0, wants 1\n  link 1 is add:0 -> fork:0, holds 0, wants 1\n  \
+         link 2\n  link 3 is fork:1 -> add:1, holds 0, needs 1\n  link 1 is add:0 -> fork:0, holds 0, needs 1\n  \
          link 2 is fork:0 -> out:0\n--\n",
     ),
     (
         "the same of a run",
         "run stuck.toml in.wav out.wav --why",
         "3\n--\nsdfw: 10 Deadlock\nin 1 of 1\nadd 0 of 1 short link 3\nfork 0 of 1 short link 1\nout 0 of 1 short \
-         link 2\n  link 3 is fork:1 -> add:1, holds 0, wants 1\n  link 1 is add:0 -> fork:0, holds 0, wants 1\n  \
+         link 2\n  link 3 is fork:1 -> add:1, holds 0, needs 1\n  link 1 is add:0 -> fork:0, holds 0, needs 1\n  \
          link 2 is fork:0 -> out:0\n--\n",
     ),
     (
         "an actor without a home, by its name",
         "schedule begun.toml --placement file --why",
-        "3\n--\nsdfw: 19 BadHome actor 0\n  actor 0 is \"in\", an input\n  processor = 1, wants 0..0\n--\n",
+        "3\n--\nsdfw: 19 BadHome actor 0\n  actor 0 is \"in\", an input\n  processor = 1, needs 0..0\n--\n",
     ),
     (
         "a design that is not there",
@@ -144,9 +144,9 @@ const WHY: &[Row] = &[
 /// parallel run only once it has ended well. Refuses also a profile that looks at FILE before IN is open.
 const BESIDE: &[Row] = &[
     (
-        "a key, and what it wants",
+        "a key, and what it needs",
         "check wide.toml --why",
-        "3\n--\nsdfw: 28 KitValue actor 0 key up\n  actor 0 is \"half\", a fir\n  up = 147, wants 1..64\n--\n",
+        "3\n--\nsdfw: 28 KitValue actor 0 key up\n  actor 0 is \"half\", a fir\n  up = 147, needs 1..64\n--\n",
     ),
     (
         "a key of a coefficient file",
@@ -156,12 +156,12 @@ const BESIDE: &[Row] = &[
     (
         "an actor past the last of two workers",
         "schedule far.toml --placement file --workers 2 --why",
-        "3\n--\nsdfw: 19 BadHome actor 0\n  actor 0 is \"in\", an input\n  processor = 3, wants 0..1\n--\n",
+        "3\n--\nsdfw: 19 BadHome actor 0\n  actor 0 is \"in\", an input\n  processor = 3, needs 0..1\n--\n",
     ),
     (
         "the same of a run",
         "run far.toml in.wav out.wav --runner rows --placement file --workers 3 --why",
-        "3\n--\nsdfw: 19 BadHome actor 0\n  actor 0 is \"in\", an input\n  processor = 3, wants 0..2\n--\n",
+        "3\n--\nsdfw: 19 BadHome actor 0\n  actor 0 is \"in\", an input\n  processor = 3, needs 0..2\n--\n",
     ),
     (
         "a deadlock before an IN that is not there",
@@ -204,7 +204,7 @@ const BESIDE: &[Row] = &[
     (
         "how a run goes, and then its fault",
         "run plain.toml none.wav out.wav --parallel 1 --why",
-        "5\n--\none thread: one worker is asked for\nsdfw: 47 Read\n…",
+        "5\n--\none thread: there is one worker\nsdfw: 47 Read\n…",
     ),
     (
         "an IN that is not there before a FILE that is read",
@@ -234,17 +234,17 @@ const UNWRITTEN: &[Row] = &[
     (
         "a GRAPH without lines for actors",
         "profile plain.toml in.wav --write made/measured.toml",
-        "2\n--\nerror: GRAPH has 0 lines [[actor]] for 2 actors: costs want one for each\n--\n",
+        "2\n--\nerror: GRAPH has 0 lines [[actor]] for 2 actors: costs need one for each\n--\n",
     ),
     (
         "a GRAPH with one line for two actors",
         "profile spaced.toml in.wav --write made/measured.toml",
-        "2\n--\nerror: GRAPH has 1 line [[actor]] for 2 actors: costs want one for each\n--\n",
+        "2\n--\nerror: GRAPH has 1 line [[actor]] for 2 actors: costs need one for each\n--\n",
     ),
     (
         "a cost in another form, and the actor by its name",
         "profile underscored.toml in.wav --write made/measured.toml",
-        "2\n--\nerror: the cost of the actor \"out\" is to be a line of GRAPH like `cost = 12`\n--\n",
+        "2\n--\nerror: the cost of the actor \"out\" must be on a line of its own in GRAPH, like `cost = 12`\n--\n",
     ),
     (
         "no lines for actors before an IN that is no sound",

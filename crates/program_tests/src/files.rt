@@ -3,7 +3,7 @@
 use crate::commands::{OPEN, Row, Served, given_of, is_told, serve_over};
 use crate::shelf::SOUND;
 use sdf_faults::{Fault, fault_text};
-use sdf_files::files::{MOST_BYTES, load, read_all};
+use sdf_files::files::{MOST_BYTES, Sources, bytes_of, load_into};
 use sdf_files::storage::{Disk, Storage};
 use std::alloc::{AllocError, Global};
 use std::io::{self, Error, ErrorKind, Read};
@@ -263,22 +263,29 @@ impl Read for Long {
     }
 }
 
+/// The name of the error for a file past its limit.
+const TOO_LARGE: &str = "too large";
+
 /// Returns the text of `fault`.
 fn text_of(alloc: Global, fault: Fault) -> Result<String, Fail> {
     fault_text(alloc, &fault).map_err(Fail::from)
 }
 
-/// Returns the text of a file of which at most `most` bytes may be read, or the fault.
+/// Returns the text of a file of which at most `most` bytes may be read, or whether it is too large.
 fn read_told<F: Read + Drop>(alloc: Global, file: F, most: u32) -> Result<String, Fail> {
-    match read_all(alloc, file, most) {
+    match bytes_of(alloc, file, most) {
         Ok(bytes) => Ok(String::from_utf8(bytes)?),
-        Err(fault) => text_of(alloc, fault),
+        Err(error) if error.kind() == ErrorKind::FileTooLarge => Ok(String::from_str(
+            alloc, TOO_LARGE,
+        )?),
+        Err(error) => Err(Fail::from(error)),
     }
 }
 
 /// Loads a file that may have `most` bytes, and returns `loaded` or the fault.
 fn loaded(rt: &HostRuntime, path: &str, most: u32) -> Result<String, Fail> {
-    match load(rt.alloc(), &Disk { rt }, path, most) {
+    let mut sources = Sources::new(rt.alloc());
+    match load_into(rt.alloc(), &Disk { rt }, path, most, &mut sources) {
         Ok(loaded) => {
             drop(loaded);
             String::from_str(rt.alloc(), "loaded").map_err(Fail::from)
@@ -296,8 +303,8 @@ fn long_told(alloc: Global) -> Result<String, Fail> {
 
 /// How many bytes of `samples` may be read, and the result. Refuses a program that cuts a longer file.
 const LIMITS: &[(u32, &str)] = &[
-    (0, "sdfw: 47 Read\n"),
-    (6, "sdfw: 47 Read\n"),
+    (0, TOO_LARGE),
+    (6, TOO_LARGE),
     (7, "samples"),
     (8, "samples"),
 ];
@@ -321,7 +328,7 @@ fn files_are_read_to_their_limit(rt: HostRuntime) -> Result<(), Fail> {
     row_says(
         "a long one",
         read_told(alloc, Long { left: 8 }, 7),
-        "sdfw: 47 Read\n",
+        TOO_LARGE,
     )?;
     row_says("a million bytes", long_told(alloc), "1000000")?;
     for (most, wanted) in LIMITS {

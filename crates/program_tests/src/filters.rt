@@ -60,12 +60,12 @@ const CONVERTERS: &[Row] = &[
     (
         "a folder that has a coefficient file",
         "resample 8000 16000 begun",
-        "2\n--\nerror: FOLDER has a file stage1.toml already\n…",
+        "2\n--\nerror: FOLDER already has a file stage1.toml\n…",
     ),
     (
         "a folder that has a second coefficient file",
         "resample 44100 48000 ended --attenuation 40",
-        "2\n--\nerror: FOLDER has a file stage2.toml already\n…",
+        "2\n--\nerror: FOLDER already has a file stage2.toml\n…",
     ),
     (
         "a design whose period is too long",
@@ -87,7 +87,7 @@ const CONVERTERS: &[Row] = &[
     (
         "a folder that has a graph file",
         "resample 8000 8000 full",
-        "2\n--\nerror: FOLDER has a file graph.toml already\n…",
+        "2\n--\nerror: FOLDER already has a file graph.toml\n…",
     ),
     (
         "a greater attenuation than the usual one, which has other stages, and a line for each of them",

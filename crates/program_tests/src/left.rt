@@ -99,8 +99,8 @@ impl Storage for Full<'_> {
         self.disk().remove_folder(path)
     }
 
-    fn only_path(&self, alloc: Global, path: &str) -> io::Result<PathBuf> {
-        self.disk().only_path(alloc, path)
+    fn canonical_path(&self, alloc: Global, path: &str) -> io::Result<PathBuf> {
+        self.disk().canonical_path(alloc, path)
     }
 }
 

@@ -63,7 +63,7 @@ const PARALLEL: &[Row] = &[
     (
         "heavy parallel 1 why",
         "run heavy.toml in.wav out.wav --parallel 1 --why",
-        "0\n--\none thread: one worker is asked for\n\
+        "0\n--\none thread: there is one worker\n\
          output 0: 2 frames, peak -76.3 dB, 0 samples at full scale\n--\n<5 -5>",
     ),
     (

@@ -435,7 +435,7 @@ impl<'a> Storage for Shelf<'a> {
         Err(Error::from(ErrorKind::PermissionDenied))
     }
 
-    fn only_path(&self, alloc: Global, path: &str) -> io::Result<PathBuf> {
+    fn canonical_path(&self, alloc: Global, path: &str) -> io::Result<PathBuf> {
         self.open(path)?;
         let plain = match path.strip_prefix("./") {
             Some(plain) => plain,

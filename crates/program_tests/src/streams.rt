@@ -257,11 +257,11 @@ fn without_last<T: Threads + AllocGlobal + Clock + Clone + Drop + Sync>(
 /// Words of which the last is not UTF-8: a name, the words before it, and the report. Refuses a mistake that is not in
 /// JSON although another word asks for that.
 const UNREAD: &[Row] = &[
-    ("no UTF-8", "check", "2 0 error: argument 2 is no UTF-8\n"),
+    ("not UTF-8", "check", "2 0 error: argument 2 is not UTF-8\n"),
     (
-        "no UTF-8 with JSON",
+        "not UTF-8, with JSON",
         "check --json",
-        "2 0 {\"fault\":0,\"name\":\"Usage\",\"text\":\"error: argument 3 is no UTF-8…\"}\n",
+        "2 0 {\"fault\":0,\"name\":\"Usage\",\"text\":\"error: argument 3 is not UTF-8…\"}\n",
     ),
 ];
 

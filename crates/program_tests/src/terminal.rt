@@ -27,12 +27,12 @@ const AT_TERMINAL: &[Row] = &[
     (
         "a schedule",
         "schedule begun.toml --placement file",
-        "3\n--\nsdfw: 19 BadHome actor 0\n  actor 0 is \"in\", an input\n  processor = 1, wants 0..0\n--\n",
+        "3\n--\nsdfw: 19 BadHome actor 0\n  actor 0 is \"in\", an input\n  processor = 1, needs 0..0\n--\n",
     ),
     (
         "an analysis, by its options",
         "analyze far.toml --placement file --workers 2",
-        "3\n--\nsdfw: 19 BadHome actor 0\n  actor 0 is \"in\", an input\n  processor = 3, wants 0..1\n--\n",
+        "3\n--\nsdfw: 19 BadHome actor 0\n  actor 0 is \"in\", an input\n  processor = 3, needs 0..1\n--\n",
     ),
     (
         "schedules compared, of which some are refused",
@@ -57,7 +57,7 @@ const AT_TERMINAL: &[Row] = &[
     (
         "a picture, by its options",
         "draw far.toml --placement file --workers 3",
-        "3\n--\nsdfw: 19 BadHome actor 0\n  actor 0 is \"in\", an input\n  processor = 3, wants 0..2\n--\n",
+        "3\n--\nsdfw: 19 BadHome actor 0\n  actor 0 is \"in\", an input\n  processor = 3, needs 0..2\n--\n",
     ),
 ];
 
@@ -72,7 +72,7 @@ const FILES_AT_TERMINAL: &[Row] = &[
     (
         "a profile of a design",
         "profile plain.toml one.toml",
-        "4\n--\nsdfw: 34 NotRiff\n  \"one.toml\": has \"form\" at byte 0, wants \"RIFF\"\n--\n",
+        "4\n--\nsdfw: 34 NotRiff\n  \"one.toml\": has \"form\" at byte 0, needs \"RIFF\"\n--\n",
     ),
     (
         "a fault without more",
@@ -172,11 +172,11 @@ const FORMATS: &[Sound] = &[
     ),
     (
         b"fLaC\0\0\0\x22",
-        "4\n--\nsdfw: 34 NotRiff\n  \"-\": has \"fLaC\" at byte 0, wants \"RIFF\"\n--\n",
+        "4\n--\nsdfw: 34 NotRiff\n  \"-\": has \"fLaC\" at byte 0, needs \"RIFF\"\n--\n",
     ),
     (
         b"RIFF\x28\0\0\0AVI\0LIST",
-        "4\n--\nsdfw: 35 NotWave\n  \"-\": has \"AVI\\x00\" at byte 8, wants \"WAVE\"\n--\n",
+        "4\n--\nsdfw: 35 NotWave\n  \"-\": has \"AVI\\x00\" at byte 8, needs \"WAVE\"\n--\n",
     ),
     (
         b"RIFF\x28\0\0\0WAVEJUNK\x01\0\0\0\0\0data\x04\0\0\0\x05\0\xFB\xFF",
@@ -188,20 +188,26 @@ const FORMATS: &[Sound] = &[
     ),
     (
         b"RIFF\x28\0\0\0WAVEfmt \x0E\0\0\0\x01\0\x01\0\x44\xAC\0\0\x88\x58\x01\0\x02\0",
-        "4\n--\nsdfw: 37 ShortFormat\n  \"-\": has a chunk \"fmt \" of 14 bytes, wants 16\n--\n",
+        "4\n--\nsdfw: 37 ShortFormat\n  \"-\": has a chunk \"fmt \" of 14 bytes, needs 16\n--\n",
     ),
     (
         b"RIFF\x28\0\0\0WAVEfmt \x01\0\0\0\x01\0",
-        "4\n--\nsdfw: 37 ShortFormat\n  \"-\": has a chunk \"fmt \" of 1 byte, wants 16\n--\n",
+        "4\n--\nsdfw: 37 ShortFormat\n  \"-\": has a chunk \"fmt \" of 1 byte, needs 16\n--\n",
     ),
     (
         b"RIFF\x28\0\0\0WAVEfmt \x10\0\0\0\x01\0\x01\0\x44\xAC\0\0\x88\x58\x01\0\x02\0\x01\0data\0\0\0\0",
-        "4\n--\nsdfw: 38 NotPcm16\n  \"-\": has samples of 1 bit in format 1 (PCM), wants 16 bits in format 1\n--\n",
+        "4\n--\nsdfw: 38 NotPcm16\n  \"-\": has samples of 1 bit in format 1 (PCM), needs 16 bits in format 1\n--\n",
     ),
     (
         b"RIFF\x28\0\0\0WAVEfmt \x10\0\0\0\x03\0\x01\0\x44\xAC\0\0\x10\xB1\x02\0\x04\0\x20\0data\0\0\0\0",
-        "4\n--\nsdfw: 38 NotPcm16\n  \"-\": has samples of 32 bits in format 3 (floating point), wants 16 bits in \
+        "4\n--\nsdfw: 38 NotPcm16\n  \"-\": has samples of 32 bits in format 3 (floating point), needs 16 bits in \
          format 1\n--\n",
+    ),
+    (
+        b"RIFF\x40\0\0\0WAVEfmt \x28\0\0\0\xFE\xFF\x01\0\x44\xAC\0\0\x88\x58\x01\0\x02\0\x10\0\
+         \x16\0\x10\0\x04\0\0\0\x01\0\0\0\x21\x07\xD3\x11\x86\x44\xC8\xC1\xCA\0\0\0data\0\0\0\0",
+        "4\n--\nsdfw: 38 NotPcm16\n  \"-\": has samples of 16 bits in an extensible format other than PCM, needs 16 \
+         bits in format 1\n--\n",
     ),
 ];
 
@@ -209,24 +215,24 @@ const FORMATS: &[Sound] = &[
 const SOUNDS: &[Sound] = &[
     (
         b"RIFF\x28\0\0\0WAVEfmt \x10\0\0\0\x01\0\x09\0\x44\xAC\0\0\x88\x58\x01\0\x12\0\x10\0data\0\0\0\0",
-        "4\n--\nsdfw: 39 Channels\n  \"-\": has 44100 samples a second in 9 channels, wants 1 to 8 channels\n--\n",
+        "4\n--\nsdfw: 39 Channels\n  \"-\": has 44100 samples a second in 9 channels, needs 1 to 8 channels\n--\n",
     ),
     (
         b"RIFF\x28\0\0\0WAVEfmt \x10\0\0\0\x01\0\x09\0\x01\0\0\0\x88\x58\x01\0\x12\0\x10\0data\0\0\0\0",
-        "4\n--\nsdfw: 39 Channels\n  \"-\": has 1 sample a second in 9 channels, wants 1 to 8 channels\n--\n",
+        "4\n--\nsdfw: 39 Channels\n  \"-\": has 1 sample a second in 9 channels, needs 1 to 8 channels\n--\n",
     ),
     (
         b"RIFF\x28\0\0\0WAVEfmt \x10\0\0\0\x01\0\x01\0\0\0\0\0\x88\x58\x01\0\x02\0\x10\0data\0\0\0\0",
-        "4\n--\nsdfw: 40 RateZero\n  \"-\": has 0 samples a second in 1 channel, wants at least 1 a \
+        "4\n--\nsdfw: 40 RateZero\n  \"-\": has 0 samples a second in 1 channel, needs at least 1 a \
          second\n--\n",
     ),
     (
         b"RIFF\x28\0\0\0WAVEfmt \x10\0\0\0\x01\0\x01\0\x44\xAC\0\0\x88\x58\x01\0\x03\0\x10\0data\0\0\0\0",
-        "4\n--\nsdfw: 41 BadAlign\n  \"-\": has frames of 3 bytes, wants 2 for 1 channel\n--\n",
+        "4\n--\nsdfw: 41 BadAlign\n  \"-\": has frames of 3 bytes, needs 2 for 1 channel\n--\n",
     ),
     (
         b"RIFF\x28\0\0\0WAVEfmt \x10\0\0\0\x01\0\x01\0\x44\xAC\0\0\x88\x58\x01\0\x01\0\x10\0data\0\0\0\0",
-        "4\n--\nsdfw: 41 BadAlign\n  \"-\": has frames of 1 byte, wants 2 for 1 channel\n--\n",
+        "4\n--\nsdfw: 41 BadAlign\n  \"-\": has frames of 1 byte, needs 2 for 1 channel\n--\n",
     ),
     (
         b"RIFF\x28\0\0\0WAVEfmt \x10\0\0\0\x01\0\x01\0\x44\xAC\0\0\x88\x58\x01\0\x02\0\x10\0",
@@ -234,7 +240,7 @@ const SOUNDS: &[Sound] = &[
     ),
     (
         b"RIFF\x28\0\0\0WAVEfmt \x10\0\0\0\x01\0\x01\0\x44\xAC\0\0\x88\x58\x01\0\x02\0\x10\0data\x04\0\0\0\x05",
-        "4\n--\nsdfw: 43 Truncated\n  \"-\": ends after 45 bytes, wants 48\n--\n<5 -5 to come>",
+        "4\n--\nsdfw: 43 Truncated\n  \"-\": ends after 45 bytes, needs 48\n--\n<5 -5 to come>",
     ),
     (
         b"",
@@ -242,11 +248,11 @@ const SOUNDS: &[Sound] = &[
     ),
     (
         b"RIFF\x28\0\0\0WAVEfmt \x10\0\0\0\x01\0\x01\0\x44\xAC\0\0\x88\x58\x01\0\x02\0\x10\0data\x03\0\0\0\x05\0\xFB",
-        "4\n--\nsdfw: 44 PartialFrame\n  \"-\": has 3 bytes of samples, wants frames of 2 bytes\n--\n",
+        "4\n--\nsdfw: 44 PartialFrame\n  \"-\": has 3 bytes of samples, needs frames of 2 bytes\n--\n",
     ),
     (
         b"RIFF\x28\0\0\0WAVEfmt \x10\0\0\0\x01\0\x01\0\x44\xAC\0\0\x88\x58\x01\0\x02\0\x10\0data\x01\0\0\0\x05",
-        "4\n--\nsdfw: 44 PartialFrame\n  \"-\": has 1 byte of samples, wants frames of 2 bytes\n--\n",
+        "4\n--\nsdfw: 44 PartialFrame\n  \"-\": has 1 byte of samples, needs frames of 2 bytes\n--\n",
     ),
     (
         b"RIFF\x28\0\0\0WAVEfmt \x10\0\0\0\x01\0\x01\0\xFF\xFF\xFF\xFF\x88\x58\x01\0\x02\0\x10\0\
@@ -304,7 +310,7 @@ fn what_is_told_of_sounds(rt: HostRuntime) -> Result<(), Fail> {
     is_told(
         "a sound of too many parts",
         told_of(&rt, &parted, WHY),
-        "4\n--\nsdfw: 45 TooLong\n  \"-\": has too many bytes of samples, or over 65,536 parts before them\n--\n",
+        "4\n--\nsdfw: 45 TooLong\n  \"-\": has too many bytes of samples, or over 65,536 chunks before them\n--\n",
     )
 }
 
@@ -332,7 +338,7 @@ const OPEN_ENDED: &[(&[u8], &str, &str)] = &[
         b"RIFF\x28\0\0\0WAVEfmt \x10\0\0\0\x01\0\x01\0\x44\xAC\0\0\x88\x58\x01\0\x02\0\x10\0\
          data\0\xF0\xFF\x7F\x05\0\xFB\xFF",
         "run plain.toml - out.wav --why",
-        "4\n--\nsdfw: 43 Truncated\n  \"-\": ends after 48 bytes, wants 2147479596; `run --open-ended` reads to the \
+        "4\n--\nsdfw: 43 Truncated\n  \"-\": ends after 48 bytes, needs 2147479596; `run --open-ended` reads to the \
          end\n--\n<another sound>",
     ),
 ];

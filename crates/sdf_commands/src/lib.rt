@@ -3,9 +3,9 @@
 //! It depends on `sdf_files` for files and streams, and on `sdf_words` and `sdf_options` for what is asked.
 //! `sdf_file`, `sdf_plan`, `sdf_texts`, `sdf_analyze`, `sdf_draw`, `sdf_json` and `sdf_kinds` make what is printed,
 //! and `sdf_filters` makes filters and converters. `sdf_faults` has the faults. `sdf_why` has their diagnostics, also
-//! for faults of `sdf_document`, `sdf_prec` and `sdf_wav`. Begin at `printing`, `comparing` and `making`, which have
-//! the commands. `telling` and `sounds` have the diagnostics. `specs/Refusals.antt` defines the lines behind a
-//! comparison.
+//! for faults of `sdf_document` and `sdf_prec`. Begin at `printing`, `comparing` and `making`, which have the commands.
+//! `telling` chooses the diagnostic of a fault, and `sounds` has those for faults of `sdf_wav`. `specs/Refusals.antt`
+//! defines the lines behind a comparison.
 #![tactic(auto)]
 
 pub mod comparing;

@@ -4,7 +4,7 @@ use crate::printing::{show, test_plan};
 use sdf_faults::Fault;
 use sdf_file::{CoefficientFile, Design, read_design};
 use sdf_files::files::{Refused, Sources, make_at, note_left, refuse};
-use sdf_files::overwriting::{keep_file, only_path};
+use sdf_files::overwriting::{canonical_path, keep_file};
 use sdf_files::storage::Storage;
 use sdf_files::world::World;
 use sdf_filters::{ConverterTexts, FilterFault, Wanted, converter_texts, filter_texts};
@@ -24,13 +24,12 @@ fn filter_fault(alloc: Global, fault: FilterFault) -> Fault {
 }
 
 /// Prints the coefficient file of the `wanted` filter to `out`, and the measures of its taps to `err`.
-pub fn fir<S, T: AllocGlobal, O: Write, E: Write>(
-    world: &World<S, T>,
+pub fn fir<O: Write, E: Write>(
+    alloc: Global,
     out: &mut O,
     err: &mut E,
     wanted: Wanted,
 ) -> Result<(), Fault> {
-    let alloc = world.threads.alloc();
     match filter_texts(alloc, wanted) {
         Ok(texts) => {
             show(err, texts.told.as_str())?;
@@ -73,7 +72,7 @@ pub fn make_folder<S: Storage>(
     folder: &str,
     refused: &mut Vec<Refused>,
 ) -> Result<bool, Fault> {
-    if only_path(alloc, storage, folder)?.is_some() {
+    if canonical_path(alloc, storage, folder)?.is_some() {
         return Ok(false);
     }
     match storage.create_folder(folder) {
@@ -160,8 +159,8 @@ fn test_texts(alloc: Global, texts: &ConverterTexts) -> Result<(), Fault> {
     test_plan(alloc, &design)
 }
 
-/// Writes the files of a converter into `folder`, after its design was read and scheduled. So the written design can be
-/// run, and no existing file is replaced. If it fails, removes what it wrote, and the folder if it made it.
+/// Writes the files of a converter into `folder`. Tests first that the design can be read and scheduled, and that
+/// `folder` has none of its files. If it fails, removes what it wrote, and the folder if it made it.
 fn write_design<S: Storage, T: AllocGlobal, E: Write>(
     world: &World<S, T>,
     err: &mut E,

@@ -7,7 +7,6 @@ use sdf_draw::{dot, svg};
 use sdf_faults::Fault;
 use sdf_file::Design;
 use sdf_files::files::put;
-use sdf_files::world::World;
 use sdf_json::{analysis_json, check_json, kinds_json, schedule_json};
 use sdf_kinds::kinds_text;
 use sdf_options::Options;
@@ -92,7 +91,7 @@ pub fn print_picture<O: Write>(
 }
 
 /// Returns the table of kinds.
-fn listed(alloc: Global, format: Format) -> Result<String, AllocError> {
+fn kinds_listing(alloc: Global, format: Format) -> Result<String, AllocError> {
     match format {
         Format::Text => kinds_text(alloc),
         Format::Json => kinds_json(alloc),
@@ -100,19 +99,11 @@ fn listed(alloc: Global, format: Format) -> Result<String, AllocError> {
 }
 
 /// Prints the table of kinds.
-pub fn print_kinds<S, T: AllocGlobal, O: Write>(
-    world: &World<S, T>,
-    out: &mut O,
-    format: Format,
-) -> Result<(), Fault> {
-    show(out, listed(world.threads.alloc(), format)?.as_str())
+pub fn print_kinds<O: Write>(alloc: Global, out: &mut O, format: Format) -> Result<(), Fault> {
+    show(out, kinds_listing(alloc, format)?.as_str())
 }
 
 /// Prints the explanation of the fault of this `number`.
-pub fn print_meaning<S, T: AllocGlobal, O: Write>(
-    world: &World<S, T>,
-    out: &mut O,
-    number: u32,
-) -> Result<(), Fault> {
-    show(out, explained(world.threads.alloc(), number)?.as_str())
+pub fn print_meaning<O: Write>(alloc: Global, out: &mut O, number: u32) -> Result<(), Fault> {
+    show(out, explained(alloc, number)?.as_str())
 }

@@ -107,7 +107,7 @@ fn id_text(alloc: Global, front: Front<'_>, at: usize, wanted: &str) -> Result<S
         return Ok(String::new(alloc));
     };
     format!(in alloc;
-        "has \"{}\" at byte {at}, wants \"{wanted}\"",
+        "has \"{}\" at byte {at}, needs \"{wanted}\"",
         bytes.escape_ascii()
     )
 }
@@ -135,7 +135,7 @@ fn short_text(alloc: Global, front: Front<'_>) -> Result<String, AllocError> {
     };
     let wanted = if size < 16 { 16 } else { 40 };
     format!(in alloc;
-        "has a chunk \"fmt \" of {size} byte{}, wants {wanted}",
+        "has a chunk \"fmt \" of {size} byte{}, needs {wanted}",
         plural(u64::from(size))
     )
 }
@@ -159,9 +159,15 @@ fn samples_text(alloc: Global, front: Front<'_>) -> Result<String, AllocError> {
     let (Some(tag), Some(bits)) = (front.tag(), front.in_format(14)) else {
         return Ok(String::new(alloc));
     };
+    if tag == 1 && bits == 16 {
+        return String::from_str(
+            alloc,
+            "has samples of 16 bits in an extensible format other than PCM, needs 16 bits in format 1",
+        );
+    }
     let name = format_name(tag);
     format!(in alloc;
-        "has samples of {bits} bit{} in format {tag}{name}, wants 16 bits in format 1",
+        "has samples of {bits} bit{} in format {tag}{name}, needs 16 bits in format 1",
         plural(u64::from(bits))
     )
 }
@@ -195,7 +201,7 @@ fn align_text(alloc: Global, front: Front<'_>) -> Result<String, AllocError> {
     };
     let wanted = channels.saturating_mul(2);
     format!(in alloc;
-        "has frames of {align} byte{}, wants {wanted} for {channels} channel{}",
+        "has frames of {align} byte{}, needs {wanted} for {channels} channel{}",
         plural(u64::from(align)),
         plural(u64::from(channels))
     )
@@ -214,7 +220,7 @@ fn end_text(alloc: Global, front: Front<'_>, bytes: u64) -> Result<String, Alloc
             } else {
                 "; `run --open-ended` reads to the end"
             };
-            format!(in alloc; "ends after {bytes} bytes, wants {whole}{hint}")
+            format!(in alloc; "ends after {bytes} bytes, needs {whole}{hint}")
         }
         _ => format!(in alloc; "ends after {bytes} byte{}", plural(bytes)),
     }
@@ -231,7 +237,7 @@ fn frames_text(alloc: Global, front: Front<'_>, bytes: u64) -> Result<String, Al
     };
     let frame = channels.saturating_mul(2);
     format!(in alloc;
-        "has {samples} byte{} of samples, wants frames of {frame} bytes",
+        "has {samples} byte{} of samples, needs frames of {frame} bytes",
         plural(samples)
     )
 }
@@ -247,7 +253,7 @@ fn length_text(alloc: Global, front: Front<'_>, bytes: u64) -> Result<String, Al
         Some(_) => format!(in alloc; "has at least {bytes} bytes"),
         None => String::from_str(
             alloc,
-            "has too many bytes of samples, or over 65,536 parts before them",
+            "has too many bytes of samples, or over 65,536 chunks before them",
         ),
     }
 }
@@ -272,8 +278,8 @@ fn said_of(
         FormatFault::Truncated => end_text(alloc, front, bytes),
         FormatFault::PartialFrame => frames_text(alloc, front, bytes),
         FormatFault::TooLong => length_text(alloc, front, bytes),
-        FormatFault::Channels => wanted_text(alloc, front, "wants 1 to 8 channels"),
-        FormatFault::RateZero => wanted_text(alloc, front, "wants at least 1 a second"),
+        FormatFault::Channels => wanted_text(alloc, front, "needs 1 to 8 channels"),
+        FormatFault::RateZero => wanted_text(alloc, front, "needs at least 1 a second"),
         FormatFault::RateTooLarge => wanted_text(
             alloc,
             front,

@@ -66,13 +66,9 @@ fn design_text(
 }
 
 /// Returns the diagnostic for a WAV file that does not suit a design: the line of the file, then the reason `told`.
-fn unsuited(
-    alloc: Global,
-    trace: &InputTrace,
-    told: Result<String, AllocError>,
-) -> Result<String, AllocError> {
+fn unsuited(alloc: Global, trace: &InputTrace, told: &str) -> Result<String, AllocError> {
     let mut text = unsuited_text(alloc, trace)?;
-    text.push_str(told?.as_str())?;
+    text.push_str(told)?;
     Ok(text)
 }
 
@@ -86,10 +82,10 @@ fn sound_text(
     match (fault, header_of(trace)) {
         (Fault::Wav(fault), _) => format_text(alloc, *fault, trace),
         (Fault::ChannelsMissing, Some(header)) => {
-            unsuited(alloc, trace, channels_text(alloc, header, given))
+            unsuited(alloc, trace, channels_text(alloc, header, given)?.as_str())
         }
         (Fault::RateNotWhole, Some(header)) => {
-            unsuited(alloc, trace, rate_text(alloc, header, given))
+            unsuited(alloc, trace, rate_text(alloc, header, given)?.as_str())
         }
         _ => Ok(String::new(alloc)),
     }
@@ -208,7 +204,7 @@ impl Background {
     }
 
     /// Sets the form of the report that `words` ask for. `terminal` says whether standard error is a terminal.
-    pub fn asked(&mut self, words: &Words<'_>, terminal: bool) {
+    pub fn set_form(&mut self, words: &Words<'_>, terminal: bool) {
         match words {
             Words::Design { task, why, .. } => {
                 self.telling = telling_of(task, why.is_said(terminal));
@@ -226,7 +222,7 @@ impl Background {
     }
 
     /// Sets the form of the report to JSON if `line`, which has a usage error, asks for JSON.
-    pub fn misread(&mut self, line: &[&str]) {
+    pub fn set_form_of_mistake(&mut self, line: &[&str]) {
         if line.iter().any(|word| *word == "--json") {
             self.telling = Telling::Json;
         }

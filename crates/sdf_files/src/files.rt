@@ -13,11 +13,11 @@ use std::io::{self, ErrorKind, Read, Write};
 use std::mem;
 use std::path::Path;
 
-/// The most bytes of a graph file or a coefficient file.
+/// The most bytes of a graph file, a coefficient file or the IN of `profile`.
 pub const MOST_BYTES: u32 = 1_073_741_824;
 
 /// Returns the fault for `error`: `OutOfMemory` if memory was refused, and `blamed` otherwise.
-pub fn device_fault(error: &io::Error, blamed: Fault) -> Fault
+fn device_fault(error: &io::Error, blamed: Fault) -> Fault
     ensures memory { error_kind error.now ≡ ErrorKind.OutOfMemory → result ≡ OutOfMemory }
     ensures device { error_kind error.now ≢ ErrorKind.OutOfMemory → result ≡ blamed }
 {
@@ -35,14 +35,6 @@ pub fn bytes_of<F: Read + Drop>(alloc: Global, file: F, most: u32) -> io::Result
         Ok(bytes)
     } else {
         Err(io::Error::from(ErrorKind::FileTooLarge))
-    }
-}
-
-/// Reads all bytes of `file`. If there are more than `most`, or the device fails, the fault is `Read`.
-pub fn read_all<F: Read + Drop>(alloc: Global, file: F, most: u32) -> Result<Vec<u8>, Fault> {
-    match bytes_of(alloc, file, most) {
-        Ok(bytes) => Ok(bytes),
-        Err(error) => Err(device_fault(&error, Fault::Read)),
     }
 }
 
@@ -88,6 +80,20 @@ pub fn refuse(
     }
 }
 
+/// Returns the value of `done`. If the system refused the file `name`, notes that in `refused`, and returns its fault.
+pub fn or_refuse<T>(
+    alloc: Global,
+    refused: &mut Vec<Refused>,
+    name: &str,
+    done: io::Result<T>,
+    blamed: Fault,
+) -> Result<T, Fault> {
+    match done {
+        Ok(value) => Ok(value),
+        Err(error) => Err(refuse(alloc, refused, name, &error, blamed)),
+    }
+}
+
 /// Notes in `refused` that the file or the folder `name` is left, if the system refused to remove it. Notes nothing if
 /// memory is refused for it.
 pub fn note_left(alloc: Global, refused: &mut Vec<Refused>, name: &str, removed: io::Result<()>) {
@@ -109,10 +115,7 @@ fn create_at<S: Storage>(
     path: &str,
     refused: &mut Vec<Refused>,
 ) -> Result<S::Sink, Fault> {
-    match storage.create(path) {
-        Ok(file) => Ok(file),
-        Err(error) => Err(refuse(alloc, refused, path, &error, Fault::Write)),
-    }
+    or_refuse(alloc, refused, path, storage.create(path), Fault::Write)
 }
 
 /// Writes `bytes` into `file`, and closes it. Notes in `refused` if the system refuses it.
@@ -123,10 +126,7 @@ fn fill<F: Write + Drop>(
     bytes: &[u8],
     refused: &mut Vec<Refused>,
 ) -> Result<(), Fault> {
-    match file.write_all(bytes) {
-        Ok(()) => Ok(()),
-        Err(error) => Err(refuse(alloc, refused, path, &error, Fault::Write)),
-    }
+    or_refuse(alloc, refused, path, file.write_all(bytes), Fault::Write)
 }
 
 /// Creates the file at `path` with these `bytes`, or overwrites it. Notes in `refused` if the system refuses it.
@@ -175,10 +175,10 @@ fn read_beside<S: Storage>(
 ) -> Result<Option<Vec<u8>>, Fault> {
     let path = Path::new(graph).with_file_name(alloc, name)?;
     match storage.open(path.as_str()) {
-        Ok(file) => match bytes_of(alloc, file, most) {
-            Ok(bytes) => Ok(Some(bytes)),
-            Err(error) => Err(refuse(alloc, refused, name, &error, Fault::Read)),
-        },
+        Ok(file) => {
+            let bytes = bytes_of(alloc, file, most);
+            Ok(Some(or_refuse(alloc, refused, name, bytes, Fault::Read)?))
+        }
         Err(error) => match &refuse(alloc, refused, name, &error, Fault::Read) {
             Fault::OutOfMemory => Err(Fault::OutOfMemory),
             _ => Ok(None),
@@ -282,16 +282,9 @@ fn read_graph<S: Storage>(
     sources: &mut Sources,
 ) -> Result<(), Fault> {
     sources.path = format!(in alloc; "{graph}")?;
-    match read_at(alloc, storage, graph, most) {
-        Ok(bytes) => {
-            sources.graph = bytes;
-            Ok(())
-        }
-        Err(error) => {
-            let refused = &mut sources.refused;
-            Err(refuse(alloc, refused, graph, &error, Fault::Read))
-        }
-    }
+    let bytes = read_at(alloc, storage, graph, most);
+    sources.graph = or_refuse(alloc, &mut sources.refused, graph, bytes, Fault::Read)?;
+    Ok(())
 }
 
 /// Reads the design of the graph file at `graph` and its coefficient files. A file of over `most` bytes is a fault.
@@ -308,14 +301,4 @@ pub fn load_into<S: Storage>(
     let names = coefficient_files(alloc, &parsed)?;
     read_files(alloc, storage, graph, names, most, sources)?;
     loaded_from(alloc, &parsed, sources)
-}
-
-/// Reads the design of the graph file at `graph` like `load_into`, but keeps no sources.
-pub fn load<S: Storage>(
-    alloc: Global,
-    storage: &S,
-    graph: &str,
-    most: u32,
-) -> Result<Loaded, Fault> {
-    load_into(alloc, storage, graph, most, &mut Sources::new(alloc))
 }

@@ -4,11 +4,11 @@ ghost use Rattle.std.specs.Prelude.{◌≡◌, ◌/◌, ◌*◌, ◌<◌, ◌^�
 
 use std::simd::prelude::*;
 
-/// The number of samples in a vector.
-pub(crate) const SIDE: usize = 8;
+/// The number of samples in a vector: one for each lane.
+pub(crate) const LANES: usize = 8;
 
 /// The bytes of a vector of samples.
-const BLOCK: usize = 2 * SIDE;
+const BLOCK: usize = 2 * LANES;
 
 /// The levels of the samples in one lane.
 #[derive(Clone, Copy)]
@@ -23,9 +23,9 @@ pub(crate) struct Lane {
 #[derive(Clone, Copy)]
 pub(crate) struct Lanes {
     pub(crate) blocks: usize,
-    least: [i16; SIDE],
-    greatest: [i16; SIDE],
-    full: [i16; SIDE],
+    least: [i16; LANES],
+    greatest: [i16; LANES],
+    full: [i16; LANES],
 }
 
 impl Lanes {
@@ -43,9 +43,9 @@ impl Lanes {
             let samples = i16x8::from_le_bytes(u8x16::from_slice(&bytes[BLOCK * block..]));
             least = least.simd_min(samples);
             greatest = greatest.simd_max(samples);
-            let at_least = samples.simd_eq(i16x8::splat(i16::MIN));
-            let at_most = samples.simd_eq(i16x8::splat(i16::MAX));
-            full = full - (at_least | at_most).to_simd();
+            let is_least = samples.simd_eq(i16x8::splat(i16::MIN));
+            let is_greatest = samples.simd_eq(i16x8::splat(i16::MAX));
+            full = full - (is_least | is_greatest).to_simd();
         }
         Lanes {
             blocks,

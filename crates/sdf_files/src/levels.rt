@@ -2,7 +2,7 @@
 
 ghost use Rattle.std.specs.Prelude.{◌≤◌, ◌<◌, length};
 
-use crate::lanes::{Lane, Lanes, SIDE};
+use crate::lanes::{LANES, Lane, Lanes};
 use sdf_options::plural::plural;
 use sdf_wav::{HEADER_BYTES, MOST_CHANNELS};
 use std::alloc::{AllocError, Global};
@@ -147,11 +147,11 @@ impl Levels {
         ensures { result ≤ length bytes.now }
     {
         let channels = self.channels();
-        if channels == 0 || SIDE % channels != 0 {
+        if channels == 0 || LANES % channels != 0 {
             return 0;
         }
         let lanes = Lanes::of(bytes);
-        for lane in 0..SIDE {
+        for lane in 0..LANES {
             let output = self.next.saturating_add(lane) % channels;
             if let Some(level) = self.outputs.get_mut(output) {
                 level.count_lane(lanes.blocks, lanes.lane(lane));

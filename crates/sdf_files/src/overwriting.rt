@@ -12,12 +12,12 @@ use std::io::ErrorKind;
 use std::path::{Path, PathBuf};
 
 /// Returns the canonical path of the file at `path`, without dots and symbolic links, if there is a file.
-pub fn only_path<S: Storage>(
+pub fn canonical_path<S: Storage>(
     alloc: Global,
     storage: &S,
     path: &str,
 ) -> Result<Option<PathBuf>, Fault> {
-    match storage.only_path(alloc, path) {
+    match storage.canonical_path(alloc, path) {
         Ok(only) => Ok(Some(only)),
         Err(error) if error.kind() == ErrorKind::OutOfMemory => Err(Fault::OutOfMemory),
         Err(_) => Ok(None),
@@ -26,7 +26,7 @@ pub fn only_path<S: Storage>(
 
 /// Checks whether `path` leads to the file with the canonical path `file`.
 fn leads_to<S: Storage>(alloc: Global, storage: &S, path: &str, file: &str) -> Result<bool, Fault> {
-    match only_path(alloc, storage, path)? {
+    match canonical_path(alloc, storage, path)? {
         Some(only) => Ok(only.as_str() == file),
         None => Ok(false),
     }
@@ -115,7 +115,7 @@ pub fn keep_what_is_read<S: Storage>(
     if paths.output == STANDARD {
         return Ok(());
     }
-    match only_path(alloc, storage, paths.output)? {
+    match canonical_path(alloc, storage, paths.output)? {
         Some(out) => keep_files(alloc, storage, word, paths, names, out.as_str()),
         None => Ok(()),
     }
@@ -129,9 +129,9 @@ pub fn keep_file<S: Storage>(
     name: &str,
 ) -> Result<(), Fault> {
     let path = format!(in alloc; "{folder}/{name}")?;
-    if only_path(alloc, storage, path.as_str())?.is_none() {
+    if canonical_path(alloc, storage, path.as_str())?.is_none() {
         return Ok(());
     }
-    let text = format!(in alloc; "FOLDER has a file {name} already")?;
+    let text = format!(in alloc; "FOLDER already has a file {name}")?;
     Err(Fault::from(mistake(alloc, text.as_str())))
 }

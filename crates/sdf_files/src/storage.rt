@@ -31,7 +31,7 @@ pub trait Storage: Sync {
     fn remove_folder(&self, path: &str) -> io::Result<()>;
 
     /// Returns the canonical path of a file that exists, without dots and symbolic links.
-    fn only_path(&self, alloc: Global, path: &str) -> io::Result<PathBuf>;
+    fn canonical_path(&self, alloc: Global, path: &str) -> io::Result<PathBuf>;
 }
 
 /// The files of the system.
@@ -72,7 +72,7 @@ where
         self.rt.remove_dir(path)
     }
 
-    fn only_path(&self, alloc: Global, path: &str) -> io::Result<PathBuf> {
+    fn canonical_path(&self, alloc: Global, path: &str) -> io::Result<PathBuf> {
         self.rt.canonicalize(alloc, path)
     }
 }

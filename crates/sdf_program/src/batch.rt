@@ -58,7 +58,7 @@ fn running_of<'a>(batching: Batching<'a>, input: &'a str, output: &'a str) -> Ru
 
 /// A batch and its plan.
 #[derive(Clone, Copy)]
-struct Course<'a> {
+struct PlannedBatch<'a> {
     batching: Batching<'a>,
     prepared: &'a Prepared,
 }
@@ -67,14 +67,14 @@ struct Course<'a> {
 /// `said`.
 fn run_part<S: Storage, T: Threads + AllocGlobal + Clock + Sync>(
     world: &World<S, T>,
-    course: Course<'_>,
+    planned: PlannedBatch<'_>,
     item: &Item<'_>,
     said: &mut Vec<u8>,
     heard: &mut Sources,
 ) -> Result<(), Fault>
-    requires { Suits course.batching.loaded.now.design.net course.prepared.now.plan }
+    requires { Suits planned.batching.loaded.now.design.net planned.prepared.now.plan }
 {
-    let Course { batching, prepared } = course;
+    let PlannedBatch { batching, prepared } = planned;
     let planned = Planned {
         running: running_of(batching, item.input, item.part.as_str()),
         plan: &prepared.plan,
@@ -88,15 +88,15 @@ fn run_part<S: Storage, T: Threads + AllocGlobal + Clock + Sync>(
 /// Runs a plan on the file of `item`, and returns the outcome.
 fn run_item<'a, S: Storage, T: Threads + AllocGlobal + Clock + Sync>(
     world: &World<S, T>,
-    course: Course<'_>,
+    planned: PlannedBatch<'_>,
     item: &Item<'a>,
 ) -> Outcome<'a>
-    requires { Suits course.batching.loaded.now.design.net course.prepared.now.plan }
+    requires { Suits planned.batching.loaded.now.design.net planned.prepared.now.plan }
 {
     let alloc = world.threads.alloc();
     let mut said = Vec::new(alloc);
     let mut heard = Sources::new(alloc);
-    let ended = run_part(world, course, item, &mut said, &mut heard);
+    let ended = run_part(world, planned, item, &mut said, &mut heard);
     let settled = settle(alloc, world.storage, item, ended, &mut heard.refused);
     if settled.is_ok() {
         // The outcome may wait for the outcomes of earlier files, and a file that is done needs no diagnostic.
@@ -112,12 +112,12 @@ fn run_item<'a, S: Storage, T: Threads + AllocGlobal + Clock + Sync>(
 
 /// The files of a batch, which workers take one after another.
 #[derive(Drop)]
-struct Line<'b, 'a> {
+struct Backlog<'b, 'a> {
     items: &'b [Item<'a>],
     taken: AtomicUsize,
 }
 
-impl<'b, 'a> Line<'b, 'a> {
+impl<'b, 'a> Backlog<'b, 'a> {
     /// Takes the next file, with its number, if one is left.
     fn take(&self) -> Option<(usize, &'b Item<'a>)> {
         let number = self.taken.fetch_add(1, Ordering::SeqCst);
@@ -130,16 +130,16 @@ impl<'b, 'a> Line<'b, 'a> {
     }
 }
 
-/// Hands over the outcomes in `done`, unless another worker is at the desk. Stops the line if a report fails.
+/// Hands over the outcomes in `done`, unless another worker is at the desk. Stops the backlog if a report fails.
 fn hand_over<'a, O: Write, E: Write>(
     alloc: Global,
-    line: &Line<'_, 'a>,
+    backlog: &Backlog<'_, 'a>,
     desk: &Mutex<Desk<'_, 'a, O, E>>,
     done: &mut Vec<Done<'a>>,
 ) {
     if let Some(mut desk) = desk.try_lock() {
         if !desk.take_over(alloc, done) {
-            line.stop();
+            backlog.stop();
         }
     }
 }
@@ -157,34 +157,34 @@ struct Left<'a> {
 /// is taken only after memory for its outcome is reserved, so each file that is taken is reported.
 fn work<'a, S: Storage, T: Threads + AllocGlobal + Clock + Sync, O: Write + Send, E: Write + Send>(
     world: &World<S, T>,
-    course: Course<'_>,
-    line: &Line<'_, 'a>,
+    planned: PlannedBatch<'_>,
+    backlog: &Backlog<'_, 'a>,
     desk: &Mutex<Desk<'_, 'a, O, E>>,
 ) -> Left<'a>
-    requires { Suits course.batching.loaded.now.design.net course.prepared.now.plan }
+    requires { Suits planned.batching.loaded.now.design.net planned.prepared.now.plan }
 {
     let alloc = world.threads.alloc();
     let mut done = Vec::new(alloc);
     let mut ended = Ok(());
-    for _ in 0..line.items.len() {
+    for _ in 0..backlog.items.len() {
         ended = done.reserve(1);
         if ended.is_err() {
-            line.stop();
+            backlog.stop();
             break;
         }
-        let Some((number, item)) = line.take() else {
+        let Some((number, item)) = backlog.take() else {
             break;
         };
-        let outcome = run_item(world, course, item);
+        let outcome = run_item(world, planned, item);
         done.push_reserved(Done { number, outcome });
-        hand_over(alloc, line, desk, &mut done);
+        hand_over(alloc, backlog, desk, &mut done);
     }
-    hand_over(alloc, line, desk, &mut done);
+    hand_over(alloc, backlog, desk, &mut done);
     Left { done, ended }
 }
 
 /// Returns how many files run at the same time: one if the processors work on one file together, otherwise one for each
-/// processor.
+/// processor, at most 16.
 fn files_at_once<T: Threads>(threads: &T, batch: &Batch<'_>) -> usize
     ensures { 1 ≤ result }
 {
@@ -219,26 +219,26 @@ fn serve_items<
     E: Write + Send,
 >(
     world: &World<S, T>,
-    course: Course<'_>,
+    planned: PlannedBatch<'_>,
     items: &[Item<'a>],
     desk: Desk<'d, 'a, O, E>,
 ) -> Result<u8, Fault>
-    requires { Suits course.batching.loaded.now.design.net course.prepared.now.plan }
+    requires { Suits planned.batching.loaded.now.design.net planned.prepared.now.plan }
 {
     let alloc = world.threads.alloc();
-    let line = Line {
+    let backlog = Backlog {
         items,
         taken: AtomicUsize::new(0),
     };
-    let crew = files_at_once(world.threads, course.batching.asked).min(items.len());
+    let crew = files_at_once(world.threads, planned.batching.asked).min(items.len());
     let desk = Mutex::new(desk);
     let left = thread::map_indices(
         world.threads,
         alloc,
         crew,
         &|_: usize| -> Left
-            requires { Suits course.batching.loaded.now.design.net course.prepared.now.plan }
-        { work(world, course, &line, &desk) },
+            requires { Suits planned.batching.loaded.now.design.net planned.prepared.now.plan }
+        { work(world, planned, &backlog, &desk) },
     );
     let mut desk = desk.into_inner();
     desk.hide_count();
@@ -255,19 +255,19 @@ fn serve_into<
     world: &World<S, T>,
     out: &mut O,
     err: &mut E,
-    course: Course<'_>,
+    planned: PlannedBatch<'_>,
     items: &[Item<'_>],
     sources: &mut Sources,
 ) -> Result<u8, Fault>
-    requires { Suits course.batching.loaded.now.design.net course.prepared.now.plan }
+    requires { Suits planned.batching.loaded.now.design.net planned.prepared.now.plan }
 {
     let alloc = world.threads.alloc();
-    let batching = course.batching;
+    let batching = planned.batching;
     keep_inputs(alloc, world.storage, batching, items)?;
     let refused = &mut sources.refused;
     make_folder(alloc, world.storage, batching.asked.folder, refused)?;
     let desk = Desk::new(alloc, out, err, batching, items.len(), sources)?;
-    serve_items(world, course, items, desk)
+    serve_items(world, planned, items, desk)
 }
 
 /// Runs a plan on the files of a batch. Returns the greatest exit status of the runs.
@@ -280,13 +280,13 @@ fn serve_batch<
     world: &World<S, T>,
     out: &mut O,
     err: &mut E,
-    course: Course<'_>,
+    planned: PlannedBatch<'_>,
     sources: &mut Sources,
 ) -> Result<u8, Fault>
-    requires { Suits course.batching.loaded.now.design.net course.prepared.now.plan }
+    requires { Suits planned.batching.loaded.now.design.net planned.prepared.now.plan }
 {
-    let items = items_of(world.threads.alloc(), course.batching.asked)?;
-    serve_into(world, out, err, course, &items, sources)
+    let items = items_of(world.threads.alloc(), planned.batching.asked)?;
+    serve_into(world, out, err, planned, &items, sources)
 }
 
 /// Plans a design, and runs it on the files of a batch. Returns the greatest exit status of the runs. The output of a
@@ -313,11 +313,11 @@ pub(crate) fn run_batch<
         batching.asked.parallel,
         batching.is_said,
     )?;
-    let course = Course {
+    let planned = PlannedBatch {
         batching,
         prepared: &prepared,
     };
-    let done = serve_batch(world, out, err, course, sources);
+    let done = serve_batch(world, out, err, planned, sources);
     drop(prepared);
     done
 }

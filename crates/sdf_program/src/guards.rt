@@ -2,7 +2,7 @@
 
 use crate::items::{Batching, Item};
 use sdf_faults::Fault;
-use sdf_files::overwriting::{Paths, keep_what_is_read, only_path, same_file};
+use sdf_files::overwriting::{Paths, canonical_path, keep_what_is_read, same_file};
 use sdf_files::storage::Storage;
 use sdf_files::world::STANDARD;
 use sdf_options::printable::printable;
@@ -17,7 +17,7 @@ fn paths_read<S: Storage>(
 ) -> Result<Vec<PathBuf>, Fault> {
     let mut paths = Vec::new(alloc);
     for item in items {
-        if let Some(path) = only_path(alloc, storage, item.input)? {
+        if let Some(path) = canonical_path(alloc, storage, item.input)? {
             paths.push(path)?;
         }
     }
@@ -26,10 +26,8 @@ fn paths_read<S: Storage>(
 
 /// Refuses an output, called `word`, whose canonical path `out` is in `read`.
 fn keep_read(alloc: Global, word: &str, read: &[PathBuf], out: &str) -> Result<(), Fault> {
-    for path in read {
-        if path.as_str() == out {
-            return Err(same_file(alloc, word, "IN"));
-        }
+    if read.iter().any(|path| path.as_str() == out) {
+        return Err(same_file(alloc, word, "IN"));
     }
     Ok(())
 }
@@ -62,7 +60,7 @@ fn keep_inputs_from<S: Storage>(
     read: &[PathBuf],
     path: &str,
 ) -> Result<(), Fault> {
-    match only_path(alloc, storage, path)? {
+    match canonical_path(alloc, storage, path)? {
         Some(out) => keep_path(alloc, storage, batching, read, path, out.as_str()),
         None => Ok(()),
     }

@@ -1,7 +1,7 @@
 //! A batch that is asked for, and the places where its files are written.
 
 use sdf_faults::Fault;
-use sdf_files::files::{Loaded, Refused, refuse};
+use sdf_files::files::{Loaded, Refused, or_refuse};
 use sdf_files::storage::Storage;
 use sdf_files::world::STANDARD;
 use sdf_options::printable::printable;
@@ -47,7 +47,7 @@ fn unnamed(alloc: Global, input: &str) -> Result<Fault, AllocError> {
 /// Returns the usage error for two files with the same name.
 fn named_twice(alloc: Global, name: &str) -> Result<Fault, AllocError> {
     let shown = printable(alloc, name)?;
-    let text = format!(in alloc; "two files IN have the name {}", shown.as_str())?;
+    let text = format!(in alloc; "two IN files have the name {}", shown.as_str())?;
     Ok(Fault::from(mistake(alloc, text.as_str())))
 }
 
@@ -60,22 +60,12 @@ fn named_as_a_part(alloc: Global, name: &str) -> Result<Fault, AllocError> {
 
 /// Checks whether one of `items` is written to `output`.
 fn is_taken(items: &[Item<'_>], output: &str) -> bool {
-    for item in items {
-        if item.output.as_str() == output {
-            return true;
-        }
-    }
-    false
+    items.iter().any(|item| item.output.as_str() == output)
 }
 
 /// Checks whether `output` is the part of one of `items`, or `part` is its output. Both are written at the same time.
 fn is_part(items: &[Item<'_>], output: &str, part: &str) -> bool {
-    for item in items {
-        if item.part.as_str() == output || item.output.as_str() == part {
-            return true;
-        }
-    }
-    false
+    items.iter().any(|item| item.part.as_str() == output || item.output.as_str() == part)
 }
 
 /// Returns the item of `input`, whose output has this `name` in `folder`.
@@ -135,10 +125,9 @@ fn place<S: Storage>(
     item: &Item<'_>,
     refused: &mut Vec<Refused>,
 ) -> Result<(), Fault> {
-    match storage.rename(item.part.as_str(), item.output.as_str()) {
-        Ok(()) => Ok(()),
-        Err(error) => Err(refuse(alloc, refused, item.output.as_str(), &error, Fault::Write)),
-    }
+    let output = item.output.as_str();
+    let moved = storage.rename(item.part.as_str(), output);
+    or_refuse(alloc, refused, output, moved, Fault::Write)
 }
 
 /// Moves the output of a run that ended well to its final path. Removes the output if the run failed or the move

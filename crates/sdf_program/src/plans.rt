@@ -59,7 +59,7 @@ fn pace_text(alloc: Global, design: &Design, pace: Pace) -> Result<String, Alloc
     match pace {
         Pace::Parts { .. } => Ok(String::new(alloc)),
         Pace::Lasting => lasting_text(alloc, design),
-        Pace::Alone => String::from_str(alloc, "one thread: one worker is asked for\n"),
+        Pace::Alone => String::from_str(alloc, "one thread: there is one worker\n"),
     }
 }
 

@@ -3,7 +3,7 @@
 use sdf_commands::printing::show;
 use sdf_faults::Fault;
 use sdf_file::Design;
-use sdf_files::files::{Loaded, Refused, Sources, bytes_of, put, read_at, refuse, write_at};
+use sdf_files::files::{Loaded, Refused, Sources, bytes_of, or_refuse, put, read_at, write_at};
 use sdf_files::overwriting::{Paths, keep_what_is_read};
 use sdf_files::storage::Storage;
 use sdf_files::world::{STANDARD, World};
@@ -37,21 +37,18 @@ fn bytes_at<S: Storage, T: AllocGlobal, I: Read>(
     sources: &mut Sources,
 ) -> Result<Vec<u8>, Fault> {
     let alloc = world.threads.alloc();
-    match read_input(world, stdin, path) {
-        Ok(bytes) => {
-            sources.trace.name = String::from_str(alloc, path)?;
-            sources.trace.note(&bytes);
-            Ok(bytes)
-        }
-        Err(error) => Err(refuse(alloc, &mut sources.refused, path, &error, Fault::Read)),
-    }
+    let read = read_input(world, stdin, path);
+    let bytes = or_refuse(alloc, &mut sources.refused, path, read, Fault::Read)?;
+    sources.trace.name = String::from_str(alloc, path)?;
+    sources.trace.note(&bytes);
+    Ok(bytes)
 }
 
 /// Returns the message for a graph file that needs a line `[[actor]]` for each actor of `design`, but has `lines`.
 fn lines_text(alloc: Global, design: &Design, lines: usize) -> Result<String, AllocError> {
     let actors = design.costs().len();
     format!(in alloc;
-        "GRAPH has {lines} line{} [[actor]] for {actors} actor{}: costs want one for each",
+        "GRAPH has {lines} line{} [[actor]] for {actors} actor{}: costs need one for each",
         plural(lines as u64),
         plural(actors as u64)
     )
@@ -60,12 +57,14 @@ fn lines_text(alloc: Global, design: &Design, lines: usize) -> Result<String, Al
 /// Returns the message for a graph file in which the cost of `actor` has no line of its own.
 fn cost_text(alloc: Global, design: &Design, actor: usize) -> Result<String, AllocError> {
     let name = design.name(actor);
-    format!(in alloc; "the cost of the actor \"{name}\" is to be a line of GRAPH like `cost = 12`")
+    format!(in alloc;
+        "the cost of the actor \"{name}\" must be on a line of its own in GRAPH, like `cost = 12`"
+    )
 }
 
 /// The message for a graph file in which new costs would change more than costs.
 const OTHERWISE: &str =
-    "with costs GRAPH would say something else: each key wants a line of its own";
+    "new costs would change more of GRAPH than costs: give each key a line of its own";
 
 /// Returns the usage error for a graph file whose text cannot take costs.
 fn unwritten(alloc: Global, design: &Design, fault: Unwritten) -> Result<Fault, AllocError> {

@@ -189,7 +189,7 @@ fn run_on<S: Storage, T: Threads + AllocGlobal + Clock + Sync, O: Write + Send, 
 }
 
 /// Returns the exit status 0 if `done` ended well, otherwise its fault.
-fn ended_well(done: Result<(), Fault>) -> Result<u8, Fault> {
+fn status_or_fault(done: Result<(), Fault>) -> Result<u8, Fault> {
     done?;
     Ok(0)
 }
@@ -211,10 +211,11 @@ fn obey<
 ) -> Result<u8, Fault>
     requires { IsWithinLimits asked }
 {
+    let alloc = world.threads.alloc();
     match asked {
         Words::Design { graph, task, why } => {
             let asked = Asked { graph, task, why };
-            ended_well(work_on(world, stdin, out, err, asked, sources))
+            status_or_fault(work_on(world, stdin, out, err, asked, sources))
         }
         Words::Batch { graph, batch, why } => {
             let asked = Runs {
@@ -224,10 +225,12 @@ fn obey<
             };
             run_on(world, out, err, asked, sources)
         }
-        Words::Fir { wanted } => ended_well(fir(world, out, err, wanted)),
-        Words::Resample { conversion } => ended_well(resample(world, err, conversion, sources)),
-        Words::Kinds { format } => ended_well(print_kinds(world, out, format)),
-        Words::Explain { number } => ended_well(print_meaning(world, out, number)),
+        Words::Fir { wanted } => status_or_fault(fir(alloc, out, err, wanted)),
+        Words::Resample { conversion } => status_or_fault(resample(
+            world, err, conversion, sources,
+        )),
+        Words::Kinds { format } => status_or_fault(print_kinds(alloc, out, format)),
+        Words::Explain { number } => status_or_fault(print_meaning(alloc, out, number)),
     }
 }
 
@@ -246,7 +249,11 @@ fn help_or_fault<O: Write>(alloc: Global, out: &mut O, fault: WordFault) -> Resu
 }
 
 /// Returns the text of `fault`, for standard error.
-fn told(alloc: Global, fault: &Fault, background: &Background) -> Result<String, AllocError> {
+fn report_text(
+    alloc: Global,
+    fault: &Fault,
+    background: &Background,
+) -> Result<String, AllocError> {
     match background.format() {
         Format::Text => fault_text(alloc, fault),
         Format::Json => fault_json(alloc, fault),
@@ -254,7 +261,7 @@ fn told(alloc: Global, fault: &Fault, background: &Background) -> Result<String,
 }
 
 /// Returns the text of the fault `OutOfMemory` in `format`. It needs no allocation.
-fn told_without_memory(format: Format) -> &'static [u8] {
+fn report_without_memory(format: Format) -> &'static [u8] {
     match format {
         Format::Text => b"sdfw: 1 OutOfMemory\n",
         Format::Json => b"{\"fault\":1,\"name\":\"OutOfMemory\"}\n",
@@ -266,14 +273,14 @@ fn told_without_memory(format: Format) -> &'static [u8] {
 fn tell<E: Write>(alloc: Global, err: &mut E, fault: &Fault, background: &Background) -> u8
     ensures { (result ≡ status_of fault.now) ⊎ (result ≡ status_of OutOfMemory) }
 {
-    match told(alloc, fault, background) {
+    match report_text(alloc, fault, background) {
         Ok(text) => {
             let _ = err.write_all(text.as_bytes());
             background.tell(alloc, err, fault);
             status(fault)
         }
         Err(_) => {
-            let _ = err.write_all(told_without_memory(background.format()));
+            let _ = err.write_all(report_without_memory(background.format()));
             status(&Fault::OutOfMemory)
         }
     }
@@ -308,18 +315,18 @@ fn answer<
     let line = line_of(alloc, &given.words)?;
     match given.read(alloc, line.as_slice()) {
         Ok(asked) => {
-            background.asked(&asked, world.terminal);
+            background.set_form(&asked, world.terminal);
             obey(world, stdin, out, err, asked, &mut background.sources)
         }
         Err(fault) => {
-            background.misread(&line);
-            ended_well(help_or_fault(alloc, out, fault))
+            background.set_form_of_mistake(&line);
+            status_or_fault(help_or_fault(alloc, out, fault))
         }
     }
 }
 
 /// Returns the exit status of what was done. Reports a fault on standard error.
-fn ended<E: Write>(
+fn exit_status<E: Write>(
     alloc: Global,
     err: &mut E,
     done: Result<u8, Fault>,
@@ -352,5 +359,5 @@ pub fn serve<
         Ok(given) => answer(world, stdin, out, err, &given, &mut background),
         Err(fault) => Err(Fault::from(fault)),
     };
-    ended(alloc, err, done, &background)
+    exit_status(alloc, err, done, &background)
 }

@@ -8,7 +8,7 @@ use crate::plans::plan_of;
 use sdf_faults::Fault;
 use sdf_file::Design;
 use sdf_files::Levels;
-use sdf_files::files::{Loaded, Refused, Sources, refuse, refuse_kind};
+use sdf_files::files::{Loaded, Refused, Sources, or_refuse, refuse_kind};
 use sdf_files::input::Input;
 use sdf_files::output::{Output, Shown};
 use sdf_files::overwriting::{Paths, keep_what_is_read};
@@ -208,10 +208,9 @@ fn run_from<S: Storage, T: Threads + AllocGlobal + Clock + Sync, R: Read, O: Wri
     if paths.output == STANDARD {
         return run_into(world.threads, from, out, err, planned, refused);
     }
-    match world.storage.create(paths.output) {
-        Ok(mut to) => run_into(world.threads, from, &mut to, err, planned, refused),
-        Err(error) => Err(refuse(alloc, refused, paths.output, &error, Fault::Write)),
-    }
+    let created = world.storage.create(paths.output);
+    let mut to = or_refuse(alloc, refused, paths.output, created, Fault::Write)?;
+    run_into(world.threads, from, &mut to, err, planned, refused)
 }
 
 /// Runs a plan from `from`, which is open, and notes in `sources` what is read.
@@ -263,13 +262,10 @@ pub(crate) fn run_planned<
     if input == STANDARD {
         return run_traced(world, stdin, out, err, planned, sources);
     }
-    match world.storage.open(input) {
-        Ok(mut from) => run_traced(world, &mut from, out, err, planned, sources),
-        Err(error) => {
-            let alloc = world.threads.alloc();
-            Err(refuse(alloc, &mut sources.refused, input, &error, Fault::Read))
-        }
-    }
+    let alloc = world.threads.alloc();
+    let opened = world.storage.open(input);
+    let mut from = or_refuse(alloc, &mut sources.refused, input, opened, Fault::Read)?;
+    run_traced(world, &mut from, out, err, planned, sources)
 }
 
 /// Plans a design, and runs it on a WAV file. The file is divided into parts if that is asked for and the design

@@ -4,11 +4,11 @@ use Rattle.std.specs.Prelude.{Some, if◌then◌else◌}
 use Rattle.toml.specs.Data.{Data, Items, get, as_array}
 use Rattle.sdf_kinds.specs.declared.row.Width.TheVariants.{Bits32}
 use Rattle.sdf_document.specs.Fault.{Place, top, actor, link, file}
-use Rattle.sdf_document.specs.Lists.{Files, file_named}
+use Rattle.sdf_document.specs.Lists.{Files}
 use Rattle.sdf_document.specs.declared.list.Limits.{Limits}
 use Rattle.sdf_why.specs.Limits.{kind_limits}
 use Rattle.sdf_why.specs.Words.{end, quoted, item_count, key_line}
-use Rattle.sdf_why.specs.Tables.{root, text_at, entry}
+use Rattle.sdf_why.specs.Tables.{file_root, text_at, entry}
 use Rattle.sdf_why.specs.Actors.{lines_of, first_told}
 use Rattle.sdf_why.specs.Values.{unfit_told, unfit_at_key}
 
@@ -20,7 +20,7 @@ file_user name d = first_told (codes "file") name d
 
 unfoldable pub file_key : List ℕ → List ℕ → Option (List ℕ) → Files → List ℕ
 file_key name key limits files =
-    lines_of (λ d. key_line key (get key d) limits) (option_and_then root (file_named name files))
+    lines_of (λ d. key_line key (get key d) limits) (file_root name files)
 
 -- ---- its list
 
@@ -33,7 +33,7 @@ unfoldable pub count_text : ℕ → List ℕ
 count_text n = codes " = a list of " ++ decimal n
 
 unfoldable pub most_text : ℕ → List ℕ
-most_text most = codes ", wants 1.." ++ decimal most ++ end
+most_text most = codes ", needs 1.." ++ decimal most ++ end
 
 unfoldable pub count_line : List ℕ → ℕ → ℕ → List ℕ
 count_line label n most = label ++ count_text n ++ most_text most
@@ -50,7 +50,7 @@ list_told name limits list =
 
 -- the list in the file with this name
 abbrev pub list_in : List ℕ → Files → Option Data
-list_in name files = option_and_then (get (codes "values")) (option_and_then root (file_named name files))
+list_in name files = option_and_then (get (codes "values")) (file_root name files)
 
 unfoldable pub file_told : Files → Limits → List ℕ → List ℕ
 file_told files limits name = lines_of (list_told name limits) (list_in name files)

@@ -52,10 +52,10 @@ same_end (Some s) None = false
 same_end None t = false
 
 -- links c and e share an end
-unfoldable pub meet : Data → ℕ → ℕ → Bool
-meet d c e = same_end (end_at (codes "from") d c) (end_at (codes "from") d e)
+unfoldable pub share_end : Data → ℕ → ℕ → Bool
+share_end d c e = same_end (end_at (codes "from") d c) (end_at (codes "from") d e)
     || same_end (end_at (codes "to") d c) (end_at (codes "to") d e)
 
 -- the first of n links that shares an end with link c
-unfoldable pub first_meeting : Data → ℕ → ℕ → Option ℕ
-first_meeting d c n = find (meet d c) (range_with_len 0 n)
+unfoldable pub first_sharing : Data → ℕ → ℕ → Option ℕ
+first_sharing d c n = find (share_end d c) (range_with_len 0 n)

@@ -12,7 +12,7 @@ use Rattle.sdf_actor.specs.declared.fault.NetFault.TheVariants.{OutOfMemory, Gra
 use Rattle.sdf_actor.specs.declared.fault.NetFault.TheVariants.{ExtTwice, InputRates, OutputRates, NoInput, NoOutput}
 use Rattle.sdf_why.specs.Tables.{entry, actor_text, says, first_saying}
 use Rattle.sdf_why.specs.Actors.{lines_of, actor_told, actor_key}
-use Rattle.sdf_why.specs.Links.{link_told, link_key, ends_told, first_meeting}
+use Rattle.sdf_why.specs.Links.{link_told, link_key, ends_told, first_sharing}
 
 -- ---- actors that are compared
 
@@ -62,8 +62,8 @@ unfoldable pub beside_first : List ℕ → Data → ℕ → List ℕ
 beside_first kind d a = actor_key a (codes "block") None d ++ first_of kind (codes "block") d
 
 -- link c, and the first link before it that shares an end with it
-unfoldable pub meeting : Data → ℕ → List ℕ
-meeting d c = link_told d c ++ lines_of (link_told d) (first_meeting d c c)
+unfoldable pub sharing_told : Data → ℕ → List ℕ
+sharing_told d c = link_told d c ++ lines_of (link_told d) (first_sharing d c c)
 
 -- link c and its initial samples, with their limit
 unfoldable pub begun : Data → ℕ → List ℕ
@@ -86,7 +86,7 @@ abbrev pub net_told : NetFault → Data → List ℕ
 net_told OutOfMemory d = []
 net_told (Graph fault) d = graph_told fault d
 net_told (NoPort c) d = ends_told d c
-net_told (PortTwice c) d = meeting d c
+net_told (PortTwice c) d = sharing_told d c
 net_told (PortOpen a side port) d = actor_key a (codes "ways") None d
 net_told (ExtTwice a) d = rivals d a
 net_told (InputRates a) d = beside_first (codes "input") d a

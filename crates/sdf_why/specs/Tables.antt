@@ -5,10 +5,15 @@ use Rattle.std.specs.Option.{option_map_or}
 use Rattle.std.specs.List.{range_with_len}
 use Rattle.toml.specs.Data.{Data, table, get, at, as_str}
 use Rattle.sdf_document.specs.Tables.{table_in}
+use Rattle.sdf_document.specs.Lists.{Files, file_named}
 
 -- the document in the bytes, if they are one
 abbrev pub root : List ℕ → Option Data
 root bytes = option_map table (table_in bytes)
+
+-- the document in the coefficient file with this name, if there is one
+abbrev pub file_root : List ℕ → Files → Option Data
+file_root name files = option_and_then root (file_named name files)
 
 -- the text at a key
 unfoldable pub text_at : List ℕ → Data → Option (List ℕ)

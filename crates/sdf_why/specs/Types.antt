@@ -1,10 +1,10 @@
 -- The type that a key needs, for a value of another type.
 use Rattle.std.specs.Prelude.{ℕ, ◌||◌, Bool, List, [], ◌++◌, codes, Option, Some, None, bytes_eq}
-use Rattle.std.specs.Prelude.{option_and_then, if◌then◌else◌}
+use Rattle.std.specs.Prelude.{if◌then◌else◌}
 use Rattle.toml.specs.Data.{Data}
 use Rattle.sdf_document.specs.Fault.{Place, top, actor, link, file}
-use Rattle.sdf_document.specs.Lists.{Files, file_named}
-use Rattle.sdf_why.specs.Tables.{root, entry}
+use Rattle.sdf_document.specs.Lists.{Files}
+use Rattle.sdf_why.specs.Tables.{file_root, entry}
 use Rattle.sdf_why.specs.Actors.{lines_of}
 use Rattle.sdf_why.specs.Values.{unfit_at_key}
 use Rattle.sdf_why.specs.Places.{limits_at, place_key}
@@ -43,7 +43,7 @@ abbrev pub table_of : Place → Data → Files → Option Data
 table_of top d files = Some d
 table_of (actor a) d files = entry (codes "actor") a d
 table_of (link c) d files = entry (codes "link") c d
-table_of (file name) d files = option_and_then root (file_named name files)
+table_of (file name) d files = file_root name files
 
 -- the first value that is not a whole number in the list at a key of a place
 abbrev pub unwhole_told : Place → List ℕ → Data → Files → List ℕ

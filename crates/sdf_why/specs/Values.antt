@@ -35,12 +35,12 @@ width_text (Some Bits32) = codes "-2147483648..2147483647"
 unfoldable pub place_text : ℕ → List ℕ
 place_text i = codes "[" ++ decimal i ++ codes "] = "
 
-abbrev pub wants_text : Option Width → List ℕ
-wants_text width = codes ", wants " ++ width_text width ++ end
+abbrev pub width_needed : Option Width → List ℕ
+width_needed width = codes ", needs " ++ width_text width ++ end
 
 -- the line of a value, begun by a label of its list
 unfoldable pub value_line : List ℕ → Option Width → ℕ → Data → List ℕ
-value_line label width i d = label ++ place_text i ++ value_text d ++ wants_text width
+value_line label width i d = label ++ place_text i ++ value_text d ++ width_needed width
 
 unfoldable pub value_told : List ℕ → Option Width → Data → ℕ → List ℕ
 value_told label width list i = lines_of (value_line label width i) (at i list)

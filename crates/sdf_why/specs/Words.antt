@@ -63,17 +63,17 @@ link_line number from to = link_words number from to ++ end
 
 -- the line of a link that holds too little for the next firing of its target
 abbrev pub lack_line : ℕ → Option (List ℕ) → Option (List ℕ) → ℕ → ℕ → List ℕ
-lack_line number from to holds wants =
-    link_words number from to ++ codes ", holds " ++ decimal holds ++ codes ", wants " ++ decimal wants ++ end
+lack_line number from to holds needs =
+    link_words number from to ++ codes ", holds " ++ decimal holds ++ codes ", needs " ++ decimal needs ++ end
 
 abbrev pub limits_text : Option (List ℕ) → List ℕ
 limits_text None = []
-limits_text (Some limits) = codes ", wants " ++ limits
+limits_text (Some limits) = codes ", needs " ++ limits
 
 -- the line of a key, with its value and its limits
 unfoldable pub key_line : List ℕ → Option Data → Option (List ℕ) → List ℕ
 key_line key None None = []
-key_line key None (Some limits) = codes "  " ++ printable_text key ++ codes " wants " ++ limits ++ end
+key_line key None (Some limits) = codes "  " ++ printable_text key ++ codes " needs " ++ limits ++ end
 key_line key (Some d) limits =
     codes "  " ++ printable_text key ++ codes " = " ++ value_text d ++ limits_text limits ++ end
 

@@ -11,10 +11,10 @@ ghost use Rattle.sdf_why.specs.Coefficients.{list_told, file_told, named_told, l
 ghost use Rattle.sdf_why.specs.Coefficients.{actor_values, values_told};
 
 use crate::limits::kind_limits;
-use crate::tables::{Source, entry, root, text_at, value_at};
+use crate::tables::{Source, entry, file_root, text_at, value_at};
 use crate::values::{push_unfit, push_unfit_at_key};
 use crate::words::{push_key, push_quoted};
-use sdf_document::{CoefficientFile, Limits, Place, file_named};
+use sdf_document::{CoefficientFile, Limits, Place};
 use sdf_kinds::Width;
 use std::alloc::{AllocError, Global};
 use toml::Value;
@@ -32,10 +32,7 @@ pub(crate) fn push_file_key(
     ensures { OnOk result (string_bytes text.new ≡ string_bytes text.old
         ++ file_key name.now key.now (option_map (λ s. s.now) limits.entry) (files_view files.now)) }
 {
-    let Some(bytes) = file_named(name, files) else {
-        return Ok(());
-    };
-    match root(alloc, bytes)? {
+    match file_root(alloc, files, name)? {
         Some(table) => push_key(alloc, text, key, value_at(&table, key), limits),
         None => Ok(()),
     }
@@ -64,7 +61,7 @@ fn push_count(text: &mut String, count: usize) -> Result<(), AllocError>
 fn push_most(text: &mut String, most: usize) -> Result<(), AllocError>
     ensures { OnOk result (string_bytes text.new ≡ string_bytes text.old ++ most_text most) }
 {
-    writeln!(text, ", wants 1..{most}")
+    writeln!(text, ", needs 1..{most}")
 }
 
 /// Adds the line of a list that has `count` values and may have at most `most`.
@@ -146,10 +143,7 @@ fn push_file(
     ensures { OnOk result (string_bytes text.new ≡ string_bytes text.old
         ++ file_told (files_view files.now) limits name.now) }
 {
-    let Some(bytes) = file_named(name, files) else {
-        return Ok(());
-    };
-    match root(alloc, bytes)? {
+    match file_root(alloc, files, name)? {
         Some(table) => push_list_of(alloc, text, name, limits, &table),
         None => Ok(()),
     }

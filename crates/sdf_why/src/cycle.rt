@@ -114,14 +114,14 @@ fn held(channel: &Channel, put: u64, taken: u64) -> u64
 fn lack_of(graph: &Graph, halts: &[Halt], number: usize) -> Lack
     requires { number < length graph.now.channels }
     ensures holds { result.holds ≡ held graph.now halts.now number }
-    ensures wants { result.wants ≡ wanted graph.now halts.now number }
+    ensures needs { result.needs ≡ wanted graph.now halts.now number }
 {
     let channel = &graph.channels()[number];
     let put = moved_by(&channel.put, u64::from(done_at(halts, channel.from)));
     let done = done_at(halts, channel.to);
     Lack {
         holds: held(channel, put, moved_by(&channel.take, u64::from(done))),
-        wants: channel.takes(done),
+        needs: channel.takes(done),
     }
 }
 
@@ -216,7 +216,7 @@ fn push_others(
 }
 
 /// Returns the diagnostic for a deadlock of `graph` whose actors stopped as in `halts`.
-pub fn cycle_text(
+pub(crate) fn cycle_text(
     alloc: Global,
     document: &Value,
     graph: &Graph,

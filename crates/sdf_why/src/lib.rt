@@ -7,9 +7,7 @@
 //! line at a place, `types` its type, `values` the first value of a list that does not fit, and `coefficients` the
 //! lines of a coefficient file. `near` has what may have been meant, and `kind` also the format that it needs. `more`
 //! has what the tables of a net do not show. It needs the graph that `channels` makes, and `ports` for the ports of its
-//! actors. The definitions are in `specs/Told.antt`, `specs/Documents.antt`, `specs/Places.antt`, `specs/Types.antt`,
-//! `specs/Values.antt`, `specs/Coefficients.antt`, `specs/Kinds.antt`, `specs/Near.antt`, `specs/Nets.antt`,
-//! `specs/More.antt`, `specs/Ports.antt`, `specs/Cycles.antt` and `specs/Words.antt`.
+//! actors. The definitions are in `specs/`, a file for each module; begin at `specs/Told.antt`.
 #![tactic(auto)]
 
 mod actors;
@@ -42,5 +40,5 @@ pub use loops::loop_text;
 pub use said::{device_text, toml_text};
 pub use sound::Header;
 pub use told::{
-    DesignFiles, block_text, channels_text, file_text, home_text, net_text, rate_text, stall_text,
+    DesignFiles, block_text, channels_text, file_text, home_text, rate_text, stall_text,
 };

@@ -3,7 +3,7 @@
 ghost use Rattle.std.specs.Prelude.{◌≡◌, ◌++◌, OnOk, option_map, string_bytes};
 ghost use Rattle.toml.specs.View.{view};
 ghost use Rattle.sdf_why.specs.Links.{link_is, link_told, link_key, end_at, end_told, ends_told, port_of, same_port};
-ghost use Rattle.sdf_why.specs.Links.{same_end, meet, first_meeting};
+ghost use Rattle.sdf_why.specs.Links.{same_end, share_end, first_sharing};
 
 use crate::actors::push_first;
 use crate::marks::{before, behind, has};
@@ -133,18 +133,18 @@ fn same_end(one: Option<&str>, other: Option<&str>) -> bool
 }
 
 /// Checks whether `link` and `other` share an end.
-#[tactic(auto, unfolding(crate::specs::Links::meet))]
-fn meet(graph: &Value, link: usize, other: usize) -> bool
-    ensures { result ≡ meet (view graph.now) link other }
+#[tactic(auto, unfolding(crate::specs::Links::share_end))]
+fn share_end(graph: &Value, link: usize, other: usize) -> bool
+    ensures { result ≡ share_end (view graph.now) link other }
 {
     same_end(end_at(graph, "from", link), end_at(graph, "from", other))
         || same_end(end_at(graph, "to", link), end_at(graph, "to", other))
 }
 
 /// Returns the first of `links` links that shares an end with `link`.
-#[tactic(auto, unfolding(crate::specs::Links::first_meeting))]
-pub(crate) fn first_meeting(graph: &Value, link: usize, links: usize) -> Option<usize>
-    ensures { result ≡ first_meeting (view graph.now) link links }
+#[tactic(auto, unfolding(crate::specs::Links::first_sharing))]
+pub(crate) fn first_sharing(graph: &Value, link: usize, links: usize) -> Option<usize>
+    ensures { result ≡ first_sharing (view graph.now) link links }
 {
-    (0..links).find(|other| meet(graph, link, *other))
+    (0..links).find(|other| share_end(graph, link, *other))
 }

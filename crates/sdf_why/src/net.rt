@@ -3,10 +3,10 @@
 ghost use Rattle.std.specs.Prelude.{◌≡◌, ◌++◌, OnOk, option_map, string_bytes};
 ghost use Rattle.toml.specs.View.{view};
 ghost use Rattle.sdf_why.specs.Nets.{first_of, one_of, all_of, number_at, same_number, same_text, rival, first_rival};
-ghost use Rattle.sdf_why.specs.Nets.{rivals, beside_first, meeting, begun, graph_told, net_told};
+ghost use Rattle.sdf_why.specs.Nets.{rivals, beside_first, sharing_told, begun, graph_told, net_told};
 
 use crate::actors::{push_actor_key, push_actor_of};
-use crate::links::{first_meeting, push_ends, push_link_key, push_link_of};
+use crate::links::{first_sharing, push_ends, push_link_key, push_link_of};
 use crate::tables::{actor_text, entry, first_saying, says, value_at};
 use sdf_actor::NetFault;
 use sdf_graph::GraphFault;
@@ -153,17 +153,17 @@ fn push_beside_first(
 }
 
 /// Adds `link`, and the first link before it that shares an end with it.
-#[tactic(auto, unfolding(crate::specs::Nets::meeting))]
-fn push_meeting(
+#[tactic(auto, unfolding(crate::specs::Nets::sharing_told))]
+fn push_sharing(
     alloc: Global,
     text: &mut String,
     graph: &Value,
     link: usize,
 ) -> Result<(), AllocError>
-    ensures { OnOk result (string_bytes text.new ≡ string_bytes text.old ++ meeting (view graph.now) link) }
+    ensures { OnOk result (string_bytes text.new ≡ string_bytes text.old ++ sharing_told (view graph.now) link) }
 {
     push_link_of(alloc, text, graph, link)?;
-    match first_meeting(graph, link, link) {
+    match first_sharing(graph, link, link) {
         Some(earlier) => push_link_of(alloc, text, graph, earlier),
         None => Ok(()),
     }
@@ -221,7 +221,7 @@ pub(crate) fn push_net(
         NetFault::OutOfMemory | NetFault::NoInput => Ok(()),
         NetFault::Graph(fault) => push_graph(alloc, text, graph, fault),
         NetFault::NoPort { link } => push_ends(alloc, text, graph, link),
-        NetFault::PortTwice { link } => push_meeting(alloc, text, graph, link),
+        NetFault::PortTwice { link } => push_sharing(alloc, text, graph, link),
         NetFault::PortOpen { actor, .. } => push_actor_key(alloc, text, graph, actor, "ways", None),
         NetFault::ExtTwice { actor } => push_rivals(alloc, text, graph, actor),
         NetFault::InputRates { actor } => push_beside_first(alloc, text, graph, "input", actor),

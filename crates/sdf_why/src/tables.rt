@@ -3,9 +3,10 @@
 ghost use Rattle.std.specs.Prelude.{◌≡◌, IfOk, option_map};
 ghost use Rattle.toml.specs.View.{view};
 ghost use Rattle.toml.specs.Data.{get};
-ghost use Rattle.sdf_why.specs.Tables.{root, text_at, entry, actor_text, says, first_saying};
+ghost use Rattle.sdf_document.specs.Lists.{files_view};
+ghost use Rattle.sdf_why.specs.Tables.{root, file_root, text_at, entry, actor_text, says, first_saying};
 
-use sdf_document::CoefficientFile;
+use sdf_document::{CoefficientFile, file_named};
 use std::alloc::{AllocError, Global};
 use toml::Value;
 
@@ -25,6 +26,20 @@ pub(crate) fn root(alloc: Global, bytes: &[u8]) -> Result<Option<Value>, AllocEr
         Ok(table) => Ok(Some(Value::Table(table))),
         Err(error) if error.is_memory() => Err(AllocError),
         Err(_) => Ok(None),
+    }
+}
+
+/// Parses the coefficient file `name` as a TOML document, if there is one.
+pub(crate) fn file_root(
+    alloc: Global,
+    files: &[CoefficientFile],
+    name: &str,
+) -> Result<Option<Value>, AllocError>
+    ensures { IfOk result (λ r. option_map view r ≡ file_root name.now (files_view files.now)) }
+{
+    match file_named(name, files) {
+        Some(bytes) => root(alloc, bytes),
+        None => Ok(None),
     }
 }
 

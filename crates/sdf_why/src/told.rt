@@ -48,11 +48,7 @@ fn tables_text(alloc: Global, fault: NetFault, graph: &[u8]) -> Result<String, A
 }
 
 /// Returns the diagnostic for a `fault` of a net.
-pub fn net_text(
-    alloc: Global,
-    fault: NetFault,
-    sources: DesignFiles<'_>,
-) -> Result<String, AllocError>
+fn net_text(alloc: Global, fault: NetFault, sources: DesignFiles<'_>) -> Result<String, AllocError>
     ensures { IfOk result (λ text. IsNetText fault sources.entry.graph.now (files_view sources.entry.files.now)
         (string_bytes text)) }
 {

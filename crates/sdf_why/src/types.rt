@@ -1,19 +1,19 @@
 //! The type that a key needs, for a value of another type.
 
-ghost use Rattle.std.specs.Prelude.{◌≡◌, ◌++◌, IfOk, OnOk, None, option_map, option_and_then, string_bytes};
+ghost use Rattle.std.specs.Prelude.{◌≡◌, ◌++◌, IfOk, OnOk, None, option_map, string_bytes};
 ghost use Rattle.toml.specs.View.{view};
 ghost use Rattle.sdf_document.specs.Fault.{place_view};
-ghost use Rattle.sdf_document.specs.Lists.{files_view, file_named};
-ghost use Rattle.sdf_why.specs.Tables.{root};
+ghost use Rattle.sdf_document.specs.Lists.{files_view};
+ghost use Rattle.sdf_why.specs.Tables.{file_root};
 ghost use Rattle.sdf_why.specs.Actors.{lines_of};
 ghost use Rattle.sdf_why.specs.Values.{unfit_at_key};
 ghost use Rattle.sdf_why.specs.Types.{is_text_key, is_list_key, type_of, limits_behind, type_within};
 ghost use Rattle.sdf_why.specs.Types.{place_type, unwhole_told, type_told};
 
 use crate::places::{limits_at, push_place_key};
-use crate::tables::{Source, entry, root};
+use crate::tables::{Source, entry, file_root};
 use crate::values::push_unfit_at_key;
-use sdf_document::{CoefficientFile, Place, file_named};
+use sdf_document::{CoefficientFile, Place};
 use std::alloc::{AllocError, Global};
 use toml::Value;
 
@@ -109,13 +109,10 @@ fn push_unwhole_in_file(
     name: &str,
     key: &str,
 ) -> Result<(), AllocError>
-    ensures { OnOk result (string_bytes text.new ≡ string_bytes text.old ++ lines_of (unfit_at_key key.now None)
-        (option_and_then root (file_named name.now (files_view files.now)))) }
+    ensures { OnOk result (string_bytes text.new ≡ string_bytes text.old
+        ++ lines_of (unfit_at_key key.now None) (file_root name.now (files_view files.now))) }
 {
-    let Some(bytes) = file_named(name, files) else {
-        return Ok(());
-    };
-    match root(alloc, bytes)? {
+    match file_root(alloc, files, name)? {
         Some(table) => push_unfit_at_key(alloc, text, key, None, &table),
         None => Ok(()),
     }

@@ -3,7 +3,7 @@
 ghost use Rattle.std.specs.Prelude.{◌≡◌, ◌++◌, IfOk, OnOk, option_and_then, string_bytes};
 ghost use Rattle.toml.specs.Data.{at, as_integer};
 ghost use Rattle.toml.specs.View.{view};
-ghost use Rattle.sdf_why.specs.Values.{is_within, is_unfit, first_unfit, width_text, place_text, wants_text};
+ghost use Rattle.sdf_why.specs.Values.{is_within, is_unfit, first_unfit, width_text, place_text, width_needed};
 ghost use Rattle.sdf_why.specs.Values.{value_line, value_told, unfit_told, key_label, unfit_in_list, unfit_at_key};
 
 use crate::tables::value_at;
@@ -67,11 +67,11 @@ fn push_place(text: &mut String, place: usize) -> Result<(), AllocError>
     write!(text, "[{place}] = ")
 }
 
-fn push_wants(text: &mut String, width: Option<Width>) -> Result<(), AllocError>
-    ensures { OnOk result (string_bytes text.new ≡ string_bytes text.old ++ wants_text width) }
+fn push_width(text: &mut String, width: Option<Width>) -> Result<(), AllocError>
+    ensures { OnOk result (string_bytes text.new ≡ string_bytes text.old ++ width_needed width) }
 {
     let wanted = width_text(width);
-    writeln!(text, ", wants {wanted}")
+    writeln!(text, ", needs {wanted}")
 }
 
 /// Adds the line of a `value` that does not fit, with the `label` of its list and its index `place`.
@@ -90,7 +90,7 @@ fn push_line(
     text.push_str(label)?;
     push_place(text, place)?;
     push_value(alloc, text, value)?;
-    push_wants(text, width)
+    push_width(text, width)
 }
 
 /// Adds the line of the value at the index `place` of `list`.

@@ -166,7 +166,7 @@ pub(crate) fn push_link(
 #[derive(Clone, Copy)]
 pub(crate) struct Lack {
     pub(crate) holds: u64,
-    pub(crate) wants: u32,
+    pub(crate) needs: u32,
 }
 
 /// Adds the line of a link that holds too little.
@@ -179,11 +179,11 @@ pub(crate) fn push_lack(
     lack: Lack,
 ) -> Result<(), AllocError>
     ensures { OnOk result (string_bytes text.new ≡ string_bytes text.old ++ lack_line number
-        (option_map (λ s. s.now) from.entry) (option_map (λ s. s.now) to.entry) lack.holds lack.wants) }
+        (option_map (λ s. s.now) from.entry) (option_map (λ s. s.now) to.entry) lack.holds lack.needs) }
 {
     push_link_words(alloc, text, number, from, to)?;
-    let Lack { holds, wants } = lack;
-    writeln!(text, ", holds {holds}, wants {wants}")?;
+    let Lack { holds, needs } = lack;
+    writeln!(text, ", holds {holds}, needs {needs}")?;
     Ok(())
 }
 
@@ -192,7 +192,7 @@ fn push_limits(text: &mut String, limits: Option<&str>) -> Result<(), AllocError
         string_bytes text.old ++ limits_text (option_map (λ s. s.now) limits.entry)) }
 {
     match limits {
-        Some(limits) => write!(text, ", wants {limits}"),
+        Some(limits) => write!(text, ", needs {limits}"),
         None => Ok(()),
     }
 }
@@ -220,7 +220,7 @@ pub(crate) fn push_key(
             push_value(alloc, text, value)?;
             push_limits(text, limits)?;
         }
-        (None, Some(limits)) => write!(text, " wants {limits}")?,
+        (None, Some(limits)) => write!(text, " needs {limits}")?,
         (None, None) => {}
     }
     Ok(text.push_str("\n")?)

@@ -24,7 +24,7 @@ pub struct Given {
 fn no_text(alloc: Global, number: usize) -> WordFault
     ensures { IsUsage result }
 {
-    match format!(in alloc; "argument {number} is no UTF-8") {
+    match format!(in alloc; "argument {number} is not UTF-8") {
         Ok(text) => mistake(alloc, text.as_str()),
         Err(_) => WordFault::OutOfMemory,
     }

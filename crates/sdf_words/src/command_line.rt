@@ -133,7 +133,7 @@ fn resample_of<'a>(matches: &ArgMatches<'a>) -> Option<Words<'a>>
 }
 
 /// Reads the arguments of the command `name`.
-fn asked<'a>(name: &str, matches: &ArgMatches<'a>) -> Option<Words<'a>>
+fn words_for<'a>(name: &str, matches: &ArgMatches<'a>) -> Option<Words<'a>>
     ensures { IfSome result IsWithinLimits }
 {
     match name {
@@ -163,7 +163,7 @@ fn words_of<'a>(matches: &ArgMatches<'a>) -> Option<Words<'a>>
     ensures { IfSome result IsWithinLimits }
 {
     let (name, inner) = matches.subcommand()?;
-    asked(name, inner)
+    words_for(name, inner)
 }
 
 /// Parses `words` by `command`. The first word is the program's name.

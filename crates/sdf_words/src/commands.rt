@@ -37,7 +37,7 @@ struct Switch {
 
 /// How an argument is given on the command line.
 #[derive(Clone, Copy)]
-enum Given {
+enum Syntax {
     /// Required, by its position.
     Place(Values),
     /// Required, by its position, once or several times.
@@ -49,7 +49,7 @@ enum Given {
 }
 
 /// A flag without a value that conflicts with no other option.
-const PLAIN: Given = Given::Switch(Switch {
+const PLAIN: Syntax = Syntax::Switch(Switch {
     against: &[],
     value: None,
 });
@@ -60,7 +60,7 @@ struct Argument {
     name: &'static str,
     help: &'static str,
     more: &'static str,
-    given: Given,
+    syntax: Syntax,
 }
 
 /// A command and its arguments. If it `schedules`, the options of a schedule come first. `-h` prints `help`, and
@@ -112,18 +112,18 @@ fn arg_of<'a>(alloc: Global, argument: Argument) -> Result<Arg<'a>, AllocError> 
     let arg = Arg::new(alloc, argument.name)
         .help(argument.help)
         .long_help(argument.more);
-    match argument.given {
-        Given::Place(values) => Ok(arg.required(true).value_parser(parser_of(values))),
-        Given::Places(values) => Ok(
+    match argument.syntax {
+        Syntax::Place(values) => Ok(arg.required(true).value_parser(parser_of(values))),
+        Syntax::Places(values) => Ok(
             arg.required(true)
                 .num_args(1..)
                 .value_parser(parser_of(values)),
         ),
-        Given::Choice(value_name, values, default) => {
+        Syntax::Choice(value_name, values, default) => {
             let named = arg.long(argument.name);
             Ok(chosen(named, value_name, values, default))
         }
-        Given::Switch(switch) => switched(arg.long(argument.name), switch),
+        Syntax::Switch(switch) => switched(arg.long(argument.name), switch),
     }
 }
 

@@ -16,61 +16,61 @@ static ROWS: [Row; 24] = [
     Row {
         graph: "format = 1\nlink = []\n[[actor]]\nname = \"half\"\nkind = \"fir\"\nup = 147\nshift = 0\ntaps = [1]\n",
         told: "28 KitValue actor 0 key up\n  \
-            actor 0 is \"half\", a fir\n  up = 147, wants 1..64\n",
+            actor 0 is \"half\", a fir\n  up = 147, needs 1..64\n",
     },
     Row {
         graph: "format = 1\nlink = []\n[[actor]]\nname = \"half\"\nkind = \"fir\"\nshift = 0\ntaps = []\n",
         told: "28 KitValue actor 0 key taps\n  \
-            actor 0 is \"half\", a fir\n  taps = a list of 0, wants 1..1024 values of -32768..32767\n",
+            actor 0 is \"half\", a fir\n  taps = a list of 0, needs 1..1024 values of -32768..32767\n",
     },
     Row {
         graph: "format = 1\nlink = []\n[[actor]]\nname = \"t\"\nkind = \"table\"\noffset = 0\nfile = \"a.toml\"\n",
         told: "28 KitValue actor 0 key file\n  \
-            actor 0 is \"t\", a table\n  file = \"a.toml\", wants 1..65536 values of 32 bits\n  \
-            \"a.toml\": values = a list of 0, wants 1..65536\n",
+            actor 0 is \"t\", a table\n  file = \"a.toml\", needs 1..65536 values of 32 bits\n  \
+            \"a.toml\": values = a list of 0, needs 1..65536\n",
     },
     Row {
         graph: "format = 1\nlink = []\n[[actor]]\nname = \"h\"\nkind = \"fir\"\nshift = 0\nfile = \"c.toml\"\n",
         told: "28 KitValue actor 0 key file\n  \
-            actor 0 is \"h\", a fir\n  file = \"c.toml\", wants 1..1024 values of -32768..32767\n  \
-            \"c.toml\": values[2] = 40000, wants -32768..32767\n",
+            actor 0 is \"h\", a fir\n  file = \"c.toml\", needs 1..1024 values of -32768..32767\n  \
+            \"c.toml\": values[2] = 40000, needs -32768..32767\n",
     },
     Row {
         graph: "format = 1\nlink = []\n[[actor]]\nname = \"t\"\nkind = \"table\"\noffset = 0\nfile = \"c.toml\"\n",
         told: "28 KitValue actor 0 key file\n  \
-            actor 0 is \"t\", a table\n  file = \"c.toml\", wants 1..65536 values of 32 bits\n  \
-            \"c.toml\": values[3] = -2147483649, wants -2147483648..2147483647\n",
+            actor 0 is \"t\", a table\n  file = \"c.toml\", needs 1..65536 values of 32 bits\n  \
+            \"c.toml\": values[3] = -2147483649, needs -2147483648..2147483647\n",
     },
     Row {
         graph: "format = 2\nlink = []\n[[actor]]\nname = \"d\"\nkind = \"deal\"\nways = 17\nprocessor = 3\n",
         told: "28 KitValue actor 0 key ways\n  \
-            actor 0 is \"d\", a deal\n  ways = 17, wants 2..16\n",
+            actor 0 is \"d\", a deal\n  ways = 17, needs 2..16\n",
     },
     Row {
         graph: "format = 2\nlink = []\n[[actor]]\nname = \"c\"\nkind = \"clip\"\nleast = 1\ngreatest = 0\n",
         told: "28 KitValue actor 0 key greatest\n  \
-            actor 0 is \"c\", a clip\n  greatest = 0, wants least..32767\n",
+            actor 0 is \"c\", a clip\n  greatest = 0, needs least..32767\n",
     },
     Row {
         graph: "format = 1\nlink = []\n[[actor]]\nname = \"i\"\nkind = \"input\"\nchannel = 0\nprocessor = 16\n",
         told: "28 KitValue actor 0 key processor\n  \
-            actor 0 is \"i\", an input\n  processor = 16, wants 0..15 or absent\n",
+            actor 0 is \"i\", an input\n  processor = 16, needs 0..15 or absent\n",
     },
     Row {
         graph: "format = 1\nlink = []\n[[actor]]\nname = \"i\"\nkind = \"gain\"\n",
         told: "52 MissingKey actor 0 key gain\n  \
-            actor 0 is \"i\", a gain\n  gain wants -32768..32767\n",
+            actor 0 is \"i\", a gain\n  gain needs -32768..32767\n",
     },
     Row {
         graph: "format = 1\nlink = []\n[[actor]]\nname = \"i\"\nkind = \"gain\"\ngain = 1.5\n",
         told: "53 WrongType actor 0 key gain\n  \
-            actor 0 is \"i\", a gain\n  gain = a float, wants a whole number, -32768..32767\n",
+            actor 0 is \"i\", a gain\n  gain = a float, needs a whole number, -32768..32767\n",
     },
     Row {
         graph: "format = 1\nlink = []\n[[actor]]\nname = \"h\"\nkind = \"fir\"\nfile = \"a.toml\"\nshift = 0\n\
             taps = [1]\n",
         told: "51 UnknownKey actor 0 key file\n  \
-            actor 0 is \"h\", a fir\n  file = \"a.toml\", wants 1..1024 values of -32768..32767\n  \
+            actor 0 is \"h\", a fir\n  file = \"a.toml\", needs 1..1024 values of -32768..32767\n  \
             file stands beside taps\n  fir: up 1..64 (1), down 1..64 (1), shift 0..15, taps or file: 1..1024 values of \
             -32768..32767\n",
     },
@@ -89,13 +89,13 @@ static ROWS: [Row; 24] = [
     Row {
         graph: "format = 1\nlink = []\n[[actor]]\nname = \"d\"\nkind = \"deal\"\n",
         told: "56 UnknownKind actor 0\n  \
-            actor 0 is \"d\", a deal\n  format = 1, wants 2 for deal\n",
+            actor 0 is \"d\", a deal\n  format = 1, needs 2 for deal\n",
     },
     Row {
         graph: "format = 1\nactor = [{ name = \"a\", kind = \"fork\", ways = 2 }]\n\
             link = [{ from = \"a\", to = \"a:16\" }]\n",
         told: "57 BadPort link 0 key to\n  \
-            link 0 is a:0 -> a:16\n  to = \"a:16\", wants NAME or NAME:PORT, a port of 0..15\n",
+            link 0 is a:0 -> a:16\n  to = \"a:16\", needs NAME or NAME:PORT, a port of 0..15\n",
     },
     Row {
         graph: "format = 1\nlink = []\n[[actor]]\nname = \"d\"\nkind = \"gian\"\n",
@@ -105,7 +105,7 @@ static ROWS: [Row; 24] = [
     Row {
         graph: "format = 1\nlink = []\n[[actor]]\nname = \"d\"\nkind = \"resampler\"\n",
         told: "56 UnknownKind actor 0\n  \
-            actor 0 is \"d\", a resampler\n  format = 1, wants 2 for clip, deal, gather and offset\n",
+            actor 0 is \"d\", a resampler\n  format = 1, needs 2 for clip, deal, gather and offset\n",
     },
     Row {
         graph: "format = 1\nlink = []\n[[actor]]\nname = \"d\"\nkind = \"gain\"\nshfit = 1\n",
@@ -134,13 +134,13 @@ static ROWS: [Row; 24] = [
         graph: "format = 1\nactor = [{ name = \"half\", kind = \"gain\", gain = 1, shift = 1 }, { name = \"have\",\n\
             kind = \"fork\", ways = 2 }]\nlink = [{ from = \"hale:0\", to = \"have\" }]\n",
         told: "57 BadPort link 0 key from\n  \
-            link 0 is hale:0 -> have:0\n  from = \"hale:0\", wants NAME or NAME:PORT, a port of 0..15\n  \
+            link 0 is hale:0 -> have:0\n  from = \"hale:0\", needs NAME or NAME:PORT, a port of 0..15\n  \
             did you mean \"half\"?\n",
     },
     Row {
         graph: "format = 3\n",
         told: "50 Format top\n  \
-            format = 3, wants 1 or 2\n",
+            format = 3, needs 1 or 2\n",
     },
     Row {
         graph: "format = 1\nlink = []\n[[actor]]\nname = \"t\"\nkind = \"table\"\noffset = 0\nfile = \"b.toml\"\n",
@@ -154,67 +154,67 @@ static OTHERS: [Row; 21] = [
     Row {
         graph: "format = 1\nlink = []\n[[actor]]\nname = \"h\"\nkind = \"fir\"\nshift = 0\ntaps = [1, 40000]\n",
         told: "28 KitValue actor 0 key taps\n  \
-            actor 0 is \"h\", a fir\n  taps = a list of 2, wants 1..1024 values of -32768..32767\n  \
-            taps[1] = 40000, wants -32768..32767\n",
+            actor 0 is \"h\", a fir\n  taps = a list of 2, needs 1..1024 values of -32768..32767\n  \
+            taps[1] = 40000, needs -32768..32767\n",
     },
     Row {
         graph: "format = 1\nlink = []\n[[actor]]\nname = \"t\"\nkind = \"table\"\noffset = 0\n\
             values = [-2147483649, 2147483648]\n",
         told: "28 KitValue actor 0 key values\n  \
-            actor 0 is \"t\", a table\n  values = a list of 2, wants 1..65536 values of 32 bits\n  \
-            values[0] = -2147483649, wants -2147483648..2147483647\n",
+            actor 0 is \"t\", a table\n  values = a list of 2, needs 1..65536 values of 32 bits\n  \
+            values[0] = -2147483649, needs -2147483648..2147483647\n",
     },
     Row {
         graph: "format = 1\nactor = [{ name = \"a\", kind = \"delay\", length = 1 }]\n\
             link = [{ from = \"a\", to = \"a\", initial = [0, 2147483648] }]\n",
         told: "28 KitValue link 0 key initial\n  \
             link 0 is a:0 -> a:0\n  initial = a list of 2\n  \
-            initial[1] = 2147483648, wants -2147483648..2147483647\n",
+            initial[1] = 2147483648, needs -2147483648..2147483647\n",
     },
     Row {
         graph: "format = 1\nlink = []\n[[actor]]\nname = \"h\"\nkind = \"fir\"\nshift = 0\ntaps = [1, 2.5]\n",
         told: "53 WrongType actor 0 key taps\n  \
-            actor 0 is \"h\", a fir\n  taps = a list of 2, wants a list of whole numbers, 1..1024 values of \
-            -32768..32767\n  taps[1] = a float, wants a whole number\n",
+            actor 0 is \"h\", a fir\n  taps = a list of 2, needs a list of whole numbers, 1..1024 values of \
+            -32768..32767\n  taps[1] = a float, needs a whole number\n",
     },
     Row {
         graph: "format = 1\nlink = []\n[[actor]]\nname = \"h\"\nkind = \"fir\"\nshift = 0\ntaps = [40000, 2.5]\n",
         told: "53 WrongType actor 0 key taps\n  \
-            actor 0 is \"h\", a fir\n  taps = a list of 2, wants a list of whole numbers, 1..1024 values of \
-            -32768..32767\n  taps[1] = a float, wants a whole number\n",
+            actor 0 is \"h\", a fir\n  taps = a list of 2, needs a list of whole numbers, 1..1024 values of \
+            -32768..32767\n  taps[1] = a float, needs a whole number\n",
     },
     Row {
         graph: "format = 1\nlink = []\n[[actor]]\nname = \"h\"\nkind = \"fir\"\nshift = 0\ntaps = 3\n",
         told: "53 WrongType actor 0 key taps\n  \
-            actor 0 is \"h\", a fir\n  taps = 3, wants a list of whole numbers, 1..1024 values of -32768..32767\n",
+            actor 0 is \"h\", a fir\n  taps = 3, needs a list of whole numbers, 1..1024 values of -32768..32767\n",
     },
     Row {
         graph: "format = 1\nactor = [{ name = \"a\", kind = \"delay\", length = 1 }]\n\
             link = [{ from = \"a\", to = \"a\", initial = [0.5] }]\n",
         told: "53 WrongType link 0 key initial\n  \
-            link 0 is a:0 -> a:0\n  initial = a list of 1, wants a list of whole numbers\n  \
-            initial[0] = a float, wants a whole number\n",
+            link 0 is a:0 -> a:0\n  initial = a list of 1, needs a list of whole numbers\n  \
+            initial[0] = a float, needs a whole number\n",
     },
     Row {
         graph: "format = 1\nlink = []\n[[actor]]\nname = \"h\"\nkind = \"fir\"\nshift = 0\nfile = \"d.toml\"\n",
         told: "53 WrongType file d.toml key values\n  \
-            actor 0 is \"h\", a fir\n  values = a list of 2, wants a list of whole numbers\n  \
-            values[1] = a float, wants a whole number\n",
+            actor 0 is \"h\", a fir\n  values = a list of 2, needs a list of whole numbers\n  \
+            values[1] = a float, needs a whole number\n",
     },
     Row {
         graph: "format = 1\nlink = []\n[[actor]]\nname = \"i\"\nkind = \"input\"\nchannel = 0\nprocessor = \"1\"\n",
         told: "53 WrongType actor 0 key processor\n  \
-            actor 0 is \"i\", an input\n  processor = \"1\", wants a whole number, 0..15 or absent\n",
+            actor 0 is \"i\", an input\n  processor = \"1\", needs a whole number, 0..15 or absent\n",
     },
     Row {
         graph: "format = 1\nlink = []\n[[actor]]\nname = 3\nkind = \"fork\"\n",
         told: "53 WrongType actor 0 key name\n  \
-            actor 0 is without a name, a fork\n  name = 3, wants a text in quotes\n",
+            actor 0 is without a name, a fork\n  name = 3, needs a text in quotes\n",
     },
     Row {
         graph: "format = 1\nlink = []\n[[actor]]\nname = \"h\"\nkind = \"fir\"\nshift = 0\nfile = 3\n",
         told: "53 WrongType actor 0 key file\n  \
-            actor 0 is \"h\", a fir\n  file = 3, wants a text in quotes\n",
+            actor 0 is \"h\", a fir\n  file = 3, needs a text in quotes\n",
     },
     Row {
         graph: "format = 1\nlink = []\n[[actor]]\nname = \"h\"\nkind = \"fir\"\nshift = 0\nfile = \".toml\"\n",
@@ -225,37 +225,37 @@ static OTHERS: [Row; 21] = [
     Row {
         graph: "format = 1\nlink = []\n[actor]\nname = \"a\"\n",
         told: "53 WrongType top key actor\n  \
-            actor = a table, wants double brackets: [[actor]]\n",
+            actor = a table, needs double brackets: [[actor]]\n",
     },
     Row {
         graph: "format = 1\nactor = []\n[link]\nfrom = \"a\"\n",
         told: "53 WrongType top key link\n  \
-            link = a table, wants double brackets: [[link]]\n",
+            link = a table, needs double brackets: [[link]]\n",
     },
     Row {
         graph: "format = 1\nlink = []\nactor = [1]\n",
         told: "53 WrongType actor 0 key actor\n  \
-            actor 0 is without a name, of no kind\n  actor wants double brackets: [[actor]]\n",
+            actor 0 is without a name, of no kind\n  actor needs double brackets: [[actor]]\n",
     },
     Row {
         graph: "format = 1\nactor = [{ name = \"a\", kind = \"fork\", ways = 2 }]\nlink = [{ from = 3, to = \"a\" }]\n",
         told: "53 WrongType link 0 key from\n  \
-            link 0 is ? -> a:0\n  from = 3, wants a text in quotes\n",
+            link 0 is ? -> a:0\n  from = 3, needs a text in quotes\n",
     },
     Row {
         graph: "format = 1\nlink = []\n[[actor]]\nname = \"h\"\nkind = \"fir\"\nup = [2.5]\nshift = 0\ntaps = [1]\n",
         told: "53 WrongType actor 0 key up\n  \
-            actor 0 is \"h\", a fir\n  up = a list of 1, wants a whole number, 1..64\n",
+            actor 0 is \"h\", a fir\n  up = a list of 1, needs a whole number, 1..64\n",
     },
     Row {
         graph: "format = 1.0\n",
         told: "53 WrongType top key format\n  \
-            format = a float, wants a whole number\n",
+            format = a float, needs a whole number\n",
     },
     Row {
         graph: "format = 1\nlink = []\n[[actor]]\nname = \"d\"\nkind = \"gahter\"\n",
         told: "56 UnknownKind actor 0\n  \
-            actor 0 is \"d\", a gahter\n  did you mean \"gather\"?\n  format = 1, wants 2 for gather\n",
+            actor 0 is \"d\", a gahter\n  did you mean \"gather\"?\n  format = 1, needs 2 for gather\n",
     },
     Row {
         graph: "format = 2\nlink = []\n[[actor]]\nname = \"d\"\nkind = \"gahter\"\n",

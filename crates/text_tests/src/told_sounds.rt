@@ -81,11 +81,11 @@ const TWICE: &[(&str, &str)] = &[
 
 /// The links of the loop, on which each actor waits for the other, and the link that the output waits for.
 const CYCLE: &str =
-    "  link 3 is fork:1 -> add:1, holds 0, wants 1\n  link 1 is add:0 -> fork:0, holds 0, wants 1\n  link 2 is fork:0 -> out:0\n";
+    "  link 3 is fork:1 -> add:1, holds 0, needs 1\n  link 1 is add:0 -> fork:0, holds 0, needs 1\n  link 2 is fork:0 -> out:0\n";
 
 /// The links of `BEHIND`: the walk comes from the output and enters the loop at the fork.
 const ENTERED: &str =
-    "  link 1 is add:0 -> fork:0, holds 0, wants 1\n  link 3 is fork:1 -> add:1, holds 0, wants 1\n  link 2 is fork:0 -> out:0\n";
+    "  link 1 is add:0 -> fork:0, holds 0, needs 1\n  link 3 is fork:1 -> add:1, holds 0, needs 1\n  link 2 is fork:0 -> out:0\n";
 
 /// The halts of `STUCK`: the input has fired, and each other actor waits.
 static HALTS: [Halt; 4] = [
@@ -153,7 +153,7 @@ fn sounds_are_told(rt: HostRuntime) -> Result<(), Fail> {
     )?;
     says(
         told(home_text(alloc, 2, 4, DESIGN.as_bytes())),
-        "  actor 4 is \"out\", an output\n  processor = 2, wants 0..1\n",
+        "  actor 4 is \"out\", an output\n  processor = 2, needs 0..1\n",
     )?;
     says(
         told(device_text(alloc, "a\u{7}.toml", "not found")),

@@ -1,6 +1,6 @@
 //! The commands that check, schedule and run a design: their arguments and help texts.
 
-use super::{Argument, Given, PLAIN, Row, Switch, Values};
+use super::{Argument, PLAIN, Row, Switch, Syntax, Values};
 use sdf_limits::{MOST_BLOCKING, MOST_PATIENCE, MOST_WORKERS};
 use sdf_options::{PLACEMENT_WORDS, POLICY_WORDS, RUNNER_WORDS};
 
@@ -8,8 +8,8 @@ pub(super) const GRAPH: Argument = Argument {
     name: "GRAPH",
     help: "The graph file",
     more: "The graph file, a TOML document that names actors and links them. The coefficient files that it
-names lie in its folder",
-    given: Given::Place(Values::Text),
+names are in the same folder",
+    syntax: Syntax::Place(Values::Text),
 };
 
 pub(super) const IN: Argument = Argument {
@@ -17,30 +17,31 @@ pub(super) const IN: Argument = Argument {
     help: "The WAV file to read, `-` for standard input",
     more: "The WAV file to read: 16-bit PCM, 1 to 8 channels.
 `-` is standard input, and a file of that name is `./-`",
-    given: Given::Place(Values::Text),
+    syntax: Syntax::Place(Values::Text),
 };
 
 const OUT: Argument = Argument {
     name: "OUT",
-    help: "The WAV file to write, none that is read, `-` for standard output",
-    more: "The WAV file to write, which may be none that is read. What was in it is gone.
+    help: "The WAV file to write, not one that is read; `-` for standard output",
+    more: "The WAV file to write. It must not be a file that is read. Its old content is lost.
 `-` is standard output, and a file of that name is `./-`",
-    given: Given::Place(Values::Text),
+    syntax: Syntax::Place(Values::Text),
 };
 
 const INPUTS: Argument = Argument {
     name: "IN",
     help: "The WAV files to read",
-    more: "The WAV files to read, each with a name of its own: 16-bit PCM, 1 to 8 channels",
-    given: Given::Places(Values::Text),
+    more: "The WAV files to read, each with a name of its own: 16-bit PCM, 1 to 8 channels. None can be `-`",
+    syntax: Syntax::Places(Values::Text),
 };
 
 const INTO: Argument = Argument {
     name: "into",
     help: "The folder to write into, each file by its name",
-    more: "The folder to write into, each file by its name. It is made if it is missing. A file in it is replaced once
-its run has ended well, and stays as it was if the run fails",
-    given: Given::Choice("FOLDER", Values::Text, None),
+    more: "The folder to write into, each file by its name. It is made if it is missing, in a folder that exists. An
+output is written to NAME.part, which replaces a file of that name, and moved to NAME once its run has ended
+well. If the run fails, NAME stays as it was",
+    syntax: Syntax::Choice("FOLDER", Values::Text, None),
 };
 
 const BLOCKING: Argument = Argument {
@@ -49,7 +50,7 @@ const BLOCKING: Argument = Argument {
     more: "Periods in a block, 1 to 64. The table has the firings of one block: in a longer block more of
 them can be done at the same time, and links hold more samples.
 In `run` it has no effect without `--runner rows` or `--runner rings`",
-    given: Given::Choice("J", Values::Signed(1, MOST_BLOCKING as i64), Some("1")),
+    syntax: Syntax::Choice("J", Values::Signed(1, MOST_BLOCKING as i64), Some("1")),
 };
 
 const WORKERS: Argument = Argument {
@@ -57,7 +58,7 @@ const WORKERS: Argument = Argument {
     help: "Workers, 1 to 16",
     more: "Workers, 1 to 16: the columns of the table, each of which does its firings in a thread.
 In `run` it has no effect without `--runner rows` or `--runner rings`",
-    given: Given::Choice("M", Values::Unsigned(1, MOST_WORKERS as u64), Some("1")),
+    syntax: Syntax::Choice("M", Values::Unsigned(1, MOST_WORKERS as u64), Some("1")),
 };
 
 const POLICY: Argument = Argument {
@@ -67,9 +68,9 @@ const POLICY: Argument = Argument {
 - round: passes over the actors in file order, in which each that may fire fires once
 - lean: the one whose firing adds least to what the links hold
 - runs: the same one while it may, and then the next in file order
-Only tables by `--placement file` go by it.
+Only tables by `--placement file` depend on it.
 In `run` it has no effect without that and `--runner rows` or `--runner rings`",
-    given: Given::Choice("P", Values::OneOf(POLICY_WORDS), Some("round")),
+    syntax: Syntax::Choice("P", Values::OneOf(POLICY_WORDS), Some("round")),
 };
 
 const PLACEMENT: Argument = Argument {
@@ -80,10 +81,10 @@ const PLACEMENT: Argument = Argument {
 - homed: the same, but each actor stays with the worker that its first firing went to
 - file: the worker that the key `processor` of the actor names; one firing a row
 - spread: a worker by the actor's share of what all actors weigh; one firing a row, the whole block by the
-  policy runs. `--blocking` has no effect: a block has the most periods that keep each link within
-  1024 samples
+  policy runs. `--blocking` has no effect: a block has the most periods that put at most 1024 samples
+  on each link, and at least one
 In `run` it has no effect without `--runner rows` or `--runner rings`",
-    given: Given::Choice("L", Values::OneOf(PLACEMENT_WORDS), Some("homed")),
+    syntax: Syntax::Choice("L", Values::OneOf(PLACEMENT_WORDS), Some("homed")),
 };
 
 const RUNNER: Argument = Argument {
@@ -94,7 +95,7 @@ const RUNNER: Argument = Argument {
 - rows: the firings of a row of the table at once, then those of the next row
 - rings: each worker at its own pace, over a ring for each link; each actor needs one worker, as by
   `--placement homed`, `--placement file` or `--placement spread`",
-    given: Given::Choice("R", Values::OneOf(RUNNER_WORDS), Some("one")),
+    syntax: Syntax::Choice("R", Values::OneOf(RUNNER_WORDS), Some("one")),
 };
 
 const PATIENCE: Argument = Argument {
@@ -103,17 +104,18 @@ const PATIENCE: Argument = Argument {
     more: "How often a worker whose next firing lacks samples or room tests again, in all, before its round
 ends; at most 1000000.
 It has no effect without `--runner rings`",
-    given: Given::Choice("T", Values::Signed(0, MOST_PATIENCE as i64), Some("1000")),
+    syntax: Syntax::Choice("T", Values::Signed(0, MOST_PATIENCE as i64), Some("1000")),
 };
 
 const PARALLEL: Argument = Argument {
     name: "parallel",
-    help: "Runs in parallel, by as many workers as there are processors or by M",
-    more: "Runs in parallel, by M workers, 1 to 16, or by as many as there are processors: each runs the whole design on
-a part of the sound of its own, after a warm-up on the samples before it. It is one thread if a loop of the
-design may keep samples for ever, if the warm-up would be too long, if the sound is short, or if M is 1. With
-`--why` a line on standard error says which",
-    given: Given::Switch(Switch {
+    help: "Runs in parallel, by M workers or by one for each processor, at most 16",
+    more: "Runs in parallel, by M workers or by one for each processor, at most 16. Each worker runs the whole design
+on its own part of the sound, after a warm-up on the samples before it. The run uses one thread if a loop of
+the design may keep samples for ever, if the warm-up would be too long, if the sound is short, or if there is
+one worker. At a terminal or with `--why` a line on standard error says which.
+It can't be combined with `--blocking`, `--workers`, `--policy`, `--placement`, `--runner` or `--patience`",
+    syntax: Syntax::Switch(Switch {
         against: &[
             "blocking",
             "workers",
@@ -128,54 +130,54 @@ design may keep samples for ever, if the warm-up would be too long, if the sound
 
 pub(super) const WHY: Argument = Argument {
     name: "why",
-    help: "Says more of a fault: names, values and limits",
-    more: "Says more of a fault: after its line come lines that begin with two blanks and have the names of files and
-actors and the ends of links, what stands in a file or at a key and what it wants, or a cycle that lacks
-samples. It is on by itself if standard error is a terminal",
-    given: PLAIN,
+    help: "Says more about a fault: names, values and limits",
+    more: "Says more about a fault: below its line are lines that begin with two blanks. They have the names of files
+and actors, the ends of links, the value of a key or in a file and the one that is needed, or a cycle that
+lacks samples. It is on by default if standard error is a terminal",
+    syntax: PLAIN,
 };
 
 pub(super) const NO_WHY: Argument = Argument {
     name: "no-why",
     help: "Says no more at a terminal than to a pipe or a log",
-    more: "Says no more at a terminal than to a pipe or a log: a fault has its line alone, and a deadlock a line for
-each actor too",
-    given: Given::Switch(Switch {
+    more: "Says no more at a terminal than to a pipe or a log: a fault is one line, and a deadlock has a line for each
+actor too",
+    syntax: Syntax::Switch(Switch {
         against: &["why"],
         value: None,
     }),
 };
 
 const LEVELS: Argument = Argument {
-    help: "Says more of a fault, and how loud each output is",
-    more: "Says more of a fault: after its line come lines that begin with two blanks and have the names of files and
-actors and the ends of links, what stands in a file or at a key and what it wants, or a cycle that lacks
-samples. A run that ends well says of each output its frames, its peak below full scale in dB, and how many
-of its samples are at full scale. It is on by itself if standard error is a terminal. There a run of one
-file that takes over two seconds also shows how far it has come",
+    help: "Says more about a fault, and how loud each output is",
+    more: "Says more about a fault: below its line are lines that begin with two blanks. They have the names of files
+and actors, the ends of links, the value of a key or in a file and the one that is needed, or a cycle that
+lacks samples. A run that ends well reports the frames of each output, its peak below full scale in dB, and
+the number of its samples at full scale. It is on by default if standard error is a terminal. There a run of
+one file that takes over two seconds also shows its progress",
     ..WHY
 };
 
 const QUIET: Argument = Argument {
-    more: "Says no more at a terminal than to a pipe or a log: a fault has its line alone, and a deadlock a line for
-each actor too. A run has no line for each output, none that shows how far it has come, and none that says
-how it went in parallel",
+    more: "Says no more at a terminal than to a pipe or a log: a fault is one line, and a deadlock has a line for each
+actor too. A run reports no levels of its outputs, no progress, and not how it went in parallel",
     ..NO_WHY
 };
 
 const OPEN_ENDED: Argument = Argument {
     name: "open-ended",
-    help: "Reads samples to the end of IN, whatever its header says",
-    more: "Reads samples to the end of IN, whatever size of the samples its header says: for programs that write to
-a pipe and do not know the size yet. The sound is read whole before OUT is written",
-    given: PLAIN,
+    help: "Reads samples to the end of IN, whatever size its header gives",
+    more: "Reads samples to the end of IN, whatever size its header gives: for programs that write to a pipe and do
+not know the size yet. The whole sound is read before OUT is written",
+    syntax: PLAIN,
 };
 
 pub(super) const JSON: Argument = Argument {
     name: "json",
-    help: "Answers in JSON, also of a fault",
-    more: "Answers in JSON: one value on one line in place of the text. A fault is one too, on standard error",
-    given: Given::Switch(Switch {
+    help: "Prints JSON, also for a fault",
+    more: "Prints JSON: one value on one line in place of the text. A fault is one too, on standard error.
+It can't be combined with `--why`",
+    syntax: Syntax::Switch(Switch {
         against: &["why"],
         value: None,
     }),
@@ -188,10 +190,10 @@ pub(super) const ROWS: &[Row] = &[
     Row {
         name: "check",
         help: "Checks a graph file and prints its period",
-        more: "Checks a graph file and prints its period: how many actors and links there are, how many firings make
-a period, how many of them are each actor's, and how many samples an input puts and an output takes
-in one. A fault is a line on standard error, and a deadlock has a line for each actor too. At a terminal
-further lines say what stands in the files. `sdfw explain` says what a fault means.",
+        more: "Checks a graph file and prints its period: the numbers of actors and links, the firings in a period and
+those of each actor, and the samples that an input puts and an output takes in it. A fault is a line on
+standard error, and a deadlock has a line for each actor too. At a terminal, further lines say what is in the
+files. `sdfw explain` says what a fault means.",
         schedules: false,
         arguments: &[GRAPH, WHY, NO_WHY, JSON],
         examples: "Examples:
@@ -213,9 +215,10 @@ each link holds.",
     Row {
         name: "run",
         help: "Processes a WAV file",
-        more: "Processes a WAV file: runs as many periods of the design as it takes to read IN, and writes what its
-outputs take to OUT. The bytes are the same whatever the options are. Several files are written into a
-folder by `sdfw run GRAPH --into FOLDER IN..`, of which `sdfw run --into FOLDER --help` says more.",
+        more: "Processes a WAV file: runs the periods of the design that it takes to read IN, and writes what its
+outputs take to OUT. The bytes are the same for every runner, schedule and number of workers.
+`sdfw run GRAPH --into FOLDER IN..` writes several files into a folder; `sdfw run --into FOLDER --help`
+says more.",
         schedules: true,
         arguments: &[
             GRAPH, IN, OUT, RUNNER, PATIENCE, PARALLEL, OPEN_ENDED, LEVELS, QUIET,
@@ -232,9 +235,9 @@ folder by `sdfw run GRAPH --into FOLDER IN..`, of which `sdfw run --into FOLDER 
 pub(super) const BATCH: &[Row] = &[Row {
     name: "run",
     help: "Processes WAV files, each into a file of its name in a folder",
-    more: "Processes WAV files, each into a file of its name in FOLDER: as many at once as there are processors, or
-one after the other with `--parallel`. A line for each on standard output says what became of it, in
-the order of the files. The exit status is the greatest that a run of one of them alone would have.",
+    more: "Processes WAV files, each into a file of its name in FOLDER. They run in parallel, one for each processor,
+at most 16 at a time; with `--parallel` they run one after the other. A line for each on standard output says
+what became of it, in the order of the files. The exit status is the greatest of all files.",
     schedules: true,
     arguments: &[
         GRAPH, INPUTS, INTO, RUNNER, PATIENCE, PARALLEL, OPEN_ENDED, LEVELS, QUIET,

@@ -1,16 +1,16 @@
 //! The commands that show what a schedule does and what a run costs: their arguments and help texts.
 
 use super::designs::{GRAPH, IN, JSON, NO_WHY, WHY};
-use super::{Argument, Given, PLAIN, Row, Values};
+use super::{Argument, PLAIN, Row, Syntax, Values};
 
 const COMPARE: Argument = Argument {
     name: "compare",
     help: "Compares the schedules of all policies, placements and numbers of workers",
     more: "Compares the schedules of all policies, placements and numbers of workers 1, 2, 4 and so on up to
-`--workers`: a line for each, with a star at the best speedup, and at the best of each other column
-among blocks of as many periods, or with the number of a fault where there is no schedule, of which
-`sdfw explain` says more. `--policy` and `--placement` have no effect with it",
-    given: PLAIN,
+`--workers`, a line for each. A star marks the best speedup, and the best of each other column among blocks
+of equally many periods. If there is no schedule, the line has the number of a fault; `sdfw explain` says what
+it means. `--policy` and `--placement` have no effect with it",
+    syntax: PLAIN,
 };
 
 const DOT: Argument = Argument {
@@ -18,26 +18,26 @@ const DOT: Argument = Argument {
     help: "Writes the graph for Graphviz, without a schedule",
     more: "Writes the graph in the language of Graphviz, without a schedule: its actors, and its links with their
 rates and initial samples",
-    given: PLAIN,
+    syntax: PLAIN,
 };
 
 const WRITE: Argument = Argument {
     name: "write",
-    help: "Writes the graph file with the measured costs, - for standard output",
-    more: "Writes the graph file into FILE, with the key `cost` of each actor as it was measured and all else as it
-stands there; - for standard output, in place of the lines. FILE may be no file that is read. Each actor
-is to have a table of its own, below a line `[[actor]]`, and its cost a line of its own, `cost = 12`",
-    given: Given::Choice("FILE", Values::Path, None),
+    help: "Writes the graph file with the measured costs, `-` for standard output",
+    more: "Writes the graph file into FILE, with the measured `cost` of each actor and everything else unchanged. `-`
+is standard output, in place of the report. FILE must not be a file that is read; its old content is lost.
+Each actor needs a table of its own, below a line `[[actor]]`, and its cost a line of its own, `cost = 12`",
+    syntax: Syntax::Choice("FILE", Values::Path, None),
 };
 
 pub(super) const ROWS: &[Row] = &[
     Row {
         name: "analyze",
         help: "Prints how long a schedule takes and what its links hold",
-        more: "Prints how long a schedule takes and what its links hold. A firing starts as soon as it may and takes
-the time that the key `cost` of its actor says, 1 where it has none. The makespan is when the last one
-ends, the work what all cost together, and no schedule of the block ends before the bound. The speedup
-is the work over the makespan; of each worker is said how much of the makespan it fires.",
+        more: "Prints how long a schedule takes and what its links hold. A firing starts as soon as it may, and takes
+the time that the key `cost` of its actor gives, or 1. The makespan is the time when the last firing ends, and
+the work is the sum of all costs. No schedule of the block ends before the bound. The speedup is the work over
+the makespan. For each worker, the part of the makespan in which it fires is printed.",
         schedules: true,
         arguments: &[GRAPH, COMPARE, WHY, NO_WHY, JSON],
         examples: "Examples:
@@ -58,10 +58,10 @@ the table against time, a lane for each worker.",
     },
     Row {
         name: "profile",
-        help: "Measures the share of each actor in the time of a run",
-        more: "Measures the share of each actor in the time of a run over a WAV file in one thread, and the
-nanoseconds of a firing, and prints the keys `cost` to write into the graph file, of which the least
-is 1. What the run makes is not written.",
+        help: "Measures each actor's share of the time of a run",
+        more: "Measures a run over a WAV file in one thread: each actor's share of the time, and the nanoseconds of a
+firing. Prints them with the keys `cost` for the graph file, the least of which is 1. The output of the run is
+not written. IN is read whole, and has at most 1073741824 bytes.",
         schedules: false,
         arguments: &[GRAPH, IN, WRITE, WHY, NO_WHY],
         examples: "Examples:

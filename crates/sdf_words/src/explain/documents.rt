@@ -22,7 +22,7 @@ pub(super) static MEANINGS: [Meaning; 15] = [
     Meaning {
         place: "PLACE key K",
         means: "A key does not belong there, or `file` stands beside `taps` or `values`, which it replaces.",
-        limits: "the keys of the kind (`sdfw kinds`), `name`, `kind`, `processor` and `cost`",
+        limits: "an actor: `name`, `kind`, `processor`, `cost` and the keys of its kind (`sdfw kinds`); a link: `from`, `to` and `initial`; the top: `format`, `actor` and `link`; a coefficient file: `format` and `values`",
         remedy: "Remove it, or correct its spelling; keep either the list or `file`.",
     },
     // 52 MissingKey
@@ -65,7 +65,7 @@ pub(super) static MEANINGS: [Meaning; 15] = [
         place: "link C key K",
         means: "An end is not `name` or `name:port`, names no actor, or has a port over 15.",
         limits: "ports 0 to 15, in decimal without leading zeros",
-        remedy: "Mend the end.",
+        remedy: "Correct the end.",
     },
     // 58 NoFile
     Meaning {
@@ -77,14 +77,14 @@ pub(super) static MEANINGS: [Meaning; 15] = [
     // 59 ChannelsMissing
     Meaning {
         place: "",
-        means: "The design reads a channel that the WAV file does not have. OUT is left empty.",
+        means: "The design reads a channel that the WAV file does not have. A run of one file leaves OUT empty.",
         limits: "`channel` below the file's channels",
         remedy: "Use a file with more channels, or lower `channel`.",
     },
     // 60 RateNotWhole
     Meaning {
         place: "",
-        means: "The output's rate would not be a whole number. OUT is left empty.",
+        means: "The output's rate would not be a whole number. A run of one file leaves OUT empty.",
         limits: "the rate times what an output takes in a period is a multiple of what an input puts",
         remedy: "Use a file with another rate, or other factors.",
     },
@@ -105,7 +105,7 @@ pub(super) static MEANINGS: [Meaning; 15] = [
     // 63 CycleLength
     Meaning {
         place: "link C",
-        means: "A link has another number of rates than its actor's cycle has firings. Only a program that makes graphs in code meets this: a kind always has its own rates.",
+        means: "The number of a link's rates is not the number of firings in its actor's cycle. Only a program that makes graphs in code meets this: a kind always has its own rates.",
         limits: "1 to 64 rates, the same number at each link of an actor",
         remedy: "Give one rate for each firing of the cycle.",
     },

@@ -51,7 +51,7 @@ pub(super) static MEANINGS: [Meaning; 21] = [
         place: "actor A",
         means: "The actor has no key `processor`, or one past the last worker, and the placement is `file`.",
         limits: "`processor` below the number of workers",
-        remedy: "Change `processor`, or use more workers.",
+        remedy: "Set `processor`, or use more workers.",
     },
     // 20 NoPort
     Meaning {
@@ -84,14 +84,14 @@ pub(super) static MEANINGS: [Meaning; 21] = [
     // 24 InputRates
     Meaning {
         place: "actor A",
-        means: "The input puts another number of samples in a period than the first input.",
+        means: "The input puts a different number of samples in a period from the first input.",
         limits: "the same number at each input",
         remedy: "Make the rates behind the two inputs alike.",
     },
     // 25 OutputRates
     Meaning {
         place: "actor A",
-        means: "The output takes another number of samples in a period than the first output.",
+        means: "The output takes a different number of samples in a period from the first output.",
         limits: "the same number at each output",
         remedy: "Make the rates before the two outputs alike.",
     },
@@ -113,7 +113,7 @@ pub(super) static MEANINGS: [Meaning; 21] = [
     Meaning {
         place: "PLACE key K",
         means: "A value is outside its limits, or a list is empty or too long.",
-        limits: "those of the key, as `sdfw kinds` lists them",
+        limits: "those of the key, as `sdfw kinds` lists them; in `initial` whole numbers of 32 bits",
         remedy: "Change the value.",
     },
     // 29 InputLength
@@ -140,7 +140,7 @@ pub(super) static MEANINGS: [Meaning; 21] = [
     // 32 NoWorker
     Meaning {
         place: "",
-        means: "A thread could not be started. This version's threads run one after another then, and never give this.",
+        means: "A thread could not be started. This version never reports it: the workers then run one after another.",
         limits: "",
         remedy: "Use fewer workers.",
     },
