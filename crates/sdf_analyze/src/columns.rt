@@ -140,7 +140,7 @@ fn push_right(text: &mut String, places: usize, word: &str) -> Result<(), AllocE
     ensures { OnOk result (string_bytes text.new ≡ string_bytes text.old ++ right places word.now) }
 {
     push_spaces(text, places.saturating_sub(word.len()))?;
-    Ok(text.push_str(word)?)
+    text.push_str(word)
 }
 
 /// Adds the value of `measures` in `column`.
@@ -214,7 +214,7 @@ fn push_made(
     push_cells(alloc, text, entries, measures)
 }
 
-/// Adds a refused schedule: `word` in the first column, and then the `number` of the fault.
+/// Adds a refused schedule: no periods, `word` in the column of the makespan, and then the `number` of the fault.
 #[tactic(auto, unfolding(crate::specs::Columns::refused_text))]
 fn push_refused(text: &mut String, word: &str, number: u32) -> Result<(), AllocError>
     ensures { OnOk result (string_bytes text.new ≡ string_bytes text.old ++ refused_text word.now number) }

@@ -128,7 +128,7 @@ fn share_table(options: &Options, other: &Options) -> bool
     options.placement != Placement::File && by_policy == *other
 }
 
-/// Returns the outcome of the first entry that has the table of `options`.
+/// Returns the outcome of the first entry that has the table of `options`, if one has. No clause says that it is found.
 fn shared(entries: &[Entry], options: &Options) -> Option<Outcome>
     ensures { IfSome result (λ w. (e : Entry) × Contains entries.now e × ShareTable e.options options.now
         × (w ≡ e.outcome)) }

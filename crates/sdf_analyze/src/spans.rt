@@ -41,7 +41,7 @@ pub(crate) fn block_span(
     span(alloc, graph, period, periods, &costs)
 }
 
-/// Returns the span of a block of `periods` periods if it is known.
+/// Returns the span of a block of `periods` periods if it is known. No clause says that a known one is found.
 fn known_span(known: &[BlockSpan], periods: u32) -> Option<u64>
     ensures { IfSome result (λ span. Contains known.now (record { periods = periods; span = span })) }
 {

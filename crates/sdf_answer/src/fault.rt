@@ -11,7 +11,8 @@ pub enum RunFault {
     /// An allocation was refused.
     #[error("1 OutOfMemory")]
     OutOfMemory,
-    /// There are more or fewer input lists than the net reads, or they differ in length, or they are too short.
+    /// There are more or fewer input lists than the net reads, or they differ in length, or are too short. In a session
+    /// they must also be whole blocks.
     #[error("29 InputLength")]
     InputLength,
     /// The table has an actor in two columns.
@@ -23,7 +24,7 @@ pub enum RunFault {
     /// A worker could not be started. No runner returns this: the workers run one after another instead.
     #[error("32 NoWorker")]
     NoWorker,
-    /// A session is used again after memory or a worker was refused in it.
+    /// A session is used again after memory was refused in it.
     #[error("33 SessionFailed")]
     SessionFailed,
 }

@@ -1,6 +1,6 @@
 //! The input lists of a run.
 
-ghost use Rattle.std.specs.Prelude.{◌≡◌, ◌≤◌, ◌<◌, ◌↔◌, ℕ, List, [], length, slice_index_or, IsTrue, IfNone};
+ghost use Rattle.std.specs.Prelude.{◌≡◌, ◌≤◌, ◌<◌, ◌↔◌, ℕ, List, [], length, slice_index_or, IsTrue, MatchOption};
 ghost use Rattle.sdf_actor.specs.Wires.{lists};
 ghost use Rattle.sdf_answer.specs.Answer.{AreInputs};
 
@@ -28,7 +28,8 @@ pub fn are_inputs<T>(inputs: &[Vec<T>], many: usize, least: usize) -> bool
 
 /// Returns the first sample of the first list, or `None` if there is none.
 pub fn first_sample<T: Copy>(inputs: &[Vec<T>]) -> Option<T>
-    ensures { IfNone result (length (slice_index_or (lists inputs.now) 0 []) ≡ 0) }
+    ensures { let list = slice_index_or (lists inputs.now) 0 [] in
+        MatchOption result (length list ≡ 0) (λ x. (0 < length list) × (slice_index_or list 0 x ≡ x)) }
 {
     if inputs.is_empty() || inputs[0].is_empty() {
         return None;

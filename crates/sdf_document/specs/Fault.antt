@@ -77,11 +77,12 @@ abbrev pub or_fault : {A : Type 0} → Fault → Option A → Result A Fault
 or_fault f None = Err f
 or_fault f (Some x) = Ok x
 
--- what a reader returned, seen by view, is what the definition gives, unless memory was refused
+-- the definition gives this fault, unless memory was refused
 abbrev pub Fails : {Y : Type 0} → ReadFault → Result Y Fault → Type 0
 Fails reads.OutOfMemory read = Unit {0}
 Fails (reads.Document f) read = read ≡ Err (fault_view f)
 
+-- what a reader returned, seen by view, is what the definition gives, unless memory was refused
 abbrev pub Gives : {X Y : Type 0} → (X → Y) → Result X ReadFault → Result Y Fault → Type 0
 Gives view (Ok x) read = read ≡ Ok (view x)
 Gives view (Err e) read = Fails e read

@@ -46,12 +46,12 @@ fn name_at<'a>(
     Ok(name)
 }
 
-/// Checks that an actor of kind `word` has only keys that it may have. The fault names the first other key in byte
+/// Checks that an actor of this `kind` has only keys that it may have. The fault names the first other key in byte
 /// order.
-fn test_actor_keys(alloc: Global, actor: usize, word: Kind, table: &Table) -> Result<(), ReadFault>
-    ensures { Gives (λ x. x) result (keys_at actor word (table_view table.now)) }
+fn test_actor_keys(alloc: Global, actor: usize, kind: Kind, table: &Table) -> Result<(), ReadFault>
+    ensures { Gives (λ x. x) result (keys_at actor kind (table_view table.now)) }
 {
-    let known = actor_keys(alloc, row_of(word).keys, table)?;
+    let known = actor_keys(alloc, row_of(kind).keys, table)?;
     test_keys(alloc, Spot::Actor(actor), known.as_slice(), table)
 }
 
@@ -101,13 +101,13 @@ pub(crate) fn actor_at(
         return Err(DocumentFault::WrongType(Place::Actor(actor), "actor").into());
     };
     let name = name_at(alloc, actor, names, table)?;
-    let word = word_at(actor, format, table)?;
-    test_actor_keys(alloc, actor, word, table)?;
-    let kind = kind_at(alloc, actor, files, word, table)?;
+    let kind = word_at(actor, format, table)?;
+    test_actor_keys(alloc, actor, kind, table)?;
+    let entry = kind_at(alloc, actor, files, kind, table)?;
     let (processor, cost) = shared_at(alloc, actor, files, table)?;
     Ok(ActorEntry {
         name: String::from_str(alloc, name)?,
-        kind,
+        kind: entry,
         processor,
         cost,
     })

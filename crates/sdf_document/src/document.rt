@@ -149,10 +149,7 @@ fn file_of(kind: &KindEntry) -> Option<&str>
         KindEntry::Table { values, .. } => values,
         _ => return None,
     };
-    match &list.file {
-        Some(name) => Some(name.as_str()),
-        None => None,
-    }
+    list.file.as_deref()
 }
 
 /// Puts the names of the coefficient files of `actors` into `names`, each once.
@@ -212,7 +209,8 @@ impl Model for GraphFile {
 }
 
 impl GraphFile {
-    /// Parses `graph`, the bytes of a graph file, once for `file_names` and `document`.
+    /// Parses `graph`, the bytes of a graph file, for `file_names` and `document`. Errs with `49 NotToml` if they are
+    /// not a TOML document.
     #[tactic(auto, unfolding(crate::specs::Document::graph_table))]
     pub fn parse(alloc: Global, graph: &[u8]) -> Result<GraphFile, ReadFault>
         ensures { Gives table_view result (graph_table graph.now) }

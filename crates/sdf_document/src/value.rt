@@ -49,7 +49,7 @@ pub(crate) fn natural_in(
     let Some(number) = value.as_integer() else {
         return Err(DocumentFault::WrongType(Place::Actor(actor), key).into());
     };
-    if number >= 0 && i64::from(least) <= number && number <= i64::from(most) {
+    if i64::from(least) <= number && number <= i64::from(most) {
         Ok(number as u32)
     } else {
         Err(DocumentFault::KitValue(Place::Actor(actor), key).into())

@@ -179,10 +179,12 @@ fn drawn(alloc: Global, design: &Design, options: &Options) -> Result<Drawing, F
     ensures { MatchResult result (λ w. IsDrawing design.now options.now (drawn_of w))
         (IsShowFault design.now options.now) }
 {
+    // Its contract says that the design is whole (`IsDesign`).
     let _ = design.net();
     let DesignSchedule { period, block } = scheduled(alloc, design, options)?;
     let placed = options.with_blocking(block.periods);
     let figures = Figures::of(alloc, design, &placed, &period, &block.table)?;
+    // Its contract says that the work of `figures` is bounded.
     let _ = figures.makespan();
     let layout = laid_out(alloc, design, period.order())?;
     Ok(Drawing {

@@ -59,10 +59,11 @@ impl fmt::Display for Stalled {
 pub enum Fault {
     #[error("1 OutOfMemory")]
     OutOfMemory,
-    /// A mistake on the command line, or a request for help or the version. The text is the parser's own.
+    /// A mistake on the command line, or a request for help or the version. `fault_text` prints
+    /// the parser's text, without the usage if only a value is wrong.
     #[error(transparent)]
     Words(WordFault),
-    /// The fault of the design: 2, 3, 6 to 9, 20 to 28, 49 to 58.
+    /// The fault of the design: 2, 3, 6 to 9, 20 to 28, 49 to 58. It is never `OutOfMemory`.
     #[error(transparent)]
     File(FileFault),
     /// No sequence of enabled firings completes a period.
@@ -72,7 +73,7 @@ pub enum Fault {
     BlockingFactor,
     #[error("12 WorkerCount")]
     WorkerCount,
-    /// The fault of a table that is refused: 13 `BlockTooLong` or 19 `BadHome`.
+    /// The fault of a table that is refused: 13 `BlockTooLong` or 19 `BadHome`. It is never `OutOfMemory`.
     #[error(transparent)]
     Table(PrecFault),
     /// Input lists that are too short. The program never makes them.
@@ -87,7 +88,7 @@ pub enum Fault {
     /// A worker could not be started. No runner returns this today.
     #[error("32 NoWorker")]
     NoWorker,
-    /// A session was used again after memory or a worker was refused. The program never does so.
+    /// A session was used again after memory was refused. The program never does so.
     #[error("33 SessionFailed")]
     SessionFailed,
     /// The fault of a WAV file, read or to be written: 34 to 46.
@@ -259,7 +260,7 @@ fn mistake_text(alloc: Global, mistake: &clap::Error) -> Result<String, AllocErr
 }
 
 /// Returns the text of `fault` for standard error: one line, and for a deadlock one more line for each actor. For a
-/// mistake on the command line, it has the parser's own text.
+/// mistake on the command line, it has the parser's lines, without the usage if only a value is wrong.
 ///
 /// A control character, even in a key or in a word of the command line, is written like `\u{a}`, so that it can't
 /// control the terminal. Only the line ends of the parser's text stay.
@@ -271,7 +272,7 @@ pub fn fault_text(alloc: Global, fault: &Fault) -> Result<String, AllocError>
             let said = mistake_text(alloc, mistake)?;
             printable_lines(alloc, said.as_str())
         }
-        // The names of actors are printed as they are.
+        // Names of actors have no control characters, and the ends of the lines between them must stay.
         Fault::Deadlock(_) => format!(in alloc; "sdfw: {fault}\n"),
         _ => {
             let said = format!(in alloc; "{fault}")?;

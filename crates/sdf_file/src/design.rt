@@ -95,7 +95,8 @@ impl Design {
     }
 }
 
-/// Parses `graph`, the bytes of a graph file, once for the names of its coefficient files and for its design.
+/// Parses `graph`, the bytes of a graph file, for `coefficient_files` and `make_design`. Errs with `49 NotToml` if they
+/// are not a TOML document.
 pub fn parse_graph(alloc: Global, graph: &[u8]) -> Result<GraphFile, FileFault>
     ensures { MatchResult result (λ g. graph_table graph.now ≡ Ok (table_view g))
         (IsReadFault (graph_table graph.now)) }

@@ -57,7 +57,7 @@ pub enum FilterFault {
     /// A rate is 0.
     #[error("a rate is 0: take both from 1 on")]
     NoRate,
-    /// The rest of the ratio of the rates has no factor from 2 to 64.
+    /// The ratio of the rates, in lowest terms, has this factor over 64, which no number from 2 to 64 divides.
     #[error("the ratio of the rates has the factor {factor}, which has no divisor from 2 to 64: take another rate")]
     FactorTooLarge { factor: u32 },
 }

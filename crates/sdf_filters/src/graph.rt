@@ -190,7 +190,7 @@ fn push_silence(text: &mut String, channels: u32, channel: u32) -> Result<(), Al
     text.push_str("gain = 0\nshift = 0\n")
 }
 
-/// Adds the actor that adds these silent samples to a channel.
+/// Adds the actor that adds the samples of `push_silence` to a channel.
 #[tactic(auto, unfolding(crate::specs::Graphs::sum_text))]
 fn push_sum(text: &mut String, channels: u32, channel: u32) -> Result<(), AllocError>
     ensures { OnOk result (string_bytes text.new ≡ string_bytes text.old ++ sum_text channels channel) }

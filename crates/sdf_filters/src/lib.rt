@@ -1,13 +1,13 @@
 //! Filters made by formula: the integer taps of a low-pass, high-pass or band-pass, and designs that convert between
 //! two rates.
 //!
-//! It depends on `sdf_limits` alone. Begin at `wanted` (a filter in plain numbers), `filter` (its taps) and `texts`
-//! (the texts that `sdfw fir` prints). These use `lowpass`, `differences` (high-passes and band-passes), `coefficients`
-//! (the text of taps) and `settling`. `settling` makes the sum of each phase exact by the steps of `phases`, in the
-//! `order` of taps. `split` splits a conversion into stages. `converter` makes their design for `sdfw resample`, with
-//! the graph file from `graph`. `sinc`, `cost` and `measure` compute with floats, and no clause says anything of their
-//! values. The definitions are in `specs/Wanted.antt`, `specs/Phases.antt` (the sums of phases), `specs/Stages.antt`
-//! and `specs/Converters.antt`.
+//! It depends on `sdf_limits` and `thiserror` alone. Begin at `wanted` (a filter in plain numbers), `filter` (its taps)
+//! and `texts` (the texts that `sdfw fir` prints). These use `lowpass`, `differences` (high-passes and band-passes),
+//! `coefficients` (the text of taps) and `settling`. `settling` makes the sum of each phase exact by the steps of
+//! `phases`, in the `order` of taps. `split` splits a conversion into stages. `converter` makes their design for `sdfw
+//! resample`, with the graph file from `graph`. `sinc`, `cost` and `measure` compute with floats, and no clause says
+//! anything of their values. The definitions are in `specs/Wanted.antt`, `specs/Phases.antt` (the sums of phases),
+//! `specs/Stages.antt` and `specs/Converters.antt`.
 #![tactic(auto)]
 
 mod coefficients;

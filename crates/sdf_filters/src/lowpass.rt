@@ -43,7 +43,10 @@ impl Model for Lowpass {
 }
 
 impl Lowpass {
-    /// Makes a low-pass: frequencies up to `pass` Hz pass, and from `stop` Hz on they are down by `attenuation` dB.
+    /// Makes a low-pass that is to pass frequencies up to `pass` Hz, and to attenuate those from `stop` Hz on by
+    /// `attenuation` dB. Taps of 16 bits may attenuate less.
+    ///
+    /// Errs with the first of `Up`, `Shift`, `Attenuation`, `PassNotBelowStop` and `StopOverHalf`.
     pub fn new(
         rate: u32,
         pass: u32,
@@ -84,7 +87,8 @@ impl Lowpass {
         self.up
     }
 
-    /// Returns the number of taps that Kaiser's formula asks for, rounded up to whole phases.
+    /// Returns the number of taps that Kaiser's formula asks for, rounded up to whole phases. Errs with `TooManyTaps`
+    /// if that is over 1,024.
     ///
     /// No clause says that the number is the formula's.
     pub fn count(&self) -> Result<usize, FilterFault>
@@ -99,7 +103,8 @@ impl Lowpass {
     /// unchanged.
     ///
     /// They are the rounded values of the sinc. If the sum of a phase is not exact, the taps that rounding moved most
-    /// the other way are moved, in pairs that keep them symmetric. No clause says that they are close to the sinc.
+    /// the other way are moved, in pairs that keep them symmetric. No clause says that they are close to the sinc. Errs
+    /// with `TapTooLarge` if a tap has over 16 bits.
     pub fn taps(&self, alloc: Global, count: usize) -> Result<Vec<i32>, FilterFault>
         requires some { 0 < count }
         requires few { count ≤ MOST_TAPS }
@@ -120,7 +125,8 @@ impl Lowpass {
     }
 
     /// Returns the taps of the high-pass that passes what this one stops, and stops what it passes. They are `2^shift`
-    /// at the middle minus this one's taps, and sum to 0, so nothing is left of a constant.
+    /// at the middle minus this one's taps, and sum to 0, so nothing is left of a constant. Errs with `TapTooLarge` if
+    /// a tap has over 16 bits.
     pub fn highpass(&self, alloc: Global, count: usize) -> Result<Vec<i32>, FilterFault>
         requires few { count ≤ MOST_TAPS }
         requires odd { count % 2 ≡ 1 }
@@ -133,7 +139,8 @@ impl Lowpass {
     }
 
     /// Returns the taps of the band-pass that passes what this one passes and `narrow` does not: this one's taps minus
-    /// the taps of `narrow`. The taps of each phase sum to 0, so nothing is left of a constant.
+    /// the taps of `narrow`. The taps of each phase sum to 0, so nothing is left of a constant. Errs with `TapTooLarge`
+    /// if a tap has over 16 bits.
     pub fn bandpass(
         &self,
         alloc: Global,

@@ -174,7 +174,8 @@ fn settle_outer(taps: &mut [i32], reals: &[f64], up: usize, total: i64) -> Resul
 }
 
 /// Moves taps until each phase sums to `total`. They are made symmetric first. They stay so unless the phase around the
-/// middle has an even number of taps and `total` is odd.
+/// middle has an even number of taps and `total` is odd. Errs with `TapTooLarge` if a tap to be moved is over 65,536 in
+/// size.
 pub fn settle(taps: &mut [i32], reals: &[f64], up: usize, total: i64) -> Result<(), FilterFault>
     requires same { length reals.now ≡ length taps.old }
     requires up { 0 < up }

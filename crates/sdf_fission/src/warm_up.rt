@@ -14,7 +14,8 @@ use sdf_actor::{Net, Node};
 use sdf_graph::{Channel, Graph, moved_by};
 use std::alloc::{AllocError, Global};
 
-/// The greatest number of firings of an actor that is considered. A longer warm-up would take more time than it saves.
+/// The greatest memory of an actor, and the latest first firing without a cold sample, that are considered. A longer
+/// warm-up would take more time than it saves.
 pub const MAX_FIRINGS: u32 = 1_048_576;
 
 /// The change of a target's firing in a list `since`.
@@ -134,8 +135,8 @@ fn move_on(graph: &Graph, memory: &[u32], since: &mut [u32]) -> Move
     moves
 }
 
-/// Moves the firings in `since` on until all channels are late. In a graph without a loop, each pass except the last
-/// moves an actor that is one channel further from the first ones.
+/// Moves the firings in `since` on until all channels are late. Each pass that moves a firing shows a walk that is one
+/// channel longer. So after more passes than actors there is a loop.
 fn settle(graph: &Graph, memory: &[u32], since: &mut [u32]) -> Move
     requires all { length since.old ≡ graph.now.actors }
     requires memory { AreFirings (length since.old) memory.now }
@@ -157,8 +158,8 @@ fn settle(graph: &Graph, memory: &[u32], since: &mut [u32]) -> Move
     Move::MovesOn
 }
 
-/// Returns, for each actor, the first firing from which on it does what it does in a run from the start. Returns `None`
-/// if the graph has no firings like these, or if one is too far.
+/// Returns, for each actor, the first firing from which on it takes no cold sample. Returns `None` if the graph has a
+/// loop, or if one of these firings exceeds `MAX_FIRINGS`.
 fn since_of(alloc: Global, graph: &Graph, memory: &[u32]) -> Result<Option<Vec<u32>>, AllocError>
     requires memory { AreFirings graph.now.actors memory.now }
     ensures { IfOk result (λ r. MatchOption r
@@ -202,6 +203,9 @@ fn periods_for(repetitions: &[u32], memory: &[u32], since: &[u32]) -> u32
 
 /// Returns the number of warm-up periods that `net` needs. A run that starts this number of periods earlier, without
 /// any samples from before, leaves what the run from the start leaves.
+///
+/// Returns `None` if the graph has a loop, or if an actor keeps samples for ever, or if a number of firings exceeds
+/// `MAX_FIRINGS`.
 pub fn warm_up<A: Forgetful>(alloc: Global, net: &Net<A>) -> Result<Option<u32>, AllocError>
     // These periods are enough.
     ensures warms { IfOk result (λ r. IfSome r (λ periods. (q : List ℕ) →

@@ -8,12 +8,16 @@ use crate::graph::Graph;
 use crate::repetitions::{Ratio, reduced};
 use sdf_limits::MOST_PERIOD;
 
-/// The balance of a channel: how often its source and its target fire, and the samples that these firings put and take.
+/// The balance of a channel over the fewest whole cycles of both its ends at their relative rates.
 #[derive(Debug, Clone, Copy, PartialEq, Eq)]
 pub struct Meeting {
+    /// Firings of the source.
     pub source: u64,
+    /// Samples that these firings put.
     pub puts: u64,
+    /// Firings of the target.
     pub target: u64,
+    /// Samples that these firings take.
     pub takes: u64,
 }
 

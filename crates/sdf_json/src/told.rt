@@ -21,25 +21,25 @@ pub(crate) fn begun(alloc: Global, number: u32, name: &str) -> Result<Members, A
     Ok(members)
 }
 
-/// Returns a fault that carries nothing else.
+/// Returns the value of a fault that has only its number and name.
 pub(crate) fn plain(alloc: Global, number: u32, name: &str) -> Result<Value, AllocError>
     ensures { IfOk result (λ v. view v ≡ plain number name.now) }
 {
     Ok(Value::Object(begun(alloc, number, name)?))
 }
 
-/// Returns a fault that has the number `place` under the key `word`.
+/// Returns the value of a fault with `index` under the key `word`.
 pub(crate) fn at(
     alloc: Global,
     number: u32,
     name: &str,
     word: &str,
-    place: usize,
+    index: usize,
 ) -> Result<Value, AllocError>
-    ensures { IfOk result (λ v. view v ≡ at number name.now word.now place) }
+    ensures { IfOk result (λ v. view v ≡ at number name.now word.now index) }
 {
     let mut members = begun(alloc, number, name)?;
-    put_number(&mut members, alloc, word, place as u64)?;
+    put_number(&mut members, alloc, word, index as u64)?;
     Ok(Value::Object(members))
 }
 

@@ -1,14 +1,7 @@
 //! The table of kinds: one row for each kind, and one reader for all rows.
 //!
-//! To add a kind:
-//! 1. here, its word in `Kind` and `KINDS`, its keys and an arm of `row_of`; its row in `specs/Rows.antt`; any new keys
-//!   in `key.rt` and `specs/Keys.antt`; its ports in `ports.rt` and `specs/Ports.antt`, if no kind has the same;
-//! 2. its line in the table of `docs/FORMATS.md`, as `kinds_text` in `listing.rt` prints it;
-//! 3. in `sdf_document`, its values as a variant of `KindEntry`, with an arm of `entry_of` in `kind.rt` that takes them
-//!   in the order of the row; an equation of `entry_of` and one of `kind_values` in `specs/Kinds.antt`;
-//! 4. if it has a list, an arm of `file_of` in `document.rt` there, and an equation of `kind_file` in
-//!   `specs/Document.antt`;
-//! 5. in `sdf_kit`, what it computes: see `kit.rt` there.
+//! `docs/FORMATS.md` ("How to add a kind") lists what a new kind needs. Here it is a variant in `Kind` and `KINDS`, its
+//! keys, and an arm of `row_of` with its word.
 ghost use Rattle.std.specs.Prelude.{◌≡◌};
 ghost use Rattle.sdf_kinds.specs.Rows.{keys_view, row_view, shared_keys, row_of, kinds};
 

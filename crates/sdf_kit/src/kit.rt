@@ -1,14 +1,8 @@
 //! The kinds of actor as one type, which only dispatches.
 //!
-//! To add a kind, beside its row (see `row.rt` of `sdf_kinds`), write:
-//! 1. a file in `specs/` with its values, their limits, its ports, its step and its formula, as a `Behaviour`;
-//! 2. a module here with its struct, whose `new`, `ports` and `run` have these as their contracts; `run` fires once or
-//!   many times;
-//! 3. a variant, a constructor and an arm of each `match` below, and a row of `specs/Kit.antt`;
-//! 4. a case in `specs/PutsFit.antt` (its blocks have their lengths) and in `proofs/Formulas.antt` (it puts its
-//!   formula);
-//! 5. a lemma in `proofs/KindRuns.antt`: what its `run` puts is what the firings put one by one;
-//! 6. if it multiplies, its products in `firing_products.rt` and `specs/FiringProducts.antt`.
+//! `docs/FORMATS.md` ("How to add a kind") lists what a new kind needs. Here it is a module whose `new`, `ports` and
+//! `run` have the `Behaviour` of its file in `specs/` as their contracts, and a variant, a constructor and an arm of
+//! each `match` below.
 
 ghost use Rattle.std.specs.Prelude.{◌≡◌, ◌≤◌};
 ghost use Rattle.sdf_actor.specs.Steps.{Steps, total_in, total_out, PutsFit};

@@ -3,9 +3,9 @@
 ghost use Rattle.std.specs.Prelude.{◌≡◌, ◌≤◌};
 ghost use Rattle.sdf_kit.specs.Turns.{turns_of};
 
-use crate::fault::{KitFault, check, is_between};
+use crate::fault::{KitFault, check, check_ways, is_between};
 use sdf_kinds::{Key, Kind};
-use sdf_limits::{LEAST_WAYS, MOST_RUN, MOST_WAYS};
+use sdf_limits::{MOST_RUN, MOST_WAYS};
 use std::marker::Model;
 
 /// The number of ways, and the number of samples in each turn.
@@ -30,8 +30,7 @@ impl Turns {
     pub fn new(kind: Kind, ways: usize, run: u32) -> Result<Turns, KitFault>
         ensures { result ≡ turns_of kind ways run }
     {
-        let few = is_between(LEAST_WAYS as usize, MOST_WAYS as usize, ways);
-        check(few, kind, Key::Ways)?;
+        check_ways(ways, kind)?;
         check(
             is_between(1, MOST_RUN as usize, run as usize),
             kind,

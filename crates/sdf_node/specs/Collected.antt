@@ -1,5 +1,5 @@
 -- The lists that sinks make.
-use Rattle.std.specs.Prelude.{◌≡◌, ℕ, List, [], length, slice_index_or}
+use Rattle.std.specs.Prelude.{◌≡◌, ℕ, List, [], length, slice_index_or, Unit}
 use Rattle.std.specs.List.{flat_map}
 use Rattle.std.specs.Global.{Global}
 use Rattle.std.specs.declared.vec.Vec.{Vec}
@@ -19,6 +19,12 @@ pub record IsCollected {A S T : Type 0} (x : Node A) (w : NodeState T S)
       slice_index_or (lists outputs') ext [] ≡ made.items
   pub others : (e : ℕ) → ((block : ℕ) → x ≡ node.Sink e block → ⊥) →
       slice_index_or (lists outputs') e [] ≡ slice_index_or (lists outputs) e []
+
+-- no state but that of a sink changes
+abbrev pub KeepsOthers : {A S T : Type 0} → Node A → NodeState T S → NodeState T S → Type 0
+KeepsOthers (node.Source ext block) w w' = w' ≡ w
+KeepsOthers (node.Sink ext block) w w' = Unit {0}
+KeepsOthers (node.Inner x) w w' = w' ≡ w
 
 -- a sink has a list of all that it took
 abbrev pub SinksHoldLists : {A S T : Type 0} → Steps A S T → Type 0

@@ -5,7 +5,7 @@ ghost use Rattle.std.specs.declared.vec.Vec.{Vec};
 ghost use Rattle.std.specs.Global.{Global};
 ghost use Rattle.sdf_actor.specs.declared.node.Node.TheVariants as kind;
 ghost use Rattle.sdf_node.specs.declared.node.NodeState.TheVariants.{Sink};
-ghost use Rattle.sdf_node.specs.Collected.{IsCollected};
+ghost use Rattle.sdf_node.specs.Collected.{IsCollected, KeepsOthers};
 
 use crate::node::NodeState;
 use sdf_actor::{Actor, Node};
@@ -27,7 +27,8 @@ pub fn collect_at<A: Actor>(
     outputs: &mut [Vec<A::Token>],
 )
     requires { (ext block : ℕ) → node.now ≡ kind.Sink ext block → ext < length outputs.old }
-    ensures { IsCollected node.now state.old outputs.old outputs.new }
+    ensures collected { IsCollected node.now state.old outputs.old outputs.new }
+    ensures others { KeepsOthers node.now state.old state.new }
 {
     match node {
         Node::Sink { ext, .. } => swap_list(state, &mut outputs[usize::from(*ext)]),

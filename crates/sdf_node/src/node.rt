@@ -58,7 +58,7 @@ pub fn puts<A: Actor>(node: &Node<A>, phase: u32) -> usize
     }
 }
 
-/// Returns the greatest number of samples that a firing takes at all ports or puts on all ports.
+/// Returns a number of samples that no firing exceeds, neither by what it takes at all ports nor by what it puts.
 pub fn most<A: Actor>(node: &Node<A>) -> usize
     ensures { IsMost A.steps node.now result }
 {

@@ -29,7 +29,7 @@ use Rattle.sdf_one.specs.Firings.{made, phase_at, IsActor, IsFired}
 use Rattle.sdf_node.specs.Many.{joined}
 use Rattle.sdf_answer.specs.Blocks.{front_at, dealt}
 use Rattle.sdf_answer.proofs.Theorems.{blocks_are_counted, nodes_take_theirs}
-use Rattle.sdf_one.specs.Many.{GoesByMany, Fit, CanFireMany, AreManyFired}
+use Rattle.sdf_one.specs.Many.{GoesByMany, FitsCycles, CanFireMany, AreManyFired}
 use Rattle.sdf_one.specs.Runs.{HasBlocks, Stands}
 use Rattle.sdf_one.proofs.CycleBlocks as blocks
 use Rattle.sdf_one.proofs.ManyWorks.{inner_work, worked_same, its_blocks, stands_along, puts_chained, taken_at}
@@ -194,7 +194,7 @@ module _ {A S T Z : Type 0} (g : Holding A S T Z) (cycling : Cycling g) (d : Wor
         cycle.ahead_in its_actor (k a) begins c l e firings,
       )
 
-  can_fire : Fit w0 size more times → firings < 2 ^ 63 →
+  can_fire : FitsCycles w0 size more times → firings < 2 ^ 63 →
       ((c : ℕ) → c < length n.wires → tokens (wiring s n).rates m c ≤ room qs c) →
       CanFireMany s times ins outs takes puts w0 qs
   can_fire fit few roomy = record {
@@ -222,7 +222,7 @@ module _ {A S T Z : Type 0} (g : Holding A S T Z) (cycling : Cycling g) (d : Wor
     );
   }
     where
-      one : Fit w0 size more 1
+      one : FitsCycles w0 size more 1
       one = its_blocks g w0 is_work
 
       rooms : (i : ℕ) → i < length outs → length (samples qs (get_or outs i 0))
@@ -249,12 +249,12 @@ module _ {A S T Z : Type 0} (g : Holding A S T Z) (cycling : Cycling g) (d : Wor
           loop l e = let at = ins_all s n net a known c l e in apart at.0 i at.1 h at.2
 
   -- they can be done
-  pub can_fire_many : Fit (get_or works a d) size more times → times * cycle_of s (nets.node n a) < 2 ^ 63 →
+  pub can_fire_many : FitsCycles (get_or works a d) size more times → times * cycle_of s (nets.node n a) < 2 ^ 63 →
       ((c : ℕ) → c < length n.wires → tokens (wiring s n).rates m c ≤ room qs c) →
       CanFireMany s times ins outs takes puts (get_or works a d) qs
   can_fire_many fit few roomy =
       subst (λ w. CanFireMany s times ins outs takes puts w qs) (sym begins_so.is)
-      (can_fire (subst (λ w. Fit w size more times) begins_so.is fit)
+      (can_fire (subst (λ w. FitsCycles w size more times) begins_so.is fit)
       (subst (λ v. times * cycle_of s v < 2 ^ 63) inner.0 few) roomy)
 
   -- what firing i of them takes

@@ -21,7 +21,7 @@ use Rattle.sdf_one.specs.declared.work.Work.TheVariants.{Source, Sink, Inner}
 use Rattle.sdf_answer.specs.Held.{Held}
 use Rattle.sdf_answer.specs.Blocks.{samples}
 use Rattle.sdf_node.specs.Many.{joined}
-use Rattle.sdf_one.specs.Many.{HasRows, Fit, HaveManyWorked}
+use Rattle.sdf_one.specs.Many.{HasRows, FitsCycles, HaveManyWorked}
 use Rattle.sdf_one.specs.Runs.{HasBlocks, IsWork, Stands}
 use Rattle.sdf_one.proofs.WholeCycles as cycle
 use Rattle.sdf_one.proofs.Holding.{Holding, HasWork, actor_of}
@@ -99,7 +99,7 @@ module _ {A S T Z : Type 0} (g : Holding A S T Z) where
 
   -- an actor's blocks have room for a cycle, and its phases have their rows
   pub its_blocks : (w : Work A T S) → HasWork g a w →
-      Fit w (sum_by (λ c. get_or y.takes.items c 0) ((wiring s n).ins a))
+      FitsCycles w (sum_by (λ c. get_or y.takes.items c 0) ((wiring s n).ins a))
       (sum_by (λ c. get_or y.puts.items c 0) ((wiring s n).outs a)) 1
   its_blocks (Source ext next block) is = tt
   its_blocks (Sink ext) is = tt

@@ -25,7 +25,7 @@ use Rattle.sdf_answer.specs.Blocks.{room, ArePorts, HoldBlocks, HoldManyBlocks}
 use Rattle.sdf_answer.specs.Sizes.{phase_of, at_phase}
 use Rattle.sdf_one.specs.Firings.{phase_at, IsActor}
 use Rattle.sdf_one.specs.AtOnce.{GoesAtOnce, CanFireAtOnceAt, AreFiredAt}
-use Rattle.sdf_one.specs.Many.{HasRows, GoesByMany, Fit, GoManyAt, CanFireManyAt, AreManyFiredAt, firings_in}
+use Rattle.sdf_one.specs.Many.{HasRows, GoesByMany, FitsCycles, GoManyAt, CanFireManyAt, AreManyFiredAt, firings_in}
 use Rattle.sdf_one.specs.Runs.{Stands, IsInRun, FiresAlone, CanFireAt, IsFiredAt}
 use Rattle.sdf_answer.specs.Answer.{periods_of}
 use Rattle.sdf_one.specs.Sweeps.{Sweeps, IsSwept, MayFire, HasRoom, Keeps, IsMoved, AreHeld}
@@ -489,10 +489,10 @@ module _ {A S T : Type 0} (p : Swept A S T) {w : Work A T S} {ins outs takes put
   rows_at = subst (λ x. HasRows s r.sizes w x outs) (sym into)
       (subst (λ x. HasRows s r.sizes w ((wiring s r.net.now).ins a) x) (sym from) (has_rows (holding p) w work_is))
 
-  pub blocks_at : Fit w (sum_by (λ c. get_or takes c 0) ins) (sum_by (λ c. get_or puts c 0) outs) 1
+  pub blocks_at : FitsCycles w (sum_by (λ c. get_or takes c 0) ins) (sum_by (λ c. get_or puts c 0) outs) 1
   blocks_at =
-      subst (λ v. Fit w v (sum_by (λ c. get_or puts c 0) outs) 1) (sym in_sum)
-      (subst (λ v. Fit w (sum_by (λ c. get_or r.cycles.takes.items c 0) ((wiring s r.net.now).ins a)) v 1)
+      subst (λ v. FitsCycles w v (sum_by (λ c. get_or puts c 0) outs) 1) (sym in_sum)
+      (subst (λ v. FitsCycles w (sum_by (λ c. get_or r.cycles.takes.items c 0) ((wiring s r.net.now).ins a)) v 1)
       (sym out_sum) (its_blocks (holding p) w work_is))
 
   pub ins_at : ArePorts ins takes (length qs)
@@ -516,7 +516,8 @@ module _ {A S T : Type 0} (p : Swept A S T) {w : Work A T S} {ins outs takes put
       }))
 
   pub go_at : (times : ℕ) → GoesByMany s r.sizes w ins outs → HoldManyBlocks times ins takes qs →
-      Fit w (sum_by (λ c. get_or takes c 0) ins) (sum_by (λ c. get_or puts c 0) outs) times → GoManyAt s r a times
+      FitsCycles w (sum_by (λ c. get_or takes c 0) ins) (sum_by (λ c. get_or puts c 0) outs) times →
+      GoManyAt s r a times
   go_at times goes held fit = record {
     goes = λ d. subst (λ x. GoesByMany s r.sizes x ((wiring s r.net.now).ins a) ((wiring s r.net.now).outs a))
         (is ∙ get_or_default r.works.items a w d place_in)
@@ -525,11 +526,12 @@ module _ {A S T : Type 0} (p : Swept A S T) {w : Work A T S} {ins outs takes put
     held = subst (λ x. HoldManyBlocks times x r.cycles.takes.items r.queues.items) into
         (subst (λ x. HoldManyBlocks times ins x r.queues.items) by
         (subst (λ x. HoldManyBlocks times ins takes x) queues held));
-    fit = λ d. subst (λ x. Fit x (sum_by (λ c. get_or r.cycles.takes.items c 0) ((wiring s r.net.now).ins a))
+    fit = λ d. subst (λ x. FitsCycles x (sum_by (λ c. get_or r.cycles.takes.items c 0) ((wiring s r.net.now).ins a))
         (sum_by (λ c. get_or r.cycles.puts.items c 0) ((wiring s r.net.now).outs a)) times)
         (is ∙ get_or_default r.works.items a w d place_in)
-        (subst (λ v. Fit w v (sum_by (λ c. get_or r.cycles.puts.items c 0) ((wiring s r.net.now).outs a)) times) in_sum
-        (subst (λ v. Fit w (sum_by (λ c. get_or takes c 0) ins) v times) out_sum fit));
+        (subst (λ v. FitsCycles w v (sum_by (λ c. get_or r.cycles.puts.items c 0) ((wiring s r.net.now).outs a)) times)
+        in_sum
+        (subst (λ v. FitsCycles w (sum_by (λ c. get_or takes c 0) ins) v times) out_sum fit));
   }
     where
       place_in : a < length r.works.items

@@ -30,10 +30,10 @@ GoesByMany s z (Inner actor phase state taken put lengths) ins outs =
 GoesByMany s z w ins outs = ⊥
 
 -- a cycle takes `many` samples and puts `more`: the actor's blocks have room for `times` cycles
-abbrev pub Fit : {A S T : Type 0} → Work A T S → ℕ → ℕ → ℕ → Type 0
-Fit (Inner actor phase state taken put lengths) many more times =
+abbrev pub FitsCycles : {A S T : Type 0} → Work A T S → ℕ → ℕ → ℕ → Type 0
+FitsCycles (Inner actor phase state taken put lengths) many more times =
     (times * many ≤ vec_capacity taken) × (times * more ≤ length put.items)
-Fit w many more times = Unit {0}
+FitsCycles w many more times = Unit {0}
 
 -- what `times` cycles put, if they take b
 abbrev pub all_put : {A S T : Type 0} → Steps A S T → Work A T S → List T → ℕ → List T
@@ -100,5 +100,5 @@ pub record AreManyFiredAt {A S T : Type 0} (s : Steps A S T) (r r' : Run A T S) 
 pub record GoManyAt {A S T : Type 0} (s : Steps A S T) (r : Run A T S) (a times : ℕ) : Type 0 where
   pub goes : HoldsOfWork r a (λ w. GoesByMany s r.sizes w ((wiring s r.net.now).ins a) ((wiring s r.net.now).outs a))
   pub held : HoldManyBlocks times ((wiring s r.net.now).ins a) r.cycles.takes.items r.queues.items
-  pub fit : HoldsOfWork r a (λ w. Fit w (sum_by (slice_index r.cycles.takes.items) ((wiring s r.net.now).ins a))
+  pub fit : HoldsOfWork r a (λ w. FitsCycles w (sum_by (slice_index r.cycles.takes.items) ((wiring s r.net.now).ins a))
       (sum_by (slice_index r.cycles.puts.items) ((wiring s r.net.now).outs a)) times)

@@ -151,8 +151,8 @@ fn feed_one_in<A: Actor>(
     Ok((Ran { outputs, rounds: 0 }, rest))
 }
 
-/// Resumes `net` from `rest`, which earlier runs left with all samples read, for `periods` more periods on `inputs`.
-/// Its outputs, joined to the outputs of the earlier runs, are the outputs of one run on all inputs.
+/// Resumes `net` from `rest`, the net state that earlier runs left, and runs `periods` further periods on `inputs`. If
+/// the earlier runs read all their samples, the outputs of all runs, joined, are the outputs of one run on all inputs.
 pub fn resume_one<A: Actor>(
     alloc: Global,
     net: &Net<A>,

@@ -18,6 +18,9 @@ use std::alloc::Global;
 /// Room for all samples is allocated before the first firing. A channel's queue has room for its initial samples and
 /// for what one block puts on it, so it does not grow with the length of the run. The time of a run is linear in its
 /// length.
+///
+/// Returns 29 InputLength if `inputs` does not have one list for each input of the net, all of one length, with at
+/// least the samples that the run reads.
 pub fn run_one<A: Actor>(
     alloc: Global,
     net: &Net<A>,

@@ -9,7 +9,7 @@ use std::alloc::{AllocError, Global};
 use std::mem;
 
 /// The memory that a run on one thread leaves to the next one: its queues, and its output lists once they are given
-/// back. Its size follows the last run that was not refused. A run without samples leaves no queues.
+/// back. If memory is refused, a run may leave less. A run without samples leaves no queues.
 #[derive(Drop)]
 pub struct Spares<T> {
     pub(crate) queues: Vec<Queue<T>>,
@@ -30,8 +30,8 @@ impl<T: Copy> Spares<T> {
         self.outputs = outputs;
     }
 
-    /// Makes `many` empty output lists with room for `room` samples each. Lists that were given back are used if they
-    /// fit, and freed otherwise.
+    /// Makes `many` empty output lists with room for `room` samples each. Lists that were given back are used if their
+    /// capacity is `room`, and freed otherwise.
     pub(crate) fn take_outputs(
         &mut self,
         alloc: Global,

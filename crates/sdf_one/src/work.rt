@@ -174,7 +174,7 @@ impl<'a, A: Actor> Work<'a, A> {
     ghost use Rattle.sdf_one.specs.Firings.{phase_at, IsActor, ActorCanFire, IsFired};
     ghost use Rattle.sdf_one.specs.AtOnce.{GoesAtOnce, CanFireAtOnce, AreFired};
     ghost use Rattle.std.specs.List.{sum_by};
-    ghost use Rattle.sdf_one.specs.Many.{HasRows, GoesByMany, Fit, CanFireMany, AreManyFired};
+    ghost use Rattle.sdf_one.specs.Many.{HasRows, GoesByMany, FitsCycles, CanFireMany, AreManyFired};
 
     /// Returns the phase of the next firing.
     pub(crate) fn phase(&self) -> u32
@@ -294,10 +294,10 @@ impl<'a, A: Actor> Work<'a, A> {
         requires ins { ArePorts ports.now.ins.channels.now ports.now.ins.sizes.now (length ports.now.ins.sizes.now) }
         requires outs { ArePorts ports.now.outs.channels.now ports.now.outs.sizes.now
             (length ports.now.outs.sizes.now) }
-        requires blocks { Fit self.now (sum_by (slice_index ports.now.ins.sizes.now) ports.now.ins.channels.now)
+        requires blocks { FitsCycles self.now (sum_by (slice_index ports.now.ins.sizes.now) ports.now.ins.channels.now)
             (sum_by (slice_index ports.now.outs.sizes.now) ports.now.outs.channels.now) 1 }
         ensures within { result ≤ most }
-        ensures fit { Fit self.now (sum_by (slice_index ports.now.ins.sizes.now) ports.now.ins.channels.now)
+        ensures fit { FitsCycles self.now (sum_by (slice_index ports.now.ins.sizes.now) ports.now.ins.channels.now)
             (sum_by (slice_index ports.now.outs.sizes.now) ports.now.outs.channels.now) result }
     {
         match self {

@@ -76,10 +76,11 @@ pub const RUNNER_WORDS: &[&str] = &["one", "rows", "rings"];
 
 pub static RUNNERS: [Runner; 3] = [Runner::One, Runner::Rows, Runner::Rings];
 
-/// The options of a schedule or a run, within their limits.
+/// The options of a schedule or a run. The type does not enforce the limits below: `plan` and `scheduled` test them.
 #[derive(Clone, Copy, Debug, PartialEq, Eq)]
 pub struct Options {
-    /// Periods in a block, 1 to 64. The placement `spread` does not use it and chooses its own blocks.
+    /// Periods in a block, 1 to 64, or more in what `with_blocking` returns for a long block. The placement `spread`
+    /// does not use it and chooses its own blocks.
     pub blocking: u32,
     /// Processors, 1 to 16.
     pub workers: usize,

@@ -1,4 +1,4 @@
-//! A plan for several workers, each on its own part of the sound.
+//! A plan for several workers, which run parts of the sound in parallel.
 
 ghost use Rattle.std.specs.Prelude.{◌≡◌, ◌≤◌, MatchResult, IfOk};
 ghost use Rattle.sdf_actor.specs.Graphs.{graph_of};
@@ -30,7 +30,7 @@ pub enum Pace {
     },
     /// In one thread: the design has a loop, which may keep samples for ever, or it keeps them for too long.
     Lasting,
-    /// In one thread: only one worker is requested.
+    /// In one thread: there is only one worker.
     Alone,
 }
 
@@ -41,8 +41,8 @@ pub struct Paced {
     pub pace: Pace,
 }
 
-/// Makes the plan that cuts the sound into a part for each worker. Each part is run by the order of `period`, after a
-/// warm-up of `periods` periods.
+/// Makes the plan that runs up to `workers` parts of the sound in parallel. Each part is run by the order of `period`,
+/// after a warm-up of `periods` periods.
 #[tactic(auto, using(crate::proofs::Alone::is_in_parts, crate::proofs::Alone::parts_suit))]
 fn by_parts(design: &Design, workers: usize, periods: u32, period: Period) -> Paced
     requires by_policy { IsScheduleBy Round (graph_of kit_steps design.now.net) period }

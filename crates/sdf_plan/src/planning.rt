@@ -216,6 +216,7 @@ pub fn plan(alloc: Global, design: &Design, options: &Options) -> Result<Plan, F
     // was refused.
     ensures decides { ArePassed options.now → Decides design.now result }
 {
+    // Its contract says that the net has a least period, which the clause `decides` needs.
     let _ = design.net().repetitions();
     planned(alloc, design, options)
 }

@@ -12,7 +12,7 @@ use Rattle.sdf_prec.specs.declared.fault.PrecFault.TheVariants.{FiringMissing, T
 use Rattle.sdf_prec.specs.Tables.{firing, firings, row, order, Stands, IsOfBlock, IsValid}
 use Rattle.sdf_prec.specs.Numbers.{Numbered, InBlock, number}
 use Rattle.sdf_prec.specs.Seen.{AreFresh, AreMarked, IsMarkedBy, IsCellsFault, IsLateAt}
-use Rattle.sdf_prec.specs.Refusals.{before, AreNarrow, IsFresh, IsBefore, IsLate, IsEarlier, CellsPass, AllPass}
+use Rattle.sdf_prec.specs.Refusals.{before, AreNarrow, IsFresh, IsBefore, IsInTime, IsEarlier, CellsPass, AllPass}
 use Rattle.sdf_prec.specs.Refusals.{IsAtCell, StandsFirst}
 use Rattle.sdf_prec.proofs.RowMarks.{in_order, marked_earlier, late_earlier, first_late_earlier}
 use Rattle.sdf_prec.proofs.Theorems.{needs_exist, tests_suffice}
@@ -108,7 +108,7 @@ module _ (r : Rates) (n : List ℕ) (each : length n ≡ r.actors) (width : ℕ)
       to_marks i h g = (marked_earlier width rows s fs m i h g).1
 
       pub late_or_pass : (o : Option PrecFault) → MatchOption o
-          ((i : ℕ) (f : Firing) → i < length rows → Stands (firings (row rows i)) f → IsLate r (IsMarkedBy s i) f)
+          ((i : ℕ) (f : Firing) → i < length rows → Stands (firings (row rows i)) f → IsInTime r (IsMarkedBy s i) f)
           (λ e. (i : ℕ) × (f : Firing) × (g : Firing) × (e ≡ TooEarly i f g) × (i < length rows)
           × IsLateAt r s rows i f g) →
           MatchOption o (AllPass r (λ a. get_or n a 0) width rows) (StandsFirst r (λ a. get_or n a 0) width rows)

@@ -6,7 +6,7 @@ use Rattle.sdf_prec.specs.declared.firing.Firing.{Firing}
 use Rattle.sdf_prec.specs.Tables.{firing, cell_of}
 use Rattle.sdf_prec.specs.Trying.{load, IsLeast, IsHomeFor, IsPlaced}
 
--- the cost of all firings of each actor: a weight for each home
+-- a weight for each actor that `homes` lists: the cost of all its firings
 pub record AreWeights (weights : List ℕ) (homes : List (Option ℕ)) : Type 0 where
   pub all : length weights ≡ length homes
   pub few : length homes ≤ MOST_ACTORS

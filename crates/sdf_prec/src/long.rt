@@ -68,7 +68,7 @@ fn long_fault(j: u32, m: usize, reps: &[u32]) -> Option<PrecFault>
 
 impl Table {
     /// Makes the table of the firings of `j` periods in runs, like `by_homes_in_runs`, with the homes of `spread`. `j`
-    /// may be over 64.
+    /// may be over 64. `weights` has the cost of all firings of each actor in a period.
     ///
     /// It errs with the first of `BlockingFactor` (if `j` is 0), `WorkerCount` and `BlockTooLong`.
     pub fn spread(

@@ -101,7 +101,7 @@ fn share(weights: &[u64], m: usize, first: usize, past: usize) -> usize
     (m as u64 * middle / (2 * all)) as usize
 }
 
-/// Returns the home of each actor for `m` workers, by the `weights` of its firings in a period.
+/// Returns the home of each actor, a worker below `m`. `weights` has the cost of all firings of each actor in a period.
 ///
 /// Adjacent actors in file order stay together if a channel leads back over the place between them, so that a loop has
 /// one worker. They also stay together if the first of them alone feeds the second.

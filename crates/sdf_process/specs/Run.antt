@@ -195,8 +195,8 @@ pub record Handles {X : Type 0} (r r' : ReaderState) (w w' : WriterState) (resul
   pub faults : IfErr result IsProcessFault
   -- nothing behind the samples is read, and no sample is read before the tests that come first
   pub leaves : Leaves r.remaining r'.remaining result
-  -- whatever the reader returns, one canonical file is written, or a front of one if the run stopped behind its
-  -- header, or nothing
+  -- whatever the reader returns, one canonical file is written, or a front of one if the run stopped while or after
+  -- it wrote the header, or nothing
   pub writes : WritesFile w.contents w'.contents result
   -- a device is blamed exactly if it failed in this call, and after its first failure it is not called again
   pub reader : r'.failures ≡ reader_failures result r.failures

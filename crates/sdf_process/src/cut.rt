@@ -12,7 +12,7 @@ use crate::exchange::Exchange;
 use sdf_file::Design;
 use sdf_split::part_size;
 
-/// The most frames that a piece reads or makes on one thread, unless a period has more.
+/// The most frames that a piece on one thread, or a stretch of a part, reads or makes, unless a period has more.
 pub(crate) const PIECE: usize = 32_768;
 
 /// The most frames that each worker reads or makes of a piece, unless a period or eight warm-ups have more. The longer

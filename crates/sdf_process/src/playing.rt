@@ -29,12 +29,12 @@ use sdf_fission::warm_up::warm_up;
 use sdf_kit::{Kept, Kit};
 use sdf_run::{Passage, Spares, resume_one_in};
 use sdf_sched::Period;
-use sdf_split::{Split, Workers, resume_split};
+use sdf_split::{PartWorkers, Split, resume_split};
 use std::alloc::{AllocError, Global};
 use std::mem;
 use std::thread::Threads;
 
-/// A net, one of its periods, and the most parts of a sound that are run in parallel.
+/// A net, a schedule of its period, and the most parts of a sound that are run in parallel.
 #[derive(Clone, Copy)]
 pub(crate) struct Score<'a> {
     pub(crate) net: &'a Net<Kit>,
@@ -105,7 +105,7 @@ pub(crate) enum Manner {
     /// On one thread.
     Whole(Memory),
     /// In parallel parts, cut in this way, by these workers.
-    Parts(Cut, Workers<Vec<i16>, i32, Kept>),
+    Parts(Cut, PartWorkers<Vec<i16>, i32, Kept>),
 }
 
 /// A net that plays a sound.
@@ -152,7 +152,7 @@ impl<'a> Player<'a> {
             IsLasting kit_steps score.entry.net.now)) }
     {
         let manner = match cut_of(alloc, score)? {
-            Some(cut) => Manner::Parts(cut, Workers::none(alloc)),
+            Some(cut) => Manner::Parts(cut, PartWorkers::none(alloc)),
             None => Manner::Whole(Memory::none(alloc)),
         };
         let rest = score.net.first_rest(alloc)?;

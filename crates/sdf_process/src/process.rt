@@ -41,7 +41,8 @@ pub fn process_with<T: Threads + AllocGlobal + Sync, R: Reader, W: Writer, G: Ga
     run_net(rt, reader, writer, task, gate)
 }
 
-/// Calls `process_with` with a gate that lets each firing pass, as the program does.
+/// Reads a WAV file, runs `design` on it by `plan`, and writes the WAV file of the output. The gate of `process_with`
+/// lets each firing pass here.
 pub fn process<T: Threads + AllocGlobal + Sync, R: Reader, W: Writer>(
     rt: &T,
     reader: &mut R,

@@ -3,12 +3,12 @@ use Rattle.std.specs.Prelude.{◌≡◌, ◌⊎◌, ℕ, suc, ◌*◌, ◌+◌, 
 use Rattle.sdf_limits.specs.declared.TheConstants.{MOST_COST}
 
 -- a time in multiples of the least, rounded to the nearest
-abbrev pub times_of : ℕ → ℕ → ℕ
-times_of least time = (2 * time + least) / (2 * least)
+abbrev pub rounded_multiple : ℕ → ℕ → ℕ
+rounded_multiple least time = (2 * time + least) / (2 * least)
 
 -- a time in multiples of the least, from 1 to the most that a key may say
 abbrev pub cost_of : ℕ → ℕ → ℕ → ℕ
-cost_of most least time = min most (suc (times_of least time - 1))
+cost_of most least time = min most (suc (rounded_multiple least time - 1))
 
 -- no time is above 0
 abbrev pub AreNone : List ℕ → Type 0

@@ -46,7 +46,7 @@ unindented line = drop (prefix_len is_ascii_whitespace line) line
 unfoldable pub says_nothing : List ℕ → Bool
 says_nothing line = length (unindented line) == 0 || begins (unindented line) (codes "#")
 
--- a line has the key `cost`, however that is written: no other key begins with it
+-- a line has the key `cost`, bare or quoted, without escapes: no other key begins with it
 unfoldable pub names_cost : List ℕ → Bool
 names_cost line =
     (begins (unindented line) (codes "cost") || begins (unindented line) (codes "\"cost"))

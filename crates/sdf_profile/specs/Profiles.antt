@@ -28,7 +28,7 @@ pub record HasRunOn (d : DesignValue) (input : List ℕ) : Type 0 where
   pub out : Sound
   pub output : HasOutput d.net plan.period.repetitions input out
 
--- the text and the costs are made from the time that the firings of each actor took
+-- the text and the costs are made from one list, with a time and a number of firings for each actor (any numbers)
 abbrev pub IsMeasured : DesignValue → Measured → Type 0
 IsMeasured d m = (all : List Spent) × (length all ≡ length d.net.nodes)
     × AreMeasured d.names all (string_bytes m.text) m.costs.items

@@ -5,7 +5,7 @@
 //! and `sdf_actor` their number. `sdf_graph` and `sdf_kit` have the length of a period, and `sdf_document` reads a
 //! graph file. The crate also needs `sdf_faults`, `sdf_options` and `sdf_limits`. Begin with `measuring`. `stopwatch`
 //! measures, `lines` and `costs` make the report, and `costing` writes the costs into a graph file's text. No contract
-//! says anything about time itself. The definitions are in `specs/Profiles.antt`, `specs/Times.antt`,
+//! says what the times or the numbers of firings are. The definitions are in `specs/Profiles.antt`, `specs/Times.antt`,
 //! `specs/Costs.antt`, `specs/Places.antt` and `specs/Written.antt`.
 #![tactic(auto)]
 

@@ -117,9 +117,9 @@ fn measure<T: Threads + AllocGlobal + Clock + Clone + Drop + Sync>(
 /// Runs `design` in one thread on `input`, the bytes of a WAV file, and drops its output.
 ///
 /// It reports each actor's share of the time, its number of firings, the time of a firing, and the value for its key
-/// `cost`. The least time costs 1. The time between two firings counts for the first of them. This includes reading
-/// the clock (some 30 ns) and, at the end of a piece of sound, the intake of the next piece. The tests are the tests of
-/// the command `run`.
+/// `cost`. The least time costs 1. The time between two firings counts for the first of them. This includes reading the
+/// clock (some 30 ns) and, at the end of a piece of sound, writing its output and preparing the next piece. It fails as
+/// the command `run` does.
 pub fn profile<T: Threads + AllocGlobal + Clock + Clone + Drop + Sync>(
     rt: &T,
     input: &[u8],

@@ -68,7 +68,7 @@ fn says_nothing(line: &[u8]) -> bool
     text.is_empty() || text.starts_with(b"#")
 }
 
-/// Returns whether `line` has the key `cost`, however it is written. No other key begins with it.
+/// Returns whether `line` begins with the key `cost`, bare or quoted, without escapes. No other key begins with it.
 #[tactic(auto, unfolding(crate::specs::Places::names_cost))]
 fn names_cost(line: &[u8]) -> bool
     ensures { result ≡ names_cost line.now }

@@ -41,7 +41,7 @@ pub record IsAsked {A S T : Type 0} (s : Steps A S T) (n : Netlist A T) (t : Tab
   pub table_is : plan.table ≡ t
   pub asked_are : (a : ℕ) → a < length n.nodes → asked a ≡ firings plan blocks a
 
--- a fault is true of the arguments. An actor without a home is tested for first
+-- the fault of the first test that fails: an actor without a home, then the inputs
 abbrev pub IsPrepareFault : {A T : Type 0} → Netlist A T → List ℕ → ℕ → List (List T) → Tabled → RunFault → Type 0
 IsPrepareFault n q periods inputs t OutOfMemory = Unit {0}
 IsPrepareFault n q periods inputs t NotHomed = IsHomed t → ⊥

@@ -39,7 +39,7 @@ impl Course {
         }
     }
 
-    /// How many firings there are.
+    /// Returns the number of firings.
     pub(crate) fn len(&self) -> usize
         ensures { result ≡ length self.now }
     {

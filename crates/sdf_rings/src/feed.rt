@@ -41,8 +41,8 @@ pub fn feed_rings<R: Threads + AllocGlobal + Sync, A: Actor, G: Gate>(
     Ok((Ran { outputs, rounds }, rest))
 }
 
-/// Resumes `net` from `rest`, the state that earlier runs left, and runs `blocks` further blocks on further `inputs`.
-/// If the earlier runs read all their samples, its outputs joined to theirs are what one run on all inputs returns.
+/// Resumes `net` from `rest`, the net state that earlier runs left, and runs `blocks` further blocks on `inputs`. If
+/// the earlier runs read all their samples, the outputs of all runs, joined, are the outputs of one run on all inputs.
 pub fn resume_rings<R: Threads + AllocGlobal + Sync, A: Actor, G: Gate>(
     workers: Workers<'_, R, G>,
     net: &Net<A>,

@@ -1,8 +1,8 @@
 //! Self-timed execution over bounded rings: each actor fires when it can, and the laws cover every order of the moves.
 //!
-//! It depends on `sdf_graph`, `sdf_sched`, `sdf_prec`, `sdf_actor`, `sdf_node`, `sdf_answer` and the rings of `rtrb`.
-//! Begin at `specs/Machine.antt`, the ring machine. `specs/MachineLaws.antt` states its laws, `specs/Laws.antt` the
-//! laws of rounds, and `specs/Pair.antt` shows one ring at work.
+//! It depends on `sdf_graph`, `sdf_sched`, `sdf_prec`, `sdf_actor`, `sdf_node`, `sdf_answer`, `sdf_limits` and the
+//! rings of `rtrb`. Begin at `specs/Machine.antt`, the ring machine. `specs/MachineLaws.antt` states its laws,
+//! `specs/Laws.antt` the laws of rounds, and `specs/Pair.antt` shows one ring at work.
 //!
 //! The code begins at `seat`, where `work` is one worker's round through its firing list (`course`). `stand` is a node
 //! with its ring ends, and `together` fires batches of one node. `specs/Stands.antt`, `specs/Together.antt` and

@@ -71,7 +71,7 @@ fn tell_producer<A: Actor>(
 }
 
 /// Synchronizes the ring from the producer at `from` to the consumer at `to`.
-pub fn tell_at<A: Actor>(alloc: Global, seats: &mut [Seat<A>], from: Spot, to: Spot)
+fn tell_at<A: Actor>(alloc: Global, seats: &mut [Seat<A>], from: Spot, to: Spot)
     requires ring { IsRing seats.old from to }
     ensures { IsTold seats.old seats.new from to }
 {

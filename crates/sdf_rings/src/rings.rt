@@ -137,8 +137,8 @@ impl<'a, A: Actor> Rings<'a, A> {
         work(net, inputs, &mut self.seats[seat], patience, gate)
     }
 
-    /// Runs one round of all workers at once. Each that has firings left runs in a thread of its own. If all ends are
-    /// synchronized and firings of a plan are left, the round does at least one of them.
+    /// Runs one round of all workers in parallel. Of those with firings left, the last runs in this thread, each other
+    /// in a new one. If all ends are synchronized and firings of a plan are left, the round does at least one of them.
     pub fn work_all<R: Threads + Sync, G: Gate>(&mut self, workers: Workers<'_, R, G>)
         ensures rounded { AllBecame (HasRounded A.steps self.new.net self.new.inputs) self.old.seats self.new.seats }
         ensures fires { HaveMet self.old.net self.old.seats self.old.places → (order : List ℕ) (cap : ℕ → ℕ) →

@@ -13,7 +13,7 @@ use sdf_actor::{Actor, Net};
 use sdf_node::Gate;
 use std::thread::Threads;
 
-/// Runs one round of each worker. Those with firings left run at once, each in a thread of its own.
+/// Runs one round of each worker. Of those with firings left, the last runs in this thread, each other in a new one.
 pub(crate) fn run_round<R: Threads + Sync, A: Actor, G: Gate>(
     workers: Workers<'_, R, G>,
     net: &Net<A>,

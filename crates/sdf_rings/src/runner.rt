@@ -49,7 +49,7 @@ pub(crate) fn run_through<'a, R: Threads + AllocGlobal + Sync, A: Actor, G: Gate
 /// empty, or when a check fails and its spin limit (`workers.patience`) is used up.
 ///
 /// All memory is taken before the first firing. Faults are tested in this order: 30 NotHomed, 31 Patience, 29
-/// InputLength.
+/// InputLength (`inputs` does not have one list for each input, or the lists differ in length or are too short).
 pub fn run_rings<R: Threads + AllocGlobal + Sync, A: Actor, G: Gate>(
     workers: Workers<'_, R, G>,
     net: &Net<A>,

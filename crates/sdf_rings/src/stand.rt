@@ -24,15 +24,17 @@ pub struct Stand<A: Actor> {
     pub state: NodeState<A::Token, A::State>,
     pub ins: Vec<Consumer<A::Token, Global>>,
     pub outs: Vec<Producer<A::Token, Global>>,
-    /// Samples that a firing takes (`takes`) and puts (`puts`), by phase and then by port.
+    /// Samples that a firing takes, by phase and then by port.
     pub takes: Vec<Vec<usize>>,
+    /// Samples that a firing puts, by phase and then by port.
     pub puts: Vec<Vec<usize>>,
-    /// The working blocks. What a firing or a batch takes is at the front of `taken`, and what it puts at the front of
-    /// `put`.
+    /// A working block, with the input of a firing or a batch at its front.
     pub taken: Vec<A::Token>,
+    /// A working block, with the output of a firing or a batch at its front.
     pub put: Vec<A::Token>,
-    /// The firings done, and all that are asked of the node (`asked`).
+    /// Firings done.
     pub done: u64,
+    /// Firings asked of the node in the whole run.
     pub asked: u64,
 }
 

@@ -99,8 +99,9 @@ pub fn feed_rows<R: Threads + AllocGlobal + Sync, A: Actor, G: Gate>(
     Ok((Ran { outputs, rounds }, rest))
 }
 
-/// Resumes `net` from `rest`, which earlier runs left with all samples read, for further blocks on `inputs`. Its
-/// outputs, joined to the outputs of the earlier runs, are the outputs of one run on all inputs.
+/// Resumes `net` from `rest`, the net state that earlier runs left, and runs `plan.blocks` further blocks on `inputs`.
+/// If the earlier runs read all their samples, the outputs of all runs, joined, are the outputs of one run on all
+/// inputs.
 pub fn resume_rows<R: Threads + AllocGlobal + Sync, A: Actor, G: Gate>(
     rt: &R,
     net: &Net<A>,

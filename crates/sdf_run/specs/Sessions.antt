@@ -118,7 +118,7 @@ IsFeedFault v inputs NoWorker = ⊥
 IsFeedFault v inputs NotHomed = ⊥
 IsFeedFault v inputs Patience = ⊥
 
--- the session after a fault: it is spent if memory or a worker was refused, otherwise unchanged
+-- the session after a fault: it is spent if memory was refused (`NoWorker` never occurs), otherwise unchanged
 abbrev pub after_fault : {A S T : Type 0} → SessionValue A S T → RunFault → SessionValue A S T
 after_fault v OutOfMemory = record v { rest = None }
 after_fault v NoWorker = record v { rest = None }

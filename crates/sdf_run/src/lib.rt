@@ -1,9 +1,9 @@
 //! All runners of nets under one name, and runs that are fed in pieces.
 //!
-//! It depends on `sdf_answer`, `sdf_one`, `sdf_rows`, `sdf_rings`, `sdf_graph`, `sdf_sched`, `sdf_prec`, `sdf_actor`
-//! and `sdf_node`. Begin with `session`, a run that is fed in pieces, by rows (`sdf_rows`) or over rings (`sdf_rings`),
-//! as its `mode` says. The runner on one thread is in `sdf_one`. The inputs and outputs of all runners are defined in
-//! `sdf_answer`.
+//! It depends on `sdf_answer`, `sdf_one`, `sdf_rows`, `sdf_rings`, `sdf_graph`, `sdf_sched`, `sdf_prec`, `sdf_actor`,
+//! `sdf_node` and `sdf_limits`. Begin with `session`, a run that is fed in pieces, by rows (`sdf_rows`) or over rings
+//! (`sdf_rings`), as its `mode` says. The runner on one thread is in `sdf_one`. The inputs and outputs of all runners
+//! are defined in `sdf_answer`.
 #![tactic(auto)]
 
 pub mod mode;

@@ -35,7 +35,7 @@ pub struct Session<'a, A: Actor> {
     net: &'a Net<A>,
     table: &'a BlockTable,
     mode: Mode,
-    /// The net state, or `None` once memory or a worker was refused.
+    /// The net state, or `None` once memory was refused.
     rest: Option<Rest<A::Token, A::State>>,
     blocks: u64,
     rounds: u64,
@@ -157,7 +157,7 @@ fn go_on<R: Threads + AllocGlobal + Sync, A: Actor, G: Gate>(
 }
 
 impl<'a, A: Actor> Session<'a, A> {
-    /// Opens a session, before its first feed. The tests, over rings only, in this order: 30 NotHomed, 31 Patience.
+    /// Opens a session, before its first feed. Over rings it fails with 30 NotHomed, tested first, or 31 Patience.
     pub fn open(
         alloc: Global,
         net: &'a Net<A>,
@@ -195,8 +195,9 @@ impl<'a, A: Actor> Session<'a, A> {
     /// Runs the blocks in `inputs`, and returns the outputs beyond what was made before. Each list must have the
     /// samples of the same number of blocks. Lists without samples are 0 blocks, and make empty lists.
     ///
-    /// Returns 29 InputLength if the lists are not whole blocks, and leaves the session unchanged. After 1 OutOfMemory
-    /// the session is spent, and returns 33 SessionFailed.
+    /// Returns 29 InputLength, and leaves the session unchanged, if `inputs` does not have one list for each input. The
+    /// same if the lists are not equally many whole blocks, or over 4,294,967,295 blocks. After 1 OutOfMemory the
+    /// session is spent, and returns 33 SessionFailed.
     pub fn feed<R: Threads + AllocGlobal + Sync, G: Gate>(
         &mut self,
         rt: &R,

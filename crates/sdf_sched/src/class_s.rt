@@ -40,7 +40,8 @@ fn short_of(counts: &Counts, firings: &[u32], actor: usize) -> Option<usize>
     counts.short_channel(actor)
 }
 
-/// Checks whether `actor` is runnable, and stores the channel that it waits for if it is not.
+/// Checks whether `actor` is runnable. Stores the channel that it waits for, or `None` if it is runnable or its firings
+/// are over.
 fn test(counts: &Counts, firings: &[u32], actor: usize, awaited: &mut [Option<usize>]) -> bool
     requires all { length firings.now ≡ counts.now.graph.actors }
     requires known { actor < length firings.now }
@@ -261,7 +262,8 @@ fn fire_greedily<'a, P: Pick>(
     Ok((counts, order))
 }
 
-/// Returns a schedule of one period, made by the choices of `pick` among the runnable actors.
+/// Returns a schedule of one period, made by the choices of `pick` among the runnable actors. It errs with `Deadlock`
+/// if no schedule exists.
 ///
 /// All memory is allocated before the first choice. After an error `pick` is in the state that its last choice left.
 ///

@@ -10,7 +10,7 @@ ghost use Rattle.sdf_similar.specs.Similar.{edit_bound, fewest_edits, first_with
 use std::alloc::{AllocError, Global};
 use strsim::levenshtein;
 
-/// Returns the least number of edits that makes a name unlike `word`.
+/// Returns the number of edits from which on a name is not like `word`.
 fn bound_of(word: &str) -> usize
     ensures { result ≡ edit_bound word.now }
 {
@@ -33,7 +33,7 @@ fn fewest_edits(
     Ok(fewest)
 }
 
-/// Returns the first of `names` that at most `edits` edits lead to from `word`.
+/// Returns the first of `names` within `edits` edits of `word`.
 fn first_within<'a>(
     alloc: Global,
     names: &[&'a str],
@@ -51,7 +51,8 @@ fn first_within<'a>(
     Ok(None)
 }
 
-/// Returns the first of `names` with the fewest edits from `word`, if it is like `word`.
+/// Returns the first of `names` with the fewest edits from `word`, or `None` if that takes `word.len() / 3 + 2` edits
+/// or more. An edit inserts, deletes or changes one character.
 #[tactic(auto, unfolding(crate::specs::Similar::nearest))]
 pub fn nearest<'a>(
     alloc: Global,

@@ -6,8 +6,8 @@ ghost use Rattle.sdf_split.specs.Cuts.{cut};
 
 use std::alloc::{AllocError, Global};
 
-/// The inputs that the parts of a run read, and what their outputs become. Workers call both functions in parallel, for
-/// each stretch of their own parts.
+/// The inputs that the parts of a run read, and what their outputs become. Workers call them in
+/// parallel: `read` for each stretch and each warm-up of their parts, `finish` for each stretch.
 pub trait Ends<T>: Sync {
     /// What the outputs of a stretch become.
     type Made: Send + Drop;

@@ -17,4 +17,4 @@ pub use ends::Ends;
 pub use part::Split;
 pub use size::part_size;
 pub use split::resume_split;
-pub use workers::Workers;
+pub use workers::PartWorkers;

@@ -10,7 +10,7 @@ ghost use Rattle.sdf_split.specs.Parts.{AllAreDone, AreDone, AreMade, IsSplit, p
 use crate::beside::for_each_beside;
 use crate::ends::Ends;
 use crate::part::{Made, Split};
-use crate::workers::{Done, Line, Worker, Workers, work};
+use crate::workers::{Done, Line, PartWorkers, Worker, work};
 use sdf_actor::{Actor, Rest};
 use sdf_answer::RunFault;
 use sdf_answer::laws::nets_have_periods;
@@ -174,7 +174,7 @@ pub fn resume_split<R: Threads + Sync, A: Actor, E: Ends<A::Token>, G: FnMut() -
     ends: &E,
     split: Split<'_, A>,
     rest: &Rest<A::Token, A::State>,
-    workers: &mut Workers<E::Made, A::Token, A::State>,
+    workers: &mut PartWorkers<E::Made, A::Token, A::State>,
     meanwhile: &mut G,
 ) -> (
     Result<(Vec<E::Made>, Rest<A::Token, A::State>), RunFault>,

@@ -98,17 +98,17 @@ pub(crate) fn work<A: Actor, E: Ends<A::Token>>(
 
 /// The workers of a sound, whose memory lasts from piece to piece.
 #[derive(Drop)]
-pub struct Workers<M, T, S> {
+pub struct PartWorkers<M, T, S> {
     pub(crate) alloc: Global,
     pub(crate) all: Vec<Worker<M, T, S>>,
     /// What the outputs of stretches became, given back for reuse.
     spares: Vec<M>,
 }
 
-impl<M: Drop, T: Copy, S: Drop> Workers<M, T, S> {
+impl<M: Drop, T: Copy, S: Drop> PartWorkers<M, T, S> {
     /// Begins without workers, and takes no memory. Runs take it from `alloc`.
-    pub fn none(alloc: Global) -> Workers<M, T, S> {
-        Workers {
+    pub fn none(alloc: Global) -> PartWorkers<M, T, S> {
+        PartWorkers {
             alloc,
             all: Vec::new(alloc),
             spares: Vec::new(alloc),

@@ -96,7 +96,7 @@ fn push_row(text: &mut String, design: &Design, cells: &[Option<Firing>]) -> Res
     for cell in cells {
         push_cell(text, design, *cell)?;
     }
-    Ok(text.push_str("\n")?)
+    text.push_str("\n")
 }
 
 /// Adds a line for each row of `table`.
@@ -248,7 +248,7 @@ pub fn schedule_text(
     ensures { IfOk result (λ s. IsScheduleText design.now period.now.order table.now (string_bytes s)) }
 {
     let repetitions = design.net().repetitions();
-    Ok(text_with(alloc, design, repetitions, period.order(), table)?)
+    text_with(alloc, design, repetitions, period.order(), table)
 }
 
 /// Returns what the command `schedule` prints: the order by the policy, and the table by the placement. Its tests are

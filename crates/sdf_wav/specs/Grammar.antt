@@ -30,7 +30,7 @@ pub record IsNoData (c : Chunk) : Type 0 where
   pub chunk : IsChunk c
   pub not_data : c.id ≢ codes "data"
 
--- the content of a format chunk: 16 bits of PCM, by its own tag or behind the extended one
+-- the content of a format chunk: 16 bits of PCM, by its own tag or behind the extensible one
 pub record IsContentOf (content : List ℕ) (f : Format) : Type 0 where
   pub long : 16 ≤ length content
   pub tag : (little_number 2 content ≡ 1)

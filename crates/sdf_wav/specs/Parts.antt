@@ -47,7 +47,7 @@ fields_of content = record {
   bits = little_number 2 (drop 14 content);
 }
 
--- 16 bits, and the tag of PCM or the extended one with PCM behind it
+-- 16 bits, and the tag of PCM or the extensible one with PCM behind it
 abbrev pub is_pcm16 : Fields → List ℕ → Bool
 is_pcm16 fields content =
     (fields.bits == 16) && ((fields.tag == 1) || ((fields.tag == 0xFFFE)

@@ -209,8 +209,8 @@ fn read_last<R: Reader>(reader: &mut R, seen: Option<Format>) -> Result<DataStar
     }
 }
 
-/// Maximum number of chunks before the data.
-const MAX_CHUNKS: u32 = 65_536;
+/// The most chunks before the data.
+const MOST_CHUNKS: u32 = 65_536;
 
 /// Reads up to the samples.
 fn find_data<R: Reader>(reader: &mut R) -> Result<DataStart, ReadFault>
@@ -221,7 +221,7 @@ fn find_data<R: Reader>(reader: &mut R) -> Result<DataStart, ReadFault>
     ensures valid { IfOk result (λ start. IsFormat start.format) }
 {
     let mut seen = None;
-    for _ in 0..MAX_CHUNKS {
+    for _ in 0..MOST_CHUNKS {
         match next_part(reader, seen)? {
             Step::Data(start) => return Ok(start),
             Step::Passed(now) => seen = now,

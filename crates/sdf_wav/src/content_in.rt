@@ -53,7 +53,7 @@ impl Model for ContentIn {
 }
 
 /// More samples than any content has.
-const MOST_SAMPLES: u64 = 2_147_483_648;
+const OVER_ALL_SAMPLES: u64 = 2_147_483_648;
 
 impl ContentIn {
     /// Reads a file up to the size of its data, and leaves the content unread. Fails with any fault before the content,
@@ -143,7 +143,7 @@ impl ContentIn {
         ensures cut { self.now.size ≢ 0xFFFFFFFF → IfErr (widened result) IsSizedFault }
     {
         let samples = (frames as u64).saturating_mul(u64::from(self.format.channels));
-        let asked = 2 * samples.min(MOST_SAMPLES);
+        let asked = 2 * samples.min(OVER_ALL_SAMPLES);
         if self.size == UNKNOWN_SIZE {
             return read_open(alloc, reader, self.format.channels, self.gone, asked);
         }

@@ -4,7 +4,7 @@ use Rattle.sdf_graph.specs.Rates.{rates}
 use Rattle.sdf_prec.specs.declared.firing.Firing.{Firing}
 use Rattle.sdf_prec.specs.declared.fault.PrecFault.TheVariants.{TooEarly}
 use Rattle.sdf_prec.specs.Tables.{row, firings, Stands}
-use Rattle.sdf_prec.specs.Refusals.{IsLate}
+use Rattle.sdf_prec.specs.Refusals.{IsInTime}
 use Rattle.sdf_prec.specs.Seen.{AreMarked, IsCellsFault, IsMarkedBy, IsLateAt}
 use Rattle.sdf_prec.proofs.Refusing.{cells_fault, missing_fault, known_in, late_or_pass}
 use Rattle.sdf_prec.proofs.accept.rows_fault.Goals as goal
@@ -57,6 +57,6 @@ returns c =
     (subst (λ n. AreMarked c.args.width rs n s fs) (sym (length-map c.args.rows.now (λ r. r.items))) marked)
     c.in_default-first_missing.ensures c.first_late_in.result
     (subst (λ n. MatchOption c.first_late_in.result
-    ((i : ℕ) (f : Firing) → i < n → Stands (firings (row rs i)) f → IsLate r (IsMarkedBy s i) f)
+    ((i : ℕ) (f : Firing) → i < n → Stands (firings (row rs i)) f → IsInTime r (IsMarkedBy s i) f)
     (λ e. (i : ℕ) × (f : Firing) × (g : Firing) × (e ≡ TooEarly i f g) × (i < n) × IsLateAt r s rs i f g))
     (sym (length-map c.args.rows.now (λ r. r.items))) c.first_late_in.ensures)

@@ -21,4 +21,5 @@ pub returns-clause-list : goal.returns-clause-list
 returns-clause-list g c = λ e d.
     subst (λ (z : Stand _ _ _). IsCollected c.args.node.now z.state c.args.outputs.now c.collect_at.new.outputs)
     (sym (stand_was (at_stand c.args.seats.now c.args.seat c.args.stand c.index-seats-seat.result
-    c.index_mut.result.now c.requires.seat c.requires.stand c.index_mut.ensures.value) e d)) c.collect_at.ensures
+    c.index_mut.result.now c.requires.seat c.requires.stand c.index_mut.ensures.value) e d))
+    c.collect_at.ensures.collected

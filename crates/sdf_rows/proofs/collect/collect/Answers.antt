@@ -12,7 +12,7 @@ loop-a-preserved g c =
     let known : a < length n.nodes = omega arith in
     let sinks = (nets_have_facts g.A.Actor.steps n c.node.ensures.accepted).sinks in
     record {
-      all = c.collect_at.ensures.all ∙ c.loop-a.invariant.all;
+      all = c.collect_at.ensures.collected.all ∙ c.loop-a.invariant.all;
       nodes = length-set c.loop-a.states a c.collect_at.new.state ∙ c.loop-a.invariant.nodes;
       rest = λ b w h. get_or-set_other c.loop-a.states a b c.collect_at.new.state w (λ e. absurd (omega arith))
           ∙ c.loop-a.invariant.rest b w (omega arith);
@@ -22,7 +22,7 @@ loop-a-preserved g c =
           ∙ get_or_default c.loop-a.states a d c.index-states-a.result
           (omega (arith, c.loop-a.invariant.nodes, c.requires.states, known)))
           (subst (λ x. IsCollected x (get_or c.loop-a.states a c.index-states-a.result) c.loop-a.outputs
-          c.collect_at.new.outputs) c.node.ensures.value c.collect_at.ensures) c.loop-a.invariant.lists;
+          c.collect_at.new.outputs) c.node.ensures.value c.collect_at.ensures.collected) c.loop-a.invariant.lists;
     }
 
 pub collect_at-requires-after_bounds : goal.collect_at-requires-after_bounds

@@ -2,7 +2,7 @@ use Rattle.std.proofs.Common.{◌≡◌, ◌*◌, ◌≤◌, ℕ, get_or, refl, 
 use Rattle.std.specs.List.{sum_by}
 use Rattle.std.proofs.Math.Nat.{mul-le-mul_right}
 use Rattle.std.proofs.lemmas.List.{get_or_default}
-use Rattle.sdf_one.specs.Many.{Fit}
+use Rattle.sdf_one.specs.Many.{FitsCycles}
 use Rattle.sdf_one.proofs.Sweeping.{swept_node, rows_at, blocks_at, ins_at, outs_at, go_at}
 use Rattle.sdf_one.proofs.run.Run.cycles_in_blocks.Goals as goal
 
@@ -56,5 +56,5 @@ returns-clause-go g c = λ some.
     (λ n l. fewer c.fits.result c.blocks_held-most.result
     (get_or ports.ins.sizes.now (get_or ports.ins.channels.now n 0) 0) _
     c.fits.ensures.within (c.blocks_held-most.ensures.held n l))
-    (subst (λ w. Fit w (sum_by (λ e. get_or ports.ins.sizes.now e 0) ports.ins.channels.now)
+    (subst (λ w. FitsCycles w (sum_by (λ e. get_or ports.ins.sizes.now e 0) ports.ins.channels.now)
     (sum_by (λ e. get_or ports.outs.sizes.now e 0) ports.outs.channels.now) c.fits.result) same c.fits.ensures.fit)

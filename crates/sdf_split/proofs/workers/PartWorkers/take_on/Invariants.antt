@@ -1,5 +1,5 @@
 use Rattle.std.proofs.Common.{◌≤◌, length}
-use Rattle.sdf_split.proofs.workers.Workers.take_on.Given as goal
+use Rattle.sdf_split.proofs.workers.PartWorkers.take_on.Given as goal
 
 abbrev pub invariant-loop : goal.invariant-loop
 invariant-loop g l = l.counter ≤ length l.self.all.items
