@@ -271,7 +271,7 @@ fn text_of(alloc: Global, fault: Fault) -> Result<String, Fail> {
     fault_text(alloc, &fault).map_err(Fail::from)
 }
 
-/// Returns the text of a file of which at most `most` bytes may be read, or whether it is too large.
+/// Returns the text of a file of which at most `most` bytes may be read, or `TOO_LARGE`.
 fn read_told<F: Read + Drop>(alloc: Global, file: F, most: u32) -> Result<String, Fail> {
     match bytes_of(alloc, file, most) {
         Ok(bytes) => Ok(String::from_utf8(bytes)?),

@@ -268,7 +268,7 @@ const SOUNDS: &[Sound] = &[
     ),
 ];
 
-/// Returns the front of a sound that has 65,537 parts before its samples.
+/// Returns the front of a sound that has 65,537 chunks before its samples.
 fn parted(alloc: Global) -> Result<Vec<u8>, AllocError> {
     let mut sound = Vec::from_slice(alloc, b"RIFF\x28\0\0\0WAVE")?;
     for _ in 0..65_537 {
@@ -308,7 +308,7 @@ fn what_is_told_of_sounds(rt: HostRuntime) -> Result<(), Fail> {
     are_told_of(&rt, SOUNDS)?;
     let parted = parted(rt.alloc())?;
     is_told(
-        "a sound of too many parts",
+        "a sound of too many chunks",
         told_of(&rt, &parted, WHY),
         "4\n--\nsdfw: 45 TooLong\n  \"-\": has too many bytes of samples, or over 65,536 chunks before them\n--\n",
     )

@@ -33,8 +33,8 @@ pub record AreOutputs {A S T : Type 0} (s : Steps A S T) (n : Netlist A T) (inpu
 abbrev pub periods_of : List ℕ → ℕ → ℕ → ℕ
 periods_of q periods a = periods * slice_index q a
 
--- the fault is true of the net and its inputs; faults of homes, spin limits, workers and sessions do not occur on one
--- thread
+-- the fault is true of the net and its inputs; on one thread and by rows, homes, spin limits, workers and sessions give
+-- no fault
 abbrev pub IsRunFault : {A T : Type 0} → Netlist A T → List ℕ → ℕ → List (List T) → RunFault → Type 0
 IsRunFault n q periods inputs OutOfMemory = Unit {0}
 IsRunFault n q periods inputs InputLength = HasInputs n q periods inputs → ⊥

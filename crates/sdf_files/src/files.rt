@@ -1,7 +1,8 @@
 //! The files of the program: reading a design, writing a file, and noting what the system refused.
 
-ghost use Rattle.std.specs.Prelude.{◌≡◌, ◌≢◌};
+ghost use Rattle.std.specs.Prelude.{◌≡◌, ◌≢◌, ◌⊎◌, IfErr, MatchResult, Ok, Err};
 ghost use Rattle.std.specs.IoError.{error_kind};
+ghost use Rattle.sdf_faults.specs.declared.fault.Fault.TheVariants as faults;
 ghost use Rattle.sdf_faults.specs.declared.fault.Fault.TheVariants.{OutOfMemory};
 
 use crate::input::InputTrace;
@@ -20,6 +21,7 @@ pub const MOST_BYTES: u32 = 1_073_741_824;
 fn device_fault(error: &io::Error, blamed: Fault) -> Fault
     ensures memory { error_kind error.now ≡ ErrorKind.OutOfMemory → result ≡ OutOfMemory }
     ensures device { error_kind error.now ≢ ErrorKind.OutOfMemory → result ≡ blamed }
+    ensures either { (result ≡ blamed) ⊎ (result ≡ OutOfMemory) }
 {
     match error.kind() {
         ErrorKind::OutOfMemory => Fault::OutOfMemory,
@@ -39,7 +41,9 @@ pub fn bytes_of<F: Read + Drop>(alloc: Global, file: F, most: u32) -> io::Result
 }
 
 /// Writes all `bytes`. If the device fails, the fault is `Write`.
-pub fn put<W: Write>(to: &mut W, bytes: &[u8]) -> Result<(), Fault> {
+pub fn put<W: Write>(to: &mut W, bytes: &[u8]) -> Result<(), Fault>
+    ensures { IfErr result (λ fault. (fault ≡ faults.Write) ⊎ (fault ≡ OutOfMemory)) }
+{
     match to.write_all(bytes) {
         Ok(()) => Ok(()),
         Err(error) => Err(device_fault(&error, Fault::Write)),
@@ -73,7 +77,10 @@ pub fn refuse(
     name: &str,
     error: &io::Error,
     blamed: Fault,
-) -> Fault {
+) -> Fault
+    ensures memory { error_kind error.now ≡ ErrorKind.OutOfMemory → result ≡ OutOfMemory }
+    ensures either { (result ≡ blamed) ⊎ (result ≡ OutOfMemory) }
+{
     match note(alloc, refused, name, "", error) {
         Ok(()) => device_fault(error, blamed),
         Err(_) => Fault::OutOfMemory,
@@ -87,7 +94,10 @@ pub fn or_refuse<T>(
     name: &str,
     done: io::Result<T>,
     blamed: Fault,
-) -> Result<T, Fault> {
+) -> Result<T, Fault>
+    ensures { MatchResult done (λ value. result ≡ Ok value)
+        (λ _. (result ≡ Err blamed) ⊎ (result ≡ Err OutOfMemory)) }
+{
     match done {
         Ok(value) => Ok(value),
         Err(error) => Err(refuse(alloc, refused, name, &error, blamed)),

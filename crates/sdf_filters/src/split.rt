@@ -15,8 +15,8 @@ use std::alloc::Global;
 ///
 /// They are the cheapest split into at most three stages, in products a second for this `attenuation` in dB (see
 /// `cost`). If there is none, the first stage is the least factor, and the rest is split in the same way. No clause
-/// says that the split is cheap. Errs with `NoRate` if a rate is 0, and with `FactorTooLarge` if the ratio has a factor
-/// over 64 that no number from 2 to 64 divides.
+/// says that the split is cheap. Errs with `NoRate` if a rate is 0. Errs with `FactorTooLarge` if the ratio has a
+/// factor over 64 that no number from 2 to 64 divides.
 pub fn stages(
     alloc: Global,
     from: u32,

@@ -158,8 +158,8 @@ fn settle(graph: &Graph, memory: &[u32], since: &mut [u32]) -> Move
     Move::MovesOn
 }
 
-/// Returns, for each actor, the first firing from which on it takes no cold sample. Returns `None` if the graph has a
-/// loop, or if one of these firings exceeds `MAX_FIRINGS`.
+/// Returns, for each actor, the first firing from which on it takes no cold sample. Returns `None` only if the graph
+/// has a loop, or if one of these firings would exceed `MAX_FIRINGS`.
 fn since_of(alloc: Global, graph: &Graph, memory: &[u32]) -> Result<Option<Vec<u32>>, AllocError>
     requires memory { AreFirings graph.now.actors memory.now }
     ensures { IfOk result (λ r. MatchOption r
@@ -204,7 +204,7 @@ fn periods_for(repetitions: &[u32], memory: &[u32], since: &[u32]) -> u32
 /// Returns the number of warm-up periods that `net` needs. A run that starts this number of periods earlier, without
 /// any samples from before, leaves what the run from the start leaves.
 ///
-/// Returns `None` if the graph has a loop, or if an actor keeps samples for ever, or if a number of firings exceeds
+/// Returns `None` only if the graph has a loop, an actor keeps samples for ever, or a number of firings exceeds
 /// `MAX_FIRINGS`.
 pub fn warm_up<A: Forgetful>(alloc: Global, net: &Net<A>) -> Result<Option<u32>, AllocError>
     // These periods are enough.

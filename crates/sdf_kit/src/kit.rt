@@ -1,8 +1,7 @@
 //! The kinds of actor as one type, which only dispatches.
 //!
-//! `docs/FORMATS.md` ("How to add a kind") lists what a new kind needs. Here it is a module whose `new`, `ports` and
-//! `run` have the `Behaviour` of its file in `specs/` as their contracts, and a variant, a constructor and an arm of
-//! each `match` below.
+//! `docs/FORMATS.md` ("How to add a kind") lists what a new kind needs. Here it is a module whose contracts name
+//! the `Behaviour` of its file in `specs/`. It is also a variant, a constructor and an arm of each `match` below.
 
 ghost use Rattle.std.specs.Prelude.{◌≡◌, ◌≤◌};
 ghost use Rattle.sdf_actor.specs.Steps.{Steps, total_in, total_out, PutsFit};

@@ -19,8 +19,7 @@ use std::alloc::Global;
 /// for what one block puts on it, so it does not grow with the length of the run. The time of a run is linear in its
 /// length.
 ///
-/// Returns 29 InputLength if `inputs` does not have one list for each input of the net, all of one length, with at
-/// least the samples that the run reads.
+/// Returns 29 InputLength unless `inputs` has one list for each input, all equally long and long enough for the run.
 pub fn run_one<A: Actor>(
     alloc: Global,
     net: &Net<A>,

@@ -25,8 +25,8 @@ one_thread = record {
   patience = 1000;
 }
 
--- the plan for one thread, by up to m parts of the sound in parallel, with this many periods and samples of warm-up,
--- the fewest that are enough
+-- the one-thread plan, run on up to m parts of the sound in parallel, with the fewest periods and samples of warm-up
+-- that are enough
 pub record IsInParts (d : DesignValue) (m : ℕ) (p : PlanValue) (workers periods samples : ℕ) : Type 0 where
   pub alone : PlanValue
   pub by_options : IsPlanOf d one_thread alone

@@ -14,7 +14,7 @@ use Rattle.sdf_prec.specs.Numbers.{Numbered, InBlock, number}
 use Rattle.sdf_prec.specs.Seen.{AreFresh, AreMarked, IsMarkedBy, IsCellsFault, IsLateAt}
 use Rattle.sdf_prec.specs.Refusals.{before, AreNarrow, IsFresh, IsBefore, IsInTime, IsEarlier, CellsPass, AllPass}
 use Rattle.sdf_prec.specs.Refusals.{IsAtCell, StandsFirst}
-use Rattle.sdf_prec.proofs.RowMarks.{in_order, marked_earlier, late_earlier, first_late_earlier}
+use Rattle.sdf_prec.proofs.RowMarks.{in_order, marked_earlier, in_time_earlier, first_late_earlier}
 use Rattle.sdf_prec.proofs.Theorems.{needs_exist, tests_suffice}
 
 -- no actor of a block fires more often than all together
@@ -115,7 +115,7 @@ module _ (r : Rates) (n : List ℕ) (each : length n ≡ r.actors) (width : ℕ)
       late_or_pass None late = record {
         cells = cells_pass;
         all = all_stand;
-        late = λ i l f st. late_earlier r f (IsMarkedBy s i) (IsEarlier rows i) (to_rows i (omega arith))
+        in_time = λ i l f st. in_time_earlier r f (IsMarkedBy s i) (IsEarlier rows i) (to_rows i (omega arith))
             (late i f l st);
       }
       late_or_pass (Some e) (i, f, g, is, l, at) = subst (StandsFirst r (λ a. get_or n a 0) width rows) (sym is) (
@@ -126,9 +126,9 @@ module _ (r : Rates) (n : List ℕ) (each : length n ≡ r.actors) (width : ℕ)
           l,
           at.column_in,
           at.is,
-          λ k h low st. late_earlier r h (IsMarkedBy s k) (IsEarlier rows k) (to_rows k (omega arith))
+          λ k h low st. in_time_earlier r h (IsMarkedBy s k) (IsEarlier rows k) (to_rows k (omega arith))
               (at.before k h low st),
-          λ h st. late_earlier r h (IsMarkedBy s i) (IsEarlier rows i) (to_rows i (omega arith)) (at.in_row h st),
+          λ h st. in_time_earlier r h (IsMarkedBy s i) (IsEarlier rows i) (to_rows i (omega arith)) (at.in_row h st),
           first_late_earlier r f g (IsMarkedBy s i) (IsEarlier rows i) (to_rows i (omega arith))
               (to_marks i (omega arith)) at.first,
         ),

@@ -27,7 +27,7 @@ pub next_may_fire : NextMayFire
 next_may_fire = may_fire
 
 pub tests_suffice : TestsSuffice
-tests_suffice r n width rows s need pass = all_suffice r n width rows s pass.cells pass.late pass.all need
+tests_suffice r n width rows s need pass = all_suffice r n width rows s pass.cells pass.in_time pass.all need
 
 pub needs_exist : NeedsExist
 needs_exist = need_exists

@@ -64,7 +64,7 @@ fn cost_text(alloc: Global, design: &Design, actor: usize) -> Result<String, All
 
 /// The message for a graph file in which new costs would change more than costs.
 const OTHERWISE: &str =
-    "new costs would change more of GRAPH than costs: give each key a line of its own";
+    "new costs would change GRAPH in more than its costs: give each key a line of its own";
 
 /// Returns the usage error for a graph file whose text cannot take costs.
 fn unwritten(alloc: Global, design: &Design, fault: Unwritten) -> Result<Fault, AllocError> {

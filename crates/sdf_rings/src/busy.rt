@@ -1,4 +1,4 @@
-//! Calls at each element of a slice, with a thread for each element that has work left.
+//! Calls at each element of a slice, in parallel for elements with work left.
 
 ghost use Rattle.std.specs.Prelude.{◌<◌, ◌↔◌, length, IsTrue};
 ghost use Rattle.std.specs.Fork.{AcceptsAt, ChangesAt};

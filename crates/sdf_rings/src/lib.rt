@@ -9,7 +9,8 @@
 //! `specs/Seats.antt` say what a node knows of its own channels, and when its firings are batched. `ends` moves the
 //! blocks of one firing, and `run_ends` the blocks of a batch. `own_rings` is about the channels from a node to itself.
 //!
-//! `round` runs all workers (`workers`) at once, with a thread for each that has firings left (`busy`). `meet`
+//! `round` runs all workers (`workers`) in parallel: of those with firings left, the last in the caller's thread, each
+//! other in a new one (`busy`). `meet`
 //! synchronizes all ends, and `rings` makes rounds by hand or until nothing is left. `prepare` makes the seats of a
 //! run, `finish` moves out the lists of the sinks, and `leave` takes what else the seats hold. `runner` does all of it
 //! (`specs/Asks.antt`, `specs/Outcome.antt`). `feed` makes runs that another run can resume.

@@ -1,4 +1,4 @@
-//! A round: all workers that have firings left run at once.
+//! A round: all workers with firings left run in parallel.
 
 ghost use Rattle.std.specs.Prelude.{All};
 ghost use Rattle.sdf_actor.specs.Nets.{IsNet};

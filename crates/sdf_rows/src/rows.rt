@@ -21,8 +21,7 @@ use std::thread::Threads;
 /// Room for all samples is allocated before the first firing. A channel has room for its initial samples and for what
 /// one block puts on it. If the system starts no thread, the firings of a row run one after another.
 ///
-/// Returns 29 InputLength if `inputs` does not have one list for each input of the net, all of one length, with at
-/// least the samples that the run reads.
+/// Returns 29 InputLength unless `inputs` has one list for each input, all equally long and long enough for the run.
 pub fn run_rows<R: Threads + AllocGlobal + Sync, A: Actor, G: Gate>(
     rt: &R,
     net: &Net<A>,

@@ -195,9 +195,9 @@ impl<'a, A: Actor> Session<'a, A> {
     /// Runs the blocks in `inputs`, and returns the outputs beyond what was made before. Each list must have the
     /// samples of the same number of blocks. Lists without samples are 0 blocks, and make empty lists.
     ///
-    /// Returns 29 InputLength, and leaves the session unchanged, if `inputs` does not have one list for each input. The
-    /// same if the lists are not equally many whole blocks, or over 4,294,967,295 blocks. After 1 OutOfMemory the
-    /// session is spent, and returns 33 SessionFailed.
+    /// Returns 29 InputLength unless `inputs` has one list for each input, all of the same number of whole blocks, at
+    /// most 4,294,967,295. The session is then unchanged. After 1 OutOfMemory it is spent, and returns 33
+    /// SessionFailed.
     pub fn feed<R: Threads + AllocGlobal + Sync, G: Gate>(
         &mut self,
         rt: &R,

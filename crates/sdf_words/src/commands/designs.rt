@@ -39,8 +39,8 @@ const INTO: Argument = Argument {
     name: "into",
     help: "The folder to write into, each file by its name",
     more: "The folder to write into, each file by its name. It is made if it is missing, in a folder that exists. An
-output is written to NAME.part, which replaces a file of that name, and moved to NAME once its run has ended
-well. If the run fails, NAME stays as it was",
+output is written to NAME.part, which overwrites a file of that name, and renamed to NAME once its run has
+ended well. If the run fails, NAME.part is removed and NAME stays as it was",
     syntax: Syntax::Choice("FOLDER", Values::Text, None),
 };
 
@@ -81,8 +81,8 @@ const PLACEMENT: Argument = Argument {
 - homed: the same, but each actor stays with the worker that its first firing went to
 - file: the worker that the key `processor` of the actor names; one firing a row
 - spread: a worker by the actor's share of what all actors weigh; one firing a row, the whole block by the
-  policy runs. `--blocking` has no effect: a block has the most periods that put at most 1024 samples
-  on each link, and at least one
+  policy runs. `--blocking` has no effect: a block has the most periods, but at least one, that put at
+  most 1024 samples on each link and have at most 65536 firings
 In `run` it has no effect without `--runner rows` or `--runner rings`",
     syntax: Syntax::Choice("L", Values::OneOf(PLACEMENT_WORDS), Some("homed")),
 };
@@ -111,9 +111,9 @@ const PARALLEL: Argument = Argument {
     name: "parallel",
     help: "Runs in parallel, by M workers or by one for each processor, at most 16",
     more: "Runs in parallel, by M workers or by one for each processor, at most 16. Each worker runs the whole design
-on its own part of the sound, after a warm-up on the samples before it. The run uses one thread if a loop of
-the design may keep samples for ever, if the warm-up would be too long, if the sound is short, or if there is
-one worker. At a terminal or with `--why` a line on standard error says which.
+on parts of the sound, each after a warm-up on the samples before it. The run uses one thread if there is one
+worker, or if the sound is short. So it does if the warm-up would be too long, or if a loop of the design may
+keep samples for ever. At a terminal or with `--why` a line on standard error says which.
 It can't be combined with `--blocking`, `--workers`, `--policy`, `--placement`, `--runner` or `--patience`",
     syntax: Syntax::Switch(Switch {
         against: &[
@@ -131,9 +131,9 @@ It can't be combined with `--blocking`, `--workers`, `--policy`, `--placement`, 
 pub(super) const WHY: Argument = Argument {
     name: "why",
     help: "Says more about a fault: names, values and limits",
-    more: "Says more about a fault: below its line are lines that begin with two blanks. They have the names of files
-and actors, the ends of links, the value of a key or in a file and the one that is needed, or a cycle that
-lacks samples. It is on by default if standard error is a terminal",
+    more: "Says more about a fault: below its line are lines that begin with two blanks. They name files, actors and
+the ends of links, and give a wrong value with its limits, or a cycle that lacks samples. It is on by default
+if standard error is a terminal",
     syntax: PLAIN,
 };
 
@@ -150,17 +150,17 @@ actor too",
 
 const LEVELS: Argument = Argument {
     help: "Says more about a fault, and how loud each output is",
-    more: "Says more about a fault: below its line are lines that begin with two blanks. They have the names of files
-and actors, the ends of links, the value of a key or in a file and the one that is needed, or a cycle that
-lacks samples. A run that ends well reports the frames of each output, its peak below full scale in dB, and
-the number of its samples at full scale. It is on by default if standard error is a terminal. There a run of
-one file that takes over two seconds also shows its progress",
+    more: "Says more about a fault: below its line are lines that begin with two blanks. They name files, actors and
+the ends of links, and give a wrong value with its limits, or a cycle that lacks samples. A run that ends well
+reports the frames of each output, its peak below full scale in dB, and the number of its samples at full
+scale. It is on by default if standard error is a terminal. There a run of one file that takes over two
+seconds also shows its progress",
     ..WHY
 };
 
 const QUIET: Argument = Argument {
     more: "Says no more at a terminal than to a pipe or a log: a fault is one line, and a deadlock has a line for each
-actor too. A run reports no levels of its outputs, no progress, and not how it went in parallel",
+actor too. A run reports neither the levels of its outputs, nor its progress, nor how it ran in parallel",
     ..NO_WHY
 };
 
@@ -215,8 +215,8 @@ each link holds.",
     Row {
         name: "run",
         help: "Processes a WAV file",
-        more: "Processes a WAV file: runs the periods of the design that it takes to read IN, and writes what its
-outputs take to OUT. The bytes are the same for every runner, schedule and number of workers.
+        more: "Processes a WAV file: runs enough periods of the design to read all of IN, and writes what its outputs
+take to OUT. The bytes are the same for every runner, schedule and number of workers.
 `sdfw run GRAPH --into FOLDER IN..` writes several files into a folder; `sdfw run --into FOLDER --help`
 says more.",
         schedules: true,

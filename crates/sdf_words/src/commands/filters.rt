@@ -38,7 +38,7 @@ const STOP: Argument = Argument {
 
 const LOW_STOP: Argument = Argument {
     name: "low-stop",
-    help: "Of a band-pass, the edge of the lower stopband, in Hz",
+    help: "The edge of a band-pass's lower stopband, in Hz",
     more: "Of a band-pass, the last frequency that is stopped below what passes, in Hz.
 It has no effect on other shapes",
     syntax: Syntax::Choice("HZ", Values::Unsigned(0, u32::MAX as u64), Some("0")),
@@ -46,7 +46,7 @@ It has no effect on other shapes",
 
 const LOW_PASS: Argument = Argument {
     name: "low-pass",
-    help: "Of a band-pass, the lower edge of the passband, in Hz",
+    help: "The lower edge of a band-pass's passband, in Hz",
     more: "Of a band-pass, the first frequency that passes, in Hz.
 It has no effect on other shapes",
     syntax: Syntax::Choice("HZ", Values::Unsigned(0, u32::MAX as u64), Some("0")),
@@ -68,8 +68,8 @@ const UP: Argument = Argument {
     name: "up",
     help: "The actor's key `up`, 1 to 64",
     more: "The actor's key `up`, 1 to 64: the number of phases of the taps. The taps of each phase of a low-pass sum
-to 2^shift, so a constant stays what it is; those of a high-pass and a band-pass sum to 0. A high-pass needs
-1",
+to 2^shift, so a constant stays what it is; those of a high-pass and a band-pass sum to 0. The `up` of a
+high-pass is 1",
     syntax: Syntax::Choice("U", Values::Unsigned(1, MOST_FACTOR as u64), Some("1")),
 };
 
@@ -136,8 +136,8 @@ stopband. No frequency may be over half the rate.",
         name: "resample",
         help: "Writes a design that converts between two rates",
         more: "Writes a design that converts between two rates: its graph file and a coefficient file for each stage.
-It has at most three stages, the cheapest by products a second; some ratios need more. A ratio with a prime
-factor over 64 is refused. Frequencies up to ten elevenths of half the lower rate pass, and what would be
+It has the cheapest stages by products a second: at most three, unless the ratio needs more. A ratio with a
+prime factor over 64 is refused. Frequencies up to ten elevenths of half the lower rate pass, and what would be
 folded onto them is stopped. A line on standard error says what the taps of each stage do.",
         schedules: false,
         arguments: &[FROM, TO, FOLDER, CHANNELS, ATTENUATION],

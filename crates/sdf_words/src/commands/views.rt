@@ -26,7 +26,8 @@ const WRITE: Argument = Argument {
     help: "Writes the graph file with the measured costs, `-` for standard output",
     more: "Writes the graph file into FILE, with the measured `cost` of each actor and everything else unchanged. `-`
 is standard output, in place of the report. FILE must not be a file that is read; its old content is lost.
-Each actor needs a table of its own, below a line `[[actor]]`, and its cost a line of its own, `cost = 12`",
+Each actor needs a table of its own, below a line `[[actor]]`. A cost that it has must be a line like
+`cost = 12`; a missing one is added",
     syntax: Syntax::Choice("FILE", Values::Path, None),
 };
 

@@ -21,7 +21,7 @@ pub(super) static MEANINGS: [Meaning; 15] = [
     // 51 UnknownKey
     Meaning {
         place: "PLACE key K",
-        means: "A key does not belong there, or `file` stands beside `taps` or `values`, which it replaces.",
+        means: "A key does not belong there, or `file` is given beside `taps` or `values`, which it replaces.",
         limits: "an actor: `name`, `kind`, `processor`, `cost` and the keys of its kind (`sdfw kinds`); a link: `from`, `to` and `initial`; the top: `format`, `actor` and `link`; a coefficient file: `format` and `values`",
         remedy: "Remove it, or correct its spelling; keep either the list or `file`.",
     },

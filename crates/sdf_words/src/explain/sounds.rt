@@ -70,7 +70,7 @@ pub(super) static MEANINGS: [Meaning; 15] = [
     // 43 Truncated
     Meaning {
         place: "",
-        means: "The WAV file is empty or ends within one of its parts. A run of one file leaves OUT empty, or ending early too.",
+        means: "The WAV file is empty or ends within one of its parts. A run of one file leaves OUT empty or cut off.",
         limits: "",
         remedy: "Get the whole file: a copy was cut off, or nothing was written to it. Use `run --open-ended` if another program writes it to a pipe.",
     },
@@ -105,7 +105,7 @@ pub(super) static MEANINGS: [Meaning; 15] = [
     // 48 Write
     Meaning {
         place: "",
-        means: "A file or a folder of the output can't be made, or writing it or the answer failed.",
+        means: "A file or a folder can't be made, or writing to it or to standard output failed.",
         limits: "",
         remedy: "Check that the folder exists and may be written, and that the disk is not full.",
     },

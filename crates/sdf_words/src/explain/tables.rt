@@ -84,14 +84,14 @@ pub(super) static MEANINGS: [Meaning; 21] = [
     // 24 InputRates
     Meaning {
         place: "actor A",
-        means: "The input puts a different number of samples in a period from the first input.",
+        means: "In a period the input puts more or fewer samples than the first input.",
         limits: "the same number at each input",
         remedy: "Make the rates behind the two inputs alike.",
     },
     // 25 OutputRates
     Meaning {
         place: "actor A",
-        means: "The output takes a different number of samples in a period from the first output.",
+        means: "In a period the output takes more or fewer samples than the first output.",
         limits: "the same number at each output",
         remedy: "Make the rates before the two outputs alike.",
     },
@@ -140,7 +140,7 @@ pub(super) static MEANINGS: [Meaning; 21] = [
     // 32 NoWorker
     Meaning {
         place: "",
-        means: "A thread could not be started. This version never reports it: the workers then run one after another.",
+        means: "A thread could not be started. This version never reports it: if a thread can't be started, the workers run one after another.",
         limits: "",
         remedy: "Use fewer workers.",
     },
