@@ -80,6 +80,8 @@ pub fn costed_text(
         (IsUnwritten costs.now graph.now (files_view files.now)) }
 {
     let text = made_text(alloc, graph, costs)?;
-    test_costed(alloc, graph, &text, files, costs)?;
-    Ok(text)
+    match test_costed(alloc, graph, &text, files, costs) {
+        Ok(()) => Ok(text),
+        Err(fault) => Err(fault),
+    }
 }

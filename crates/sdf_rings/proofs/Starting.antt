@@ -1,7 +1,7 @@
 -- What a run of blocks begins with.
 use Rattle.std.proofs.Common.{◌≡◌, ℕ, ◌*◌, ◌≤◌, ◌<◌, List, [], length, map, get_or, Option, refl, sym, ap, ◌∙◌, subst}
 use Rattle.std.proofs.Common.{arith}
-use Rattle.std.specs.Option.{IfNone}
+use Rattle.std.specs.Prelude.{None}
 use Rattle.std.proofs.Math.Nat.{mul-le-mul_left}
 use Rattle.std.proofs.lemmas.List.{get_or-map, length-map}
 use Rattle.sdf_graph.specs.Rates.{rates}
@@ -44,7 +44,7 @@ module _ {A S T : Type 0} (s : Steps A S T) (n : Netlist A T) (p : Schedule)
   pub can_start : (inputs : List (List T)) (room : ℕ) (filler : Option T) →
       ((a : ℕ) → a < length n.nodes → 0 < cycle_of s (node n a)) → HasInputs n p.repetitions (blocks * j) inputs →
       room ≡ blocks * j * period_samples n.nodes Outputs p.repetitions →
-      IfNone filler (length (get_or inputs 0 []) ≡ 0) → 0 < period_samples n.nodes Inputs p.repetitions →
+      (filler ≡ None → length (get_or inputs 0 []) ≡ 0) → 0 < period_samples n.nodes Inputs p.repetitions →
       0 < length inputs →
       CanStart s n inputs (λ a. get_or asked a 0) room filler
   can_start inputs room filler phases has room_is empty some first = record {
@@ -52,7 +52,7 @@ module _ {A S T : Type 0} (s : Steps A S T) (n : Netlist A T) (p : Schedule)
     phases = phases;
     begin = λ a l. go a l (node n a) refl;
     fillers = λ a l none.
-        let e : length (get_or inputs 0 []) ≡ 0 = subst (λ f. IfNone f (length (get_or inputs 0 []) ≡ 0)) none empty in
+        let e = empty none in
         let least = has.enough 0 first in
         let one : blocks * j * 1 ≤ blocks * j * period_samples n.nodes Inputs p.repetitions =
         mul-le-mul_left (blocks * j) (omega (arith, some)) in

@@ -248,7 +248,7 @@ pub fn schedule_text(
     ensures { IfOk result (λ s. IsScheduleText design.now period.now.order table.now (string_bytes s)) }
 {
     let repetitions = design.net().repetitions();
-    text_with(alloc, design, repetitions, period.order(), table)
+    Ok(text_with(alloc, design, repetitions, period.order(), table)?)
 }
 
 /// Returns what the command `schedule` prints: the order by the policy, and the table by the placement. Its tests are

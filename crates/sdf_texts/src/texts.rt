@@ -73,5 +73,5 @@ pub fn check_text(alloc: Global, design: &Design) -> Result<String, AllocError>
     ensures { IfOk result (λ s. IsCheckText design.now (string_bytes s)) }
 {
     let repetitions = design.net().repetitions();
-    text_with(alloc, design, repetitions)
+    Ok(text_with(alloc, design, repetitions)?)
 }

@@ -30,8 +30,8 @@ lay_out-requires-clause-start g c κs within =
           (lists c.args.inputs.now) c.samples_of_blocks.result c.first_sample.result
           (nets_have_facts g.A.Actor.steps n accepted).phases c.requires.inputs
           (c.samples_of_blocks.ensures ∙ ap (λ m. b * j * m)
-          (c.samples_out.ensures.value p.repetitions c.requires.fits.period.least)) c.first_sample.ensures
-          c.requires.some
+          (c.samples_out.ensures.value p.repetitions c.requires.fits.period.least))
+          (λ none. rw none at c.first_sample.ensures) c.requires.some
           (omega (arith, c.requires.inputs.count, accepted.1.lists.input));
       sizes_are = c.in_ok-new.ensures;
       asked_all = sym (vec_long c.in_ok-asked.field-0) ∙ (ap length asked ∙ (length-map p.repetitions (λ q. b * (j * q))
