@@ -8,7 +8,7 @@ use bench_inputs::long::{SAME_FILE, same_costs, same_taps};
 use bench_inputs::noise::Level;
 use bench_inputs::numbers::{Numbers, show};
 use sdf_file::{CoefficientFile, Design};
-use sdf_filters::{Band, ConverterTexts, StageFile, Wanted, converter_texts, filter_texts};
+use sdf_filters::{Band, ConverterTexts, StageFile, FilterSpec, converter_texts, filter_texts};
 use sdf_profile::costed_text;
 use sdf_texts::check_text;
 use std::alloc::Global;
@@ -52,8 +52,8 @@ fn make_kinds<R: AllocGlobal + Print>(rt: &R, numbers: &mut Numbers, filters: u3
 }
 
 /// Describes a narrow filter.
-fn narrow(band: Band) -> Wanted {
-    Wanted {
+fn narrow(band: Band) -> FilterSpec {
+    FilterSpec {
         rate: 44_100,
         band,
         attenuation: 80,
@@ -86,9 +86,9 @@ fn make_filters<R: AllocGlobal + Print>(rt: &R, numbers: &mut Numbers, turn: u32
 }
 
 /// Describes a low-pass whose rounded taps are far from the exact sums of its 64 phases.
-fn damped_little(numbers: &mut Numbers) -> Wanted {
+fn damped_little(numbers: &mut Numbers) -> FilterSpec {
     let stop = numbers.between(286, 300);
-    Wanted {
+    FilterSpec {
         rate: 4_000_000,
         band: Band::Low { pass: 0, stop },
         attenuation: 9,
@@ -98,7 +98,7 @@ fn damped_little(numbers: &mut Numbers) -> Wanted {
 }
 
 /// Makes one filter.
-fn make_filter<R: AllocGlobal + Print>(rt: &R, name: &str, wanted: Wanted) -> Result<()> {
+fn make_filter<R: AllocGlobal + Print>(rt: &R, name: &str, wanted: FilterSpec) -> Result<()> {
     let texts = filter_texts(rt.alloc(), wanted)?;
     show_filter(rt, name, &texts.file, &texts.told)
 }

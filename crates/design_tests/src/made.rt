@@ -1,6 +1,6 @@
 //! Filters and rates from a seed, to compare with what is computed in the plainest way.
 
-use sdf_filters::{Band, Wanted};
+use sdf_filters::{Band, FilterSpec};
 
 /// Numbers from a seed.
 #[derive(Drop)]
@@ -81,11 +81,11 @@ impl Numbers {
     }
 
     /// Returns the next filter.
-    pub(crate) fn wanted(&mut self) -> Wanted {
+    pub(crate) fn wanted(&mut self) -> FilterSpec {
         let kind = self.below(10) as usize;
         let (up, shift) = KINDS.get(kind).copied().unwrap_or((1, 15));
         let rate = self.above(8000, 1_000_000);
-        Wanted {
+        FilterSpec {
             rate,
             band: self.band(rate, up),
             attenuation: self.attenuation(),

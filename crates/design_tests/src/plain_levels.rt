@@ -1,7 +1,7 @@
 //! Measures of taps, compared with the plainest way to compute them: one frequency after another.
 
 use crate::made::Numbers;
-use sdf_filters::{Band, Wanted, filter_texts, taps_of};
+use sdf_filters::{Band, FilterSpec, filter_texts, taps_of};
 use std::alloc::Global;
 use std::f64::consts::TAU;
 use std::num::saturating_f64_to_u64;
@@ -36,7 +36,7 @@ fn decibels(magnitude: f64) -> f64 {
 }
 
 /// Returns the least and the greatest magnitude of a filter's taps between two frequencies, as parts of the unit.
-fn magnitudes(wanted: Wanted, taps: &[i32], from: u32, to: u32) -> Heights {
+fn magnitudes(wanted: FilterSpec, taps: &[i32], from: u32, to: u32) -> Heights {
     let unit = f64::from(wanted.up) * f64::from(wanted.shift).exp2();
     let from = f64::from(from);
     let to = f64::from(to);
@@ -57,7 +57,7 @@ fn magnitudes(wanted: Wanted, taps: &[i32], from: u32, to: u32) -> Heights {
 }
 
 /// Returns the line with the measures of `taps`.
-fn plain_told(alloc: Global, wanted: Wanted, taps: &[i32]) -> Result<String, Fail> {
+fn plain_told(alloc: Global, wanted: FilterSpec, taps: &[i32]) -> Result<String, Fail> {
     let half = wanted.rate / 2;
     let (passed, loudest) = match wanted.band {
         Band::Low { pass, stop } => (
@@ -97,7 +97,7 @@ fn plain_told(alloc: Global, wanted: Wanted, taps: &[i32]) -> Result<String, Fai
 }
 
 /// Adds a filter whose printed measures differ from the plain ones. Returns the number of its taps.
-fn push_other(alloc: Global, text: &mut String, wanted: Wanted) -> Result<usize, Fail> {
+fn push_other(alloc: Global, text: &mut String, wanted: FilterSpec) -> Result<usize, Fail> {
     let Ok(taps) = taps_of(alloc, wanted) else {
         return Ok(0);
     };
@@ -139,7 +139,7 @@ const LOW_PASSES: &[(u32, u32, u32, u32)] = &[
 fn low_passes(alloc: Global) -> Result<String, Fail> {
     let mut text = String::new(alloc);
     for &(pass, stop, attenuation, shift) in LOW_PASSES {
-        let wanted = Wanted {
+        let wanted = FilterSpec {
             rate: 8000,
             band: Band::Low { pass, stop },
             attenuation,

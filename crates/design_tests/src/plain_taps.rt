@@ -1,6 +1,6 @@
 //! Taps that are computed in the plainest way: each step looks at every place for the tap to move.
 
-use sdf_filters::{Band, Wanted};
+use sdf_filters::{Band, FilterSpec};
 use std::alloc::Global;
 use std::f64::consts::{PI, TAU};
 use std::num::{nearest_usize_to_f64, saturating_f64_to_i32, saturating_f64_to_usize};
@@ -58,7 +58,7 @@ fn sine_over(edge: f64, from_middle: f64) -> f64 {
 }
 
 /// Returns the number of taps that a filter of one phase needs.
-fn kaiser_length(wanted: Wanted, pass: u32, stop: u32) -> usize {
+fn kaiser_length(wanted: FilterSpec, pass: u32, stop: u32) -> usize {
     let width = TAU * f64::from(stop.saturating_sub(pass)) / f64::from(wanted.rate);
     let order = (f64::from(wanted.attenuation) - 7.95) / (2.285 * width);
     saturating_f64_to_usize(order.ceil()).saturating_add(1)
@@ -92,7 +92,7 @@ fn middle_bias(done: u64, times: u64, many: u64) -> f64 {
 
 impl Plain {
     /// Makes the low-pass of a filter between two frequencies.
-    fn new(wanted: Wanted, pass: u32, stop: u32, count: usize) -> Plain {
+    fn new(wanted: FilterSpec, pass: u32, stop: u32, count: usize) -> Plain {
         Plain {
             edge: (f64::from(pass) + f64::from(stop)) / f64::from(wanted.rate) / 2.0,
             attenuation: f64::from(wanted.attenuation),
@@ -234,7 +234,7 @@ fn test_16_bits(taps: &[i32]) -> Result<(), u32> {
 }
 
 /// Returns the taps of a low-pass, with one more in each phase if one has over 16 bits.
-fn low(alloc: Global, wanted: Wanted, pass: u32, stop: u32) -> Result<Taps, Fail> {
+fn low(alloc: Global, wanted: FilterSpec, pass: u32, stop: u32) -> Result<Taps, Fail> {
     let up = wanted.up as usize;
     let count = whole(kaiser_length(wanted, pass, stop), up);
     if count > 1024 {
@@ -264,7 +264,7 @@ fn less(alloc: Global, from: &[i32], taps: &[i32]) -> Result<Taps, Fail> {
 }
 
 /// Returns the taps of a high-pass.
-fn high(alloc: Global, wanted: Wanted, stop: u32, pass: u32) -> Result<Taps, Fail> {
+fn high(alloc: Global, wanted: FilterSpec, stop: u32, pass: u32) -> Result<Taps, Fail> {
     let count = whole(kaiser_length(wanted, stop, pass), 1) | 1;
     if count > 1024 {
         return Ok(Err(0));
@@ -291,7 +291,7 @@ fn middle(alloc: Global, wide: Plain, narrow: Plain) -> Result<Taps, Fail> {
 }
 
 /// Returns the taps of a filter, or why there are none.
-pub(crate) fn plain_taps(alloc: Global, wanted: Wanted) -> Result<Taps, Fail> {
+pub(crate) fn plain_taps(alloc: Global, wanted: FilterSpec) -> Result<Taps, Fail> {
     match wanted.band {
         Band::Low { pass, stop } => low(alloc, wanted, pass, stop),
         Band::High { stop, pass } => high(alloc, wanted, stop, pass),

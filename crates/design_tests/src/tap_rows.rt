@@ -2,7 +2,7 @@
 
 use crate::made::Numbers;
 use crate::plain_taps::plain_taps;
-use sdf_filters::{Band, FilterFault, Wanted, taps_of};
+use sdf_filters::{Band, FilterFault, FilterSpec, taps_of};
 use std::alloc::Global;
 use std::test::Fail;
 use test_texts::says;
@@ -16,7 +16,7 @@ fn size_in(fault: FilterFault) -> u32 {
 }
 
 /// Adds a filter whose taps differ from the plain ones. Returns the number of plain taps.
-fn push_other(alloc: Global, text: &mut String, wanted: Wanted) -> Result<usize, Fail> {
+fn push_other(alloc: Global, text: &mut String, wanted: FilterSpec) -> Result<usize, Fail> {
     let plain = plain_taps(alloc, wanted)?;
     let taps = taps_of(alloc, wanted).map_err(size_in);
     if plain != taps {
@@ -52,7 +52,7 @@ fn taps_as_plainly(rt: HostRuntime) -> Result<(), Fail> {
 fn low_passes(alloc: Global, rows: &[(u32, u32, u32, u32, u32, u32)]) -> Result<String, Fail> {
     let mut text = String::new(alloc);
     for &(rate, pass, stop, attenuation, up, shift) in rows {
-        let wanted = Wanted {
+        let wanted = FilterSpec {
             rate,
             band: Band::Low { pass, stop },
             attenuation,
@@ -98,7 +98,7 @@ fn trees_as_plainly(rt: HostRuntime) -> Result<(), Fail> {
     for width in [568, 562, 553, 545, 534, 250] {
         for _ in 0..8 {
             let pass = numbers.below(200_000);
-            let wanted = Wanted {
+            let wanted = FilterSpec {
                 rate: 480_000,
                 band: Band::Low {
                     pass,
@@ -116,7 +116,7 @@ fn trees_as_plainly(rt: HostRuntime) -> Result<(), Fail> {
 
 /// Adds a word for a filter that has a tap of over 16 bits, and the filter if another size is named.
 fn push_size(alloc: Global, text: &mut String, band: Band) -> Result<(), Fail> {
-    let wanted = Wanted {
+    let wanted = FilterSpec {
         rate: 48_000,
         band,
         attenuation: 60,

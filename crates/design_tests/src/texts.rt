@@ -1,7 +1,7 @@
 //! The texts that are printed of filters, with measures that Python makes of the same taps. Also the graph file of a
 //! small converter, and the texts of faults.
 
-use sdf_filters::{Band, FilterFault, Wanted, converter_texts, filter_texts};
+use sdf_filters::{Band, FilterFault, FilterSpec, converter_texts, filter_texts};
 use std::alloc::Global;
 use std::test::Fail;
 use test_texts::says;
@@ -17,7 +17,7 @@ const HIGH: Band = Band::High {
 };
 
 /// The low-pass at 8000 Hz.
-const LOW_PASS: Wanted = Wanted {
+const LOW_PASS: FilterSpec = FilterSpec {
     rate: 8000,
     band: LOW,
     attenuation: 40,
@@ -26,8 +26,8 @@ const LOW_PASS: Wanted = Wanted {
 };
 
 /// Returns a filter at 8000 Hz.
-fn wanted(band: Band, up: u32) -> Wanted {
-    Wanted {
+fn wanted(band: Band, up: u32) -> FilterSpec {
+    FilterSpec {
         rate: 8000,
         band,
         attenuation: 40,
@@ -37,7 +37,7 @@ fn wanted(band: Band, up: u32) -> Wanted {
 }
 
 /// Returns the coefficient file of a filter and the line with the measures of its taps, or the fault.
-fn printed(alloc: Global, wanted: Wanted) -> Result<String, Fail> {
+fn printed(alloc: Global, wanted: FilterSpec) -> Result<String, Fail> {
     match filter_texts(alloc, wanted) {
         Ok(texts) => Ok(format!(in alloc; "{}{}", texts.file, texts.told)?),
         Err(fault) => Ok(fault.to_string(alloc)?),
@@ -133,9 +133,9 @@ fn filters(rt: HostRuntime) -> Result<(), Fail> {
 /// Filters, and the lines with the measures of their taps. Two are band-passes, with the steeper slope above or below;
 /// it determines the number of taps. Two are low-passes of 12 and 16 phases, two are low-passes of 110 and 150 dB, and
 /// one has a single tap.
-const TOLD: &[(Wanted, &str)] = &[
+const TOLD: &[(FilterSpec, &str)] = &[
     (
-        Wanted {
+        FilterSpec {
             rate: 8000,
             band: Band::Middle {
                 low_stop: 200,
@@ -150,7 +150,7 @@ const TOLD: &[(Wanted, &str)] = &[
         "37 taps: 0.1067 dB of ripple, what is stopped at least 39.2 dB down\n",
     ),
     (
-        Wanted {
+        FilterSpec {
             rate: 8000,
             band: Band::Middle {
                 low_stop: 950,
@@ -165,7 +165,7 @@ const TOLD: &[(Wanted, &str)] = &[
         "73 taps: 0.0987 dB of ripple, what is stopped at least 41.4 dB down\n",
     ),
     (
-        Wanted {
+        FilterSpec {
             rate: 384_000,
             band: Band::Low {
                 pass: 5000,
@@ -178,7 +178,7 @@ const TOLD: &[(Wanted, &str)] = &[
         "132 taps: 0.0700 dB of ripple, what is stopped at least 41.4 dB down\n",
     ),
     (
-        Wanted {
+        FilterSpec {
             rate: 384_000,
             band: Band::Low {
                 pass: 5000,
@@ -191,21 +191,21 @@ const TOLD: &[(Wanted, &str)] = &[
         "128 taps: 0.0577 dB of ripple, what is stopped at least 42.2 dB down\n",
     ),
     (
-        Wanted {
+        FilterSpec {
             attenuation: 110,
             ..LOW_PASS
         },
         "39 taps: 0.0010 dB of ripple, what is stopped at least 78.0 dB down\n",
     ),
     (
-        Wanted {
+        FilterSpec {
             attenuation: 150,
             ..LOW_PASS
         },
         "54 taps: 0.0010 dB of ripple, what is stopped at least 74.3 dB down\n",
     ),
     (
-        Wanted {
+        FilterSpec {
             attenuation: 0,
             shift: 14,
             ..LOW_PASS

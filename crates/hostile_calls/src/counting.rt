@@ -11,7 +11,7 @@ use sdf_actor::Net;
 use sdf_file::{Design, read_design};
 use sdf_kit::Kit;
 use sdf_prec::hu::hu;
-use sdf_prec::{BlockTable, Costs, Team};
+use sdf_prec::{BlockTable, Costs, Columns};
 use sdf_run::{NoGate, Ran, RunFault, Workers, run_one, run_rings, run_rows};
 use sdf_sched::class_s::class_s;
 use sdf_sched::{Lean, Pick, Round, Runs};
@@ -149,7 +149,7 @@ fn run<R: AllocGlobal + Print + Sync + Threads>(
     let graph = net.graph();
     let period = class_s(alloc, graph, net.repetitions(), &mut Round::new())?;
     let costs = Costs::unit(alloc, graph)?;
-    let team = Team {
+    let team = Columns {
         workers,
         homed: true,
     };

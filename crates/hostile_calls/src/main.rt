@@ -14,7 +14,7 @@
 //! A plan, the words of a line and an answer with a fault of a design end by `drop(value)`, which is proved once. At
 //! the end of a scope each of their variants would be proved again.
 //!
-//! It depends on `sdf_words` and `sdf_options` for the words of a call, and on `sdf_file` and `sdf_texts` for designs
+//! It depends on `sdf_cli` and `sdf_options` for the words of a call, and on `sdf_file` and `sdf_texts` for designs
 //! and their texts. `sdf_plan`, `sdf_faults`, `sdf_process` and `sdf_wav` run files. Calls of single layers
 //! also use `sdf_run`, `sdf_rings`, `sdf_prec`, `sdf_sched`, `sdf_kit`, `sdf_actor` and `sdf_graph`.
 //! Begin at `main`, then `calls`, which names every call. `designs` has the calls that make a design or a plan.
@@ -37,8 +37,8 @@ use calls::make;
 use counting::count;
 use disturbing::{disturb, hold_each};
 use files::load;
-use sdf_words::arguments::arguments;
-use sdf_words::{Run, Task, Words, words};
+use sdf_cli::arguments::arguments;
+use sdf_cli::{RunRequest, DesignCommand, Words, words};
 use std::alloc::{AllocError, Global};
 use std::rt::Files;
 use std::thread::Threads;
@@ -76,7 +76,7 @@ fn make_by<R: AllocGlobal + Files + Print + Sync + Threads>(
     match words {
         Words::Design {
             graph,
-            task: Task::Run(Run { input, options, .. }),
+            task: DesignCommand::RunRequest(RunRequest { input, options, .. }),
             ..
         } => make(rt, call, &load(rt, graph)?, input, options),
         _ => bail!("these are no words of a run"),

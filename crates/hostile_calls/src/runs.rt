@@ -10,7 +10,7 @@ use crate::{TURNS, print_turn};
 use anyhow::Result;
 use sdf_actor::Net;
 use sdf_kit::Kit;
-use sdf_plan::{Plan, Way};
+use sdf_plan::{Plan, Execution};
 use sdf_prec::BlockTable;
 use sdf_run::{Gate, NoGate, Ran, RunFault, Workers, run_one, run_rings, run_rows};
 use std::alloc::{AllocError, Global};
@@ -52,8 +52,8 @@ pub(crate) fn show_ran(rt: &impl Print, answer: Result<Ran<i32>, RunFault>) -> i
 /// Returns the spin limit of a plan over rings. Other plans have none.
 pub(crate) fn patience_of(plan: &Plan) -> Option<u32> {
     match plan.way() {
-        Way::Rings { patience, .. } => Some(*patience),
-        Way::One { .. } | Way::Parts { .. } | Way::Rows(_) => None,
+        Execution::Rings { patience, .. } => Some(*patience),
+        Execution::One { .. } | Execution::Parts { .. } | Execution::Rows(_) => None,
     }
 }
 
@@ -80,8 +80,8 @@ pub(crate) fn run_by_workers<R: AllocGlobal + Sync + Threads, G: Gate>(
 /// Returns the periods of a block.
 fn blocking(plan: &Plan) -> u32 {
     match plan.way() {
-        Way::One { blocking, .. } | Way::Parts { blocking, .. } => *blocking,
-        Way::Rows(table) | Way::Rings { table, .. } => table.factor,
+        Execution::One { blocking, .. } | Execution::Parts { blocking, .. } => *blocking,
+        Execution::Rows(table) | Execution::Rings { table, .. } => table.factor,
     }
 }
 

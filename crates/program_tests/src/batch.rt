@@ -6,7 +6,7 @@ use crate::files::{
     HALVES, PLAIN, are_told, folder, has_bytes, is_gone, path_in, put, served, told, with_files,
 };
 use crate::shelf::{HEADER, SOUND};
-use sdf_files::storage::Disk;
+use sdf_io::storage::Disk;
 use std::alloc::{AllocError, Global};
 use std::fs;
 use std::test::Fail;

@@ -1,12 +1,12 @@
 //! Commands over files in memory, and reports on them.
 
 use crate::shelf::{HEADER, NEW_SOUND, SOUND, Shelf, places};
-use sdf_files::files::MOST_BYTES;
-use sdf_files::storage::Storage;
-use sdf_files::world::World;
+use sdf_io::files::MOST_BYTES;
+use sdf_io::storage::Storage;
+use sdf_io::world::World;
 use sdf_options::WordFault;
 use sdf_program::program::serve;
-use sdf_words::arguments::Given;
+use sdf_cli::arguments::Arguments;
 use std::alloc::{AllocError, Global};
 use std::io::{self, Error, ErrorKind, Write};
 use std::sync::Mutex;
@@ -41,13 +41,13 @@ impl Write for Stream {
 }
 
 /// Returns the program's name and the words of `line`, with `folder` in place of `@`.
-pub(crate) fn given_of(alloc: Global, line: &str, folder: &str) -> Result<Given, AllocError> {
+pub(crate) fn given_of(alloc: Global, line: &str, folder: &str) -> Result<Arguments, AllocError> {
     let mut words = Vec::new(alloc);
     push_word(alloc, &mut words, "sdfw", folder)?;
     for word in line.split(' ') {
         push_word(alloc, &mut words, word, folder)?;
     }
-    Ok(Given {
+    Ok(Arguments {
         words,
         unread: None,
     })
@@ -157,7 +157,7 @@ pub(crate) fn serve_over<S: Storage, T: Threads + AllocGlobal + Clock + Clone + 
     storage: &S,
     threads: &T,
     around: &Around<'_>,
-    given: Result<Given, WordFault>,
+    given: Result<Arguments, WordFault>,
 ) -> Served {
     let world = World {
         storage,
@@ -196,7 +196,7 @@ fn written(alloc: Global, places: Vec<Mutex<Vec<u8>>>) -> Result<Vec<u8>, AllocE
 pub(crate) fn serve_given<T: Threads + AllocGlobal + Clock + Clone + Drop + Sync>(
     rt: &T,
     around: &Around<'_>,
-    given: Result<Given, WordFault>,
+    given: Result<Arguments, WordFault>,
 ) -> Result<Served, Fail> {
     let places = places(rt.alloc())?;
     let mut served = serve_over(&Shelf { places: &places }, rt, around, given);

@@ -3,8 +3,8 @@
 use crate::commands::{OPEN, Row, Served, given_of, is_told, serve_over};
 use crate::shelf::SOUND;
 use sdf_faults::{Fault, fault_text};
-use sdf_files::files::{MOST_BYTES, Sources, bytes_of, load_into};
-use sdf_files::storage::{Disk, Storage};
+use sdf_io::files::{MOST_BYTES, Sources, bytes_of, load_into};
+use sdf_io::storage::{Disk, Storage};
 use std::alloc::{AllocError, Global};
 use std::io::{self, Error, ErrorKind, Read};
 use std::rt::Files;

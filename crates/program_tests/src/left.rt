@@ -2,7 +2,7 @@
 
 use crate::commands::{TERMINAL, given_of, is_told, serve_over};
 use crate::files::{folder, has_bytes, is_gone, path_in, put, told};
-use sdf_files::storage::{Disk, Storage};
+use sdf_io::storage::{Disk, Storage};
 use std::alloc::Global;
 use std::fs::{self, File};
 use std::io::{self, Error, ErrorKind, Write};

@@ -1,6 +1,6 @@
 //! Tests of the levels of a sound that is written in pieces of different lengths.
 
-use sdf_files::output::{Output, Shown};
+use sdf_io::output::{Output, Shown};
 use std::alloc::{AllocError, Global};
 use std::io::{self, Write};
 use std::test::Fail;

@@ -2,7 +2,7 @@
 
 use crate::commands::is_told;
 use crate::files::{HALVES, has_bytes, make_folder, path_in, put, stand, told, with_files};
-use sdf_files::storage::Disk;
+use sdf_io::storage::Disk;
 use std::fs;
 use std::io::ErrorKind;
 use std::os::unix::fs::symlink;

@@ -1,7 +1,7 @@
 //! Tests of opens that are refused, for lack of memory or for another cause.
 
 use crate::files::{told, with_files};
-use sdf_files::storage::Disk;
+use sdf_io::storage::Disk;
 use std::alloc::Allocator;
 use std::fs::{File, Metadata, OpenOptions};
 use std::io::{self, Error, ErrorKind};

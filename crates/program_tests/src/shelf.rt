@@ -3,7 +3,7 @@
 use crate::costs::{COMMENTED, SPACED};
 use crate::files::{FILTERED, PLAIN, TAPS};
 use crate::parallel::RECENT;
-use sdf_files::storage::Storage;
+use sdf_io::storage::Storage;
 use std::alloc::{AllocError, Global};
 use std::io::{self, Error, ErrorKind, Write};
 use std::path::{Path, PathBuf};

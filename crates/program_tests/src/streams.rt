@@ -6,9 +6,9 @@ use crate::commands::{
 };
 use crate::files::{FILTERED, TAPS};
 use crate::shelf::{PADDED, SOUND};
-use sdf_files::files::MOST_BYTES;
+use sdf_io::files::MOST_BYTES;
 use sdf_options::WordFault;
-use sdf_words::arguments::Given;
+use sdf_cli::arguments::Arguments;
 use std::alloc::Global;
 use std::io::ErrorKind;
 use std::test::Fail;
@@ -238,7 +238,7 @@ fn unread_text(alloc: Global, served: &Served) -> Result<String, Fail> {
 /// Serves the words `given`. Reports the exit status, how many bytes are on standard output, and standard error.
 fn unread_given<T: Threads + AllocGlobal + Clock + Clone + Drop + Sync>(
     rt: &T,
-    given: Result<Given, WordFault>,
+    given: Result<Arguments, WordFault>,
 ) -> Result<String, Fail> {
     let served = serve_given(rt, OPEN, given)?;
     unread_text(rt.alloc(), &served)

@@ -11,7 +11,7 @@ use Rattle.sdf_actor.specs.declared.node.Node.TheVariants.{Source, Sink, Inner}
 use Rattle.sdf_actor.specs.declared.sides.Side.{Side}
 use Rattle.sdf_actor.specs.declared.sides.Side.TheVariants.{Input, Output}
 use Rattle.sdf_actor.specs.declared.link.Link.{Link}
-use Rattle.sdf_actor.specs.declared.rest.Rest.{Rest}
+use Rattle.sdf_actor.specs.declared.rest.NetState.{NetState}
 use Rattle.sdf_actor.specs.Graphs.{rates_at, channel_of, graph_of}
 use Rattle.sdf_actor.specs.Nets.{Wire, Netlist, no_wire, wire, node, wiring, IsNet, IsHistoryOf}
 use Rattle.sdf_actor.specs.Histories.{Wiring, Answers, IsHistory}
@@ -62,7 +62,7 @@ rates_same s r state (Inner x) y (b, now, e, _, same) Output p =
 
 -- a net that begins with what whole periods of another leave
 module _ {A B S T : Type 0} {s : Steps A S T} {r : Steps B S T} {n : Netlist A T} (good : IsNet s n)
-    {inputs : List (List T)} {k : ℕ → ℕ} (period : IsPeriod (wiring s n).rates k) {rest : Rest T S}
+    {inputs : List (List T)} {k : ℕ → ℕ} (period : IsPeriod (wiring s n).rates k) {rest : NetState T S}
     (is : IsRest s n inputs k rest) {m : Netlist B T} (begins : BeginsWith s r n rest m) where
   channel_same : (c : ℕ) → c < length n.wires → channel_of r m.nodes (wire m c) ≡ channel_of s n.nodes (wire n c)
   channel_same c l =
@@ -98,7 +98,7 @@ module _ {A B S T : Type 0} {s : Steps A S T} {r : Steps B S T} {n : Netlist A T
 
 -- a net of nodes and links that were made one by one
 pub begins_with : {A B S T : Type 0} (s : Steps A S T) (r : Steps B S T) (nodes : List (Node A)) (links : List (Link T))
-    (rest : Rest T S) (made : List (Node B)) (joined : List (Link T)) →
+    (rest : NetState T S) (made : List (Node B)) (joined : List (Link T)) →
     length made ≡ length nodes → ((a : ℕ) → a < length nodes →
     IsNodeIn s r (get_or rest.states.items a None) (get_or nodes a (Sink 0 0)) (get_or made a (Sink 0 0))) →
     length joined ≡ length links →

@@ -8,7 +8,7 @@ use Rattle.sdf_graph.specs.Periods.{Divides}
 use Rattle.sdf_graph.specs.Rates.{sum_to}
 use Rattle.sdf_actor.specs.declared.node.Node.{Node}
 use Rattle.sdf_actor.specs.declared.node.Node.TheVariants.{Source, Sink, Inner}
-use Rattle.sdf_actor.specs.declared.rest.Rest.{Rest}
+use Rattle.sdf_actor.specs.declared.rest.NetState.{NetState}
 use Rattle.sdf_actor.specs.Begun.{BeginsIn}
 use Rattle.sdf_actor.specs.Histories.{AnswersAgree, taken_before}
 use Rattle.sdf_actor.specs.Nets.{Wire, Netlist, no_wire, wire, node, inputs_of, outputs_of, consumed_at, produced_at}
@@ -106,7 +106,7 @@ first_same test (x ∷ xs) (y ∷ ys) e h =
     λ κ. cond (not (here κ)) (1 + more κ) 0
 
 module _ {A B S T : Type 0} {s : Steps A S T} {r : Steps B S T} {n : Netlist A T} {m : Netlist B T}
-    {first later : List (List T)} {k i : ℕ → ℕ} {V U : ℕ → List T} {rest : Rest T S}
+    {first later : List (List T)} {k i : ℕ → ℕ} {V U : ℕ → List T} {rest : NetState T S}
     (h : GoesOn s r n m first later k i V U rest) where
   from_same : (c : ℕ) → c < length n.wires → (wire m c).from ≡ (wire n c).from
   from_same c l = h.begins.from c l
@@ -239,7 +239,7 @@ module _ {A B S T : Type 0} {s : Steps A S T} {r : Steps B S T} {n : Netlist A T
   abbrev over : ℕ → List (List T)
   over a = taken_before (wiring s n) (in_all s n V U) a (k a + i a)
 
-  pub rest_goes_on : (last : Rest T S) → Leaves r m i U last → Leaves s n (λ a. k a + i a) (in_all s n V U) last
+  pub rest_goes_on : (last : NetState T S) → Leaves r m i U last → Leaves s n (λ a. k a + i a) (in_all s n V U) last
   rest_goes_on last left = record {
     nodes = left.nodes ∙ h.begins.nodes;
     states = λ a l. at a l (node n a) refl (h.begins.each a l);

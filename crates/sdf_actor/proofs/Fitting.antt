@@ -7,7 +7,7 @@ use Rattle.std.proofs.lemmas.List.{get_or_append_left, get_or-append_right, leng
 use Rattle.sdf_graph.specs.Periods.{Divides}
 use Rattle.sdf_actor.specs.declared.node.Node.{Node}
 use Rattle.sdf_actor.specs.declared.node.Node.TheVariants.{Source, Sink, Inner}
-use Rattle.sdf_actor.specs.declared.rest.Rest.{Rest}
+use Rattle.sdf_actor.specs.declared.rest.NetState.{NetState}
 use Rattle.sdf_actor.specs.Begun.{beginning, BeginsIn, MayBegin}
 use Rattle.sdf_actor.specs.Histories.{taken_before}
 use Rattle.sdf_actor.specs.Nets.{Netlist, node, wiring, inputs_of, consumed_at, cycle_of, IsNet}
@@ -65,7 +65,7 @@ module _ {A S T : Type 0} (s : Steps A S T) (x : A) (fits : PutsFit s x) (before
 
 -- so it is in a net after whole periods
 module _ {A S T : Type 0} {s : Steps A S T} {n : Netlist A T} (good : IsNet s n) {inputs : List (List T)} {k : ℕ → ℕ}
-    (whole : AreWhole s n k) {rest : Rest T S} (is : IsRest s n inputs k rest) (fits : (x : A) → PutsFit s x)
+    (whole : AreWhole s n k) {rest : NetState T S} (is : IsRest s n inputs k rest) (fits : (x : A) → PutsFit s x)
     (a : ℕ) (known : a < length n.nodes) where
   open is use {history, is as r, left}
 

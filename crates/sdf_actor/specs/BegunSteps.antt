@@ -1,10 +1,10 @@
 -- The steps of actors that begin in a state.
 use Rattle.sdf_actor.specs.declared.actor.Actor.{Ghosts}
-use Rattle.sdf_actor.specs.declared.begun.Begun.{Begun}
+use Rattle.sdf_actor.specs.declared.begun.ResumedActor.{ResumedActor}
 use Rattle.sdf_actor.specs.Steps.{Steps}
 
 -- the steps of the actors, except that each begins in its state
-abbrev pub begun_steps : {A T S : Type 0} (g : Ghosts A T S) → Steps (Begun A T S g) S T
+abbrev pub begun_steps : {A T S : Type 0} (g : Ghosts A T S) → Steps (ResumedActor A T S g) S T
 begun_steps g = record {
   inputs = λ b. g.steps.inputs b.actor.now;
   outputs = λ b. g.steps.outputs b.actor.now;

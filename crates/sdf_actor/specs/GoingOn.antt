@@ -2,7 +2,7 @@
 use Rattle.std.specs.Prelude.{◌≡◌, ℕ, ◌+◌, ◌*◌, ◌<◌, List, ◌++◌, length, drop, slice_index}
 use Rattle.sdf_graph.specs.Rates.{rates, IsShape, IsAlike}
 use Rattle.sdf_actor.specs.declared.node.Node.TheVariants.{Sink}
-use Rattle.sdf_actor.specs.declared.rest.Rest.{Rest}
+use Rattle.sdf_actor.specs.declared.rest.NetState.{NetState}
 use Rattle.sdf_actor.specs.Graphs.{graph_of}
 use Rattle.sdf_actor.specs.NetFaults.{IsAccepted}
 use Rattle.sdf_actor.specs.Nets.{Netlist, node, wiring, arrived, IsNet, IsHistoryOf}
@@ -13,7 +13,7 @@ use Rattle.sdf_actor.specs.Steps.{Steps}
 -- these firings read all of `first`. Net m begins with what V leaves. U is the history of m on the lists `later`, after
 -- i a firings of each node a
 pub record GoesOn {A B S T : Type 0} (s : Steps A S T) (r : Steps B S T) (n : Netlist A T) (m : Netlist B T)
-    (first later : List (List T)) (k i : ℕ → ℕ) (V U : ℕ → List T) (rest : Rest T S) : Type 0 where
+    (first later : List (List T)) (k i : ℕ → ℕ) (V U : ℕ → List T) (rest : NetState T S) : Type 0 where
   pub net : IsNet s n
   pub whole : AreWhole s n k
   pub before : IsHistoryOf s n first k V
@@ -30,7 +30,7 @@ in_all s n V U c = V c ++ drop ((wiring s n).rates.initial c) (U c)
 abbrev pub HistoriesGoOn : {A B S T : Type 0} → Steps A S T → Steps B S T → Type 0
 HistoriesGoOn {A} {B} {S} {T} s r =
     (n : Netlist A T) (m : Netlist B T) (first later all : List (List T)) (k i : ℕ → ℕ) (V U : ℕ → List T)
-    (rest : Rest T S) →
+    (rest : NetState T S) →
     GoesOn s r n m first later k i V U rest → AreJoined first later all →
     IsHistoryOf s n all (λ a. k a + i a) (in_all s n V U)
 
@@ -38,14 +38,14 @@ HistoriesGoOn {A} {B} {S} {T} s r =
 abbrev pub RestsGoOn : {A B S T : Type 0} → Steps A S T → Steps B S T → Type 0
 RestsGoOn {A} {B} {S} {T} s r =
     (n : Netlist A T) (m : Netlist B T) (first later : List (List T)) (k i : ℕ → ℕ) (V U : ℕ → List T)
-    (rest last : Rest T S) →
+    (rest last : NetState T S) →
     GoesOn s r n m first later k i V U rest → Leaves r m i U last → Leaves s n (λ a. k a + i a) (in_all s n V U) last
 
 -- at each sink arrives what arrived there by V and then by U
 abbrev pub ArrivalsGoOn : {A B S T : Type 0} → Steps A S T → Steps B S T → Type 0
 ArrivalsGoOn {A} {B} {S} {T} s r =
     (n : Netlist A T) (m : Netlist B T) (first later : List (List T)) (k i : ℕ → ℕ) (V U : ℕ → List T)
-    (rest : Rest T S) →
+    (rest : NetState T S) →
     GoesOn s r n m first later k i V U rest → (a e block : ℕ) → a < length n.nodes → node n a ≡ Sink e block →
     arrived s n (λ b. k b + i b) (in_all s n V U) a ≡ arrived s n k V a ++ arrived r m i U a
 

@@ -4,7 +4,7 @@ use Rattle.sdf_graph.specs.Sequences.{IsPeriod}
 use Rattle.sdf_graph.specs.Periods.{Divides}
 use Rattle.sdf_actor.specs.declared.node.Node.{Node}
 use Rattle.sdf_actor.specs.declared.node.Node.TheVariants.{Source, Sink, Inner}
-use Rattle.sdf_actor.specs.declared.rest.Rest.{Rest}
+use Rattle.sdf_actor.specs.declared.rest.NetState.{NetState}
 use Rattle.sdf_actor.specs.Begun.{BeginsIn}
 use Rattle.sdf_actor.specs.Histories.{taken_before}
 use Rattle.sdf_actor.specs.Nets.{Netlist, node, wire, wiring, cycle_of, IsHistoryOf}
@@ -25,7 +25,7 @@ state_left s (Inner x) past = Some (state_after s x past)
 -- `rest` is what the history V leaves after k a firings of each node a: each node's state after all that it took, and
 -- on each channel the samples that were not taken
 pub record Leaves {A S T : Type 0} (s : Steps A S T) (n : Netlist A T) (k : ℕ → ℕ) (V : ℕ → List T)
-    (rest : Rest T S) : Type 0 where
+    (rest : NetState T S) : Type 0 where
   pub nodes : length rest.states.items ≡ length n.nodes
   pub states : (a : ℕ) → a < length n.nodes →
       slice_index_or rest.states.items a None ≡ state_left s (node n a) (taken_before (wiring s n) V a (k a))
@@ -36,7 +36,7 @@ pub record Leaves {A S T : Type 0} (s : Steps A S T) (n : Netlist A T) (k : ℕ 
 
 -- the history on these inputs leaves `rest`
 pub record IsRest {A S T : Type 0} (s : Steps A S T) (n : Netlist A T) (inputs : List (List T)) (k : ℕ → ℕ)
-    (rest : Rest T S) : Type 0 where
+    (rest : NetState T S) : Type 0 where
   pub history : ℕ → List T
   pub is : IsHistoryOf s n inputs k history
   pub left : Leaves s n k history rest
@@ -49,7 +49,7 @@ IsNodeIn {A} {B} {S} {T} s r state (Inner x) y =
     (b : B) × (now : S) × (y ≡ Inner b) × (state ≡ Some now) × BeginsIn s r x now b
 
 -- m is net n, except that its actors begin in the states of `rest`, and its channels with the samples of `rest`
-pub record BeginsWith {A B S T : Type 0} (s : Steps A S T) (r : Steps B S T) (n : Netlist A T) (rest : Rest T S)
+pub record BeginsWith {A B S T : Type 0} (s : Steps A S T) (r : Steps B S T) (n : Netlist A T) (rest : NetState T S)
     (m : Netlist B T) : Type 0 where
   pub nodes : length m.nodes ≡ length n.nodes
   pub each : (a : ℕ) → a < length n.nodes → IsNodeIn s r (slice_index_or rest.states.items a None) (node n a) (node m a)

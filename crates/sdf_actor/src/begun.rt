@@ -8,24 +8,24 @@ use std::alloc::{AllocError, Global};
 
 /// An actor that begins in `state` instead of its own first state, and is the same otherwise.
 #[derive(Drop)]
-pub struct Begun<'a, A: Actor> {
+pub struct ResumedActor<'a, A: Actor> {
     actor: &'a A,
     state: A::State,
     // a firing puts the number of samples that its phase sets
     ghost fits: { PutsFit (beginning A.steps state) actor.now },
 }
 
-impl<'a, A: Actor> Begun<'a, A> {
+impl<'a, A: Actor> ResumedActor<'a, A> {
     /// Makes an actor that begins in `state`.
-    pub(crate) fn new(actor: &'a A, state: A::State) -> Begun<'a, A>
+    pub(crate) fn new(actor: &'a A, state: A::State) -> ResumedActor<'a, A>
         requires { PutsFit (beginning A.steps state) actor.now }
-        ensures { BeginsIn A.steps ⟦<Begun<'a, A> as Actor>⟧.steps actor.now state result }
+        ensures { BeginsIn A.steps ⟦<ResumedActor<'a, A> as Actor>⟧.steps actor.now state result }
     {
-        Begun { actor, state }
+        ResumedActor { actor, state }
     }
 }
 
-impl<'a, A: Actor> Actor for Begun<'a, A> {
+impl<'a, A: Actor> Actor for ResumedActor<'a, A> {
     type Token = A::Token;
 
     type State = A::State;

@@ -10,11 +10,11 @@ ghost use Rattle.sdf_actor.specs.Rests.{AreWhole, state_left, IsRest, IsNodeIn, 
 ghost use Rattle.sdf_actor.specs.Wires.{lists, wire_of, wires};
 
 use crate::actor::Actor;
-use crate::begun::Begun;
+use crate::begun::ResumedActor;
 use crate::link::Link;
 use crate::net::Net;
 use crate::node::Node;
-use crate::rest::Rest;
+use crate::rest::NetState;
 use std::alloc::{AllocError, Global};
 
 /// Returns a copy of `node`. If it is an actor, the copy begins in `state`.
@@ -22,7 +22,7 @@ fn node_in<'a, A: Actor>(
     alloc: Global,
     node: &'a Node<A>,
     state: &Option<A::State>,
-) -> Result<Node<Begun<'a, A>>, AllocError>
+) -> Result<Node<ResumedActor<'a, A>>, AllocError>
     requires { MayBegin A.steps state.now node.now }
     ensures { IfOk result (λ y. IsNodeIn A.steps (begun_steps A.Actor) state.now node.now y) }
 {
@@ -36,7 +36,7 @@ fn node_in<'a, A: Actor>(
             block: *block,
         }),
         Node::Inner(actor) => match state {
-            Some(state) => Ok(Node::Inner(Begun::new(actor, actor.again(alloc, state)?))),
+            Some(state) => Ok(Node::Inner(ResumedActor::new(actor, actor.again(alloc, state)?))),
             None => unreachable!(),
         },
     }
@@ -58,7 +58,7 @@ fn nodes_in<'a, A: Actor>(
     alloc: Global,
     nodes: &'a [Node<A>],
     states: &[Option<A::State>],
-) -> Result<Vec<Node<Begun<'a, A>>>, AllocError>
+) -> Result<Vec<Node<ResumedActor<'a, A>>>, AllocError>
     requires all { length states.now ≡ length nodes.now }
     requires each { (a : ℕ) → a < length nodes.now →
         MayBegin A.steps (slice_index_or states.now a None) (slice_index_or nodes.now a (Sink 0 0)) }
@@ -136,10 +136,10 @@ fn first_held<T: Copy>(alloc: Global, links: &[Link<T>]) -> Result<Vec<Vec<T>>, 
 impl<A: Actor> Net<A> {
     /// Returns the net's state before its first firing: the first states of its actors, and the initial samples of its
     /// channels.
-    pub fn first_rest(&self, alloc: Global) -> Result<Rest<A::Token, A::State>, AllocError>
+    pub fn first_rest(&self, alloc: Global) -> Result<NetState<A::Token, A::State>, AllocError>
         ensures { IfOk result (λ rest. (inputs : List (List A.Token)) → IsRest A.steps self.now inputs (λ _. 0) rest) }
     {
-        Ok(Rest {
+        Ok(NetState {
             states: first_states(alloc, &self.nodes)?,
             held: first_held(alloc, &self.links)?,
         })
@@ -149,8 +149,8 @@ impl<A: Actor> Net<A> {
     pub fn begun<'a>(
         &'a self,
         alloc: Global,
-        rest: &Rest<A::Token, A::State>,
-    ) -> Result<Net<Begun<'a, A>>, AllocError>
+        rest: &NetState<A::Token, A::State>,
+    ) -> Result<Net<ResumedActor<'a, A>>, AllocError>
         requires rest { (inputs : List (List A.Token)) × (k : ℕ → ℕ) × AreWhole A.steps self.now k
             × IsRest A.steps self.now inputs k rest.now }
         ensures begins { IfOk result (λ net. BeginsWith A.steps (begun_steps A.Actor) self.now rest.now net) }

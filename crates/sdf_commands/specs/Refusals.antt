@@ -4,8 +4,8 @@ use Rattle.std.specs.Prelude.{decimal}
 use Rattle.std.specs.List.{flat_map, list_any, range_with_len}
 use Rattle.sdf_file.specs.Designs.{DesignValue}
 use Rattle.sdf_options.specs.declared.options.Options.{Options}
-use Rattle.sdf_words.specs.declared.asked.TheConstants.{MOST_FAULT}
-use Rattle.sdf_words.specs.Names.{names}
+use Rattle.sdf_cli.specs.declared.asked.TheConstants.{MOST_FAULT}
+use Rattle.sdf_cli.specs.Names.{names}
 use Rattle.sdf_analyze.specs.declared.columns.Outcome.{Outcome}
 use Rattle.sdf_analyze.specs.declared.columns.Outcome.TheVariants.{Made, Refused}
 use Rattle.sdf_analyze.specs.declared.columns.Entry.{Entry}

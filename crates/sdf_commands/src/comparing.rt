@@ -3,7 +3,7 @@
 ghost use Rattle.std.specs.Prelude.{◌≡◌, ◌++◌, ◌≤◌, IfOk, OnOk, MatchResult, string_bytes};
 ghost use Rattle.sdf_options.specs.Limits.{AreWithinLimits};
 ghost use Rattle.sdf_plan.specs.Plans.{IsScheduleFault};
-ghost use Rattle.sdf_words.specs.declared.asked.TheConstants.{MOST_FAULT};
+ghost use Rattle.sdf_cli.specs.declared.asked.TheConstants.{MOST_FAULT};
 ghost use Rattle.sdf_commands.specs.Refusals.{is_by, is_refused, pointer, refusal_line, refusal_of};
 ghost use Rattle.sdf_commands.specs.Refusals.{refusals_text, IsExplainedComparison};
 
@@ -12,7 +12,7 @@ use sdf_analyze::{Entry, Outcome, compared, comparison_text};
 use sdf_faults::Fault;
 use sdf_file::Design;
 use sdf_options::Options;
-use sdf_words::{MOST_FAULT, fault_name};
+use sdf_cli::{MOST_FAULT, fault_name};
 use std::alloc::{AllocError, Global};
 use std::io::Write;
 

@@ -1,6 +1,6 @@
 //! The commands of the program `sdfw` that do not run a net, and its diagnostics of faults.
 //!
-//! It depends on `sdf_files` for files and streams, and on `sdf_words` and `sdf_options` for what is asked.
+//! It depends on `sdf_io` for files and streams, and on `sdf_cli` and `sdf_options` for what is asked.
 //! `sdf_file`, `sdf_plan`, `sdf_texts`, `sdf_analyze`, `sdf_draw`, `sdf_json` and `sdf_kinds` make what is printed,
 //! and `sdf_filters` makes filters and converters. `sdf_faults` has the faults. `sdf_why` has their diagnostics, also
 //! for faults of `sdf_document` and `sdf_prec`. Begin at `printing`, `comparing` and `making`, which have the commands.

@@ -3,12 +3,12 @@
 use crate::printing::{show, test_plan};
 use sdf_faults::Fault;
 use sdf_file::{CoefficientFile, Design, read_design};
-use sdf_files::files::{Refused, Sources, make_at, note_left, refuse};
-use sdf_files::overwriting::{canonical_path, keep_file};
-use sdf_files::storage::Storage;
-use sdf_files::world::World;
-use sdf_filters::{ConverterTexts, FilterFault, Wanted, converter_texts, filter_texts};
-use sdf_words::{Conversion, mistake};
+use sdf_io::files::{Refused, Sources, make_at, note_left, refuse};
+use sdf_io::overwriting::{canonical_path, keep_file};
+use sdf_io::storage::Storage;
+use sdf_io::world::World;
+use sdf_filters::{ConverterTexts, FilterFault, FilterSpec, converter_texts, filter_texts};
+use sdf_cli::{Conversion, mistake};
 use std::alloc::Global;
 use std::io::{ErrorKind, Write};
 
@@ -28,7 +28,7 @@ pub fn fir<O: Write, E: Write>(
     alloc: Global,
     out: &mut O,
     err: &mut E,
-    wanted: Wanted,
+    wanted: FilterSpec,
 ) -> Result<(), Fault> {
     match filter_texts(alloc, wanted) {
         Ok(texts) => {

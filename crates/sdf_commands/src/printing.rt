@@ -6,14 +6,14 @@ use sdf_analyze::analyze;
 use sdf_draw::{dot, svg};
 use sdf_faults::Fault;
 use sdf_file::Design;
-use sdf_files::files::put;
+use sdf_io::files::put;
 use sdf_json::{analysis_json, check_json, kinds_json, schedule_json};
 use sdf_kinds::kinds_text;
 use sdf_options::Options;
 use sdf_plan::planning::plan;
 use sdf_texts::check_text;
 use sdf_texts::schedule::schedule;
-use sdf_words::{Format, Picture, explained};
+use sdf_cli::{Format, Picture, explained};
 use std::alloc::{AllocError, Global};
 use std::io::Write;
 

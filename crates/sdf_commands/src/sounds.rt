@@ -1,7 +1,7 @@
 //! The diagnostics of WAV files that are refused, from their first bytes.
 
 use byteorder::{ByteOrder, LittleEndian};
-use sdf_files::input::InputTrace;
+use sdf_io::input::InputTrace;
 use sdf_options::plural::plural;
 use sdf_wav::{EXTENSIBLE_TAG, FormatFault, MOST_DATA_BYTES, UNKNOWN_SIZE};
 use sdf_why::{Header, device_text};

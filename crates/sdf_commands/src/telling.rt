@@ -4,15 +4,15 @@ use crate::sounds::{format_text, header_of, unsuited_text};
 use sdf_document::DocumentFault;
 use sdf_faults::{Fault, Stalled};
 use sdf_file::FileFault;
-use sdf_files::files::Sources;
-use sdf_files::input::InputTrace;
+use sdf_io::files::Sources;
+use sdf_io::input::InputTrace;
 use sdf_options::Options;
 use sdf_prec::PrecFault;
 use sdf_why::{
     DesignFiles, Halt, block_text, channels_text, device_text, file_text, home_text, rate_text,
     stall_text, toml_text,
 };
-use sdf_words::{Format, Task, Words};
+use sdf_cli::{Format, DesignCommand, Words};
 use std::alloc::{AllocError, Global};
 use std::io::Write;
 
@@ -156,30 +156,30 @@ enum Telling {
 }
 
 /// Returns the options of `task`, which the diagnostics of its faults use.
-fn options_of(task: &Task<'_>) -> Options {
+fn options_of(task: &DesignCommand<'_>) -> Options {
     match task {
-        Task::Schedule { options, .. }
-        | Task::Analyze { options, .. }
-        | Task::Compare { options, .. }
-        | Task::Draw { options, .. } => *options,
-        Task::Run(run) => run.options,
-        Task::Check { .. } | Task::Profile { .. } => Options::DEFAULT,
+        DesignCommand::Schedule { options, .. }
+        | DesignCommand::Analyze { options, .. }
+        | DesignCommand::Compare { options, .. }
+        | DesignCommand::Draw { options, .. } => *options,
+        DesignCommand::Run(run) => run.options,
+        DesignCommand::Check { .. } | DesignCommand::Profile { .. } => Options::DEFAULT,
     }
 }
 
 /// Returns the format in which faults of `task` are reported.
-fn format_of(task: &Task<'_>) -> Format {
+fn format_of(task: &DesignCommand<'_>) -> Format {
     match task {
-        Task::Check { format }
-        | Task::Schedule { format, .. }
-        | Task::Analyze { format, .. }
-        | Task::Compare { format, .. } => *format,
-        Task::Draw { .. } | Task::Run(_) | Task::Profile { .. } => Format::Text,
+        DesignCommand::Check { format }
+        | DesignCommand::Schedule { format, .. }
+        | DesignCommand::Analyze { format, .. }
+        | DesignCommand::Compare { format, .. } => *format,
+        DesignCommand::Draw { .. } | DesignCommand::Run(_) | DesignCommand::Profile { .. } => Format::Text,
     }
 }
 
 /// Returns how the faults of `task` are reported. Diagnostics need `is_said`.
-fn telling_of(task: &Task<'_>, is_said: bool) -> Telling {
+fn telling_of(task: &DesignCommand<'_>, is_said: bool) -> Telling {
     match format_of(task) {
         Format::Json => Telling::Json,
         Format::Text if is_said => Telling::Why(options_of(task)),

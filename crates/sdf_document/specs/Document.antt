@@ -8,7 +8,7 @@ use Rattle.toml.specs.View.{items_view}
 pub use Rattle.toml.specs.Data.{Members}
 pub use Rattle.toml.specs.View.{table_view}
 use Rattle.sdf_document.specs.declared.entry.Document.{Document}
-use Rattle.sdf_document.specs.declared.document.Parts.{Parts}
+use Rattle.sdf_document.specs.declared.document.FileParts.{FileParts}
 use Rattle.sdf_document.specs.Fault.{top, Fault, actor_count, channel_count, not_toml, missing_key, wrong_type, ◌>>=◌}
 use Rattle.sdf_document.specs.Fault.{or_fault}
 use Rattle.sdf_document.specs.Tables.{table_in, format_at, known_keys}
@@ -63,7 +63,7 @@ pub record PartsValue : Type 0 where
   pub actors : Items
   pub links : Items
 
-abbrev pub parts_view : Parts → PartsValue
+abbrev pub parts_view : FileParts → PartsValue
 parts_view p = record { format = p.format; actors = items_view p.actors.now; links = items_view p.links.now }
 
 unfoldable pub parts_at : Members → Result PartsValue Fault

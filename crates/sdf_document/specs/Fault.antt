@@ -2,8 +2,8 @@
 use Rattle.std.specs.Prelude.{◌≡◌, ℕ, List, ◌++◌, codes, decimal, Option, Some, None, Result, Ok, Err, string_bytes}
 use Rattle.sdf_document.specs.declared.fault.Place.{Place as PlaceOf}
 use Rattle.sdf_document.specs.declared.fault.Place.TheVariants as places
-use Rattle.sdf_document.specs.declared.fault.Spot.{Spot}
-use Rattle.sdf_document.specs.declared.fault.Spot.TheVariants as spots
+use Rattle.sdf_document.specs.declared.fault.BorrowedPlace.{BorrowedPlace}
+use Rattle.sdf_document.specs.declared.fault.BorrowedPlace.TheVariants as spots
 use Rattle.sdf_document.specs.declared.fault.DocumentFault.{DocumentFault}
 use Rattle.sdf_document.specs.declared.fault.DocumentFault.TheVariants as faults
 use Rattle.sdf_document.specs.declared.fault.ReadFault.{ReadFault}
@@ -38,7 +38,7 @@ place_view (places.Actor n) = actor n
 place_view (places.Link n) = link n
 place_view (places.File name) = file (string_bytes name)
 
-abbrev pub spot_view : Spot → Place
+abbrev pub spot_view : BorrowedPlace → Place
 spot_view spots.Top = top
 spot_view (spots.Actor n) = actor n
 spot_view (spots.Link n) = link n

@@ -11,7 +11,7 @@ ghost use Rattle.sdf_document.specs.Actors.{name_at, keys_at, shared_at, actor_a
 ghost use Rattle.sdf_kinds.specs.Rows.{shared_keys};
 
 use crate::entry::ActorEntry;
-use crate::fault::{DocumentFault, Place, ReadFault, Spot};
+use crate::fault::{DocumentFault, Place, ReadFault, BorrowedPlace};
 use crate::file::Files;
 use crate::key::{KeyValue, actor_keys, values_at};
 use crate::kind::{kind_at, natural, optional, word_at};
@@ -52,7 +52,7 @@ fn test_actor_keys(alloc: Global, actor: usize, kind: Kind, table: &Table) -> Re
     ensures { Gives (λ x. x) result (keys_at actor kind (table_view table.now)) }
 {
     let known = actor_keys(alloc, row_of(kind).keys, table)?;
-    test_keys(alloc, Spot::Actor(actor), known.as_slice(), table)
+    test_keys(alloc, BorrowedPlace::Actor(actor), known.as_slice(), table)
 }
 
 /// Takes the next value as a processor, or `None` if its key is absent.

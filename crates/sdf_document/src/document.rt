@@ -16,7 +16,7 @@ ghost use Rattle.sdf_document.specs.Document.{graph_table, document_in, file_nam
 
 use crate::actor::actor_at;
 use crate::entry::{ActorEntry, Document, KindEntry, LinkEntry};
-use crate::fault::{DocumentFault, Place, ReadFault, Spot};
+use crate::fault::{DocumentFault, Place, ReadFault, BorrowedPlace};
 use crate::file::{CoefficientFile, Files};
 use crate::link::link_at;
 use crate::name::put_name;
@@ -90,18 +90,18 @@ pub fn top_keys() -> &'static [&'static str]
 
 /// The format of a graph file, and the items of its two arrays.
 #[derive(Clone, Copy)]
-struct Parts<'a> {
+struct FileParts<'a> {
     format: u32,
     actors: &'a [Value],
     links: &'a [Value],
 }
 
 #[tactic(auto, using(crate::proofs::Turns::item_count_view), unfolding(crate::specs::Document::parts_at))]
-fn parts_at(alloc: Global, table: &Table) -> Result<Parts<'_>, ReadFault>
+fn parts_at(alloc: Global, table: &Table) -> Result<FileParts<'_>, ReadFault>
     ensures { Gives parts_view result (parts_at (table_view table.now)) }
 {
-    let format = format_at(alloc, Spot::Top, 2, table)?;
-    test_keys(alloc, Spot::Top, top_keys(), table)?;
+    let format = format_at(alloc, BorrowedPlace::Top, 2, table)?;
+    test_keys(alloc, BorrowedPlace::Top, top_keys(), table)?;
     let actors = array_at("actor", table)?;
     let links = array_at("link", table)?;
     if actors.is_empty() || actors.len() > MOST_ACTORS {
@@ -110,7 +110,7 @@ fn parts_at(alloc: Global, table: &Table) -> Result<Parts<'_>, ReadFault>
     if links.len() > MOST_LINKS {
         return Err(DocumentFault::ChannelCount.into());
     }
-    Ok(Parts {
+    Ok(FileParts {
         format,
         actors,
         links,
@@ -120,7 +120,7 @@ fn parts_at(alloc: Global, table: &Table) -> Result<Parts<'_>, ReadFault>
 /// Reads the actors and links of a graph file, and puts the names of its actors into `names`.
 fn document_in(
     alloc: Global,
-    parts: Parts<'_>,
+    parts: FileParts<'_>,
     files: &[CoefficientFile],
     names: &mut IndexSet<String>,
 ) -> Result<Document, ReadFault>
@@ -180,7 +180,7 @@ fn names_wanted(alloc: Global, actors: &[ActorEntry]) -> Result<Vec<String>, All
 }
 
 /// Reads the actors of a graph file, without a look into coefficient files.
-fn actors_alone(alloc: Global, parts: Parts<'_>) -> Result<Vec<ActorEntry>, ReadFault>
+fn actors_alone(alloc: Global, parts: FileParts<'_>) -> Result<Vec<ActorEntry>, ReadFault>
     ensures { Gives (λ v. map actor_view v.items) result
         (actors_in parts.entry.format unread (items_view parts.entry.actors.now)) }
 {
@@ -215,7 +215,7 @@ impl GraphFile {
     pub fn parse(alloc: Global, graph: &[u8]) -> Result<GraphFile, ReadFault>
         ensures { Gives table_view result (graph_table graph.now) }
     {
-        let table = table_in(alloc, Spot::Top, graph)?;
+        let table = table_in(alloc, BorrowedPlace::Top, graph)?;
         Ok(GraphFile { table })
     }
 

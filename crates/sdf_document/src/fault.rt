@@ -33,22 +33,22 @@ impl fmt::Display for Place {
 
 /// A place that borrows its name. It takes an allocation only if a fault makes it a `Place`.
 #[derive(Clone, Copy)]
-pub(crate) enum Spot<'a> {
+pub(crate) enum BorrowedPlace<'a> {
     Top,
     Actor(usize),
     Link(usize),
     File(&'a str),
 }
 
-impl Spot<'_> {
+impl BorrowedPlace<'_> {
     pub(crate) fn place(self, alloc: Global) -> Result<Place, AllocError>
         ensures { IfOk result (λ p. place_view p ≡ spot_view self.entry) }
     {
         match self {
-            Spot::Top => Ok(Place::Top),
-            Spot::Actor(number) => Ok(Place::Actor(number)),
-            Spot::Link(number) => Ok(Place::Link(number)),
-            Spot::File(name) => Ok(Place::File(String::from_str(alloc, name)?)),
+            BorrowedPlace::Top => Ok(Place::Top),
+            BorrowedPlace::Actor(number) => Ok(Place::Actor(number)),
+            BorrowedPlace::Link(number) => Ok(Place::Link(number)),
+            BorrowedPlace::File(name) => Ok(Place::File(String::from_str(alloc, name)?)),
         }
     }
 }

@@ -9,7 +9,7 @@ ghost use Rattle.sdf_document.specs.Links.{named, port_of, port_texts, end_of, e
 ghost use Rattle.sdf_document.specs.Links.{link_keys};
 
 use crate::entry::LinkEntry;
-use crate::fault::{DocumentFault, Place, ReadFault, Spot};
+use crate::fault::{DocumentFault, Place, ReadFault, BorrowedPlace};
 use crate::list::all_of;
 use crate::table::test_keys;
 use crate::value::{at, integers_at, text_at};
@@ -83,7 +83,7 @@ fn initial_at(alloc: Global, link: usize, table: &Table) -> Result<Vec<i32>, Rea
     let Some(value) = at(table, "initial") else {
         return Ok(Vec::new(alloc));
     };
-    let numbers = integers_at(alloc, Spot::Link(link), "initial", value)?;
+    let numbers = integers_at(alloc, BorrowedPlace::Link(link), "initial", value)?;
     match all_of(alloc, Width::Bits32, numbers.as_slice())? {
         Some(samples) => Ok(samples),
         None => Err(DocumentFault::KitValue(Place::Link(link), "initial").into()),
@@ -112,7 +112,7 @@ pub(crate) fn link_at(
     let Some(table) = value.as_table() else {
         return Err(DocumentFault::WrongType(Place::Link(link), "link").into());
     };
-    test_keys(alloc, Spot::Link(link), link_keys(), table)?;
+    test_keys(alloc, BorrowedPlace::Link(link), link_keys(), table)?;
     let from = end_at(link, "from", names, table)?;
     let to = end_at(link, "to", names, table)?;
     let initial = initial_at(alloc, link, table)?;

@@ -8,7 +8,7 @@ ghost use Rattle.sdf_document.specs.Lists.{lookup_of, are_read, fits, all_of, is
 ghost use Rattle.sdf_document.specs.Lists.{filed_at, array_in, list_at, IsListed};
 
 use crate::entry::ListEntry;
-use crate::fault::{DocumentFault, Place, ReadFault, Spot};
+use crate::fault::{DocumentFault, Place, ReadFault, BorrowedPlace};
 use crate::file::{Files, coefficients, file_named};
 use crate::name::is_file_name;
 use crate::value::{at, integers_at};
@@ -147,7 +147,7 @@ fn array_in(
     ensures given { Gives (λ l. l) result (array_in actor key.now limits.most limits.width (view value.now)) }
     ensures within { IfOk result (λ l. IsTrue (is_list limits.most limits.width l.values)) }
 {
-    let numbers = integers_at(alloc, Spot::Actor(actor), key, value)?;
+    let numbers = integers_at(alloc, BorrowedPlace::Actor(actor), key, value)?;
     let values = listed(alloc, actor, key, limits, numbers.as_slice())?;
     Ok(ListEntry { file: None, values })
 }

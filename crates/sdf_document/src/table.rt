@@ -5,13 +5,13 @@ ghost use Rattle.toml.specs.View.{table_view};
 ghost use Rattle.sdf_document.specs.Fault.{Gives, spot_view, or_fault, not_toml};
 ghost use Rattle.sdf_document.specs.Tables.{texts_of, table_in, format_at, known_keys};
 
-use crate::fault::{DocumentFault, ReadFault, Spot};
+use crate::fault::{DocumentFault, ReadFault, BorrowedPlace};
 use crate::value::at;
 use std::alloc::Global;
 use toml::Table;
 
 /// Parses `bytes` as a TOML table. The fault `NotToml` is at `spot`.
-pub(crate) fn table_in(alloc: Global, spot: Spot<'_>, bytes: &[u8]) -> Result<Table, ReadFault>
+pub(crate) fn table_in(alloc: Global, spot: BorrowedPlace<'_>, bytes: &[u8]) -> Result<Table, ReadFault>
     ensures { Gives table_view result (or_fault (not_toml (spot_view spot.entry)) (table_in bytes.now)) }
 {
     match toml::table_from_slice(alloc, bytes) {
@@ -28,7 +28,7 @@ pub(crate) fn table_in(alloc: Global, spot: Spot<'_>, bytes: &[u8]) -> Result<Ta
 #[tactic(auto, unfolding(crate::specs::Tables::format_at))]
 pub(crate) fn format_at(
     alloc: Global,
-    spot: Spot<'_>,
+    spot: BorrowedPlace<'_>,
     last: u32,
     table: &Table,
 ) -> Result<u32, ReadFault>
@@ -60,7 +60,7 @@ fn is_known(known: &[&str], key: &str) -> bool
 #[tactic(auto, using(crate::proofs::Names::list_any_texts), unfolding(crate::specs::Tables::known_keys))]
 pub(crate) fn test_keys(
     alloc: Global,
-    spot: Spot<'_>,
+    spot: BorrowedPlace<'_>,
     known: &[&str],
     table: &Table,
 ) -> Result<(), ReadFault>

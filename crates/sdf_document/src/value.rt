@@ -5,7 +5,7 @@ ghost use Rattle.toml.specs.View.{table_view, view, items_view};
 ghost use Rattle.sdf_document.specs.Fault.{Gives, place_view, spot_view};
 ghost use Rattle.sdf_document.specs.Values.{text_at, natural_in, integer_in, integers_in, integers_at};
 
-use crate::fault::{DocumentFault, Place, ReadFault, Spot};
+use crate::fault::{DocumentFault, Place, ReadFault, BorrowedPlace};
 use std::alloc::{AllocError, Global};
 use toml::{Table, Value};
 
@@ -96,7 +96,7 @@ fn integers_in(alloc: Global, items: &[Value]) -> Result<Option<Vec<i64>>, Alloc
 #[tactic(auto, unfolding(crate::specs::Values::integers_at))]
 pub(crate) fn integers_at(
     alloc: Global,
-    spot: Spot<'_>,
+    spot: BorrowedPlace<'_>,
     key: &'static str,
     value: &Value,
 ) -> Result<Vec<i64>, ReadFault>

@@ -7,15 +7,15 @@ use Rattle.std.proofs.lemmas.Bool.{cases_lt}
 use Rattle.std.proofs.lemmas.List.{take-take, get_or-take, length-take-le}
 use Rattle.std.proofs.lemmas.List.Sums.{sum_by_more_le}
 use Rattle.sdf_file.specs.Designs.{DesignValue}
-use Rattle.sdf_draw.specs.declared.layout.Place.{Place}
+use Rattle.sdf_draw.specs.declared.layout.BoxPlace.{BoxPlace}
 use Rattle.sdf_draw.specs.Layouts.{place, no_place, room_in, stacked, ArePlaces, IsClear, AreApart}
 
 -- the room of a box in its own column
-room_here : (k : ℕ) (p : Place) → p.depth ≡ k → room_in k p ≡ p.height + 26
+room_here : (k : ℕ) (p : BoxPlace) → p.depth ≡ k → room_in k p ≡ p.height + 26
 room_here k p e = ap (λ b. if b then p.height + 26 else 0) (eq-eqb p.depth k e)
 
 -- the boxes before a later one take the room of the earlier one too
-stacked_more : (ps : List Place) (k a b : ℕ) → a < b → b ≤ length ps → (place ps a).depth ≡ k →
+stacked_more : (ps : List BoxPlace) (k a b : ℕ) → a < b → b ≤ length ps → (place ps a).depth ≡ k →
     stacked (take a ps) k + ((place ps a).height + 26) ≤ stacked (take b ps) k
 stacked_more ps k a b low within here =
     let more : sum_by (room_in k) (take a (take b ps)) + room_in k (get_or (take b ps) a no_place)
@@ -28,7 +28,7 @@ stacked_more ps k a b low within here =
     let room = room_here k (place ps a) here in
     omega (arith, more, front, same, room)
 
-pub apart : (d : DesignValue) (depths : List ℕ) (top : ℕ) (ps : List Place) → ArePlaces d depths top ps → AreApart ps
+pub apart : (d : DesignValue) (depths : List ℕ) (top : ℕ) (ps : List BoxPlace) → ArePlaces d depths top ps → AreApart ps
 apart d depths top ps are a b low within =
     go (cases_lt (place ps a).depth (place ps b).depth) (cases_lt (place ps b).depth (place ps a).depth)
   where

@@ -9,7 +9,7 @@ use Rattle.sdf_draw.specs.declared.boxes.TheConstants.{POINT, CUT, FITTING}
 use Rattle.sdf_draw.specs.declared.ports.Shape.{Shape}
 use Rattle.sdf_draw.specs.declared.ports.Shape.TheVariants.{Source, Sink, Filter, Plain}
 use Rattle.sdf_draw.specs.declared.layout.TheConstants.{WIDTH}
-use Rattle.sdf_draw.specs.declared.layout.Place.{Place}
+use Rattle.sdf_draw.specs.declared.layout.BoxPlace.{BoxPlace}
 use Rattle.sdf_draw.specs.declared.texts.TheConstants.{COLOURS}
 use Rattle.sdf_draw.specs.Layouts.{place, left_of, right_of, middle_of, bottom_of}
 use Rattle.sdf_draw.specs.Shapes.{shape_of}
@@ -22,43 +22,43 @@ abbrev pub points_text : List (ℕ × ℕ) → List ℕ
 points_text ps = flat_map point_text ps
 
 -- the corners of each shape, clockwise
-abbrev pub source_corners : Place → List (ℕ × ℕ)
+abbrev pub source_corners : BoxPlace → List (ℕ × ℕ)
 source_corners p =
     (left_of p, p.y) ∷ (right_of p - POINT, p.y) ∷ (right_of p, middle_of p) ∷ (right_of p - POINT, bottom_of p)
     ∷ (left_of p, bottom_of p) ∷ []
 
-abbrev pub sink_corners : Place → List (ℕ × ℕ)
+abbrev pub sink_corners : BoxPlace → List (ℕ × ℕ)
 sink_corners p =
     (left_of p + POINT, p.y) ∷ (right_of p, p.y) ∷ (right_of p, bottom_of p) ∷ (left_of p + POINT, bottom_of p)
     ∷ (left_of p, middle_of p) ∷ []
 
-abbrev pub upper_corners : Place → List (ℕ × ℕ)
+abbrev pub upper_corners : BoxPlace → List (ℕ × ℕ)
 upper_corners p =
     (left_of p, p.y + CUT) ∷ (left_of p + CUT, p.y) ∷ (right_of p - CUT, p.y) ∷ (right_of p, p.y + CUT) ∷ []
 
-abbrev pub lower_corners : Place → List (ℕ × ℕ)
+abbrev pub lower_corners : BoxPlace → List (ℕ × ℕ)
 lower_corners p =
     (right_of p, bottom_of p - CUT) ∷ (right_of p - CUT, bottom_of p) ∷ (left_of p + CUT, bottom_of p)
     ∷ (left_of p, bottom_of p - CUT) ∷ []
 
-abbrev pub plain_corners : Place → List (ℕ × ℕ)
+abbrev pub plain_corners : BoxPlace → List (ℕ × ℕ)
 plain_corners p =
     (left_of p, p.y) ∷ (right_of p, p.y) ∷ (right_of p, bottom_of p) ∷ (left_of p, bottom_of p) ∷ []
 
-unfoldable pub corners_text : Shape → Place → List ℕ
+unfoldable pub corners_text : Shape → BoxPlace → List ℕ
 corners_text Source p = points_text (source_corners p)
 corners_text Sink p = points_text (sink_corners p)
 corners_text Filter p = points_text (upper_corners p) ++ points_text (lower_corners p)
 corners_text Plain p = points_text (plain_corners p)
 
 -- an actor's outline, in its colour
-unfoldable pub outline_text : ℕ → Shape → Place → List ℕ
+unfoldable pub outline_text : ℕ → Shape → BoxPlace → List ℕ
 outline_text a shape p =
     number_text (codes "<polygon class='box s") (a % COLOURS) ++ codes "' points='" ++ corners_text shape p
     ++ codes "'/>"
 
 -- the beginning of a text, and its position: in the middle of a box, at y
-abbrev pub line_text : List ℕ → Place → ℕ → List ℕ
+abbrev pub line_text : List ℕ → BoxPlace → ℕ → List ℕ
 line_text word p y =
     word ++ number_text (codes " x='") (left_of p + WIDTH / 2) ++ number_text (codes "' y='") y
 
@@ -69,22 +69,22 @@ pressed_text characters =
     else []
 
 -- a name in the middle of its box
-unfoldable pub label_text : DesignValue → ℕ → Place → List ℕ
+unfoldable pub label_text : DesignValue → ℕ → BoxPlace → List ℕ
 label_text d a p =
     line_text (codes "<text class='mid'") p (middle_of p - 2) ++ pressed_text (length (slice_index_or d.names a []))
     ++ codes "'>" ++ name_text d a ++ codes "</text>"
 
 -- how often an actor fires in a period, below its name
-unfoldable pub firings_text : ℕ → Place → List ℕ
+unfoldable pub firings_text : ℕ → BoxPlace → List ℕ
 firings_text firings p =
     line_text (codes "<text class='mid soft'") p (middle_of p + 13) ++ number_text (codes "'>q ") firings
     ++ codes "</text>\n"
 
 -- the box of actor a, which fires this often in a period
-unfoldable pub box_text : DesignValue → ℕ → Place → ℕ → List ℕ
+unfoldable pub box_text : DesignValue → ℕ → BoxPlace → ℕ → List ℕ
 box_text d a p firings =
     outline_text a (shape_of (node d.net a)) p ++ label_text d a p ++ firings_text firings p
 
 -- a box for each actor, in order, for repetition vector q
-abbrev pub boxes_text : DesignValue → List ℕ → List Place → List ℕ
+abbrev pub boxes_text : DesignValue → List ℕ → List BoxPlace → List ℕ
 boxes_text d q ps = lines_to (λ a. box_text d a (place ps a) (slice_index q a)) (length d.net.nodes)

@@ -6,7 +6,7 @@ use Rattle.sdf_file.specs.Designs.{DesignValue}
 use Rattle.sdf_options.specs.declared.options.Options.{Options}
 use Rattle.sdf_plan.specs.Schedules.{IsScheduled}
 use Rattle.sdf_analyze.specs.Figures.{Figured, AreFiguresOf}
-use Rattle.sdf_draw.specs.declared.layout.Place.{Place}
+use Rattle.sdf_draw.specs.declared.layout.BoxPlace.{BoxPlace}
 use Rattle.sdf_draw.specs.declared.layout.Route.{Route}
 use Rattle.sdf_draw.specs.declared.page.Drawing.{Drawing}
 use Rattle.sdf_draw.specs.Layouts.{IsLayout}
@@ -18,7 +18,7 @@ pub record Drawn : Type 0 where
   pub period : Schedule
   pub table : Tabled
   pub figures : Figured
-  pub places : List Place
+  pub places : List BoxPlace
   pub routes : List Route
   pub above : ℕ
   pub below : ℕ

@@ -8,58 +8,58 @@ use Rattle.sdf_kit.specs.Kit.{kit_steps}
 use Rattle.sdf_file.specs.Designs.{DesignValue}
 use Rattle.sdf_plan.specs.Placements.{rates_of}
 use Rattle.sdf_draw.specs.declared.layout.TheConstants.{WIDTH, PITCH, GAP, PORT, MARGIN, LANE, HEAD}
-use Rattle.sdf_draw.specs.declared.layout.Place.{Place}
+use Rattle.sdf_draw.specs.declared.layout.BoxPlace.{BoxPlace}
 use Rattle.sdf_draw.specs.declared.layout.Route.{Route}
 use Rattle.sdf_draw.specs.declared.layout.Route.TheVariants.{Across, Above, Below}
-use Rattle.sdf_draw.specs.declared.arrows.Spot.{Spot}
+use Rattle.sdf_draw.specs.declared.arrows.Point.{Point}
 use Rattle.sdf_draw.specs.Depths.{AreDepths}
 
-abbrev pub no_place : Place
+abbrev pub no_place : BoxPlace
 no_place = record { depth = 0; y = 0; height = 0 }
 
-abbrev pub place : List Place → ℕ → Place
+abbrev pub place : List BoxPlace → ℕ → BoxPlace
 place ps a = slice_index_or ps a no_place
 
 -- the x of a box's left side
-abbrev pub left_of : Place → ℕ
+abbrev pub left_of : BoxPlace → ℕ
 left_of p = PITCH * p.depth
 
 -- the x of a box's right side
-abbrev pub right_of : Place → ℕ
+abbrev pub right_of : BoxPlace → ℕ
 right_of p = left_of p + WIDTH
 
 -- the y of a box's bottom, and half way down
-abbrev pub bottom_of : Place → ℕ
+abbrev pub bottom_of : BoxPlace → ℕ
 bottom_of p = p.y + p.height
 
-abbrev pub middle_of : Place → ℕ
+abbrev pub middle_of : BoxPlace → ℕ
 middle_of p = p.y + p.height / 2
 
 -- the greatest value of f on some boxes, or 0 if there are none
-abbrev pub greatest_by : (Place → ℕ) → List Place → ℕ
+abbrev pub greatest_by : (BoxPlace → ℕ) → List BoxPlace → ℕ
 greatest_by f [] = 0
 greatest_by f (p ∷ ps) = max (f p) (greatest_by f ps)
 
 -- the bottom of the lowest box, and the right side of the rightmost one
-abbrev pub lowest : List Place → ℕ
+abbrev pub lowest : List BoxPlace → ℕ
 lowest ps = greatest_by bottom_of ps
 
-abbrev pub rightmost : List Place → ℕ
+abbrev pub rightmost : List BoxPlace → ℕ
 rightmost ps = greatest_by right_of ps
 
 -- the y of a lane above the boxes, and of a lane below them
 abbrev pub lane_above : ℕ → ℕ
 lane_above lane = HEAD + LANE * lane
 
-abbrev pub lane_below : List Place → ℕ → ℕ
+abbrev pub lane_below : List BoxPlace → ℕ → ℕ
 lane_below ps lane = lowest ps + GAP + LANE * lane
 
 -- the height that a box takes in the column of this depth: 0 if it is in another column
-abbrev pub room_in : ℕ → Place → ℕ
+abbrev pub room_in : ℕ → BoxPlace → ℕ
 room_in depth p = if p.depth == depth then p.height + GAP else 0
 
 -- the height that all boxes of this depth take
-abbrev pub stacked : List Place → ℕ → ℕ
+abbrev pub stacked : List BoxPlace → ℕ → ℕ
 stacked ps depth = sum_by (room_in depth) ps
 
 -- the height of an actor's box, given by the side with more ports
@@ -68,22 +68,22 @@ height_of d a =
     PORT * max (max (inputs_of kit_steps (node d.net a)) (outputs_of kit_steps (node d.net a))) 1 + MARGIN
 
 -- the box of actor a: in the column of its depth, below the boxes of earlier actors there
-pub record IsPlaced (d : DesignValue) (depths : List ℕ) (top : ℕ) (ps : List Place) (a : ℕ) : Type 0 where
+pub record IsPlaced (d : DesignValue) (depths : List ℕ) (top : ℕ) (ps : List BoxPlace) (a : ℕ) : Type 0 where
   pub depth : (place ps a).depth ≡ slice_index depths a
   pub y : (place ps a).y ≡ top + stacked (take a ps) (slice_index depths a)
   pub height : (place ps a).height ≡ height_of d a
 
 -- a box for each actor, in order
-pub record ArePlaces (d : DesignValue) (depths : List ℕ) (top : ℕ) (ps : List Place) : Type 0 where
+pub record ArePlaces (d : DesignValue) (depths : List ℕ) (top : ℕ) (ps : List BoxPlace) : Type 0 where
   pub all : length ps ≡ length d.net.nodes
   pub each : (a : ℕ) → a < length ps → IsPlaced d depths top ps a
 
 -- box p is above box q or to its left, with space between them
-abbrev pub IsClear : Place → Place → Type 0
+abbrev pub IsClear : BoxPlace → BoxPlace → Type 0
 IsClear p q = (right_of p < left_of q) ⊎ (bottom_of p < q.y)
 
 -- no two boxes overlap
-abbrev pub AreApart : List Place → Type 0
+abbrev pub AreApart : List BoxPlace → Type 0
 AreApart ps = (a b : ℕ) → a < b → b < length ps → IsClear (place ps a) (place ps b) ⊎ IsClear (place ps b) (place ps a)
 
 -- the route of an arrow between two depths: below the boxes if it leads to no greater depth, across the gap if it leads
@@ -110,7 +110,7 @@ pub record AreRoutes (d : DesignValue) (depths : List ℕ) (above below : ℕ) (
   pub within : (c : ℕ) → c < length rs → IsWithin above below (route rs c)
 
 -- the layout of a design whose period has this order of firings: the highest boxes begin below the upper lanes
-pub record IsLayout (d : DesignValue) (order : List ℕ) (ps : List Place) (above below : ℕ) (rs : List Route) : Type 0
+pub record IsLayout (d : DesignValue) (order : List ℕ) (ps : List BoxPlace) (above below : ℕ) (rs : List Route) : Type 0
   where
     pub depths : List ℕ
     pub are : AreDepths (rates_of d) order depths
@@ -119,5 +119,5 @@ pub record IsLayout (d : DesignValue) (order : List ℕ) (ps : List Place) (abov
     pub arrows : AreRoutes d depths above below rs
 
 -- a point is in a picture of any design
-abbrev pub IsNear : Spot → Type 0
+abbrev pub IsNear : Point → Type 0
 IsNear s = (s.x < 10000000000000) × (s.y < 10000000000000)

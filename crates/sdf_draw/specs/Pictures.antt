@@ -4,7 +4,7 @@ use Rattle.sdf_file.specs.Designs.{DesignValue}
 use Rattle.sdf_options.specs.declared.options.Options.{Options}
 use Rattle.sdf_draw.specs.declared.page.TheConstants.{LEFT, ZERO, HEAD_TEXT, STYLE, LEGEND}
 use Rattle.sdf_draw.specs.declared.chart.TheConstants.{CHART, ROW}
-use Rattle.sdf_draw.specs.declared.layout.Place.{Place}
+use Rattle.sdf_draw.specs.declared.layout.BoxPlace.{BoxPlace}
 use Rattle.sdf_draw.specs.Layouts.{rightmost, lane_below}
 use Rattle.sdf_draw.specs.Texts.{number_text}
 use Rattle.sdf_draw.specs.Drawings.{Drawn, IsDrawing}
@@ -41,15 +41,15 @@ unfoldable pub origin_text : ℕ → List ℕ
 origin_text top = number_text (codes "<g transform='translate(") ZERO ++ number_text (codes ",") top ++ codes ")'>\n"
 
 -- the y at which the times begin: below the lanes under the boxes
-abbrev pub chart_top : List Place → ℕ → ℕ
+abbrev pub chart_top : List BoxPlace → ℕ → ℕ
 chart_top ps below = lane_below ps below + 80
 
 -- wide enough for the boxes and for the times; high enough for the boxes with the times below them, which have a lane
 -- for each of m workers
-abbrev pub width_of : List Place → ℕ
+abbrev pub width_of : List BoxPlace → ℕ
 width_of ps = max (rightmost ps) (ZERO + CHART) + 100 - LEFT
 
-abbrev pub height_of : List Place → ℕ → ℕ → ℕ
+abbrev pub height_of : List BoxPlace → ℕ → ℕ → ℕ
 height_of ps below m = chart_top ps below + ROW * m + 40
 
 -- the text of a drawing for m workers, part after part: an arrow for each link, a box for each actor, and the bars of

@@ -9,8 +9,8 @@ ghost use Rattle.sdf_draw.specs.Arrows.{stub_text, line_text, at_text, put_text,
 ghost use Rattle.sdf_draw.specs.Arrows.{dot_text, initial_text, ends_text};
 ghost use Rattle.sdf_draw.specs.Arrows.{arrow_text, arrows_text};
 
-use crate::layout::{Layout, PORT, Place, Route, lane_above};
-use crate::ports::{End, Ends, channel_of, ends_of};
+use crate::layout::{Layout, PORT, BoxPlace, Route, lane_above};
+use crate::ports::{End, LinkEnds, channel_of, ends_of};
 use crate::texts::{COLOURS, push_number, push_pair, push_rate};
 use sdf_file::Design;
 use sdf_graph::Channel;
@@ -33,13 +33,13 @@ const SHIFT: u64 = 4;
 
 /// A point of the picture.
 #[derive(Clone, Copy)]
-pub(crate) struct Spot {
+pub(crate) struct Point {
     pub(crate) x: u64,
     pub(crate) y: u64,
 }
 
 /// Returns the y of `port` at the box in `place`. The `ports` of a side are centred on it.
-fn port_height(place: Place, ports: usize, port: usize) -> u64
+fn port_height(place: BoxPlace, ports: usize, port: usize) -> u64
     requires { (ports ≤ MOST_PORTS) × (port < MOST_PORTS) }
     ensures is { result ≡ port_height place ports port }
     ensures small { result < 10000000000 }
@@ -49,28 +49,28 @@ fn port_height(place: Place, ports: usize, port: usize) -> u64
 }
 
 /// Returns the point at which an arrow from `from` begins.
-fn start_of(layout: &Layout, from: End) -> Spot
+fn start_of(layout: &Layout, from: End) -> Point
     requires actor { from.actor < length layout.now.places.items }
     requires port { (from.ports ≤ MOST_PORTS) × (from.port < MOST_PORTS) }
     ensures is { result ≡ start_of layout.now.places.items from }
     ensures near { IsNear result }
 {
     let place = layout.places[from.actor];
-    Spot {
+    Point {
         x: place.right(),
         y: port_height(place, from.ports, from.port),
     }
 }
 
 /// Returns the point at which an arrow to `to` ends.
-fn end_of(layout: &Layout, to: End) -> Spot
+fn end_of(layout: &Layout, to: End) -> Point
     requires actor { to.actor < length layout.now.places.items }
     requires port { (to.ports ≤ MOST_PORTS) × (to.port < MOST_PORTS) }
     ensures is { result ≡ end_of layout.now.places.items to }
     ensures near { IsNear result }
 {
     let place = layout.places[to.actor];
-    Spot {
+    Point {
         x: place.left(),
         y: port_height(place, to.ports, to.port),
     }
@@ -78,7 +78,7 @@ fn end_of(layout: &Layout, to: End) -> Spot
 
 /// Adds the curve of an arrow across a gap.
 #[tactic(auto, unfolding(crate::specs::Arrows::curve_text))]
-fn push_curve(text: &mut String, start: Spot, end: Spot) -> Result<(), AllocError>
+fn push_curve(text: &mut String, start: Point, end: Point) -> Result<(), AllocError>
     requires { IsNear start }
     ensures { OnOk result (string_bytes text.new ≡ string_bytes text.old ++ curve_text start end) }
 {
@@ -94,8 +94,8 @@ fn push_curve(text: &mut String, start: Spot, end: Spot) -> Result<(), AllocErro
 #[tactic(auto, unfolding(crate::specs::Arrows::turns_text))]
 fn push_turns(
     text: &mut String,
-    start: Spot,
-    end: Spot,
+    start: Point,
+    end: Point,
     lane: u64,
     shift: u64,
 ) -> Result<(), AllocError>
@@ -114,8 +114,8 @@ fn push_way(
     text: &mut String,
     layout: &Layout,
     link: usize,
-    start: Spot,
-    end: Spot,
+    start: Point,
+    end: Point,
 ) -> Result<(), AllocError>
     requires link { link < length layout.now.routes.items }
     requires start { IsNear start }
@@ -132,7 +132,7 @@ fn push_way(
 
 /// Adds the straight part at the beginning of a line, in `colour`.
 #[tactic(auto, unfolding(crate::specs::Arrows::stub_text))]
-fn push_stub(text: &mut String, colour: usize, start: Spot) -> Result<(), AllocError>
+fn push_stub(text: &mut String, colour: usize, start: Point) -> Result<(), AllocError>
     requires { IsNear start }
     ensures { OnOk result (string_bytes text.new ≡ string_bytes text.old ++ stub_text colour start) }
 {
@@ -149,8 +149,8 @@ fn push_line(
     layout: &Layout,
     link: usize,
     colour: usize,
-    start: Spot,
-    end: Spot,
+    start: Point,
+    end: Point,
 ) -> Result<(), AllocError>
     requires link { link < length layout.now.routes.items }
     requires start { IsNear start }
@@ -172,7 +172,7 @@ fn push_at(text: &mut String, word: &str, x: u64, y: u64) -> Result<(), AllocErr
 
 /// Adds the samples that firings put on a link, at the beginning of its arrow.
 #[tactic(auto, unfolding(crate::specs::Arrows::put_text))]
-fn push_put(text: &mut String, channel: &Channel, start: Spot) -> Result<(), AllocError>
+fn push_put(text: &mut String, channel: &Channel, start: Point) -> Result<(), AllocError>
     requires start { IsNear start }
     requires rates { length channel.now.put ≤ MOST_CYCLE }
     ensures { OnOk result (string_bytes text.new ≡ string_bytes text.old ++ put_text channel.now.put start) }
@@ -185,7 +185,7 @@ fn push_put(text: &mut String, channel: &Channel, start: Spot) -> Result<(), All
 
 /// Adds the samples that firings take from a link, at the end of its arrow.
 #[tactic(auto, unfolding(crate::specs::Arrows::take_text))]
-fn push_take(text: &mut String, channel: &Channel, end: Spot) -> Result<(), AllocError>
+fn push_take(text: &mut String, channel: &Channel, end: Point) -> Result<(), AllocError>
     requires { length channel.now.take ≤ MOST_CYCLE }
     ensures { OnOk result (string_bytes text.new ≡ string_bytes text.old ++ take_text channel.now.take end) }
 {
@@ -198,7 +198,7 @@ fn push_take(text: &mut String, channel: &Channel, end: Spot) -> Result<(), Allo
 
 /// Adds the capacity of a link, below the end of its arrow.
 #[tactic(auto, unfolding(crate::specs::Arrows::capacity_text))]
-fn push_capacity(text: &mut String, capacity: u64, end: Spot) -> Result<(), AllocError>
+fn push_capacity(text: &mut String, capacity: u64, end: Point) -> Result<(), AllocError>
     requires { IsNear end }
     ensures { OnOk result (string_bytes text.new ≡ string_bytes text.old ++ capacity_text capacity end) }
 {
@@ -210,7 +210,7 @@ fn push_capacity(text: &mut String, capacity: u64, end: Spot) -> Result<(), Allo
 
 /// Adds a dot before the end of an arrow, and the number of samples that the link begins with.
 #[tactic(auto, unfolding(crate::specs::Arrows::dot_text))]
-fn push_dot(text: &mut String, initial: usize, end: Spot) -> Result<(), AllocError>
+fn push_dot(text: &mut String, initial: usize, end: Point) -> Result<(), AllocError>
     ensures { OnOk result (string_bytes text.new ≡ string_bytes text.old ++ dot_text initial end) }
 {
     let (x, y) = (end.x.saturating_sub(TAIL - 2), end.y.saturating_sub(6));
@@ -222,7 +222,7 @@ fn push_dot(text: &mut String, initial: usize, end: Spot) -> Result<(), AllocErr
 }
 
 /// Adds the samples that a link begins with, if there are any.
-fn push_initial(text: &mut String, initial: usize, end: Spot) -> Result<(), AllocError>
+fn push_initial(text: &mut String, initial: usize, end: Point) -> Result<(), AllocError>
     ensures { OnOk result (string_bytes text.new ≡ string_bytes text.old ++ initial_text initial end) }
 {
     if initial == 0 {
@@ -233,7 +233,7 @@ fn push_initial(text: &mut String, initial: usize, end: Spot) -> Result<(), Allo
 
 /// Adds the numbers at both ends of an arrow.
 #[tactic(auto, unfolding(crate::specs::Arrows::ends_text))]
-fn push_ends(text: &mut String, channel: &Channel, start: Spot, end: Spot) -> Result<(), AllocError>
+fn push_ends(text: &mut String, channel: &Channel, start: Point, end: Point) -> Result<(), AllocError>
     requires start { IsNear start }
     requires put { length channel.now.put ≤ MOST_CYCLE }
     requires take { length channel.now.take ≤ MOST_CYCLE }
@@ -260,7 +260,7 @@ fn push_arrow(
         layout.now.places.items layout.now.routes.items link) }
 {
     let channel = channel_of(design, link);
-    let Ends { from, to } = ends_of(design, link);
+    let LinkEnds { from, to } = ends_of(design, link);
     let start = start_of(layout, from);
     let end = end_of(layout, to);
     push_line(text, layout, link, channel.from % COLOURS, start, end)?;

@@ -7,7 +7,7 @@ ghost use Rattle.sdf_draw.specs.Boxes.{point_text, points_text, source_corners, 
 ghost use Rattle.sdf_draw.specs.Boxes.{lower_corners, plain_corners, corners_text, outline_text, line_text};
 ghost use Rattle.sdf_draw.specs.Boxes.{pressed_text, label_text, firings_text, box_text, boxes_text};
 
-use crate::layout::{Layout, Place, WIDTH};
+use crate::layout::{Layout, BoxPlace, WIDTH};
 use crate::ports::{Shape, shape_of};
 use crate::texts::{COLOURS, push_name, push_number};
 use sdf_file::Design;
@@ -30,7 +30,7 @@ fn push_point(text: &mut String, x: u64, y: u64) -> Result<(), AllocError>
     push_number(text, ",", y)
 }
 
-fn push_source(text: &mut String, place: Place) -> Result<(), AllocError>
+fn push_source(text: &mut String, place: BoxPlace) -> Result<(), AllocError>
     ensures { OnOk result (string_bytes text.new ≡ string_bytes text.old ++ points_text (source_corners place)) }
 {
     push_point(text, place.left(), place.top())?;
@@ -40,7 +40,7 @@ fn push_source(text: &mut String, place: Place) -> Result<(), AllocError>
     push_point(text, place.left(), place.bottom())
 }
 
-fn push_sink(text: &mut String, place: Place) -> Result<(), AllocError>
+fn push_sink(text: &mut String, place: BoxPlace) -> Result<(), AllocError>
     ensures { OnOk result (string_bytes text.new ≡ string_bytes text.old ++ points_text (sink_corners place)) }
 {
     push_point(text, place.left() + POINT, place.top())?;
@@ -51,7 +51,7 @@ fn push_sink(text: &mut String, place: Place) -> Result<(), AllocError>
 }
 
 /// Adds the upper corners of a filter.
-fn push_upper(text: &mut String, place: Place) -> Result<(), AllocError>
+fn push_upper(text: &mut String, place: BoxPlace) -> Result<(), AllocError>
     ensures { OnOk result (string_bytes text.new ≡ string_bytes text.old ++ points_text (upper_corners place)) }
 {
     push_point(text, place.left(), place.top() + CUT)?;
@@ -61,7 +61,7 @@ fn push_upper(text: &mut String, place: Place) -> Result<(), AllocError>
 }
 
 /// Adds the lower corners of a filter.
-fn push_lower(text: &mut String, place: Place) -> Result<(), AllocError>
+fn push_lower(text: &mut String, place: BoxPlace) -> Result<(), AllocError>
     ensures { OnOk result (string_bytes text.new ≡ string_bytes text.old ++ points_text (lower_corners place)) }
 {
     let side = place.bottom().saturating_sub(CUT);
@@ -71,7 +71,7 @@ fn push_lower(text: &mut String, place: Place) -> Result<(), AllocError>
     push_point(text, place.left(), side)
 }
 
-fn push_plain(text: &mut String, place: Place) -> Result<(), AllocError>
+fn push_plain(text: &mut String, place: BoxPlace) -> Result<(), AllocError>
     ensures { OnOk result (string_bytes text.new ≡ string_bytes text.old ++ points_text (plain_corners place)) }
 {
     push_point(text, place.left(), place.top())?;
@@ -82,7 +82,7 @@ fn push_plain(text: &mut String, place: Place) -> Result<(), AllocError>
 
 /// Adds the corners of `shape`.
 #[tactic(auto, unfolding(crate::specs::Boxes::corners_text))]
-fn push_corners(text: &mut String, shape: Shape, place: Place) -> Result<(), AllocError>
+fn push_corners(text: &mut String, shape: Shape, place: BoxPlace) -> Result<(), AllocError>
     ensures { OnOk result (string_bytes text.new ≡ string_bytes text.old ++ corners_text shape place) }
 {
     match shape {
@@ -102,7 +102,7 @@ fn push_outline(
     text: &mut String,
     actor: usize,
     shape: Shape,
-    place: Place,
+    place: BoxPlace,
 ) -> Result<(), AllocError>
     ensures { OnOk result (string_bytes text.new ≡ string_bytes text.old ++ outline_text actor shape place) }
 {
@@ -113,7 +113,7 @@ fn push_outline(
 }
 
 /// Adds `word`, which begins a text, and the text's position: in the middle of the box, at `y`.
-fn push_line(text: &mut String, word: &str, place: Place, y: u64) -> Result<(), AllocError>
+fn push_line(text: &mut String, word: &str, place: BoxPlace, y: u64) -> Result<(), AllocError>
     ensures { OnOk result (string_bytes text.new ≡ string_bytes text.old ++ line_text word.now place y) }
 {
     text.push_str(word)?;
@@ -141,7 +141,7 @@ fn push_label(
     text: &mut String,
     design: &Design,
     actor: usize,
-    place: Place,
+    place: BoxPlace,
 ) -> Result<(), AllocError>
     ensures { OnOk result (string_bytes text.new ≡ string_bytes text.old ++ label_text design.now actor place) }
 {
@@ -159,7 +159,7 @@ fn push_label(
 
 /// Adds the `firings` of an actor in a period, below its name.
 #[tactic(auto, unfolding(crate::specs::Boxes::firings_text))]
-fn push_firings(text: &mut String, firings: u32, place: Place) -> Result<(), AllocError>
+fn push_firings(text: &mut String, firings: u32, place: BoxPlace) -> Result<(), AllocError>
     ensures { OnOk result (string_bytes text.new ≡ string_bytes text.old ++ firings_text firings place) }
 {
     push_line(text, "<text class='mid soft'", place, place.middle() + 13)?;
@@ -173,7 +173,7 @@ fn push_box(
     text: &mut String,
     design: &Design,
     actor: usize,
-    place: Place,
+    place: BoxPlace,
     firings: u32,
 ) -> Result<(), AllocError>
     requires { actor < length design.now.net.nodes }

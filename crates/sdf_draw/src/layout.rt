@@ -34,7 +34,7 @@ pub(crate) const HEAD: u64 = 60;
 
 /// The place of a box: its column, the y of its top, and its height.
 #[derive(Clone, Copy, Debug, PartialEq, Eq)]
-pub(crate) struct Place {
+pub(crate) struct BoxPlace {
     pub(crate) depth: u32,
     pub(crate) y: u32,
     pub(crate) height: u16,
@@ -51,13 +51,13 @@ pub(crate) enum Route {
 /// A box for each actor, a route for each link, and the numbers of lanes above the boxes and below them.
 #[derive(Drop)]
 pub(crate) struct Layout {
-    pub(crate) places: Vec<Place>,
+    pub(crate) places: Vec<BoxPlace>,
     pub(crate) routes: Vec<Route>,
     pub(crate) above: u32,
     pub(crate) below: u32,
 }
 
-impl Place {
+impl BoxPlace {
     /// Returns the x of the left side.
     pub(crate) fn left(self) -> u64
         ensures is { result ≡ left_of self }
@@ -106,7 +106,7 @@ fn height_of(ports: PortCounts) -> u16
 }
 
 /// Returns the height that all boxes of `depth` take, each with the gap below it.
-fn stacked(places: &[Place], depth: u32) -> u64
+fn stacked(places: &[BoxPlace], depth: u32) -> u64
     requires { length places.now ≤ MOST_ACTORS }
     ensures is { result ≡ stacked places.now depth }
     ensures small { result ≤ 100000 * length places.now }
@@ -126,7 +126,7 @@ fn places_of(
     design: &Design,
     depths: &[u32],
     top: u64,
-) -> Result<Vec<Place>, AllocError>
+) -> Result<Vec<BoxPlace>, AllocError>
     requires all { length depths.now ≡ length design.now.net.nodes }
     requires few { length design.now.net.nodes ≤ MOST_ACTORS }
     requires top { top ≤ 100000 }
@@ -137,7 +137,7 @@ fn places_of(
         let depth = depths[actor];
         let y = top + stacked(places.as_slice(), depth);
         let height = height_of(ports_of(design, actor));
-        places.push(Place {
+        places.push(BoxPlace {
             depth,
             y: y as u32,
             height,

@@ -90,13 +90,13 @@ pub(crate) struct End {
 
 /// The ends of a link.
 #[derive(Clone, Copy)]
-pub(crate) struct Ends {
+pub(crate) struct LinkEnds {
     pub(crate) from: End,
     pub(crate) to: End,
 }
 
 /// Returns the ends of `link`.
-pub(crate) fn ends_of(design: &Design, link: usize) -> Ends
+pub(crate) fn ends_of(design: &Design, link: usize) -> LinkEnds
     requires { link < length design.now.net.wires }
     ensures from { result.from ≡ from_end design.now link }
     ensures to { result.to ≡ to_end design.now link }
@@ -107,7 +107,7 @@ pub(crate) fn ends_of(design: &Design, link: usize) -> Ends
 {
     let link = design.net().link(link);
     let (from, to) = (link.from, link.to);
-    Ends {
+    LinkEnds {
         from: End {
             actor: from.0,
             port: from.1,

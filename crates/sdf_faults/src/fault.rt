@@ -6,7 +6,7 @@ ghost use Rattle.sdf_faults.specs.Faults.{IsFaultText};
 ghost use Rattle.sdf_faults.specs.Statuses.{status_of};
 
 use clap::error::ErrorKind;
-use sdf_answer::RunFault;
+use sdf_queues::RunFault;
 use sdf_file::FileFault;
 use sdf_options::WordFault;
 use sdf_options::printable::{printable, printable_lines};

@@ -7,7 +7,7 @@ use Rattle.sdf_filters.specs.declared.fault.FilterFault.{FilterFault}
 use Rattle.sdf_filters.specs.declared.fault.FilterFault.TheVariants.{OutOfMemory, RateTooLarge, Channels}
 use Rattle.sdf_filters.specs.declared.stage.Stage.{Stage}
 use Rattle.sdf_filters.specs.declared.wanted.Band.TheVariants.{Low}
-use Rattle.sdf_filters.specs.declared.wanted.Wanted.{Wanted}
+use Rattle.sdf_filters.specs.declared.wanted.FilterSpec.{FilterSpec}
 use Rattle.sdf_filters.specs.declared.converter.StageFile.{StageFile}
 use Rattle.sdf_filters.specs.Lowpass.{tested}
 use Rattle.sdf_filters.specs.Wanted.{IsFault}
@@ -30,7 +30,7 @@ rate_at from stages zero = from
 rate_at from stages (suc n) = put (rate_at from stages n) (slice_get stages n)
 
 -- the filter of a stage that takes this rate: it stops the images of what passes, and all that would alias onto it
-abbrev pub stage_wanted : ℕ → ℕ → ℕ → Stage → Wanted
+abbrev pub stage_wanted : ℕ → ℕ → ℕ → Stage → FilterSpec
 stage_wanted rate pass attenuation s = record {
   rate = rate * s.up;
   band = Low pass (min rate (rate * s.up / s.down) - pass);
@@ -40,7 +40,7 @@ stage_wanted rate pass attenuation s = record {
 }
 
 -- the coefficient file of a stage: the taps of its filter, whose rate fits in 32 bits
-pub record IsStageFile (w : Wanted) (number : ℕ) (f : StageFile) : Type 0 where
+pub record IsStageFile (w : FilterSpec) (number : ℕ) (f : StageFile) : Type 0 where
   pub rate : w.rate < 2 ^ 32
   pub name : string_bytes f.name ≡ stage_name number ++ codes ".toml"
   pub texts : AreFilterTexts w (string_bytes f.text) (string_bytes f.told)

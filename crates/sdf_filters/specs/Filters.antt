@@ -3,7 +3,7 @@ use Rattle.std.specs.Prelude.{◌≡◌, ◌==◌, ℕ, ◌/◌, ◌%◌, ℤ, L
 use Rattle.sdf_filters.specs.declared.measure.Measured.{Measured}
 use Rattle.sdf_filters.specs.declared.wanted.Band.{Band}
 use Rattle.sdf_filters.specs.declared.wanted.Band.TheVariants.{Low, High, Middle}
-use Rattle.sdf_filters.specs.declared.wanted.Wanted.{Wanted}
+use Rattle.sdf_filters.specs.declared.wanted.FilterSpec.{FilterSpec}
 use Rattle.sdf_filters.specs.Coefficients.{coefficient_text}
 use Rattle.sdf_filters.specs.Wanted.{AreTaps}
 
@@ -20,7 +20,7 @@ band_text (Middle low_stop low_pass pass stop) =
     ++ codes ".." ++ decimal stop
 
 -- the first line of a coefficient file
-unfoldable pub head_text : Wanted → List ℕ
+unfoldable pub head_text : FilterSpec → List ℕ
 head_text w =
     codes "# fir up " ++ decimal w.up ++ codes " shift " ++ decimal w.shift ++ codes ", " ++ band_text w.band
     ++ codes " Hz at " ++ decimal w.rate ++ codes " Hz, " ++ decimal w.attenuation ++ codes " dB" ++ end
@@ -46,7 +46,7 @@ told_text count m =
     ++ with_place m.attenuation ++ codes " dB down" ++ end
 
 -- the coefficient file of the filter's taps, and the line with their measures, which may be any numbers
-pub record AreFilterTexts (w : Wanted) (file told : List ℕ) : Type 0 where
+pub record AreFilterTexts (w : FilterSpec) (file told : List ℕ) : Type 0 where
   pub taps : List ℤ
   pub are : AreTaps w taps
   pub file_is : file ≡ head_text w ++ coefficient_text taps

@@ -4,7 +4,7 @@ use Rattle.std.specs.Prelude.{Bool, true}
 use Rattle.std.specs.Prelude.{false, nat_lt, ℤ, pos, negsuc, ◌+ℤ◌}
 use Rattle.std.specs.Prelude.{◌-ℤ◌, FitsSigned, List, length, slice_index_or}
 use Rattle.std.specs.Int.{w16}
-use Rattle.sdf_filters.specs.declared.order.Way.{Way}
+use Rattle.sdf_filters.specs.declared.order.TapMove.{TapMove}
 
 -- tap n, counted from 0; 0 past the end
 abbrev pub tap : List ℤ → ℕ → ℤ
@@ -53,11 +53,11 @@ pub record AreMoved (up phase : ℕ) (rise : Bool) (times : ℕ) (old new : List
   pub symmetric : IsSymmetric old → IsSymmetric new
 
 -- taps of a way's phase have moved by `times` steps, each with its mirror image
-abbrev pub AreMovedBy : Way → ℕ → List ℤ → List ℤ → Type 0
+abbrev pub AreMovedBy : TapMove → ℕ → List ℤ → List ℤ → Type 0
 AreMovedBy way times old new = AreMoved way.up way.phase way.rise (weight way.up way.phase * times) old new
 
 -- `count` taps are whole phases, and a way's turns are some taps of its phase; none is another's mirror image
-pub record AreTurns (way : Way) (count : ℕ) : Type 0 where
+pub record AreTurns (way : TapMove) (count : ℕ) : Type 0 where
   pub phase : way.phase < way.up
   pub whole : count % way.up ≡ 0
   pub turns : way.turns ≤ count / way.up

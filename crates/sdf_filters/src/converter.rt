@@ -13,7 +13,7 @@ use crate::graph::{STAGE_SHIFT, graph_text, push_stage_name};
 use crate::split::stages;
 use crate::stage::Stage;
 use crate::texts::filter_texts;
-use crate::wanted::{Band, Wanted};
+use crate::wanted::{Band, FilterSpec};
 use sdf_limits::MOST_CHANNEL;
 use std::alloc::{AllocError, Global};
 
@@ -61,13 +61,13 @@ fn rate_of(rate: u64) -> Result<u32, FilterFault>
 
 /// Returns the filter of a stage whose input has this `rate`. It stops the images of what passes, and all that would
 /// alias onto it.
-fn stage_wanted(rate: u32, pass: u32, attenuation: u32, stage: Stage) -> Result<Wanted, FilterFault>
+fn stage_wanted(rate: u32, pass: u32, attenuation: u32, stage: Stage) -> Result<FilterSpec, FilterFault>
     ensures { MatchResult result (λ wanted. wanted ≡ stage_wanted rate pass attenuation stage)
         (IsRateFault (rate * stage.up)) }
 {
     let at = rate_of(u64::from(rate) * u64::from(stage.up))?;
     let stop = rate.min(at / stage.down).saturating_sub(pass);
-    Ok(Wanted {
+    Ok(FilterSpec {
         rate: at,
         band: Band::Low { pass, stop },
         attenuation,
@@ -87,7 +87,7 @@ fn file_name(alloc: Global, number: usize) -> Result<String, AllocError>
 }
 
 /// Returns the coefficient file of a stage.
-fn stage_file(alloc: Global, number: usize, wanted: Wanted) -> Result<StageFile, FilterFault>
+fn stage_file(alloc: Global, number: usize, wanted: FilterSpec) -> Result<StageFile, FilterFault>
     ensures { MatchResult result (IsStageFile wanted number) (IsFault wanted) }
 {
     let texts = filter_texts(alloc, wanted)?;

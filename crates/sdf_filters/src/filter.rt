@@ -8,14 +8,14 @@ ghost use Rattle.sdf_filters.specs.Wanted.{AreTaps, IsFault};
 
 use crate::fault::{FilterFault, test};
 use crate::lowpass::{Lowpass, check_few, whole_phases};
-use crate::wanted::{Band, Wanted};
+use crate::wanted::{Band, FilterSpec};
 use std::alloc::Global;
 
 /// Tests what a high-pass needs in addition to its low-pass.
-fn check_high(wanted: Wanted, stop: u32, pass: u32) -> Result<(), FilterFault>
+fn check_high(wanted: FilterSpec, stop: u32, pass: u32) -> Result<(), FilterFault>
     ensures { result ≡ high_tests wanted stop pass }
 {
-    let Wanted { rate, up, .. } = wanted;
+    let FilterSpec { rate, up, .. } = wanted;
     test(stop < pass, FilterFault::StopNotBelowPass { stop, pass })?;
     test(
         2 * u64::from(pass) <= u64::from(rate),
@@ -39,7 +39,7 @@ fn check_middle(low_stop: u32, low_pass: u32, pass: u32) -> Result<(), FilterFau
 }
 
 /// Returns the low-pass between `pass` and `stop`.
-fn low(wanted: Wanted, pass: u32, stop: u32) -> Result<Lowpass, FilterFault>
+fn low(wanted: FilterSpec, pass: u32, stop: u32) -> Result<Lowpass, FilterFault>
     ensures { result ≡ lowpass_of (low wanted pass stop) }
 {
     Lowpass::new(
@@ -117,7 +117,7 @@ fn middle_taps(alloc: Global, wide: &Lowpass, narrow: &Lowpass) -> Result<Vec<i3
 ///
 /// They are symmetric, so all frequencies are delayed by the same time, unless `up` is odd, their number even and
 /// `shift` 0. No clause says how close the filter is to its specification.
-pub fn taps_of(alloc: Global, wanted: Wanted) -> Result<Vec<i32>, FilterFault>
+pub fn taps_of(alloc: Global, wanted: FilterSpec) -> Result<Vec<i32>, FilterFault>
     ensures { MatchResult result (λ taps. AreTaps wanted taps.items) (IsFault wanted) }
 {
     match wanted.band {

@@ -6,7 +6,7 @@
 //! `coefficients` (the text of taps) and `settling`. `settling` makes the sum of each phase exact by the steps of
 //! `phases`, in the `order` of taps. `split` splits a conversion into stages. `converter` makes their design for `sdfw
 //! resample`, with the graph file from `graph`. `sinc`, `cost` and `measure` compute with floats, and no clause says
-//! anything of their values. The definitions are in `specs/Wanted.antt`, `specs/Phases.antt` (the sums of phases),
+//! anything of their values. The definitions are in `specs/FilterSpec.antt`, `specs/Phases.antt` (the sums of phases),
 //! `specs/Stages.antt` and `specs/Converters.antt`.
 #![tactic(auto)]
 
@@ -39,4 +39,4 @@ pub use settling::settle;
 pub use split::stages;
 pub use stage::Stage;
 pub use texts::{FilterTexts, filter_texts};
-pub use wanted::{Band, Wanted};
+pub use wanted::{Band, FilterSpec};

@@ -12,7 +12,7 @@ const NODES: usize = 2 * MOST_TAPS;
 
 /// A phase, the number of its first taps that can be moved, and whether they are moved up.
 #[derive(Clone, Copy)]
-pub(crate) struct Way {
+pub(crate) struct TapMove {
     pub(crate) up: usize,
     pub(crate) phase: usize,
     pub(crate) turns: usize,
@@ -29,7 +29,7 @@ struct Rank {
 }
 
 /// Returns the place of the tap with this `turn` among `count` taps.
-pub(crate) fn place_of(count: usize, way: Way, turn: usize) -> usize
+pub(crate) fn place_of(count: usize, way: TapMove, turn: usize) -> usize
     requires phase { way.phase < way.up }
     requires turn { turn < count / way.up }
     ensures within { result < count }
@@ -40,7 +40,7 @@ pub(crate) fn place_of(count: usize, way: Way, turn: usize) -> usize
 }
 
 /// Returns the rank of the tap with this `turn`.
-fn rank_of(taps: &[i32], reals: &[f64], way: Way, turn: usize) -> Rank
+fn rank_of(taps: &[i32], reals: &[f64], way: TapMove, turn: usize) -> Rank
     requires same { length reals.now ≡ length taps.now }
     requires few { length taps.now ≤ MOST_TAPS }
     requires phase { way.phase < way.up }
@@ -68,7 +68,7 @@ fn sooner(one: Rank, other: Rank) -> Rank
 }
 
 /// Returns the turn of the tap that is moved first.
-pub(crate) fn first_turn(taps: &[i32], reals: &[f64], way: Way) -> usize
+pub(crate) fn first_turn(taps: &[i32], reals: &[f64], way: TapMove) -> usize
     requires same { length reals.now ≡ length taps.now }
     requires few { length taps.now ≤ MOST_TAPS }
     requires phase { way.phase < way.up }
@@ -85,7 +85,7 @@ pub(crate) fn first_turn(taps: &[i32], reals: &[f64], way: Way) -> usize
 
 /// Returns whether each tap of a phase is less late now than any of them is after one more step. Each is then moved
 /// once before any is moved twice. That can also be true if this function returns false.
-pub(crate) fn is_round(taps: &[i32], reals: &[f64], way: Way) -> bool
+pub(crate) fn is_round(taps: &[i32], reals: &[f64], way: TapMove) -> bool
     requires same { length reals.now ≡ length taps.now }
     requires phase { way.phase < way.up }
     requires turns { way.turns ≤ length taps.now / way.up }
@@ -103,7 +103,7 @@ pub(crate) fn is_round(taps: &[i32], reals: &[f64], way: Way) -> bool
 }
 
 /// Compares the taps of the two branches of `node`, and puts the turn of the sooner one at the node.
-fn meet(tree: &mut [usize], taps: &[i32], reals: &[f64], way: Way, node: usize)
+fn meet(tree: &mut [usize], taps: &[i32], reals: &[f64], way: TapMove, node: usize)
     requires room { length tree.old ≡ NODES }
     requires same { length reals.now ≡ length taps.now }
     requires few { length taps.now ≤ MOST_TAPS }
@@ -120,7 +120,7 @@ fn meet(tree: &mut [usize], taps: &[i32], reals: &[f64], way: Way, node: usize)
 
 /// Returns a tournament tree of the taps of a phase. Its leaves are the turns, after the inner nodes. At node 1 is the
 /// turn of the tap that is moved first.
-pub(crate) fn tree_of(taps: &[i32], reals: &[f64], way: Way) -> [usize; NODES]
+pub(crate) fn tree_of(taps: &[i32], reals: &[f64], way: TapMove) -> [usize; NODES]
     requires same { length reals.now ≡ length taps.now }
     requires few { length taps.now ≤ MOST_TAPS }
     requires phase { way.phase < way.up }
@@ -140,7 +140,7 @@ pub(crate) fn tree_of(taps: &[i32], reals: &[f64], way: Way) -> [usize; NODES]
 }
 
 /// Updates the tree after the tap with this `turn` was moved.
-pub(crate) fn renew(tree: &mut [usize], taps: &[i32], reals: &[f64], way: Way, turn: usize)
+pub(crate) fn renew(tree: &mut [usize], taps: &[i32], reals: &[f64], way: TapMove, turn: usize)
     requires room { length tree.old ≡ NODES }
     requires same { length reals.now ≡ length taps.now }
     requires few { length taps.now ≤ MOST_TAPS }

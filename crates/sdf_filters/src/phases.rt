@@ -7,7 +7,7 @@ ghost use Rattle.sdf_filters.specs.Phases.{AreTurns, AreMovedBy, weight};
 ghost use Rattle.sdf_filters.specs.Lowpass.{IsTapFault};
 
 use crate::fault::FilterFault;
-use crate::order::{Way, first_turn, is_round, place_of, renew, tree_of};
+use crate::order::{TapMove, first_turn, is_round, place_of, renew, tree_of};
 use sdf_limits::MOST_TAPS;
 
 /// The greatest absolute value of a tap that can still be moved.
@@ -91,7 +91,7 @@ pub(crate) fn step_tap(taps: &mut [i32], place: usize, rise: bool) -> Result<(),
 }
 
 /// Moves the tap with this `turn`, and its mirror image, by one step.
-fn step_turn(taps: &mut [i32], way: Way, turn: usize) -> Result<(), FilterFault>
+fn step_turn(taps: &mut [i32], way: TapMove, turn: usize) -> Result<(), FilterFault>
     requires turns { AreTurns way (length taps.old) }
     requires turn { turn < way.turns }
     ensures moves { OnOk result (AreMoved way.up way.phase way.rise (weight way.up way.phase) taps.old taps.new) }
@@ -104,7 +104,7 @@ fn step_turn(taps: &mut [i32], way: Way, turn: usize) -> Result<(), FilterFault>
 }
 
 /// Moves each tap of a way's turns, and its mirror image, by one step.
-fn move_each(taps: &mut [i32], way: Way) -> Result<(), FilterFault>
+fn move_each(taps: &mut [i32], way: TapMove) -> Result<(), FilterFault>
     requires turns { AreTurns way (length taps.old) }
     ensures moves { OnOk result (AreMovedBy way way.turns taps.old taps.new) }
     ensures fault { IfErr result IsTapFault }
@@ -116,7 +116,7 @@ fn move_each(taps: &mut [i32], way: Way) -> Result<(), FilterFault>
 }
 
 /// Moves taps by `times` steps, each with its mirror image. Each step looks at all of the way's taps.
-fn move_few(taps: &mut [i32], reals: &[f64], way: Way, times: u64) -> Result<(), FilterFault>
+fn move_few(taps: &mut [i32], reals: &[f64], way: TapMove, times: u64) -> Result<(), FilterFault>
     requires same { length reals.now ≡ length taps.old }
     requires few { length taps.old ≤ MOST_TAPS }
     requires turns { AreTurns way (length taps.old) }
@@ -132,7 +132,7 @@ fn move_few(taps: &mut [i32], reals: &[f64], way: Way, times: u64) -> Result<(),
 }
 
 /// Moves taps by `times` steps, each with its mirror image. A tree of the taps says which one is next.
-fn move_many(taps: &mut [i32], reals: &[f64], way: Way, times: u64) -> Result<(), FilterFault>
+fn move_many(taps: &mut [i32], reals: &[f64], way: TapMove, times: u64) -> Result<(), FilterFault>
     requires same { length reals.now ≡ length taps.old }
     requires few { length taps.old ≤ MOST_TAPS }
     requires turns { AreTurns way (length taps.old) }
@@ -150,7 +150,7 @@ fn move_many(taps: &mut [i32], reals: &[f64], way: Way, times: u64) -> Result<()
 }
 
 /// Moves taps by `times` steps, one after another, each with its mirror image.
-fn move_soonest(taps: &mut [i32], reals: &[f64], way: Way, times: u64) -> Result<(), FilterFault>
+fn move_soonest(taps: &mut [i32], reals: &[f64], way: TapMove, times: u64) -> Result<(), FilterFault>
     requires same { length reals.now ≡ length taps.old }
     requires few { length taps.old ≤ MOST_TAPS }
     requires turns { AreTurns way (length taps.old) }
@@ -166,7 +166,7 @@ fn move_soonest(taps: &mut [i32], reals: &[f64], way: Way, times: u64) -> Result
 }
 
 /// Moves taps by one round: one step for each turn. Each tap moves once, if none is moved twice before all others were.
-fn move_round(taps: &mut [i32], reals: &[f64], way: Way) -> Result<(), FilterFault>
+fn move_round(taps: &mut [i32], reals: &[f64], way: TapMove) -> Result<(), FilterFault>
     requires same { length reals.now ≡ length taps.old }
     requires few { length taps.old ≤ MOST_TAPS }
     requires turns { AreTurns way (length taps.old) }
@@ -185,7 +185,7 @@ fn move_round(taps: &mut [i32], reals: &[f64], way: Way) -> Result<(), FilterFau
 pub(crate) fn move_rounds(
     taps: &mut [i32],
     reals: &[f64],
-    way: Way,
+    way: TapMove,
     times: u64,
 ) -> Result<(), FilterFault>
     requires same { length reals.now ≡ length taps.old }

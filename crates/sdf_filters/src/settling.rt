@@ -6,7 +6,7 @@ ghost use Rattle.sdf_filters.specs.Phases.{phase_sum, AreMoved, IsSumMoved, IsSy
 ghost use Rattle.sdf_filters.specs.Lowpass.{IsTapFault};
 
 use crate::fault::FilterFault;
-use crate::order::{Way, first_turn, place_of};
+use crate::order::{TapMove, first_turn, place_of};
 use crate::phases::{move_rounds, phase_sum, step_tap};
 use sdf_limits::MOST_TAPS;
 
@@ -33,7 +33,7 @@ fn settle_phase(
     let rise = sum < total;
     let times = total.abs_diff(sum);
     let turns = taps.len() / up;
-    let way = Way {
+    let way = TapMove {
         up,
         phase,
         turns,
@@ -70,7 +70,7 @@ fn middle_times(times: u64, many: u64) -> u64
 }
 
 /// Moves the sum of the phase around the middle by `times` steps, if its number of taps is odd. They stay symmetric.
-fn move_odd(taps: &mut [i32], reals: &[f64], way: Way, times: u64) -> Result<(), FilterFault>
+fn move_odd(taps: &mut [i32], reals: &[f64], way: TapMove, times: u64) -> Result<(), FilterFault>
     requires same { length reals.now ≡ length taps.old }
     requires few { length taps.old ≤ MOST_TAPS }
     requires up { way.up % 2 ≡ 1 }
@@ -92,7 +92,7 @@ fn move_odd(taps: &mut [i32], reals: &[f64], way: Way, times: u64) -> Result<(),
 
 /// Moves the sum of the phase around the middle by `times` steps, if its number of taps is even. If `times` is odd, the
 /// last step moves one tap alone.
-fn move_even(taps: &mut [i32], reals: &[f64], way: Way, times: u64) -> Result<(), FilterFault>
+fn move_even(taps: &mut [i32], reals: &[f64], way: TapMove, times: u64) -> Result<(), FilterFault>
     requires same { length reals.now ≡ length taps.old }
     requires few { length taps.old ≤ MOST_TAPS }
     requires up { way.up % 2 ≡ 1 }
@@ -132,7 +132,7 @@ fn settle_middle(taps: &mut [i32], reals: &[f64], up: usize, total: i64) -> Resu
     let times = total.abs_diff(sum);
     let many = taps.len() / up;
     let turns = many / 2;
-    let way = Way {
+    let way = TapMove {
         up,
         phase,
         turns,

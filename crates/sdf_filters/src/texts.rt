@@ -9,7 +9,7 @@ use crate::coefficients::push_coefficients;
 use crate::fault::FilterFault;
 use crate::filter::taps_of;
 use crate::measure::Measured;
-use crate::wanted::{Band, Wanted};
+use crate::wanted::{Band, FilterSpec};
 use std::alloc::{AllocError, Global};
 
 /// The texts that are printed of a filter: the coefficient file, and the line with the measures of its taps.
@@ -37,7 +37,7 @@ fn push_band(text: &mut String, band: Band) -> Result<(), AllocError>
 
 /// Adds the first line of a coefficient file.
 #[tactic(auto, unfolding(crate::specs::Filters::head_text))]
-fn push_wanted(text: &mut String, wanted: Wanted) -> Result<(), AllocError>
+fn push_wanted(text: &mut String, wanted: FilterSpec) -> Result<(), AllocError>
     ensures { OnOk result (string_bytes text.new ≡ string_bytes text.old ++ head_text wanted) }
 {
     let up = wanted.up;
@@ -93,7 +93,7 @@ fn push_told(text: &mut String, count: usize, measured: Measured) -> Result<(), 
 }
 
 /// Returns the coefficient file of the taps of a filter, and the line with their measures.
-pub fn filter_texts(alloc: Global, wanted: Wanted) -> Result<FilterTexts, FilterFault>
+pub fn filter_texts(alloc: Global, wanted: FilterSpec) -> Result<FilterTexts, FilterFault>
     ensures { MatchResult result
         (λ texts. AreFilterTexts wanted (string_bytes texts.file) (string_bytes texts.told)) (IsFault wanted) }
 {

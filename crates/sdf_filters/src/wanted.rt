@@ -27,7 +27,7 @@ pub enum Band {
 
 /// A filter, specified in plain numbers.
 #[derive(Debug, Clone, Copy, PartialEq, Eq)]
-pub struct Wanted {
+pub struct FilterSpec {
     /// The rate of the filter in samples a second: the rate of the actor's input times `up`.
     pub rate: u32,
     pub band: Band,
@@ -45,7 +45,7 @@ fn range(from: u32, to: u32) -> Range {
     }
 }
 
-impl Wanted {
+impl FilterSpec {
     /// Measures the ripple and the attenuation of `taps`. The unit is `up` times `2^shift`: the taps of each phase of a
     /// low-pass sum to `2^shift`.
     pub(crate) fn measured(self, taps: &[i32]) -> Measured {

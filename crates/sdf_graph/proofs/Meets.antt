@@ -7,7 +7,7 @@ use Rattle.sdf_graph.specs.Shares.{AreShares, IsReduced, IsEven, IsEvenAt, ratio
 use Rattle.sdf_graph.specs.Meetings.{IsMeeting}
 use Rattle.sdf_graph.specs.declared.channel.Totals.{Totals}
 use Rattle.sdf_graph.specs.declared.repetitions.Ratio.{Ratio}
-use Rattle.sdf_graph.specs.declared.meeting.Meeting.{Meeting}
+use Rattle.sdf_graph.specs.declared.meeting.Balance.{Balance}
 use Rattle.sdf_graph.proofs.Shapes.{whole_cycles}
 use Rattle.sdf_graph.proofs.ShareLaws.{no_greater}
 
@@ -22,7 +22,7 @@ pub meets : (g : Shape) → IsShape g → (parts : List Ratio) → AreShares g p
     (t : Totals) → t ≡ totals (channel g c) → (turns : Ratio) →
     IsReduced ((ratio parts t.from).num * (ratio parts t.to).den) ((ratio parts t.to).num * (ratio parts t.from).den)
     turns.num turns.den →
-    (m : Meeting) → m.source ≡ turns.num * cycle g t.from → m.target ≡ turns.den * cycle g t.to →
+    (m : Balance) → m.source ≡ turns.num * cycle g t.from → m.target ≡ turns.den * cycle g t.to →
     m.puts ≡ turns.num * t.put → m.takes ≡ turns.den * t.take →
     (is : IsMeeting g c m) × (is.parts ≡ parts)
 meets g shape parts shares c known t e turns red m source target puts takes = (

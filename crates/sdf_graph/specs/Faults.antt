@@ -10,7 +10,7 @@ use Rattle.sdf_graph.specs.Marks.{IsBorder}
 use Rattle.sdf_graph.specs.Shares.{IsEvenAt, IsShare, IsWalk, AreShares}
 use Rattle.sdf_graph.specs.declared.repetitions.Ratio.{Ratio}
 use Rattle.sdf_graph.specs.Meetings.{IsMeeting}
-use Rattle.sdf_graph.specs.declared.meeting.Meeting.{Meeting}
+use Rattle.sdf_graph.specs.declared.meeting.Balance.{Balance}
 use Rattle.sdf_graph.specs.declared.fault.GraphFault.{GraphFault}
 use Rattle.sdf_graph.specs.declared.fault.GraphFault.TheVariants.{OutOfMemory, ActorCount, ChannelCount, BadEnd}
 use Rattle.sdf_graph.specs.declared.fault.GraphFault.TheVariants.{BadRate, CycleLength, InitialCount, NotConnected}
@@ -94,7 +94,7 @@ IsFirstFault g fault = numbers_fault g ≡ Some fault
 
 -- the graph has no repetition vector, and in m, the balance of channel c, the samples put and taken differ; c is the
 -- lowest channel that the relative rates of m do not balance
-pub record IsInconsistent (g : Shape) (c : ℕ) (m : Meeting) : Type 0 where
+pub record IsInconsistent (g : Shape) (c : ℕ) (m : Balance) : Type 0 where
   pub none : (p : List ℕ) → IsPeriodVector (rates g) p → ⊥
   pub meets : IsMeeting g c m
   pub differs : m.puts ≢ m.takes

@@ -3,10 +3,10 @@ use Rattle.std.specs.Prelude.{◌≡◌, ℕ, ◌*◌, ◌<◌, List, length}
 use Rattle.sdf_graph.specs.Rates.{Shape, IsShape, channel, cycle, rates}
 use Rattle.sdf_graph.specs.Shares.{AreShares, IsReduced, ratio}
 use Rattle.sdf_graph.specs.declared.repetitions.Ratio.{Ratio}
-use Rattle.sdf_graph.specs.declared.meeting.Meeting.{Meeting}
+use Rattle.sdf_graph.specs.declared.meeting.Balance.{Balance}
 
 -- the balance of channel c over the fewest whole cycles of both ends, at some relative rates of the actors
-pub record IsMeeting (g : Shape) (c : ℕ) (m : Meeting) : Type 0 where
+pub record IsMeeting (g : Shape) (c : ℕ) (m : Balance) : Type 0 where
   pub shape : IsShape g
   pub known : c < length g.channels
   pub parts : List Ratio

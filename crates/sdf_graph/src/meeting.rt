@@ -10,7 +10,7 @@ use sdf_limits::MOST_PERIOD;
 
 /// The balance of a channel over the fewest whole cycles of both its ends at their relative rates.
 #[derive(Debug, Clone, Copy, PartialEq, Eq)]
-pub struct Meeting {
+pub struct Balance {
     /// Firings of the source.
     pub source: u64,
     /// Samples that these firings put.
@@ -35,7 +35,7 @@ fn turns_of(from: Ratio, to: Ratio) -> Ratio
 }
 
 /// Returns the balance of `channel` over the fewest whole cycles of its ends at the relative rates `parts`.
-pub(crate) fn meeting_at(graph: &Graph, parts: &[Ratio], channel: usize) -> Meeting
+pub(crate) fn meeting_at(graph: &Graph, parts: &[Ratio], channel: usize) -> Balance
     requires known { channel < length graph.now.channels }
     requires shares { AreShares graph.now parts.now }
     ensures meeting { (m : IsMeeting graph.now channel result) × (m.parts ≡ parts.now) }
@@ -43,7 +43,7 @@ pub(crate) fn meeting_at(graph: &Graph, parts: &[Ratio], channel: usize) -> Meet
 {
     let totals = graph.totals_at(channel);
     let turns = turns_of(parts[totals.from], parts[totals.to]);
-    Meeting {
+    Balance {
         source: turns.num * u64::from(graph.cycle(totals.from)),
         puts: turns.num * u64::from(totals.put),
         target: turns.den * u64::from(graph.cycle(totals.to)),

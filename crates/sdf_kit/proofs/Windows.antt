@@ -16,8 +16,8 @@ use Rattle.sdf_kit.specs.Samples.{settled}
 use Rattle.sdf_kit.specs.Window.{Held, part_as, AreHeld, held, seen, output_of, AreFit}
 use Rattle.sdf_kit.specs.Stretches.{IsBranch}
 use Rattle.sdf_kit.specs.declared.branches.Limits.{Limits}
-use Rattle.sdf_kit.specs.declared.window.Way.{Way}
-use Rattle.sdf_kit.specs.declared.window.Way.TheVariants.{Quiet, Wide, Split}
+use Rattle.sdf_kit.specs.declared.window.SampleForm.{SampleForm}
+use Rattle.sdf_kit.specs.declared.window.SampleForm.TheVariants.{Quiet, Wide, Split}
 use Rattle.sdf_kit.proofs.InStretches.{dot_small}
 use Rattle.sdf_kit.specs.declared.window.Part.TheVariants.{Whole, High, Low}
 use Rattle.sdf_kit.proofs.Exact.{bound, exact, split_exact}
@@ -35,7 +35,7 @@ take_joined (suc n) [] b = refl
 take_joined (suc n) (x ∷ a) [] = refl
 take_joined (suc n) (x ∷ a) (y ∷ b) = ap (λ z. ((pos 256 *ℤ x) +ℤ y) ∷ z) (take_joined n a b)
 
-pub length_held : (way : Way) (high low : List ℤ) (n : ℕ) (limits : Limits) → AreHeld way high low n limits →
+pub length_held : (way : SampleForm) (high low : List ℤ) (n : ℕ) (limits : Limits) → AreHeld way high low n limits →
     length (held way high low n) ≡ n
 length_held Quiet high low n limits are = length-take-le n high are.high_room
 length_held Wide high low n limits are = length-take-le n high are.high_room
@@ -58,13 +58,13 @@ short_front xs peak w low = each1 (FitsSigned w16) xs
     fits_signed_from_abs w16 (get_or xs k (pos 0)) (omega arith))
 
 -- the numbers that are held have 16 bits
-high_short : (way : Way) (high low : List ℤ) (n : ℕ) (limits : Limits) → AreHeld way high low n limits →
+high_short : (way : SampleForm) (high low : List ℤ) (n : ℕ) (limits : Limits) → AreHeld way high low n limits →
     Each1 (FitsSigned w16) (take n high)
 high_short Quiet high low n limits are = short_front (take n high) limits.peak are.within are.small
 high_short Wide high low n limits are = are.within.1
 high_short Split high low n limits are = short_front (take n high) limits.peak are.within.0 are.small
 
-pub high_fits : {way : Way} {high low x : List ℤ} {n : ℕ} {limits : Limits} → AreHeld way high low n limits →
+pub high_fits : {way : SampleForm} {high low x : List ℤ} {n : ℕ} {limits : Limits} → AreHeld way high low n limits →
     x ≡ take n high → Each1 (FitsSigned w16) x
 high_fits {way} {high} {low} {x} {n} {limits} are is =
     subst (λ xs. Each1 (FitsSigned w16) xs) (sym is) (high_short way high low n limits are)
@@ -118,7 +118,7 @@ pub read : (sums : List ℤ) (i : ℕ) (z : ℤ) → get_or sums i (pos 0) ≡ w
 read sums i z e = passed (get_or sums i (pos 0)) z e
 
 -- what is known of a window w whose samples are held in this way
-module _ {way : Way} {high low : List ℤ} {n : ℕ} {limits : Limits} (are : AreHeld way high low n limits) {w : Held}
+module _ {way : SampleForm} {high low : List ℤ} {n : ℕ} {limits : Limits} (are : AreHeld way high low n limits) {w : Held}
     (view : record { samples = held way high low n; limits = limits } ≡ w) {h : List ℤ} {lens : List ℕ}
     (branch : IsBranch w.limits h lens) where
   pub branch_held : IsBranch limits h lens
@@ -127,15 +127,15 @@ module _ {way : Way} {high low : List ℤ} {n : ℕ} {limits : Limits} (are : Ar
   pub in_held : (at : ℕ) → at + length h ≤ length w.samples → at + length h ≤ length (held way high low n)
   in_held at room = subst (λ (v : Held). at + length h ≤ length v.samples) (sym view) room
 
-  pub held_are : (other : Way) → way ≡ other → AreHeld other high low n limits
+  pub held_are : (other : SampleForm) → way ≡ other → AreHeld other high low n limits
   held_are other e = subst (λ o. AreHeld o high low n limits) e are
 
-  pub room_as : (other : Way) → way ≡ other → (at : ℕ) → at + length h ≤ length w.samples →
+  pub room_as : (other : SampleForm) → way ≡ other → (at : ℕ) → at + length h ≤ length w.samples →
       at + length h ≤ length (held other high low n)
   room_as other e at room = subst (λ o. at + length h ≤ length (held o high low n)) e (in_held at room)
 
   -- an output, told of what is held
-  pub output_is : (other : Way) → way ≡ other → {r : ℤ} (at shift : ℕ) → FitsSigned w32 r →
+  pub output_is : (other : SampleForm) → way ≡ other → {r : ℤ} (at shift : ℕ) → FitsSigned w32 r →
       r ≡ output_of h (held other high low n) at shift → to_z w32 (of_z w32 r) ≡ output_of h w.samples at shift
   output_is other e {r} at shift fits is =
       to_z-of_z w32 r fits ∙ (is ∙ (ap (λ o. output_of h (held o high low n) at shift) (sym e)
@@ -197,7 +197,7 @@ module _ {way : Way} {high low : List ℤ} {n : ℕ} {limits : Limits} (are : Ar
       ∙ split_value h high low n at limits (held_are Split e) branch_held.quiet (room_as Split e at room))))
 
 -- the samples that are read from a window, themselves or their upper bits
-pub front_long : {way : Way} {high low x : List ℤ} {n : ℕ} {limits : Limits} → AreHeld way high low n limits →
+pub front_long : {way : SampleForm} {high low x : List ℤ} {n : ℕ} {limits : Limits} → AreHeld way high low n limits →
     {w : Held} → record { samples = held way high low n; limits = limits } ≡ w →
     (x ≡ take n high) ⊎ (x ≡ take n low) → length x ≡ length w.samples
 front_long {way} {high} {low} {x} {n} {limits} are view is =

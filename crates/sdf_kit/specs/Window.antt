@@ -4,8 +4,8 @@ use Rattle.std.specs.Int.{w16, int_shr}
 use Rattle.std.specs.Simd.Lanes.{Each1}
 use Rattle.sdf_kit.specs.Samples.{sample, settled}
 use Rattle.sdf_kit.specs.declared.branches.Limits.{Limits}
-use Rattle.sdf_kit.specs.declared.window.Way.{Way}
-use Rattle.sdf_kit.specs.declared.window.Way.TheVariants.{Quiet, Wide, Split}
+use Rattle.sdf_kit.specs.declared.window.SampleForm.{SampleForm}
+use Rattle.sdf_kit.specs.declared.window.SampleForm.TheVariants.{Quiet, Wide, Split}
 use Rattle.sdf_kit.specs.declared.window.Part.{Part}
 use Rattle.sdf_kit.specs.declared.window.Part.TheVariants.{Whole, High, Low}
 use Rattle.sdf_kit.specs.Dots.{AreWithin, dot, joined}
@@ -15,19 +15,19 @@ pub record Held : Type 0 where
   pub limits : Limits
 
 -- the first n samples: the numbers themselves, or those joined from upper and lowest bits
-abbrev pub held : Way → List ℤ → List ℤ → ℕ → List ℤ
+abbrev pub held : SampleForm → List ℤ → List ℤ → ℕ → List ℤ
 held Quiet high low n = take n high
 held Wide high low n = take n high
 held Split high low n = joined (take n high) (take n low)
 
 -- no number is further from 0 than the peak, or the limits are wide and all numbers have 16 bits
-abbrev pub AreWithinLimits : Way → List ℤ → List ℤ → Limits → Type 0
+abbrev pub AreWithinLimits : SampleForm → List ℤ → List ℤ → Limits → Type 0
 AreWithinLimits Quiet high low limits = AreWithin limits.peak high
 AreWithinLimits Wide high low limits = (limits.is_wide ≡ true) × Each1 (FitsSigned w16) high
 AreWithinLimits Split high low limits = AreWithin limits.peak high × AreWithin limits.peak low
 
 -- the first n are within the limits
-pub record AreHeld (way : Way) (high low : List ℤ) (n : ℕ) (limits : Limits) : Type 0 where
+pub record AreHeld (way : SampleForm) (high low : List ℤ) (n : ℕ) (limits : Limits) : Type 0 where
   pub high_room : n ≤ length high
   pub low_room : n ≤ length low
   pub small : limits.peak ≤ 32767

@@ -26,12 +26,12 @@ pub(crate) struct Window {
     low: [i16; ROOM],
     len: usize,
     limits: Limits,
-    way: Way,
+    way: SampleForm,
 }
 
 /// The form in which samples are held.
 #[derive(Clone, Copy)]
-enum Way {
+enum SampleForm {
     /// Whole, and none above the peak of the limits in absolute value.
     Quiet,
     /// Whole, any 16-bit numbers.
@@ -61,7 +61,7 @@ impl Window {
                 peak: 0,
                 is_wide: false,
             },
-            way: Way::Quiet,
+            way: SampleForm::Quiet,
         }
     }
 
@@ -76,7 +76,7 @@ impl Window {
         let len = pad + kept.len() + taken.len();
         let peak = limits.peak;
         self.len = 0;
-        self.way = Way::Quiet;
+        self.way = SampleForm::Quiet;
         self.limits = limits;
         if most <= peak {
             write_all(&mut self.high, Part::Whole, pad, kept, taken);
@@ -85,14 +85,14 @@ impl Window {
         }
         if limits.is_wide && most <= 32_768 && are_short(kept) && are_short(taken) {
             write_all(&mut self.high, Part::Whole, pad, kept, taken);
-            self.way = Way::Wide;
+            self.way = SampleForm::Wide;
             self.len = len;
             return true;
         }
         if LEAST_PEAK_TO_SPLIT <= peak && most <= 255 * peak {
             write_all(&mut self.high, Part::High, pad, kept, taken);
             write_all(&mut self.low, Part::Low, pad, kept, taken);
-            self.way = Way::Split;
+            self.way = SampleForm::Split;
             self.len = len;
             return true;
         }
@@ -111,7 +111,7 @@ impl Window {
     {
         let high = front(&self.high, self.len);
         match self.way {
-            Way::Quiet => {
+            SampleForm::Quiet => {
                 let a = four_dots(branch.taps, high, at, step);
                 [
                     settle_small(a[0], shift),
@@ -120,7 +120,7 @@ impl Window {
                     settle_small(a[3], shift),
                 ]
             }
-            Way::Wide => {
+            SampleForm::Wide => {
                 let sums = four_wide_dots(branch, high, at, step);
                 [
                     settle(sums.a, shift),
@@ -129,7 +129,7 @@ impl Window {
                     settle(sums.d, shift),
                 ]
             }
-            Way::Split => {
+            SampleForm::Split => {
                 let a = four_dots(branch.taps, high, at, step);
                 let b = four_dots(branch.taps, front(&self.low, self.len), at, step);
                 [
@@ -151,9 +151,9 @@ impl Window {
     {
         let high = front(&self.high, self.len);
         match self.way {
-            Way::Quiet => settle_small(one_dot(branch.taps, high, at), shift),
-            Way::Wide => settle(wide_dot(branch, piece(high, at, branch.taps.len())), shift),
-            Way::Split => {
+            SampleForm::Quiet => settle_small(one_dot(branch.taps, high, at), shift),
+            SampleForm::Wide => settle(wide_dot(branch, piece(high, at, branch.taps.len())), shift),
+            SampleForm::Split => {
                 let a = one_dot(branch.taps, high, at);
                 let b = one_dot(branch.taps, front(&self.low, self.len), at);
                 join(a, b, shift)

@@ -10,7 +10,7 @@ use Rattle.sdf_actor.specs.Steps.{Steps, phase, total_in, sum_in, block_at, stat
 use Rattle.sdf_actor.specs.Histories.{taken, taken_before, put}
 use Rattle.sdf_actor.specs.Nets as nets
 use Rattle.sdf_actor.specs.Nets.{Netlist, wiring, answers, answer_of, IsHistoryOf}
-use Rattle.sdf_answer.proofs.Theorems.{blocks_are_counted}
+use Rattle.sdf_queues.proofs.Theorems.{blocks_are_counted}
 use Rattle.sdf_one.proofs.Known.{Known}
 use Rattle.sdf_one.proofs.Parts.{joined, inner}
 use Rattle.sdf_one.proofs.Works.{state_push}

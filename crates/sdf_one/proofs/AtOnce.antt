@@ -18,15 +18,15 @@ use Rattle.sdf_actor.specs.Nets.{wiring, to_port, from_port, inputs_of, outputs_
 use Rattle.sdf_actor.specs.Nets.{IsHistoryOf}
 use Rattle.sdf_actor.specs.Laws.{HistoryGrowsByFiring}
 use Rattle.sdf_one.specs.declared.work.Work.{Work}
-use Rattle.sdf_answer.specs.Blocks.{samples, room, at_ports, ArePorts}
-use Rattle.sdf_answer.specs.Moves.{FitsPorts}
-use Rattle.sdf_answer.specs.Sizes.{IsPlan, at_phase, in_all, out_all}
-use Rattle.sdf_answer.specs.Lists.{list}
+use Rattle.sdf_queues.specs.Blocks.{samples, room, at_ports, ArePorts}
+use Rattle.sdf_queues.specs.Moves.{FitsPorts}
+use Rattle.sdf_queues.specs.Sizes.{IsPlan, at_phase, in_all, out_all}
+use Rattle.sdf_queues.specs.Lists.{list}
 use Rattle.sdf_one.specs.Firings.{phase_at}
 use Rattle.sdf_one.specs.AtOnce.{GoesAtOnce, fronts, all_made, CanFireAtOnce, AreFired}
-use Rattle.sdf_answer.specs.Periods.{AreApart}
+use Rattle.sdf_queues.specs.Periods.{AreApart}
 use Rattle.sdf_actor.proofs.Theorems.{taken_stays}
-use Rattle.sdf_answer.proofs.Theorems.{blocks_are_counted, nodes_take_theirs, plans_fit, sinks_take_all}
+use Rattle.sdf_queues.proofs.Theorems.{blocks_are_counted, nodes_take_theirs, plans_fit, sinks_take_all}
 use Rattle.sdf_one.specs.Runs.{IsWork, Stands}
 use Rattle.sdf_one.proofs.Answered.{source_puts, states, actor_puts}
 use Rattle.sdf_one.proofs.AtOnceWorks as work

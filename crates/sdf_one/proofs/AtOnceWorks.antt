@@ -13,8 +13,8 @@ use Rattle.sdf_actor.specs.Steps.{Steps, phase, total_in, total_out, sum_in, sum
 use Rattle.sdf_actor.specs.Nets.{inputs_of, outputs_of, cycle_of}
 use Rattle.sdf_one.specs.declared.work.Work.{Work}
 use Rattle.sdf_one.specs.declared.work.Work.TheVariants.{Source, Sink, Inner}
-use Rattle.sdf_answer.specs.Lists.{list, capacity}
-use Rattle.sdf_answer.specs.Sizes.{in_all, out_all}
+use Rattle.sdf_queues.specs.Lists.{list, capacity}
+use Rattle.sdf_queues.specs.Sizes.{in_all, out_all}
 use Rattle.sdf_one.specs.Firings.{added}
 use Rattle.sdf_one.specs.AtOnce.{GoesAtOnce, all_made, HaveWorked, CanWorkAtOnce}
 use Rattle.sdf_one.specs.Runs.{IsWork}

@@ -2,7 +2,7 @@
 use Rattle.std.proofs.Common.{◌≡◌, ℕ, zero, suc, ◌+◌, ◌<◌, List, [], ◌∷◌, length, get_or}
 use Rattle.std.proofs.Common.{cond, eqb, Bool, true, false, refl, ap, arith}
 use Rattle.std.proofs.lemmas.Bool.{eq-eqb}
-use Rattle.sdf_answer.specs.Blocks.{at_ports}
+use Rattle.sdf_queues.specs.Blocks.{at_ports}
 
 -- at a port there is so much
 pub at_one : (ds : List ℕ) (n many c : ℕ) → n < length ds → get_or ds n 0 ≡ c → at_ports ds many c ≡ many

@@ -13,8 +13,8 @@ use Rattle.sdf_actor.specs.declared.node.Node.TheVariants as node
 use Rattle.sdf_actor.specs.Steps.{Steps, total_in, total_out, sum_in, sum_out}
 use Rattle.sdf_actor.specs.Nets as nets
 use Rattle.sdf_actor.specs.Nets.{Netlist, wiring, IsNet}
-use Rattle.sdf_answer.proofs.Theorems.{plans_fit}
-use Rattle.sdf_answer.specs.Sizes.{Rows, IsPlan, AreSizes, at_phase, phase_of, in_all, out_all}
+use Rattle.sdf_queues.proofs.Theorems.{plans_fit}
+use Rattle.sdf_queues.specs.Sizes.{Rows, IsPlan, AreSizes, at_phase, phase_of, in_all, out_all}
 use Rattle.sdf_one.specs.declared.work.Work.TheVariants.{Inner}
 use Rattle.sdf_one.specs.Cycles.{AreRowsAt}
 use Rattle.sdf_one.specs.Runs.{HasBlocks, BeginsWork}

@@ -8,12 +8,12 @@ use Rattle.std.proofs.lemmas.Nat.{mod-mul-add}
 use Rattle.sdf_actor.specs.Steps.{total_out}
 use Rattle.sdf_actor.specs.Histories.{spread}
 use Rattle.sdf_actor.specs.Nets.{wiring}
-use Rattle.sdf_answer.specs.Held.{Held}
-use Rattle.sdf_answer.specs.Blocks.{samples}
-use Rattle.sdf_answer.specs.Sizes.{at_phase}
+use Rattle.sdf_queues.specs.Held.{Held}
+use Rattle.sdf_queues.specs.Blocks.{samples}
+use Rattle.sdf_queues.specs.Sizes.{at_phase}
 use Rattle.sdf_one.specs.Cycles.{IsInTurn}
 use Rattle.sdf_node.specs.Many.{joined}
-use Rattle.sdf_answer.specs.Blocks.{front_at, dealt}
+use Rattle.sdf_queues.specs.Blocks.{front_at, dealt}
 use Rattle.sdf_one.proofs.ManyWorks.{place}
 use Rattle.sdf_one.proofs.WholeCycles as cycle
 use Rattle.sdf_one.proofs.Joined.{joined_none, joined_part}

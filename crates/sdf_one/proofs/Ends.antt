@@ -11,9 +11,9 @@ use Rattle.sdf_actor.specs.Nets as nets
 use Rattle.sdf_actor.specs.Nets.{Netlist, wire, wiring, IsHistoryOf}
 use Rattle.sdf_one.specs.declared.work.Work.{Work}
 use Rattle.sdf_one.specs.declared.work.Work.TheVariants.{Source, Sink, Inner}
-use Rattle.sdf_answer.specs.Held.{Held}
-use Rattle.sdf_answer.specs.Blocks.{samples}
-use Rattle.sdf_answer.specs.Lists.{list, capacity}
+use Rattle.sdf_queues.specs.Held.{Held}
+use Rattle.sdf_queues.specs.Blocks.{samples}
+use Rattle.sdf_queues.specs.Lists.{list, capacity}
 use Rattle.sdf_one.specs.Runs.{IsWork, Stands, BeginsWork}
 use Rattle.sdf_one.proofs.Readings.{some_of}
 

@@ -13,9 +13,9 @@ use Rattle.sdf_actor.specs.Steps.{Steps}
 use Rattle.sdf_actor.specs.Histories.{spread}
 use Rattle.sdf_one.specs.declared.work.Work.{Work}
 use Rattle.sdf_one.specs.declared.work.Work.TheVariants.{Inner}
-use Rattle.sdf_answer.specs.Held.{Held}
-use Rattle.sdf_answer.specs.Blocks.{samples, room, at_ports, HoldBlocks, front}
-use Rattle.sdf_answer.specs.Lists.{list, capacity}
+use Rattle.sdf_queues.specs.Held.{Held}
+use Rattle.sdf_queues.specs.Blocks.{samples, room, at_ports, HoldBlocks, front}
+use Rattle.sdf_queues.specs.Lists.{list, capacity}
 use Rattle.sdf_one.specs.Firings.{IsFired}
 
 -- a block at the front has its length

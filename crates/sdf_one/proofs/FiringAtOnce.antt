@@ -11,9 +11,9 @@ use Rattle.sdf_actor.specs.Steps.{Steps, state_at, puts_to}
 use Rattle.sdf_actor.specs.Histories.{spread}
 use Rattle.sdf_one.specs.declared.work.Work.{Work}
 use Rattle.sdf_one.specs.declared.work.Work.TheVariants.{Source, Sink, Inner}
-use Rattle.sdf_answer.specs.Held.{Held}
-use Rattle.sdf_answer.specs.Blocks.{nothing, samples, room, at_ports, ArePorts}
-use Rattle.sdf_answer.specs.Lists.{list}
+use Rattle.sdf_queues.specs.Held.{Held}
+use Rattle.sdf_queues.specs.Blocks.{nothing, samples, room, at_ports, ArePorts}
+use Rattle.sdf_queues.specs.Lists.{list}
 use Rattle.sdf_one.specs.AtOnce.{fronts, CanFireAtOnce, AreFired}
 use Rattle.sdf_one.proofs.Firing.{list_set, capacity_set}
 use Rattle.sdf_one.proofs.Parts.{one_of}

@@ -9,8 +9,8 @@ use Rattle.sdf_actor.specs.Steps.{Steps, state_at, puts_to}
 use Rattle.sdf_node.specs.Many.{joined}
 use Rattle.sdf_one.specs.declared.work.Work.{Work}
 use Rattle.sdf_one.specs.declared.work.Work.TheVariants.{Inner}
-use Rattle.sdf_answer.specs.Held.{Held}
-use Rattle.sdf_answer.specs.Blocks.{samples, room, at_ports, front_at, dealt}
+use Rattle.sdf_queues.specs.Held.{Held}
+use Rattle.sdf_queues.specs.Blocks.{samples, room, at_ports, front_at, dealt}
 use Rattle.sdf_one.specs.Many.{AreManyFired}
 
 -- their blocks are taken, and then their blocks are put

@@ -5,9 +5,9 @@ use Rattle.sdf_actor.specs.declared.node.Node.TheVariants.{Inner}
 use Rattle.sdf_actor.specs.Steps.{Steps, PutsFit}
 use Rattle.sdf_actor.specs.Histories.{taken_before}
 use Rattle.sdf_actor.specs.Nets.{Netlist, node, wiring, cycle_of}
-use Rattle.sdf_answer.specs.Held.{Held}
-use Rattle.sdf_answer.specs.Blocks.{HoldManyBlocks}
-use Rattle.sdf_answer.specs.Sizes.{Rows, AreSizes}
+use Rattle.sdf_queues.specs.Held.{Held}
+use Rattle.sdf_queues.specs.Blocks.{HoldManyBlocks}
+use Rattle.sdf_queues.specs.Sizes.{Rows, AreSizes}
 use Rattle.sdf_one.specs.declared.cycles.Cycles.{Cycles}
 use Rattle.sdf_one.specs.declared.work.Work.{Work}
 use Rattle.sdf_one.specs.Cycles.{AreCycles}

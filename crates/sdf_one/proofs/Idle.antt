@@ -8,14 +8,14 @@ use Rattle.std.proofs.lemmas.Bool.{cases_lt}
 use Rattle.std.proofs.Math.Nat.{mul-le-mul_left}
 use Rattle.sdf_actor.specs.declared.node.Node.{Node}
 use Rattle.sdf_actor.specs.declared.node.Node.TheVariants.{Source, Sink, Inner}
-use Rattle.sdf_actor.specs.declared.rest.Rest.{Rest}
+use Rattle.sdf_actor.specs.declared.rest.NetState.{NetState}
 use Rattle.sdf_actor.specs.declared.sides.Lists.TheVariants.{Inputs, Outputs}
 use Rattle.sdf_actor.specs.Nets.{Netlist, node, wire, to_port, consumed_at}
 use Rattle.sdf_actor.specs.Rests.{IsRest}
 use Rattle.sdf_actor.specs.Sides.{list_count, list_of, block_of, first_on, period_samples}
 use Rattle.sdf_actor.specs.Steps.{Steps}
-use Rattle.sdf_answer.specs.Answer.{HasInputs, periods_of}
-use Rattle.sdf_answer.specs.Feeds.{HasRun}
+use Rattle.sdf_queues.specs.Answer.{HasInputs, periods_of}
+use Rattle.sdf_queues.specs.Feeds.{HasRun}
 
 -- a node that has not fired has taken nothing
 none_taken : {A S T : Type 0} (s : Steps A S T) (x : Node A) (port : ℕ) → consumed_at s x port 0 ≡ 0
@@ -25,7 +25,7 @@ none_taken s (Inner x) port = refl
 
 -- so no period is a run that makes empty lists
 pub no_period_runs : {A S T : Type 0} (s : Steps A S T) (n : Netlist A T) (q : List ℕ) (given made : List (List T))
-    (rest : Rest T S) → length made ≡ list_count Outputs n.nodes → ((e : ℕ) → get_or made e [] ≡ []) →
+    (rest : NetState T S) → length made ≡ list_count Outputs n.nodes → ((e : ℕ) → get_or made e [] ≡ []) →
     IsRest s n given (λ _. 0) rest → HasRun s n given (periods_of q 0) made rest
 no_period_runs s n q given made rest count empty is =
     subst (λ k. HasRun s n given k made rest) (λ κ a. sym (zero-mul (get_or q a 0)) κ)

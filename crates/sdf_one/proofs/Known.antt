@@ -6,7 +6,7 @@ use Rattle.sdf_actor.specs.declared.node.Node.TheVariants.{Sink}
 use Rattle.sdf_actor.specs.Steps.{Steps}
 use Rattle.sdf_actor.specs.Histories.{IsWired}
 use Rattle.sdf_actor.specs.Nets.{Netlist, node, wiring, to_port, inputs_of, IsNet}
-use Rattle.sdf_answer.proofs.Theorems.{nodes_take_theirs}
+use Rattle.sdf_queues.proofs.Theorems.{nodes_take_theirs}
 
 pub record Known {A S T : Type 0} (s : Steps A S T) (n : Netlist A T) : Type 0 where
   pub good : IsNet s n

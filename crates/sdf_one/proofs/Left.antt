@@ -6,15 +6,15 @@ use Rattle.std.specs.declared.vec.Vec.{Vec}
 use Rattle.std.proofs.lemmas.List.{get_or-map, length-map}
 use Rattle.sdf_actor.specs.declared.node.Node.{Node}
 use Rattle.sdf_actor.specs.declared.node.Node.TheVariants as node
-use Rattle.sdf_actor.specs.declared.rest.Rest.{Rest}
+use Rattle.sdf_actor.specs.declared.rest.NetState.{NetState}
 use Rattle.sdf_actor.specs.Histories.{taken_before}
 use Rattle.sdf_actor.specs.Nets as nets
 use Rattle.sdf_actor.specs.Nets.{Netlist, wiring}
 use Rattle.sdf_actor.specs.Rests.{state_left, Leaves}
 use Rattle.sdf_actor.specs.Steps.{Steps}
 use Rattle.sdf_actor.specs.Wires.{lists}
-use Rattle.sdf_answer.specs.Blocks.{nothing}
-use Rattle.sdf_answer.specs.Held.{Held}
+use Rattle.sdf_queues.specs.Blocks.{nothing}
+use Rattle.sdf_queues.specs.Held.{Held}
 use Rattle.sdf_one.specs.declared.work.Work.{Work}
 use Rattle.sdf_one.specs.declared.work.Work.TheVariants.{Source, Sink, Inner}
 use Rattle.sdf_one.specs.Fired.{state_in}
@@ -44,7 +44,7 @@ made_at f P Q one (x ∷ xs) (suc i) l each = made_at f P Q one xs i (omega arit
 
 pub leaves : {A S T Z : Type 0} (s : Steps A S T) (n : Netlist A T) (inputs : List (List T)) (many k : ℕ → ℕ)
     (works : List (Work A T S)) (qs : List (Held T)) (outputs : List (Vec T Z)) →
-    (stands : Stands s n inputs many k works qs outputs) (rest : Rest T S) → rest.states.items ≡ map state_in works →
+    (stands : Stands s n inputs many k works qs outputs) (rest : NetState T S) → rest.states.items ≡ map state_in works →
     lists rest.held.items ≡ map (λ q. q.samples) qs →
     Leaves s n k stands.history rest
 leaves {A} {S} {T} s n inputs many k works qs outputs stands rest states held = record {

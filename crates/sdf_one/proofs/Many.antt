@@ -22,13 +22,13 @@ use Rattle.sdf_actor.specs.Nets.{wiring, cycle_of, InputsReach}
 use Rattle.sdf_actor.specs.Laws.{HistoryGrowsByFiring}
 use Rattle.sdf_one.specs.declared.work.Work.{Work}
 use Rattle.sdf_one.specs.declared.work.Work.TheVariants.{Source, Sink, Inner}
-use Rattle.sdf_answer.specs.Held.{Held}
-use Rattle.sdf_answer.specs.Blocks.{nothing, samples, room, at_ports, front}
-use Rattle.sdf_answer.specs.Sizes.{Rows, IsPlan, at_phase}
+use Rattle.sdf_queues.specs.Held.{Held}
+use Rattle.sdf_queues.specs.Blocks.{nothing, samples, room, at_ports, front}
+use Rattle.sdf_queues.specs.Sizes.{Rows, IsPlan, at_phase}
 use Rattle.sdf_one.specs.Firings.{made, phase_at, IsActor, IsFired}
 use Rattle.sdf_node.specs.Many.{joined}
-use Rattle.sdf_answer.specs.Blocks.{front_at, dealt}
-use Rattle.sdf_answer.proofs.Theorems.{blocks_are_counted, nodes_take_theirs}
+use Rattle.sdf_queues.specs.Blocks.{front_at, dealt}
+use Rattle.sdf_queues.proofs.Theorems.{blocks_are_counted, nodes_take_theirs}
 use Rattle.sdf_one.specs.Many.{GoesByMany, FitsCycles, CanFireMany, AreManyFired}
 use Rattle.sdf_one.specs.Runs.{HasBlocks, Stands}
 use Rattle.sdf_one.proofs.CycleBlocks as blocks

@@ -18,8 +18,8 @@ use Rattle.sdf_actor.specs.Nets as nets
 use Rattle.sdf_actor.specs.Nets.{wiring}
 use Rattle.sdf_one.specs.declared.work.Work.{Work}
 use Rattle.sdf_one.specs.declared.work.Work.TheVariants.{Source, Sink, Inner}
-use Rattle.sdf_answer.specs.Held.{Held}
-use Rattle.sdf_answer.specs.Blocks.{samples}
+use Rattle.sdf_queues.specs.Held.{Held}
+use Rattle.sdf_queues.specs.Blocks.{samples}
 use Rattle.sdf_node.specs.Many.{joined}
 use Rattle.sdf_one.specs.Many.{HasRows, FitsCycles, HaveManyWorked}
 use Rattle.sdf_one.specs.Runs.{HasBlocks, IsWork, Stands}

@@ -12,11 +12,11 @@ use Rattle.sdf_actor.specs.Nets as nets
 use Rattle.sdf_actor.specs.Nets.{wire, wiring, to_port, consumed_at, answers, InputsReach}
 use Rattle.sdf_actor.specs.Laws.{after_firing, HistoryGrowsByFiring}
 use Rattle.sdf_one.specs.declared.work.Work.{Work}
-use Rattle.sdf_answer.specs.Blocks.{samples, room, at_ports, ArePorts, HoldBlocks, front}
-use Rattle.sdf_answer.specs.Moves.{FitsPorts, MovesOn}
-use Rattle.sdf_answer.specs.Sizes.{IsPlan, at_phase, phase_of, in_all, out_all}
-use Rattle.sdf_answer.proofs.Theorems.{blocks_are_counted, blocks_stand, firings_move_on, nodes_take_theirs, plans_fit}
-use Rattle.sdf_answer.proofs.Theorems.{sinks_take_all}
+use Rattle.sdf_queues.specs.Blocks.{samples, room, at_ports, ArePorts, HoldBlocks, front}
+use Rattle.sdf_queues.specs.Moves.{FitsPorts, MovesOn}
+use Rattle.sdf_queues.specs.Sizes.{IsPlan, at_phase, phase_of, in_all, out_all}
+use Rattle.sdf_queues.proofs.Theorems.{blocks_are_counted, blocks_stand, firings_move_on, nodes_take_theirs, plans_fit}
+use Rattle.sdf_queues.proofs.Theorems.{sinks_take_all}
 use Rattle.sdf_one.specs.Firings.{made, phase_at, IsActor, ActorCanFire, IsFired}
 use Rattle.sdf_one.specs.Runs.{IsWork, Stands}
 use Rattle.sdf_one.proofs.Known.{ins_all, into_sink}

@@ -5,8 +5,8 @@ use Rattle.std.proofs.Math.Nat.{mod-one}
 use Rattle.sdf_actor.specs.Nets as nets
 use Rattle.sdf_actor.specs.Nets.{wiring, cycle_of}
 use Rattle.sdf_one.specs.declared.work.Work.{Work}
-use Rattle.sdf_answer.specs.Blocks.{samples}
-use Rattle.sdf_answer.specs.Sizes.{IsPlan, at_phase, phase_of}
+use Rattle.sdf_queues.specs.Blocks.{samples}
+use Rattle.sdf_queues.specs.Sizes.{IsPlan, at_phase, phase_of}
 use Rattle.sdf_one.specs.Firings.{phase_at}
 use Rattle.sdf_one.proofs.Known.{ins_all}
 use Rattle.sdf_one.proofs.Holding.{Holding}

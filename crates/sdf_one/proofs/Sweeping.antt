@@ -20,14 +20,14 @@ use Rattle.sdf_actor.specs.Laws.{HistoryGrowsByFiring}
 use Rattle.sdf_actor.proofs.Theorems.{nets_are_wired}
 use Rattle.sdf_one.specs.declared.work.Work.{Work}
 use Rattle.sdf_one.specs.declared.run.Run.{Run}
-use Rattle.sdf_answer.specs.Held.{Held}
-use Rattle.sdf_answer.specs.Blocks.{room, ArePorts, HoldBlocks, HoldManyBlocks}
-use Rattle.sdf_answer.specs.Sizes.{phase_of, at_phase}
+use Rattle.sdf_queues.specs.Held.{Held}
+use Rattle.sdf_queues.specs.Blocks.{room, ArePorts, HoldBlocks, HoldManyBlocks}
+use Rattle.sdf_queues.specs.Sizes.{phase_of, at_phase}
 use Rattle.sdf_one.specs.Firings.{phase_at, IsActor}
 use Rattle.sdf_one.specs.AtOnce.{GoesAtOnce, CanFireAtOnceAt, AreFiredAt}
 use Rattle.sdf_one.specs.Many.{HasRows, GoesByMany, FitsCycles, GoManyAt, CanFireManyAt, AreManyFiredAt, firings_in}
 use Rattle.sdf_one.specs.Runs.{Stands, IsInRun, FiresAlone, CanFireAt, IsFiredAt}
-use Rattle.sdf_answer.specs.Answer.{periods_of}
+use Rattle.sdf_queues.specs.Answer.{periods_of}
 use Rattle.sdf_one.specs.Sweeps.{Sweeps, IsSwept, MayFire, HasRoom, Keeps, IsMoved, AreHeld}
 use Rattle.sdf_one.proofs.Readings.{some_of}
 use Rattle.sdf_one.proofs.AtOnce as at_once

@@ -8,9 +8,9 @@ use Rattle.std.proofs.lemmas.List.Sums.{sum_by-cons}
 use Rattle.sdf_actor.specs.Steps.{total_in, total_out, sum_in, sum_out}
 use Rattle.sdf_actor.specs.Nets as nets
 use Rattle.sdf_actor.specs.Nets.{wiring}
-use Rattle.sdf_answer.specs.Moves.{FitsPorts}
-use Rattle.sdf_answer.specs.Sizes.{IsPlan, at_phase, in_all, out_all}
-use Rattle.sdf_answer.proofs.Theorems.{plans_fit}
+use Rattle.sdf_queues.specs.Moves.{FitsPorts}
+use Rattle.sdf_queues.specs.Sizes.{IsPlan, at_phase, in_all, out_all}
+use Rattle.sdf_queues.proofs.Theorems.{plans_fit}
 use Rattle.sdf_one.specs.Cycles.{AreRowsAt, IsInTurn}
 use Rattle.sdf_one.proofs.Holding.{ActorOf}
 

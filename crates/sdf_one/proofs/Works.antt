@@ -15,9 +15,9 @@ use Rattle.sdf_actor.specs.Nets.{inputs_of, outputs_of, answer_of}
 use Rattle.sdf_actor.specs.Graphs.{rate_of}
 use Rattle.sdf_one.specs.declared.work.Work.{Work}
 use Rattle.sdf_one.specs.declared.work.Work.TheVariants.{Source, Sink, Inner}
-use Rattle.sdf_answer.specs.Lists.{list, capacity}
+use Rattle.sdf_queues.specs.Lists.{list, capacity}
 use Rattle.sdf_one.specs.Firings.{phase_at, added, IsActor, made, IsWorkAfter, CanWork}
-use Rattle.sdf_answer.specs.Sizes.{phase_of}
+use Rattle.sdf_queues.specs.Sizes.{phase_of}
 use Rattle.sdf_one.specs.Runs.{IsWork}
 
 -- the state after one block more

@@ -10,10 +10,10 @@ use Rattle.sdf_actor.specs.Wires.{lists}
 use Rattle.sdf_one.specs.declared.work.Work.{Work}
 use Rattle.sdf_one.specs.declared.work.Work.TheVariants.{Source, Sink, Inner}
 use Rattle.sdf_one.specs.declared.run.Run.{Run}
-use Rattle.sdf_answer.specs.Held.{Held}
-use Rattle.sdf_answer.specs.Blocks.{samples, at_ports, ArePorts, HoldManyBlocks, HaveRoomForMany, KeepRoom}
-use Rattle.sdf_answer.specs.Sizes.{at_phase}
-use Rattle.sdf_answer.specs.Lists.{list, capacity}
+use Rattle.sdf_queues.specs.Held.{Held}
+use Rattle.sdf_queues.specs.Blocks.{samples, at_ports, ArePorts, HoldManyBlocks, HaveRoomForMany, KeepRoom}
+use Rattle.sdf_queues.specs.Sizes.{at_phase}
+use Rattle.sdf_queues.specs.Lists.{list, capacity}
 use Rattle.sdf_one.specs.Firings.{phase_at, added}
 use Rattle.sdf_one.specs.Runs.{HoldsOfWork, IsInRun, FiresAlone}
 

@@ -2,7 +2,7 @@
 use Rattle.std.specs.Prelude.{◌≡◌, ◌⊎◌, ℕ, ◌<◌, List, length, slice_index}
 use Rattle.sdf_actor.specs.Nets.{Netlist, wiring}
 use Rattle.sdf_actor.specs.Steps.{Steps}
-use Rattle.sdf_answer.specs.Sizes.{at_phase}
+use Rattle.sdf_queues.specs.Sizes.{at_phase}
 use Rattle.sdf_one.specs.declared.cycles.Cycles.{Cycles}
 
 -- y has, for each channel, how many samples a cycle of its target takes from it, and a cycle of its source puts on it

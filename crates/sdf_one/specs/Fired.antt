@@ -10,22 +10,22 @@ use Rattle.sdf_actor.specs.Nets.{Netlist, IsNet}
 use Rattle.sdf_actor.specs.Sides.{list_count, period_samples}
 use Rattle.sdf_actor.specs.Steps.{Steps}
 use Rattle.sdf_actor.specs.Wires.{lists}
-use Rattle.sdf_answer.specs.Answer.{HasInputs, periods_of}
-use Rattle.sdf_answer.specs.Lists.{AreEmpty}
-use Rattle.sdf_one.specs.declared.fired.Passage.{Passage}
+use Rattle.sdf_queues.specs.Answer.{HasInputs, periods_of}
+use Rattle.sdf_queues.specs.Lists.{AreEmpty}
+use Rattle.sdf_one.specs.declared.fired.RunInputs.{RunInputs}
 use Rattle.sdf_one.specs.declared.run.Run.{Run}
 use Rattle.sdf_one.specs.declared.work.Work.{Work}
 use Rattle.sdf_one.specs.declared.work.Work.TheVariants.{Source, Sink, Inner}
 use Rattle.sdf_one.specs.Runs.{Stands}
 
 -- a net that was accepted, a schedule of its period, and inputs that hold all periods of the passage
-pub record IsPassage {A S T : Type 0} (s : Steps A S T) (p : Passage A T S) : Type 0 where
+pub record IsPassage {A S T : Type 0} (s : Steps A S T) (p : RunInputs A T S) : Type 0 where
   pub accepted : WasAccepted s p.net.now
   pub period : IsPeriodOf (rates (graph_of s p.net.now)) p.period.now
   pub inputs : HasInputs p.net.now p.period.now.repetitions p.periods (lists p.inputs.now)
 
 -- empty output lists, with room for what the passage makes
-abbrev pub TakeWhatItMakes : {A S T Z : Type 0} → Passage A T S → List (Vec T Z) → Type 0
+abbrev pub TakeWhatItMakes : {A S T Z : Type 0} → RunInputs A T S → List (Vec T Z) → Type 0
 TakeWhatItMakes p outputs = AreEmpty outputs (list_count Outputs p.net.now.nodes)
     (p.periods * period_samples p.net.now.nodes Outputs p.period.now.repetitions)
 

@@ -6,8 +6,8 @@ use Rattle.sdf_actor.specs.Steps.{Steps, total_in, total_out}
 use Rattle.sdf_actor.specs.Histories.{spread}
 use Rattle.sdf_one.specs.declared.work.Work.{Work}
 use Rattle.sdf_one.specs.declared.work.Work.TheVariants.{Source, Sink, Inner}
-use Rattle.sdf_answer.specs.Held.{Held}
-use Rattle.sdf_answer.specs.Blocks.{samples, room, front, at_ports, ArePorts, HoldBlocks, KeepRoom}
+use Rattle.sdf_queues.specs.Held.{Held}
+use Rattle.sdf_queues.specs.Blocks.{samples, room, front, at_ports, ArePorts, HoldBlocks, KeepRoom}
 
 -- the phase of the next firing
 abbrev pub phase_at : {A S T : Type 0} → Work A T S → ℕ

@@ -8,11 +8,11 @@ use Rattle.sdf_actor.specs.Nets.{node, wiring, cycle_of}
 use Rattle.sdf_one.specs.declared.work.Work.{Work}
 use Rattle.sdf_one.specs.declared.work.Work.TheVariants.{Inner}
 use Rattle.sdf_one.specs.declared.run.Run.{Run}
-use Rattle.sdf_answer.specs.Held.{Held}
+use Rattle.sdf_queues.specs.Held.{Held}
 use Rattle.sdf_node.specs.Many.{joined}
-use Rattle.sdf_answer.specs.Blocks.{samples, at_ports, front_at, dealt, ArePorts, HoldManyBlocks, HaveRoomForMany}
-use Rattle.sdf_answer.specs.Blocks.{KeepRoom}
-use Rattle.sdf_answer.specs.Sizes.{Rows}
+use Rattle.sdf_queues.specs.Blocks.{samples, at_ports, front_at, dealt, ArePorts, HoldManyBlocks, HaveRoomForMany}
+use Rattle.sdf_queues.specs.Blocks.{KeepRoom}
+use Rattle.sdf_queues.specs.Sizes.{Rows}
 use Rattle.sdf_one.specs.Cycles.{AreRowsAt, IsInTurn}
 use Rattle.sdf_one.specs.Runs.{HoldsOfWork, IsInRun, FiresAlone}
 

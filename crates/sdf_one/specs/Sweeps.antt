@@ -9,14 +9,14 @@ use Rattle.sdf_actor.specs.Wires.{lists}
 use Rattle.sdf_one.specs.declared.cycles.Cycles.{Cycles}
 use Rattle.sdf_one.specs.declared.work.Work.{Work}
 use Rattle.sdf_one.specs.declared.run.Run.{Run}
-use Rattle.sdf_answer.specs.Held.{Held}
-use Rattle.sdf_answer.specs.Blocks.{room, HoldManyBlocks, KeepRoom}
-use Rattle.sdf_answer.specs.Sizes.{Rows, AreSizes, at_phase}
+use Rattle.sdf_queues.specs.Held.{Held}
+use Rattle.sdf_queues.specs.Blocks.{room, HoldManyBlocks, KeepRoom}
+use Rattle.sdf_queues.specs.Sizes.{Rows, AreSizes, at_phase}
 use Rattle.sdf_one.specs.Cycles.{AreCycles}
 use Rattle.sdf_one.specs.Firings.{phase_at}
-use Rattle.sdf_answer.specs.Periods.{AreApart, IsPaced}
+use Rattle.sdf_queues.specs.Periods.{AreApart, IsPaced}
 use Rattle.sdf_one.specs.Runs.{Stands, HoldsOfWork}
-use Rattle.sdf_answer.specs.Answer.{periods_of}
+use Rattle.sdf_queues.specs.Answer.{periods_of}
 
 -- each node a has fired done a times, at least low and at most high periods, and the queues have room for all up to
 -- high

@@ -3,11 +3,11 @@
 ghost use Rattle.std.specs.Prelude.{◌≡◌, ◌≤◌, ◌<◌, ℕ, length, slice_index, IfOk, IsTrue};
 ghost use Rattle.sdf_graph.specs.Moved.{moves};
 ghost use Rattle.sdf_graph.specs.Rates.{sum_to};
-ghost use Rattle.sdf_answer.specs.Sizes.{rows_on};
+ghost use Rattle.sdf_queues.specs.Sizes.{rows_on};
 ghost use Rattle.sdf_one.specs.Cycles.{AreCycles, AreRowsAt, IsInTurn};
 
 use sdf_actor::{Actor, Net, Side};
-use sdf_answer::Sizes;
+use sdf_queues::Sizes;
 use sdf_graph::{Channel, End};
 use std::alloc::{AllocError, Global};
 

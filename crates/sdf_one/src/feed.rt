@@ -8,18 +8,18 @@ ghost use Rattle.sdf_actor.specs.Rests.{IsRest};
 ghost use Rattle.sdf_actor.specs.Sides.{period_samples};
 ghost use Rattle.sdf_actor.specs.Wires.{lists};
 ghost use Rattle.sdf_actor.specs.declared.sides.Lists.TheVariants.{Inputs};
-ghost use Rattle.sdf_answer.specs.Answer.{HasInputs, periods_of, IsRunFault};
-ghost use Rattle.sdf_answer.specs.Feeds.{HasRun, GoesOnBy};
+ghost use Rattle.sdf_queues.specs.Answer.{HasInputs, periods_of, IsRunFault};
+ghost use Rattle.sdf_queues.specs.Feeds.{HasRun, GoesOnBy};
 ghost use Rattle.sdf_one.specs.Fired.{IsPassage, TakeWhatItMakes, state_in};
 
-use crate::fired::{Passage, fired};
-use crate::spares::Spares;
+use crate::fired::{RunInputs, fired};
+use crate::spare_memory::SpareMemory;
 use crate::work::Work;
-use sdf_actor::{Actor, Net, Rest};
-use sdf_answer::inputs::{are_inputs, first_sample};
-use sdf_answer::laws::nets_have_periods;
-use sdf_answer::queue::held;
-use sdf_answer::{Ran, RunFault};
+use sdf_actor::{Actor, Net, NetState};
+use sdf_queues::inputs::{are_inputs, first_sample};
+use sdf_queues::laws::nets_have_periods;
+use sdf_queues::queue::held;
+use sdf_queues::{Ran, RunFault};
 use sdf_sched::Period;
 use std::alloc::{AllocError, Global};
 
@@ -50,11 +50,11 @@ fn states_of<A: Actor>(
 /// Fires all periods of a run, and returns its outputs and the net state that it leaves.
 fn run<A: Actor>(
     alloc: Global,
-    passage: Passage<'_, A>,
+    passage: RunInputs<'_, A>,
     filler: A::Token,
     outputs: Vec<Vec<A::Token>>,
-    spares: &mut Spares<A::Token>,
-) -> Result<(Vec<Vec<A::Token>>, Rest<A::Token, A::State>), AllocError>
+    spares: &mut SpareMemory<A::Token>,
+) -> Result<(Vec<Vec<A::Token>>, NetState<A::Token, A::State>), AllocError>
     requires passage { IsPassage A.steps passage }
     requires short { passage.periods < 2 ^ 32 }
     requires outputs { TakeWhatItMakes passage outputs.items }
@@ -62,7 +62,7 @@ fn run<A: Actor>(
         (periods_of passage.entry.period.now.repetitions passage.entry.periods) (lists made.0.items) made.1) }
 {
     let finished = fired(alloc, passage, filler, outputs, &mut spares.queues)?;
-    let rest = Rest {
+    let rest = NetState {
         states: states_of(alloc, &finished.works)?,
         held: held(alloc, &finished.queues)?,
     };
@@ -74,10 +74,10 @@ fn run<A: Actor>(
 /// earlier queues is freed.
 fn fill<A: Actor>(
     alloc: Global,
-    passage: Passage<'_, A>,
+    passage: RunInputs<'_, A>,
     outputs: Vec<Vec<A::Token>>,
-    spares: &mut Spares<A::Token>,
-) -> Result<(Vec<Vec<A::Token>>, Rest<A::Token, A::State>), AllocError>
+    spares: &mut SpareMemory<A::Token>,
+) -> Result<(Vec<Vec<A::Token>>, NetState<A::Token, A::State>), AllocError>
     requires passage { IsPassage A.steps passage }
     requires short { passage.periods < 2 ^ 32 }
     requires some { 0 < period_samples passage.net.now.nodes Inputs passage.period.now.repetitions }
@@ -101,7 +101,7 @@ pub fn feed_one<A: Actor>(
     period: &Period,
     periods: u32,
     inputs: &[Vec<A::Token>],
-) -> Result<(Ran<A::Token>, Rest<A::Token, A::State>), RunFault>
+) -> Result<(Ran<A::Token>, NetState<A::Token, A::State>), RunFault>
     requires period { IsPeriodOf (rates (graph_of A.steps net.now)) period.now }
     ensures { let q = period.now.repetitions in MatchResult result
         (λ fed. HasInputs net.now q periods (lists inputs.now)
@@ -115,7 +115,7 @@ pub fn feed_one<A: Actor>(
         period,
         periods,
         inputs,
-        &mut Spares::none(alloc),
+        &mut SpareMemory::none(alloc),
     )
 }
 
@@ -126,8 +126,8 @@ fn feed_one_in<A: Actor>(
     period: &Period,
     periods: u32,
     inputs: &[Vec<A::Token>],
-    spares: &mut Spares<A::Token>,
-) -> Result<(Ran<A::Token>, Rest<A::Token, A::State>), RunFault>
+    spares: &mut SpareMemory<A::Token>,
+) -> Result<(Ran<A::Token>, NetState<A::Token, A::State>), RunFault>
     requires period { IsPeriodOf (rates (graph_of A.steps net.now)) period.now }
     ensures { let q = period.now.repetitions in MatchResult result
         (λ fed. HasInputs net.now q periods (lists inputs.now)
@@ -141,7 +141,7 @@ fn feed_one_in<A: Actor>(
     }
     let room = periods as usize * net.samples_out();
     let outputs = spares.take_outputs(alloc, net.outputs(), room)?;
-    let passage = Passage {
+    let passage = RunInputs {
         net,
         period,
         periods,
@@ -157,10 +157,10 @@ pub fn resume_one<A: Actor>(
     alloc: Global,
     net: &Net<A>,
     period: &Period,
-    rest: &Rest<A::Token, A::State>,
+    rest: &NetState<A::Token, A::State>,
     periods: u32,
     inputs: &[Vec<A::Token>],
-) -> Result<(Ran<A::Token>, Rest<A::Token, A::State>), RunFault>
+) -> Result<(Ran<A::Token>, NetState<A::Token, A::State>), RunFault>
     requires period { IsPeriodOf (rates (graph_of A.steps net.now)) period.now }
     requires rest { (first : List (List A.Token)) × (few : ℕ)
         × IsRest A.steps net.now first (periods_of period.now.repetitions few) rest.now }
@@ -169,23 +169,23 @@ pub fn resume_one<A: Actor>(
         × (fed.0.rounds ≡ 0))
         (IsRunFault net.now q periods (lists inputs.now)) }
 {
-    let passage = Passage {
+    let passage = RunInputs {
         net,
         period,
         periods,
         inputs,
     };
-    resume_one_in(alloc, passage, rest, &mut Spares::none(alloc))
+    resume_one_in(alloc, passage, rest, &mut SpareMemory::none(alloc))
 }
 
 /// Resumes a net as `resume_one` does, in the memory that earlier runs left in `spares`, and leaves its own there. A
 /// sound that is run in many pieces then allocates most of its memory once.
 pub fn resume_one_in<A: Actor>(
     alloc: Global,
-    passage: Passage<'_, A>,
-    rest: &Rest<A::Token, A::State>,
-    spares: &mut Spares<A::Token>,
-) -> Result<(Ran<A::Token>, Rest<A::Token, A::State>), RunFault>
+    passage: RunInputs<'_, A>,
+    rest: &NetState<A::Token, A::State>,
+    spares: &mut SpareMemory<A::Token>,
+) -> Result<(Ran<A::Token>, NetState<A::Token, A::State>), RunFault>
     requires period { IsPeriodOf (rates (graph_of A.steps passage.net.now)) passage.period.now }
     requires rest { (first : List (List A.Token)) × (few : ℕ)
         × IsRest A.steps passage.net.now first (periods_of passage.period.now.repetitions few) rest.now }
@@ -195,7 +195,7 @@ pub fn resume_one_in<A: Actor>(
         × (fed.0.rounds ≡ 0))
         (IsRunFault passage.entry.net.now q passage.entry.periods (lists passage.entry.inputs.now)) }
 {
-    let Passage {
+    let RunInputs {
         net,
         period,
         periods,

@@ -9,8 +9,8 @@ use crate::lengths::block_periods;
 use crate::run::Run;
 use crate::setup::make_works;
 use sdf_actor::{Actor, Net};
-use sdf_answer::rooms::renew_queues;
-use sdf_answer::{Queue, Sizes};
+use sdf_queues::rooms::renew_queues;
+use sdf_queues::{Queue, Sizes};
 use sdf_sched::Period;
 use std::alloc::{AllocError, Global};
 
@@ -23,7 +23,7 @@ fn none_done(alloc: Global, repetitions: &[u32]) -> Result<Vec<usize>, AllocErro
 
 /// A net, the schedule of its period, and the inputs on which it is run for `periods` periods.
 #[derive_where(Clone, Copy)]
-pub struct Passage<'a, A: Actor> {
+pub struct RunInputs<'a, A: Actor> {
     pub net: &'a Net<A>,
     pub period: &'a Period,
     pub periods: u32,
@@ -34,7 +34,7 @@ pub struct Passage<'a, A: Actor> {
 /// Fires all periods of a run. Its queues are made in the buffers of `spares`.
 pub(crate) fn fired<'a, A: Actor>(
     alloc: Global,
-    passage: Passage<'a, A>,
+    passage: RunInputs<'a, A>,
     filler: A::Token,
     outputs: Vec<Vec<A::Token>>,
     spares: &mut [Queue<A::Token>],
@@ -45,7 +45,7 @@ pub(crate) fn fired<'a, A: Actor>(
     ensures { IfOk result (λ run. HasFiredPeriods A.steps passage.entry.net.now (lists passage.entry.inputs.now)
         passage.entry.period.now.repetitions passage.entry.periods run) }
 {
-    let Passage {
+    let RunInputs {
         net,
         period,
         periods,

@@ -10,7 +10,7 @@ ghost use Rattle.sdf_one.specs.Lengths.{AreBlock, IsMostPut};
 ghost use Rattle.sdf_one.specs.declared.lengths.TheConstants.{MOST_READ};
 
 use sdf_actor::{Actor, Net};
-use sdf_answer::rooms::put_in;
+use sdf_queues::rooms::put_in;
 
 /// The most samples of an input that a block of more than one period reads.
 const MOST_READ: usize = 4096;

@@ -1,6 +1,6 @@
 //! Runs of nets on one thread.
 //!
-//! It depends on `sdf_answer`, `sdf_graph`, `sdf_sched`, `sdf_actor` and `sdf_node`. Begin with `feed`: a run and the
+//! It depends on `sdf_queues`, `sdf_graph`, `sdf_sched`, `sdf_actor` and `sdf_node`. Begin with `feed`: a run and the
 //! net state that it leaves. Another run can go on from there, and use the same memory (`spares`). `one` is the run
 //! alone. Then read `fired` (its firings), `lengths` (how many periods its blocks have), `run` (its state), `work` (the
 //! runtime of a node), `block` (the blocks of its firings), and `cycles` (the samples that whole cycles of a node
@@ -15,10 +15,10 @@ mod lengths;
 pub mod one;
 mod run;
 mod setup;
-mod spares;
 mod work;
+mod spare_memory;
 
 pub use feed::{feed_one, resume_one, resume_one_in};
-pub use fired::Passage;
+pub use fired::RunInputs;
 pub use one::run_one;
-pub use spares::Spares;
+pub use spare_memory::SpareMemory;

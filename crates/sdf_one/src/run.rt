@@ -3,7 +3,7 @@
 ghost use Rattle.std.specs.Prelude.{◌≡◌, ◌+◌, ◌*◌, ◌≤◌, ◌<◌, ◌↔◌, ℕ, true, false, length, slice_index};
 ghost use Rattle.std.specs.Prelude.{IsTrue};
 ghost use Rattle.sdf_actor.specs.Nets.{wiring};
-ghost use Rattle.sdf_answer.specs.Sizes.{at_phase};
+ghost use Rattle.sdf_queues.specs.Sizes.{at_phase};
 ghost use Rattle.sdf_one.specs.AtOnce.{CanFireAtOnceAt, AreFiredAt};
 ghost use Rattle.sdf_one.specs.Many.{CanFireManyAt, AreManyFiredAt, GoManyAt, firings_in};
 ghost use Rattle.sdf_one.specs.Runs.{HoldsOfWork, CanFireAt, IsFiredAt};
@@ -14,8 +14,8 @@ use crate::cycles::Cycles;
 use crate::work::{NodePorts, Work};
 use sdf_actor::laws::history_grows_by_firing;
 use sdf_actor::{Actor, Net, Side};
-use sdf_answer::blocks::Ports;
-use sdf_answer::{Queue, Sizes};
+use sdf_queues::blocks::Ports;
+use sdf_queues::{Queue, Sizes};
 
 /// The state of a run. Its net, inputs, sizes, cycles, repetitions and number of periods do not change.
 #[derive(Drop)]

@@ -6,11 +6,11 @@ ghost use Rattle.sdf_actor.specs.Nets.{node, IsNet};
 ghost use Rattle.sdf_graph.specs.Rates.{sum_to};
 ghost use Rattle.sdf_one.specs.Cycles.{AreRowsAt};
 ghost use Rattle.sdf_one.specs.Runs.{BeginsWork, AllBeginWork};
-ghost use Rattle.sdf_answer.specs.Sizes.{AreSizes, at_phase, rows_on};
+ghost use Rattle.sdf_queues.specs.Sizes.{AreSizes, at_phase, rows_on};
 
 use crate::work::Work;
 use sdf_actor::{Actor, Net, Node, Side};
-use sdf_answer::Sizes;
+use sdf_queues::Sizes;
 use std::alloc::{AllocError, Global};
 
 /// Appends a filler to `block` for each sample that a firing moves at `ports`.

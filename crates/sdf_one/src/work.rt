@@ -5,16 +5,16 @@ ghost use Rattle.sdf_actor.specs.Histories.{spread};
 ghost use Rattle.sdf_actor.specs.Steps.{total_in, total_out, sum_in, sum_out, state_at, puts_to};
 ghost use Rattle.sdf_actor.specs.Wires.{lists};
 ghost use Rattle.sdf_one.specs.AtOnce.{fronts};
-ghost use Rattle.sdf_answer.specs.Blocks.{samples, room, at_ports, ArePorts, KeepRoom};
+ghost use Rattle.sdf_queues.specs.Blocks.{samples, room, at_ports, ArePorts, KeepRoom};
 
 use crate::block::{block_size, put_front, put_fronts, take_fronts};
 use crate::cycles::is_in_turn;
 use sdf_actor::actor::next_phase;
 use sdf_actor::{Actor, Side};
-use sdf_answer::blocks::{Ports, take_block};
-use sdf_answer::many_blocks::whole_blocks;
-use sdf_answer::queue::{Firings, lengthen};
-use sdf_answer::{Queue, Sizes};
+use sdf_queues::blocks::{Ports, take_block};
+use sdf_queues::many_blocks::whole_blocks;
+use sdf_queues::queue::{Firings, lengthen};
+use sdf_queues::{Queue, Sizes};
 use sdf_node::append;
 
 /// The runtime of a node: what it does in a firing.

@@ -5,13 +5,13 @@ use Rattle.sdf_actor.specs.Sides.{period_samples}
 use Rattle.sdf_actor.specs.declared.sides.Lists.TheVariants.{Inputs}
 use Rattle.sdf_kit.specs.Kit.{kit_steps}
 use Rattle.sdf_sched.specs.Period.{Schedule}
-use Rattle.sdf_fission.specs.Warm.{IsLeast}
-use Rattle.sdf_fission.specs.WarmUps.{WarmsIn}
+use Rattle.sdf_warm_up.specs.Warm.{IsLeast}
+use Rattle.sdf_warm_up.specs.WarmUps.{WarmsIn}
 use Rattle.sdf_file.specs.Designs.{DesignValue}
 use Rattle.sdf_options.specs.declared.options.Policy.TheVariants.{Round}
 use Rattle.sdf_faults.specs.declared.fault.Fault.{Fault}
 use Rattle.sdf_faults.specs.declared.fault.Fault.TheVariants as fault
-use Rattle.sdf_plan.specs.declared.plan.Way.TheVariants.{One, Parts}
+use Rattle.sdf_plan.specs.declared.plan.Execution.TheVariants.{One, Parts}
 use Rattle.sdf_plan.specs.Paces.{one_thread, IsInParts}
 use Rattle.sdf_plan.specs.Plans.{PlanValue, ArePassed, IsPlanOf, IsPlanFault, IsScheduleBy, IsScheduleFault, Suits}
 use Rattle.sdf_plan.specs.Ways.{plan_by}

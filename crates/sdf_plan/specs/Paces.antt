@@ -3,8 +3,8 @@ use Rattle.std.specs.Prelude.{◌≡◌, ◌≢◌, ℕ, ◌*◌, ◌≤◌}
 use Rattle.sdf_actor.specs.Sides.{period_samples}
 use Rattle.sdf_actor.specs.declared.sides.Lists.TheVariants.{Inputs}
 use Rattle.sdf_kit.specs.Kit.{kit_steps}
-use Rattle.sdf_fission.specs.Warm.{IsLeast}
-use Rattle.sdf_fission.specs.WarmUps.{WarmsIn, IsLasting}
+use Rattle.sdf_warm_up.specs.Warm.{IsLeast}
+use Rattle.sdf_warm_up.specs.WarmUps.{WarmsIn, IsLasting}
 use Rattle.sdf_file.specs.Designs.{DesignValue}
 use Rattle.sdf_options.specs.declared.options.Options.{Options}
 use Rattle.sdf_options.specs.declared.options.Placement.TheVariants.{Homed}

@@ -2,12 +2,12 @@
 use Rattle.std.specs.Prelude.{◌≡◌, Some, None}
 use Rattle.sdf_prec.specs.declared.block_table.BlockTable.{BlockTable}
 use Rattle.sdf_options.specs.declared.options.Runner.TheVariants as runners
-use Rattle.sdf_plan.specs.declared.plan.Way.{Way}
-use Rattle.sdf_plan.specs.declared.plan.Way.TheVariants.{One, Parts, Rows, Rings}
+use Rattle.sdf_plan.specs.declared.plan.Execution.{Execution}
+use Rattle.sdf_plan.specs.declared.plan.Execution.TheVariants.{One, Parts, Rows, Rings}
 use Rattle.sdf_plan.specs.Plans.{PlanValue}
 
 -- the plan that runs a design by a way
-abbrev pub plan_by : Way → PlanValue
+abbrev pub plan_by : Execution → PlanValue
 plan_by (One period blocking) = record {
   blocking = blocking;
   runner = runners.One;

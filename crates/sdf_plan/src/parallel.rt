@@ -3,8 +3,8 @@
 ghost use Rattle.std.specs.Prelude.{◌≡◌, ◌≤◌, MatchResult, IfOk};
 ghost use Rattle.sdf_actor.specs.Graphs.{graph_of};
 ghost use Rattle.sdf_kit.specs.Kit.{kit_steps};
-ghost use Rattle.sdf_fission.specs.Warm.{IsLeast};
-ghost use Rattle.sdf_fission.specs.WarmUps.{WarmsIn};
+ghost use Rattle.sdf_warm_up.specs.Warm.{IsLeast};
+ghost use Rattle.sdf_warm_up.specs.WarmUps.{WarmsIn};
 ghost use Rattle.sdf_plan.specs.Paces.{one_thread, IsPaced};
 ghost use Rattle.sdf_options.specs.declared.options.Policy.TheVariants.{Round};
 ghost use Rattle.sdf_plan.specs.Plans.{IsPlanFault, IsScheduleBy, IsWorkers, Suits};
@@ -13,7 +13,7 @@ use crate::plan::Plan;
 use crate::planning::period_by;
 use sdf_faults::Fault;
 use sdf_file::Design;
-use sdf_fission::warm_up::warm_up;
+use sdf_warm_up::warm_up::warm_up;
 use sdf_options::Policy;
 use sdf_sched::Period;
 use std::alloc::Global;
@@ -36,7 +36,7 @@ pub enum Pace {
 
 /// A plan, and the way in which it runs a design.
 #[derive(Drop)]
-pub struct Paced {
+pub struct ParallelPlan {
     pub plan: Plan,
     pub pace: Pace,
 }
@@ -44,7 +44,7 @@ pub struct Paced {
 /// Makes the plan that runs up to `workers` parts of the sound in parallel. Each part is run by the order of `period`,
 /// after a warm-up of `periods` periods.
 #[tactic(auto, using(crate::proofs::Alone::is_in_parts, crate::proofs::Alone::parts_suit))]
-fn by_parts(design: &Design, workers: usize, periods: u32, period: Period) -> Paced
+fn by_parts(design: &Design, workers: usize, periods: u32, period: Period) -> ParallelPlan
     requires by_policy { IsScheduleBy Round (graph_of kit_steps design.now.net) period }
     requires warm_up { IsLeast (WarmsIn kit_steps design.now.net period.repetitions) periods }
     requires workers { IsWorkers workers }
@@ -58,7 +58,7 @@ fn by_parts(design: &Design, workers: usize, periods: u32, period: Period) -> Pa
         periods,
         samples,
     };
-    Paced {
+    ParallelPlan {
         plan: Plan::in_parts(period, workers as u32),
         pace,
     }
@@ -67,7 +67,7 @@ fn by_parts(design: &Design, workers: usize, periods: u32, period: Period) -> Pa
 /// Plans a run by `workers` workers, each on its own part of the sound, if the design is known to forget its input.
 /// Otherwise the run is in one thread. Its faults are the faults of a plan for one thread.
 #[tactic(auto, using(crate::proofs::Alone::is_alone, crate::proofs::Alone::suits, crate::proofs::Alone::no_plan))]
-pub fn parallel_plan(alloc: Global, design: &Design, workers: usize) -> Result<Paced, Fault>
+pub fn parallel_plan(alloc: Global, design: &Design, workers: usize) -> Result<ParallelPlan, Fault>
     requires { IsWorkers workers }
 
     // The plan and its pace, or the fault, are right for the design.
@@ -79,14 +79,14 @@ pub fn parallel_plan(alloc: Global, design: &Design, workers: usize) -> Result<P
 {
     let period = period_by(alloc, design, Policy::Round)?;
     if workers == 1 {
-        return Ok(Paced {
+        return Ok(ParallelPlan {
             plan: Plan::alone(period),
             pace: Pace::Alone,
         });
     }
     match warm_up(alloc, design.net())? {
         Some(periods) => Ok(by_parts(design, workers, periods, period)),
-        None => Ok(Paced {
+        None => Ok(ParallelPlan {
             plan: Plan::alone(period),
             pace: Pace::Lasting,
         }),

@@ -10,7 +10,7 @@ use sdf_file::Design;
 use sdf_options::{Options, Placement, Policy};
 use sdf_prec::hu::hu;
 use sdf_prec::long::long_block;
-use sdf_prec::{PrecFault, Table, Team};
+use sdf_prec::{PrecFault, Table, Columns};
 use sdf_sched::Period;
 use std::alloc::Global;
 
@@ -43,7 +43,7 @@ pub(crate) fn table_by(
     match options.placement {
         Placement::Hu | Placement::Homed => {
             let homed = options.placement == Placement::Homed;
-            let team = Team { workers, homed };
+            let team = Columns { workers, homed };
             hu(
                 alloc,
                 graph,

@@ -7,7 +7,7 @@ ghost use Rattle.sdf_actor.specs.Nets.{Netlist};
 ghost use Rattle.sdf_prec.specs.BlockTables.{IsBlockTableOf};
 ghost use Rattle.sdf_kit.specs.declared.kit.Kit.{Kit};
 ghost use Rattle.sdf_kit.specs.Kit.{kit_steps};
-ghost use Rattle.sdf_plan.specs.declared.plan.Way.TheVariants.{One, Parts};
+ghost use Rattle.sdf_plan.specs.declared.plan.Execution.TheVariants.{One, Parts};
 ghost use Rattle.sdf_plan.specs.Ways.{plan_by, HasBlockTable};
 ghost use Rattle.sdf_plan.specs.Plans.{Suits};
 
@@ -18,7 +18,7 @@ use std::marker::Model;
 
 /// A way to run a design: the runner, and what it follows.
 #[derive(Drop)]
-pub enum Way {
+pub enum Execution {
     /// On one thread, by the order of `period`. A block has `blocking` periods.
     One {
         period: Period,
@@ -42,7 +42,7 @@ pub enum Way {
 
 /// A way to run a design that passed the tests of `plan`.
 pub struct Plan {
-    way: Way,
+    way: Execution,
 }
 
 impl Model for Plan {
@@ -63,7 +63,7 @@ impl Drop for Plan {
 
 impl Plan {
     /// Makes the plan that runs a design by `way`.
-    pub(crate) fn new(way: Way) -> Plan
+    pub(crate) fn new(way: Execution) -> Plan
         ensures { result ≡ plan_by way }
     {
         Plan { way }
@@ -73,7 +73,7 @@ impl Plan {
     pub(crate) fn alone(period: Period) -> Plan
         ensures { result ≡ plan_by (One period 1) }
     {
-        Plan::new(Way::One {
+        Plan::new(Execution::One {
             period,
             blocking: 1,
         })
@@ -83,7 +83,7 @@ impl Plan {
     pub(crate) fn in_parts(period: Period, parts: u32) -> Plan
         ensures { result ≡ plan_by (Parts period 1 parts) }
     {
-        Plan::new(Way::Parts {
+        Plan::new(Execution::Parts {
             period,
             blocking: 1,
             parts,
@@ -91,7 +91,7 @@ impl Plan {
     }
 
     /// Returns the way in which it runs a design.
-    pub fn way(&self) -> &Way
+    pub fn way(&self) -> &Execution
         ensures { plan_by result.now ≡ self.now }
     {
         &self.way
@@ -102,8 +102,8 @@ impl Plan {
         ensures { result ≡ self.now.blocking }
     {
         match &self.way {
-            Way::One { blocking, .. } | Way::Parts { blocking, .. } => *blocking,
-            Way::Rows(table) | Way::Rings { table, .. } => table.factor,
+            Execution::One { blocking, .. } | Execution::Parts { blocking, .. } => *blocking,
+            Execution::Rows(table) | Execution::Rings { table, .. } => table.factor,
         }
     }
 
@@ -112,9 +112,9 @@ impl Plan {
         ensures { result ≡ self.now.runner }
     {
         match &self.way {
-            Way::One { .. } | Way::Parts { .. } => Runner::One,
-            Way::Rows(_) => Runner::Rows,
-            Way::Rings { .. } => Runner::Rings,
+            Execution::One { .. } | Execution::Parts { .. } => Runner::One,
+            Execution::Rows(_) => Runner::Rows,
+            Execution::Rings { .. } => Runner::Rings,
         }
     }
 
@@ -123,8 +123,8 @@ impl Plan {
         ensures { result ≡ self.now.patience }
     {
         match &self.way {
-            Way::One { .. } | Way::Parts { .. } | Way::Rows(_) => 0,
-            Way::Rings { patience, .. } => *patience,
+            Execution::One { .. } | Execution::Parts { .. } | Execution::Rows(_) => 0,
+            Execution::Rings { patience, .. } => *patience,
         }
     }
 
@@ -133,8 +133,8 @@ impl Plan {
         ensures { result.now ≡ self.now.period }
     {
         match &self.way {
-            Way::One { period, .. } | Way::Parts { period, .. } => period,
-            Way::Rows(table) | Way::Rings { table, .. } => &table.period,
+            Execution::One { period, .. } | Execution::Parts { period, .. } => period,
+            Execution::Rows(table) | Execution::Rings { table, .. } => &table.period,
         }
     }
 
@@ -146,8 +146,8 @@ impl Plan {
             IfSome result (λ t. IsBlockTableOf (rates (graph_of kit_steps n)) t.now) }
     {
         match &self.way {
-            Way::One { .. } | Way::Parts { .. } => None,
-            Way::Rows(table) | Way::Rings { table, .. } => Some(table),
+            Execution::One { .. } | Execution::Parts { .. } => None,
+            Execution::Rows(table) | Execution::Rings { table, .. } => Some(table),
         }
     }
 }

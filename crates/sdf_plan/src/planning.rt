@@ -14,7 +14,7 @@ ghost use Rattle.sdf_plan.specs.Plans.{IsScheduleFault, progress_of, progress_vi
 ghost use Rattle.sdf_plan.specs.Ways.{plan_by};
 
 use crate::placement::{blocking_by, table_by};
-use crate::plan::{Plan, Way};
+use crate::plan::{Plan, Execution};
 use sdf_faults::{Fault, Progress, Stalled};
 use sdf_file::Design;
 use sdf_graph::{Graph, Repetitions};
@@ -162,23 +162,23 @@ fn way_for(
     period: Period,
     options: &Options,
     periods: u32,
-) -> Result<Way, Fault>
+) -> Result<Execution, Fault>
     requires { IsPeriodOf (rates_of design.now) period }
     ensures { MatchResult result (λ way. IsRunBy design.now options.now period periods (plan_by way))
         (IsTableFault design.now options.now period periods) }
 {
     match options.runner {
-        Runner::One => Ok(Way::One {
+        Runner::One => Ok(Execution::One {
             period,
             blocking: periods,
         }),
-        Runner::Rows => Ok(Way::Rows(block_table(alloc, design, period, options, periods)?)),
+        Runner::Rows => Ok(Execution::Rows(block_table(alloc, design, period, options, periods)?)),
         Runner::Rings => {
             let table = block_table(alloc, design, period, options, periods)?;
             if !table.table.homed() {
                 return Err(Fault::NotHomed);
             }
-            Ok(Way::Rings {
+            Ok(Execution::Rings {
                 table,
                 patience: options.patience,
             })

@@ -15,7 +15,7 @@ use Rattle.sdf_prec.specs.Trying.{IsQueue}
 use Rattle.sdf_prec.specs.TimedRows.{Timed, IsSettled}
 use Rattle.sdf_prec.specs.Floor.{IsNextReady, IsFilling, AreStarted, IsDue, IsDone}
 use Rattle.sdf_prec.specs.Placing.{IsPlacing, AreWaiting}
-use Rattle.sdf_prec.specs.declared.crew.Job.{Job}
+use Rattle.sdf_prec.specs.declared.hu.simulation.HuInputs.{HuInputs}
 use Rattle.sdf_prec.specs.Numbers.{number}
 use Rattle.sdf_prec.specs.Crew.{IsRowAt, Crewed, IsCrew, idle, IsDueTo, IsDoneBy, IsRowFor}
 use Rattle.sdf_prec.proofs.Starts.{starting_none}
@@ -115,7 +115,7 @@ idle_is g width s = record {
     same_all n x a (inr h) = get_or_past (replicate n x) a x (omega (arith, length-replicate n x))
 
 -- a crew is done with its time where a row was due whose firings have started
-pub row_started : (job : Job) (old placed new : Crewed) (past : List Timed) (cells : List (Option Firing)) →
+pub row_started : (job : HuInputs) (old placed new : Crewed) (past : List Timed) (cells : List (Option Firing)) →
     IsSound (rates old.counts.graph) → ((a : ℕ) → a < old.counts.graph.actors → 1 ≤ get_or job.costs.now a 0) →
     IsDueTo job old past → placed ≡ record old { homes = placed.homes } → IsRowFor job placed past cells →
     (firings cells ≡ [] → ⊥) →
@@ -147,7 +147,7 @@ row_started job old placed new past cells s dear due is row some then columns be
     done = subst (λ (k : Crewed). P k (length new.until)) (sym then) (subst (P placed) (sym columns) here)
 
 -- or where it was empty
-pub row_skipped : (job : Job) (old new : Crewed) (past : List Timed) (cells : List (Option Firing)) →
+pub row_skipped : (job : HuInputs) (old new : Crewed) (past : List Timed) (cells : List (Option Firing)) →
     IsSound (rates old.counts.graph) → IsDueTo job old past → new ≡ record old { homes = new.homes } →
     IsRowFor job new past cells → firings cells ≡ [] → IsDoneBy job new past
 row_skipped job old new past cells s due is row none =

@@ -5,8 +5,8 @@ use Rattle.std.proofs.lemmas.List.{get_or-set_same, get_or-set_other, get_or_pas
 use Rattle.std.proofs.lemmas.List.{length-replicate}
 use Rattle.std.proofs.lemmas.Bool.{cases_lt, cases_eq, eq-eqb, ne_eqb}
 use Rattle.sdf_prec.specs.declared.firing.Firing.{Firing}
-use Rattle.sdf_prec.specs.declared.homes.Standing.{Standing}
-use Rattle.sdf_prec.specs.declared.homes.Standing.TheVariants.{Nowhere, In, Apart}
+use Rattle.sdf_prec.specs.declared.table.homes.HomeColumns.{HomeColumns}
+use Rattle.sdf_prec.specs.declared.table.homes.HomeColumns.TheVariants.{Nowhere, In, Apart}
 use Rattle.sdf_prec.specs.Tables.{row, cell, IsHome}
 use Rattle.sdf_prec.specs.Homes.{IsStanding, also, home_of, IsAmong, standing_of, AreStanding}
 
@@ -31,13 +31,13 @@ row_within rows k m f e = go (cases_lt k (length rows))
     go (inl l) = l
     go (inr past) = absurd (none_some (ap (λ cells. get_or cells m None) (sym (get_or_past rows k _ past)) ∙ e))
 
-standing_same : (P Q : ℕ → Type 0) (s : Standing) → ((m : ℕ) → P m → Q m) → ((m : ℕ) → Q m → P m) → IsStanding P s →
+standing_same : (P Q : ℕ → Type 0) (s : HomeColumns) → ((m : ℕ) → P m → Q m) → ((m : ℕ) → Q m → P m) → IsStanding P s →
     IsStanding Q s
 standing_same P Q Nowhere to from none = λ m q. none m (from m q)
 standing_same P Q (In j) to from (p, only) = (to j p, λ m q. only m (from m q))
 standing_same P Q Apart to from (j, m, p, q, ne) = (j, m, to j p, to m q, ne)
 
-standing_more : (P Q : ℕ → Type 0) (s : Standing) (j : ℕ) → ((m : ℕ) → P m → Q m) → Q j →
+standing_more : (P Q : ℕ → Type 0) (s : HomeColumns) (j : ℕ) → ((m : ℕ) → P m → Q m) → Q j →
     ((m : ℕ) → Q m → P m ⊎ (m ≡ j)) → IsStanding P s → IsStanding Q (also s j)
 standing_more P Q Nowhere j to q from none = (q, λ m h. one m (from m h))
   where
@@ -94,12 +94,12 @@ standing_none rows n a l = subst (IsStanding (IsAmong rows 0 0 a))
     none m (k, f, is, its, inl low) = omega arith
     none m (k, f, is, its, inr (e, low)) = omega arith
 
-module _ (rows : List (List (Option Firing))) (i j : ℕ) (all : List Standing) (are : AreStanding rows i j all) where
+module _ (rows : List (List (Option Firing))) (i j : ℕ) (all : List HomeColumns) (are : AreStanding rows i j all) where
   pub standing_some : (f : Firing) → cell rows i j ≡ Some f → f.actor < length all →
       AreStanding rows i (j + 1) (set all f.actor (also (standing_of all f.actor) j))
   standing_some f is known a l = go (cases_eq a f.actor)
     where
-      new : Standing
+      new : HomeColumns
       new = also (standing_of all f.actor) j
 
       here : a ≡ f.actor → (m : ℕ) → IsAmong rows i (j + 1) a m → IsAmong rows i j a m ⊎ (m ≡ j)
@@ -147,14 +147,14 @@ module _ (rows : List (List (Option Firing))) (i j : ℕ) (all : List Standing) 
       (among_on rows i j a past) (among_off rows i j a past) (are a l)
 
 -- after the last one
-pub standing_all : (rows : List (List (Option Firing))) (a j : ℕ) (s : Standing) →
+pub standing_all : (rows : List (List (Option Firing))) (a j : ℕ) (s : HomeColumns) →
     IsStanding (IsAmong rows (length rows) 0 a) s → (home_of s ≡ Some j) ↔ IsHome rows a j
 standing_all rows a j s are = (there s are, back s are)
   where
     among : (i m : ℕ) (f : Firing) → cell rows i m ≡ Some f → f.actor ≡ a → IsAmong rows (length rows) 0 a m
     among i m f is its = (i, f, is, its, inl (row_within rows i m f is))
 
-    there : (s : Standing) → IsStanding (IsAmong rows (length rows) 0 a) s → home_of s ≡ Some j → IsHome rows a j
+    there : (s : HomeColumns) → IsStanding (IsAmong rows (length rows) 0 a) s → home_of s ≡ Some j → IsHome rows a j
     there Nowhere none e = absurd (none_some e)
     there (In i) (at, only) e =
         let same : i ≡ j = some_is e in
@@ -164,7 +164,7 @@ standing_all rows a j s are = (there s are, back s are)
         }
     there Apart x e = absurd (none_some e)
 
-    back : (s : Standing) → IsStanding (IsAmong rows (length rows) 0 a) s → IsHome rows a j → home_of s ≡ Some j
+    back : (s : HomeColumns) → IsStanding (IsAmong rows (length rows) 0 a) s → IsHome rows a j → home_of s ≡ Some j
     back Nowhere none home = let at = home.some in absurd (none j (among at.0 j at.1 at.3 at.4))
     back (In i) (at, only) home = ap Some (home.all at.0 i at.1 at.2 at.3)
     back Apart (i, m, at, too, ne) home = absurd (ne

@@ -5,7 +5,7 @@ use Rattle.sdf_limits.specs.declared.TheConstants.{MOST_ACTORS, MOST_BLOCK, MOST
 use Rattle.sdf_graph.specs.Rates.{Rates, Shape, rates, IsSound}
 use Rattle.sdf_graph.specs.Tally.{Tally}
 use Rattle.sdf_prec.specs.declared.firing.Firing.{Firing}
-use Rattle.sdf_prec.specs.declared.crew.Job.{Job}
+use Rattle.sdf_prec.specs.declared.hu.simulation.HuInputs.{HuInputs}
 use Rattle.sdf_prec.specs.Costs.{AreCosts}
 use Rattle.sdf_prec.specs.Numbers.{Numbered, number}
 use Rattle.sdf_prec.specs.Tables.{cell_of}
@@ -25,7 +25,7 @@ pub record IsJob (actors : ℕ) (firings : List ℕ) (levels : Numbered) (costs 
   pub weights_are : (a : ℕ) → slice_index weights a ≡ slice_index firings a * slice_index costs a
 
 -- a job for a graph
-abbrev pub IsJobFor : Shape → Job → Type 0
+abbrev pub IsJobFor : Shape → HuInputs → Type 0
 IsJobFor g job = IsJob g.actors job.firings.now job.levels.now job.costs.now job.weights.now
 
 -- the work at a time: the counts of ended and of started firings, the actor that each column fired last and when that
@@ -66,21 +66,21 @@ idle g width = record {
 }
 
 -- a firing that a crew may start
-abbrev pub IsReadyTo : Job → Crewed → Firing → Type 0
+abbrev pub IsReadyTo : HuInputs → Crewed → Firing → Type 0
 IsReadyTo job crew =
     IsNextReady (rates crew.counts.graph) (slice_index job.firings.now) (slice_index crew.counts.fired)
     (slice_index crew.started)
 
 -- a crew whose queue has all ready firings
-abbrev pub IsQueued : Job → Crewed → Type 0
+abbrev pub IsQueued : HuInputs → Crewed → Type 0
 IsQueued job crew = IsQueue (number job.levels.now) (IsReadyTo job crew) crew.queue
 
 -- a crew whose queue has ready firings, among them all of unmarked actors
-abbrev pub IsQueuedBut : Job → Crewed → Type 0
+abbrev pub IsQueuedBut : HuInputs → Crewed → Type 0
 IsQueuedBut job crew = IsQueueOf (number job.levels.now) (IsReadyTo job crew) (IsUnmarked crew.marks) crew.queue
 
 -- a crew to which a row is due at its time, after some rows
-abbrev pub IsDueTo : Job → Crewed → List Timed → Type 0
+abbrev pub IsDueTo : HuInputs → Crewed → List Timed → Type 0
 IsDueTo job crew past =
     IsDue (rates crew.counts.graph) (slice_index job.firings.now) (slice_index job.costs.now) (number job.levels.now)
     (length crew.until) job.homed past crew.time
@@ -88,7 +88,7 @@ IsDueTo job crew past =
     (λ a. slice_index_or crew.homes a None)
 
 -- a crew that is done with its time, after some rows
-abbrev pub IsDoneBy : Job → Crewed → List Timed → Type 0
+abbrev pub IsDoneBy : HuInputs → Crewed → List Timed → Type 0
 IsDoneBy job crew past =
     IsDone (rates crew.counts.graph) (slice_index job.firings.now) (slice_index job.costs.now) (number job.levels.now)
     (length crew.until) job.homed past crew.time
@@ -96,10 +96,10 @@ IsDoneBy job crew past =
     (λ a. slice_index_or crew.homes a None)
 
 -- a crew to which a row is due after these rows, with some start times; and a crew that is done after them
-abbrev pub IsDueAfter : Job → Crewed → List (List (Option Firing)) → Type 0
+abbrev pub IsDueAfter : HuInputs → Crewed → List (List (Option Firing)) → Type 0
 IsDueAfter job crew rows = (past : List Timed) × (cells_of past ≡ rows) × IsDueTo job crew past
 
-abbrev pub IsDoneAfter : Job → Crewed → List (List (Option Firing)) → Type 0
+abbrev pub IsDoneAfter : HuInputs → Crewed → List (List (Option Firing)) → Type 0
 IsDoneAfter job crew rows = (past : List Timed) × (cells_of past ≡ rows) × IsDoneBy job crew past
 
 -- the cells of the rule's row at time now, with the homes after it
@@ -119,7 +119,7 @@ pub record IsRowAt (r : Rates) (n cost : ℕ → ℕ) (level : Firing → ℕ) (
       whose' until' → IsStuck r n ended started' until' homes width now homed
 
 -- the cells of the rule's row for a crew that has the homes after it
-abbrev pub IsRowFor : Job → Crewed → List Timed → List (Option Firing) → Type 0
+abbrev pub IsRowFor : HuInputs → Crewed → List Timed → List (Option Firing) → Type 0
 IsRowFor job crew past cells =
     IsRowAt (rates crew.counts.graph) (slice_index job.firings.now) (slice_index job.costs.now)
     (number job.levels.now) (length crew.until) job.homed past crew.time

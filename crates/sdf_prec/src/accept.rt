@@ -1,5 +1,9 @@
 //! Tables from given rows.
 
+pub(crate) mod cells;
+pub(crate) mod late;
+pub(crate) mod missing;
+
 ghost use Rattle.std.specs.Prelude.{◌≡◌, ℕ, ◌+◌, ◌≤◌, ◌<◌, List, length, map, sum, slice_index, IfOk, MatchOption};
 ghost use Rattle.std.specs.Prelude.{MatchResult, Option};
 ghost use Rattle.sdf_graph.specs.Rates.{rates};
@@ -10,14 +14,14 @@ ghost use Rattle.sdf_prec.specs.Refusals.{AllPass, StandsFirst};
 ghost use Rattle.sdf_prec.specs.Accepting.{IsSize, IsAccepted, IsTableFault};
 
 use crate::block::{block_firings, size_fault};
-use crate::cells::mark_rows;
+use crate::accept::cells::mark_rows;
 use crate::fault::PrecFault;
 use crate::firing::Firing;
-use crate::late::first_late_in;
-use crate::missing::first_missing;
+use crate::accept::late::first_late_in;
+use crate::accept::missing::first_missing;
 use crate::numbers::Numbers;
 use crate::table::Table;
-use crate::tidy::tidied;
+use crate::table::tidy::tidied;
 use sdf_graph::Graph;
 use sdf_limits::MOST_BLOCK;
 use std::alloc::{AllocError, Global};

@@ -13,7 +13,7 @@ ghost use Rattle.sdf_prec.specs.ByHomes.{HasHome, IsBadHome, AreByHomes, AreRuns
 use crate::block::{block_firings, block_order, size_fault};
 use crate::fault::PrecFault;
 use crate::firing::Firing;
-use crate::rows::Rows;
+use crate::table::rows::Rows;
 use crate::table::Table;
 use sdf_graph::Graph;
 use sdf_limits::MOST_BLOCK;

@@ -1,5 +1,12 @@
 //! Hu's rule with costs: of the ready firings, the ones of highest level go first.
 
+pub(crate) mod simulation;
+pub(crate) mod filling;
+pub(crate) mod floor;
+pub(crate) mod homing;
+pub(crate) mod queue;
+pub(crate) mod marked;
+
 ghost use Rattle.std.specs.Prelude.{◌≡◌, ℕ, ◌*◌, ◌<◌, List, length, slice_index, IfOk, MatchResult};
 ghost use Rattle.sdf_graph.specs.Rates.{rates};
 ghost use Rattle.sdf_graph.specs.Sequences.{IsPass};
@@ -13,11 +20,11 @@ ghost use Rattle.sdf_prec.specs.HuTables.{IsHuTable};
 
 use crate::block::{block_firings, size_fault};
 use crate::costs::Costs;
-use crate::crew::{Job, timed_rows};
+use crate::hu::simulation::{HuInputs, timed_rows};
 use crate::fault::PrecFault;
 use crate::levels::levels;
 use crate::table::Table;
-use crate::team::Team;
+use crate::team::Columns;
 use sdf_graph::Graph;
 use sdf_sched::Period;
 use std::alloc::{AllocError, Global};
@@ -37,7 +44,7 @@ fn weights_of(alloc: Global, firings: &[u32], costs: &Costs) -> Result<Vec<u64>,
 }
 
 /// Returns the table of the rule's rows, by the levels of the block's firings.
-fn table_for(alloc: Global, graph: &Graph, job: &Job, width: usize) -> Result<Table, AllocError>
+fn table_for(alloc: Global, graph: &Graph, job: &HuInputs, width: usize) -> Result<Table, AllocError>
     requires job { IsJobFor graph.now job.now }
     requires levels { AreLevels (rates graph.now) job.now.firings.now (slice_index job.now.costs.now)
         job.now.levels.now }
@@ -62,7 +69,7 @@ pub fn hu(
     graph: &Graph,
     period: &Period,
     j: u32,
-    team: Team,
+    team: Columns,
     costs: &Costs,
 ) -> Result<Table, PrecFault>
     requires period { IsPeriodOf (rates graph.now) period.now }
@@ -79,7 +86,7 @@ pub fn hu(
     let by_level = levels(alloc, graph, period, j, costs)?;
     let firings = block_firings(alloc, j, period.repetitions())?;
     let weights = weights_of(alloc, &firings, costs)?;
-    let job = Job {
+    let job = HuInputs {
         firings: &firings,
         levels: &by_level,
         costs,

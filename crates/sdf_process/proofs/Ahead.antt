@@ -4,14 +4,14 @@ use Rattle.std.proofs.Common.{Vec, append-nil, false, refl, sym, ap, ◌∙◌, 
 use Rattle.std.specs.Io.KnownBytes.{Appends}
 use Rattle.std.proofs.Math.Nat.{mul-le-mul_right}
 use Rattle.sdf_actor.specs.Wires.{lists as items_of}
-use Rattle.sdf_actor.specs.declared.rest.Rest.{Rest}
+use Rattle.sdf_actor.specs.declared.rest.NetState.{NetState}
 use Rattle.sdf_wav.specs.Canonical.{sample_bytes}
 use Rattle.sdf_wav.specs.Device.{AppendsFront, ReaderState, WriterState, one_more}
 use Rattle.sdf_wav.specs.PiecesIn.{Reading, sound_read}
 use Rattle.sdf_wav.specs.PiecesOut.{Owed}
 use Rattle.sdf_faults.specs.declared.fault.Fault.{Fault}
 use Rattle.sdf_faults.specs.declared.fault.Fault.TheVariants.{Write}
-use Rattle.sdf_process.specs.declared.exchange.Exchange.{Exchange}
+use Rattle.sdf_process.specs.declared.io_rates.IoRates.{IoRates}
 use Rattle.sdf_process.specs.declared.flow.Flow.{Flow}
 use Rattle.sdf_process.specs.Flows.{CameTo, CanFlow, Flows, IsAhead, Progress, Start, StreamsFrom, blocks_on}
 use Rattle.sdf_process.specs.Flows.{exchange_in, reading_in, samples_run}
@@ -57,7 +57,7 @@ module _ (b : Start) (can : CanFlow b) (g : Progress) (f : Flow) {r : ReaderStat
   abbrev c : Reading
   c = reading_in b
 
-  abbrev x : Exchange
+  abbrev x : IoRates
   x = exchange_in b
 
   abbrev here : Flows b ahead.before f.left f.source f.output r w
@@ -166,7 +166,7 @@ module _ (b : Start) (can : CanFlow b) (g : Progress) (f : Flow) {r : ReaderStat
 
 -- the next blocks are made ahead of what is written
 pub made_ahead : (b : Start) (g : Progress) (f : Flow) {r : ReaderState} {w : WriterState} (blocks frames : ℕ)
-    (left : Option (Rest ℤ (List ℤ))) → Flows b g f.left f.source f.output r w →
+    (left : Option (NetState ℤ (List ℤ))) → Flows b g f.left f.source f.output r w →
     Makes b.net b.period b.blocking (sound_read (reading_in b) g.samples) g.blocks blocks frames g.bytes
     (items_of f.made.items) left → frames ≡ blocks * b.blocking * (exchange_in b).made →
     samples_run b (g.blocks + blocks) ≤ length g.samples →

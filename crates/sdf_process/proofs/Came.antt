@@ -4,11 +4,11 @@ use Rattle.std.proofs.Common.{length, map, take, Option, Some, None, refl, sym, 
 use Rattle.std.proofs.Math.Nat.{div-mul-le_self, mod-eq-sub-div-mul}
 use Rattle.std.proofs.lemmas.Bool.{cases_lt, lt-ltb}
 use Rattle.std.proofs.lemmas.Nat.{le-div}
-use Rattle.sdf_actor.specs.declared.rest.Rest.{Rest}
+use Rattle.sdf_actor.specs.declared.rest.NetState.{NetState}
 use Rattle.sdf_actor.specs.Nets.{Netlist}
-use Rattle.sdf_answer.specs.Answer.{AreOutputs, periods_of as firings}
-use Rattle.sdf_answer.specs.Laws.{RunsGoOn}
-use Rattle.sdf_answer.specs.Periods.{HasPeriod}
+use Rattle.sdf_queues.specs.Answer.{AreOutputs, periods_of as firings}
+use Rattle.sdf_queues.specs.Laws.{RunsGoOn}
+use Rattle.sdf_queues.specs.Periods.{HasPeriod}
 use Rattle.sdf_kit.specs.declared.kit.Kit.{Kit}
 use Rattle.sdf_kit.specs.Kit.{kit_steps}
 use Rattle.sdf_sched.specs.Period.{Schedule}
@@ -16,8 +16,8 @@ use Rattle.sdf_wav.specs.Device.{ReaderState, WriterState}
 use Rattle.sdf_wav.specs.Canonical.{sample_bytes}
 use Rattle.sdf_wav.specs.PiecesIn.{Reading, IsReading, IsWithin, sound_read}
 use Rattle.sdf_wav.specs.Sound.{Sound}
-use Rattle.sdf_process.specs.declared.exchange.Announced.{Announced}
-use Rattle.sdf_process.specs.declared.exchange.Exchange.{Exchange}
+use Rattle.sdf_process.specs.declared.io_rates.StreamInfo.{StreamInfo}
+use Rattle.sdf_process.specs.declared.io_rates.IoRates.{IoRates}
 use Rattle.sdf_faults.specs.declared.fault.Fault.{Fault}
 use Rattle.sdf_faults.specs.declared.fault.Fault.TheVariants.{ChannelsMissing, OutOfMemory}
 use Rattle.sdf_process.specs.declared.source.Source.{Source}
@@ -33,11 +33,11 @@ use Rattle.sdf_process.proofs.Taken.{takes_none, takes_refused}
 -- ---- what was written of the frames of a sound
 
 module _ (runs : RunsGoOn kit_steps) (n : Netlist Kit ℤ) (p : Schedule) (has : HasPeriod kit_steps n p) (j : ℕ) where
-  abbrev exchange : Exchange
+  abbrev exchange : IoRates
   exchange = exchange_of n p.repetitions
 
   -- the frames of some periods are those of a run of these periods
-  pub stood : (s : Sound) (blocks frames periods : ℕ) (bytes : List ℕ) (v : Option (Rest ℤ (List ℤ))) →
+  pub stood : (s : Sound) (blocks frames periods : ℕ) (bytes : List ℕ) (v : Option (NetState ℤ (List ℤ))) →
       StandsAt n p j s blocks frames bytes v → periods ≤ blocks * j → frames ≡ periods * exchange.made →
       (lists : List (List ℤ)) × AreOutputs kit_steps n (lists_to periods exchange s) (firings p.repetitions periods)
       lists × (bytes ≡ sample_bytes (interleaved (periods * exchange.made) lists))
@@ -51,7 +51,7 @@ module _ (runs : RunsGoOn kit_steps) (n : Netlist Kit ℤ) (p : Schedule) (has :
   )
 
   -- so far the run came
-  pub came_to : (c : Reading) (samples : List ℤ) (blocks : ℕ) (bytes : List ℕ) (v : Option (Rest ℤ (List ℤ))) →
+  pub came_to : (c : Reading) (samples : List ℤ) (blocks : ℕ) (bytes : List ℕ) (v : Option (NetState ℤ (List ℤ))) →
       2 * length samples ≤ c.size → 0 < c.channels → blocks * j * exchange.taken * c.channels ≤ length samples →
       StandsWhole n p j (sound_read c samples) blocks bytes v → IsStream n p.repetitions c samples (blocks * j) bytes
   came_to c samples blocks bytes v within one there at = record {
@@ -64,7 +64,7 @@ module _ (runs : RunsGoOn kit_steps) (n : Netlist Kit ℤ) (p : Schedule) (has :
 -- ---- what is announced
 
 -- the output of what is announced reads channels that are there
-pub allowed_lower : (x : Exchange) (a : Announced) → announced_fault x a ≡ None → x.inputs ≤ a.channels
+pub allowed_lower : (x : IoRates) (a : StreamInfo) → announced_fault x a ≡ None → x.inputs ≤ a.channels
 allowed_lower x a is = go (cases_lt a.channels x.inputs)
   where
     go : (a.channels < x.inputs) ⊎ (x.inputs ≤ a.channels) → x.inputs ≤ a.channels

@@ -3,14 +3,14 @@ use Rattle.std.proofs.Common.{◌≡◌, inl, inr, Result, Ok, Err, ℕ, ◌+◌
 use Rattle.std.proofs.Common.{Option, refl, sym, ap, ◌∙◌, subst, arith}
 use Rattle.std.specs.Io.KnownBytes.{Appends}
 use Rattle.std.proofs.Math.Nat.{mul-div_left, mul-le-mul_left, mul-le-mul_right}
-use Rattle.sdf_actor.specs.declared.rest.Rest.{Rest}
+use Rattle.sdf_actor.specs.declared.rest.NetState.{NetState}
 use Rattle.sdf_wav.specs.Canonical.{sample_bytes}
 use Rattle.sdf_wav.specs.Device.{ReaderState, WriterState, one_more}
 use Rattle.sdf_wav.specs.PiecesIn.{Reading, sound_read}
 use Rattle.sdf_wav.specs.PiecesOut.{Owed}
 use Rattle.sdf_wav.specs.Sound.{Sound}
 use Rattle.sdf_faults.specs.declared.fault.Fault.{Fault}
-use Rattle.sdf_process.specs.declared.exchange.Exchange.{Exchange}
+use Rattle.sdf_process.specs.declared.io_rates.IoRates.{IoRates}
 use Rattle.sdf_process.specs.declared.source.Source.{Source}
 use Rattle.sdf_process.specs.Flows.{CanFlow, Flows, Progress, Start, StreamsFrom, exchange_in, reading_in}
 use Rattle.sdf_process.specs.Output.{in_turn, periods_for, periods_of}
@@ -29,7 +29,7 @@ module _ (b : Start) (can : CanFlow b) (g : Progress) {unread : ℕ} {source : S
   abbrev c : Reading
   c = reading_in b
 
-  abbrev x : Exchange
+  abbrev x : IoRates
   x = exchange_in b
 
   abbrev j : ℕ
@@ -74,7 +74,7 @@ module _ (b : Start) (can : CanFlow b) (g : Progress) {unread : ℕ} {source : S
           let all : b.owed * 1 ≤ b.owed * x.outputs = mul-le-mul_left b.owed can.outputs in
           omega (arith, more, all)
 
-  ended_by : (blocks many : ℕ) (bytes : List ℕ) (v : Option (Rest ℤ (List ℤ))) (w' : WriterState) →
+  ended_by : (blocks many : ℕ) (bytes : List ℕ) (v : Option (NetState ℤ (List ℤ))) (w' : WriterState) →
       StandsAt b.net b.period j sound blocks many bytes v → periods_for x b.frames ≤ blocks * j →
       many ≡ periods_for x b.frames * x.made → Appends b.writer.contents w'.contents bytes →
       w'.failures ≡ b.writer.failures → StreamsFrom b r w' (Ok tt)
@@ -131,7 +131,7 @@ module _ (b : Start) (can : CanFlow b) (g : Progress) {unread : ℕ} {source : S
         cancel (periods_for x b.frames) ((g.blocks + blocks) * j) x.made can.made (omega (arith, filled, covers, split))
 
     -- their frames are written, or a front of them
-    pub ended : (made : List (List ℤ)) (v : Option (Rest ℤ (List ℤ))) →
+    pub ended : (made : List (List ℤ)) (v : Option (NetState ℤ (List ℤ))) →
         Makes b.net b.period j sound g.blocks blocks o.missing g.bytes made v → (w' : WriterState)
         (result : Result (Unit {0}) Fault) → PutsHeader w w' (sample_bytes (in_turn made)) result →
         StreamsFrom b r w' result

@@ -8,10 +8,10 @@ use Rattle.sdf_actor.specs.declared.sides.Lists.TheVariants.{Inputs, Outputs}
 use Rattle.sdf_actor.specs.Nets.{Netlist}
 use Rattle.sdf_actor.specs.Rests.{AreJoined}
 use Rattle.sdf_actor.specs.Sides.{list_count, period_samples}
-use Rattle.sdf_answer.specs.Answer.{HasInputs, periods_of as firings}
-use Rattle.sdf_answer.specs.Feeds.{AreFull, HasRun}
-use Rattle.sdf_answer.specs.declared.fault.RunFault.{RunFault}
-use Rattle.sdf_answer.specs.declared.fault.RunFault.TheVariants as run
+use Rattle.sdf_queues.specs.Answer.{HasInputs, periods_of as firings}
+use Rattle.sdf_queues.specs.Feeds.{AreFull, HasRun}
+use Rattle.sdf_queues.specs.declared.fault.RunFault.{RunFault}
+use Rattle.sdf_queues.specs.declared.fault.RunFault.TheVariants as run
 use Rattle.sdf_kit.specs.declared.kit.Kit.{Kit}
 use Rattle.sdf_kit.specs.Kit.{kit_steps}
 use Rattle.sdf_prec.specs.Tables.{Tabled}
@@ -20,10 +20,10 @@ use Rattle.sdf_run.specs.Sessions.{IsModeFault, MayRun, StandsAfter}
 use Rattle.sdf_run.specs.declared.mode.Mode.{Mode}
 use Rattle.sdf_run.specs.declared.mode.Mode.TheVariants.{Rings, Rows}
 use Rattle.sdf_sched.specs.Period.{Schedule}
-use Rattle.sdf_split.specs.Cuts.{join}
-use Rattle.sdf_split.proofs.Theorems.{joined_is, joined_long}
+use Rattle.sdf_parallel.specs.Cuts.{join}
+use Rattle.sdf_parallel.proofs.Theorems.{joined_is, joined_long}
 use Rattle.sdf_wav.specs.Sound.{Sound}
-use Rattle.sdf_process.specs.declared.exchange.Exchange.{Exchange}
+use Rattle.sdf_process.specs.declared.io_rates.IoRates.{IoRates}
 use Rattle.sdf_process.specs.declared.portion.Portion.{Portion}
 use Rattle.sdf_faults.specs.declared.fault.Fault.TheVariants.{OutOfMemory}
 use Rattle.sdf_faults.specs.Faults.{of_run}
@@ -35,15 +35,15 @@ use Rattle.sdf_process.proofs.Rendering.{are_inputs}
 use Rattle.sdf_process.proofs.Sizes.{positive}
 
 -- the lists of so many blocks are blocks
-pub blocks_given : (v : SessionValue Kit (List ℤ) ℤ) (blocks : ℕ) (x : Exchange) (s : Sound) →
+pub blocks_given : (v : SessionValue Kit (List ℤ) ℤ) (blocks : ℕ) (x : IoRates) (s : Sound) →
     x ≡ exchange_of v.net v.period.repetitions → blocks ≤ 4294967295 →
     FeedsBlocks v blocks (lists_from 0 (blocks * v.factor) x s)
 blocks_given v blocks x s same few = record {
   few = few;
-  count = length-map-range_with_len _ 0 x.inputs ∙ ap (λ (y : Exchange). y.inputs) same;
+  count = length-map-range_with_len _ 0 x.inputs ∙ ap (λ (y : IoRates). y.inputs) same;
   each = λ e here.
       let taken : blocks * v.factor * x.taken ≡ blocks * (v.factor * x.taken) = omega arith in
-      from_at 0 (blocks * v.factor) x s e here ∙ (taken ∙ ap (λ (y : Exchange). blocks * (v.factor * y.taken)) same);
+      from_at 0 (blocks * v.factor) x s e here ∙ (taken ∙ ap (λ (y : IoRates). blocks * (v.factor * y.taken)) same);
 }
 
 -- so memory alone may be refused
@@ -111,7 +111,7 @@ module _ (n : Netlist Kit ℤ) (p : Schedule) (j : ℕ) (v : SessionValue Kit (L
     (y : Portion) (can : CanRun n p j y) (blocks : ℕ) (periods : y.periods ≡ blocks * j)
     (inputs : List (List ℤ))
     (given : inputs ≡ lists_from 0 y.periods y.exchange y.input.now) where
-  abbrev x : Exchange
+  abbrev x : IoRates
   x = exchange_of n p.repetitions
 
   exchange_is : x ≡ exchange_of v.net v.period.repetitions
@@ -124,7 +124,7 @@ module _ (n : Netlist Kit ℤ) (p : Schedule) (j : ℕ) (v : SessionValue Kit (L
 
   inputs_are : inputs ≡ lists_from 0 (blocks * j) x y.input.now
   inputs_are = given ∙ (ap (λ (k : ℕ). lists_from 0 k y.exchange y.input.now) periods
-      ∙ ap (λ (e : Exchange). lists_from 0 (blocks * j) e y.input.now) can.exchange)
+      ∙ ap (λ (e : IoRates). lists_from 0 (blocks * j) e y.input.now) can.exchange)
 
   blocks_fed : FeedsBlocks v blocks inputs
   blocks_fed = subst (FeedsBlocks v blocks)
@@ -145,7 +145,7 @@ module _ (n : Netlist Kit ℤ) (p : Schedule) (j : ℕ) (v : SessionValue Kit (L
     some_samples =
         positive v.factor (period_samples v.net.nodes Inputs v.period.repetitions)
         (subst (λ (k : ℕ). 0 < k) (sym by.factor) can.some)
-        (subst (λ (z : Exchange). 0 < z.taken) (can.exchange ∙ exchange_is) y.limits.some_taken)
+        (subst (λ (z : IoRates). 0 < z.taken) (can.exchange ∙ exchange_is) y.limits.some_taken)
 
     fed : HasFed kit_steps v w blocks inputs on rounds
     fed = subst (λ (b : ℕ). HasFed kit_steps v w b inputs on rounds)
@@ -172,7 +172,7 @@ module _ (n : Netlist Kit ℤ) (p : Schedule) (j : ℕ) (v : SessionValue Kit (L
             ∙ (let z : few * j + blocks * j ≡ (few + blocks) * j = omega arith in z)
 
         next : lists_from (few * j) y.periods x s ≡ inputs
-        next = follows.lists ∙ (ap (λ (e : Exchange). lists_from 0 y.periods e y.input.now) (sym can.exchange)
+        next = follows.lists ∙ (ap (λ (e : IoRates). lists_from 0 y.periods e y.input.now) (sym can.exchange)
             ∙ sym given)
 
         after_both : StandsAfter kit_steps w (few + blocks) (lists_to ((few + blocks) * j) x s)

@@ -3,7 +3,7 @@ use Rattle.std.proofs.Common.{◌≡◌, ◌⊎◌, inl, inr, ℕ, ◌*◌, ◌�
 use Rattle.std.proofs.Common.{refl, sym, ap, ◌∙◌, subst}
 use Rattle.std.specs.Io.KnownBytes.{Appends}
 use Rattle.sdf_actor.specs.Nets.{Netlist}
-use Rattle.sdf_answer.specs.Answer.{AreOutputs, periods_of as firings}
+use Rattle.sdf_queues.specs.Answer.{AreOutputs, periods_of as firings}
 use Rattle.sdf_kit.specs.declared.kit.Kit.{Kit}
 use Rattle.sdf_kit.specs.Kit.{kit_steps}
 use Rattle.sdf_wav.specs.Sound.{Sound}
@@ -13,7 +13,7 @@ use Rattle.sdf_wav.specs.Device.{AppendsFront, ReaderState, WriterState, one_mor
 use Rattle.sdf_wav.specs.PiecesIn.{sound_read}
 use Rattle.sdf_wav.specs.PiecesOut.{Owed}
 use Rattle.sdf_wav.proofs.Theorems.{not_both, one_sound, pieces_end}
-use Rattle.sdf_process.specs.declared.exchange.Extent.{Extent}
+use Rattle.sdf_process.specs.declared.io_rates.OutputSize.{OutputSize}
 use Rattle.sdf_faults.specs.declared.fault.Fault.{Fault}
 use Rattle.sdf_faults.specs.declared.fault.Fault.TheVariants.{OutOfMemory, Write}
 use Rattle.sdf_process.specs.Output.{announced_by, exchange_of, interleaved, input_lists, output_frames, output_fault}
@@ -32,7 +32,7 @@ wav_of_heard input s rest h =
     subst (λ (t : Sound). IsWav input t rest) made (pieces_end input h.reading s.samples rest h.read h.ended)
 
 module _ (n : Netlist Kit ℤ) (q : List ℕ) (limits : IsExchange (exchange_of n q))
-    (r r' : ReaderState) (w w1 w' : WriterState) (s : Sound) (e : Extent) (o : Owed)
+    (r r' : ReaderState) (w w1 w' : WriterState) (s : Sound) (e : OutputSize) (o : Owed)
     (hears : Hears (exchange_of n q) r r' w w1 s e o) where
   abbrev of_output : List ℕ
   of_output = output_header (exchange_of n q) (announced_by s)
@@ -144,7 +144,7 @@ module _ (n : Netlist Kit ℤ) (q : List ℕ) (limits : IsExchange (exchange_of 
 
 -- so is a run whose last stage answered this
 pub answered : (n : Netlist Kit ℤ) (q : List ℕ) → IsExchange (exchange_of n q) →
-    (r r' : ReaderState) (w w1 w' : WriterState) (s : Sound) (e : Extent) (o : Owed) →
+    (r r' : ReaderState) (w w1 w' : WriterState) (s : Sound) (e : OutputSize) (o : Owed) →
     Hears (exchange_of n q) r r' w w1 s e o → (result : Result (Unit {0}) Fault) →
     PutsOutput n q s w1 w' result → IsRun n q r r' w w' result
 answered n q limits r r' w w1 w' s e o hears (Ok x) (lists, made, written, fine) =

@@ -8,7 +8,7 @@ use Rattle.sdf_wav.specs.PiecesIn.{Reading}
 use Rattle.sdf_wav.specs.PiecesOut.{Owed}
 use Rattle.sdf_faults.specs.declared.fault.Fault.{Fault}
 use Rattle.sdf_faults.specs.declared.fault.Fault.TheVariants.{OutOfMemory}
-use Rattle.sdf_process.specs.declared.exchange.Exchange.{Exchange}
+use Rattle.sdf_process.specs.declared.io_rates.IoRates.{IoRates}
 use Rattle.sdf_process.specs.declared.source.Source.{Source}
 use Rattle.sdf_process.specs.Flows.{CanFlow, Flows, Progress, Start, StreamsFrom, exchange_in, reading_in, samples_on}
 use Rattle.sdf_process.specs.Sources.{reading_of, TakesAll, TakesMore}
@@ -22,7 +22,7 @@ module _ (b : Start) (can : CanFlow b) (g : Progress) {unread : ℕ} {source : S
   abbrev c : Reading
   c = reading_in b
 
-  abbrev x : Exchange
+  abbrev x : IoRates
   x = exchange_in b
 
   behind_here : reading_of source ≡ record c { gone = c.gone + 2 * length g.samples }

@@ -6,22 +6,22 @@ use Rattle.std.proofs.Math.Nat.{mul-le-mul_right, zero-mul}
 use Rattle.std.proofs.lemmas.Bool.{cases_lt}
 use Rattle.std.proofs.lemmas.List.{get_or_append_left, get_or-append-add, map-append}
 use Rattle.std.proofs.lemmas.List.FromFn.{length-map-range_with_len, take-map-range_with_len}
-use Rattle.sdf_actor.specs.declared.rest.Rest.{Rest}
+use Rattle.sdf_actor.specs.declared.rest.NetState.{NetState}
 use Rattle.sdf_actor.specs.Nets.{Netlist}
 use Rattle.sdf_actor.specs.Rests.{AreJoined}
 use Rattle.sdf_actor.specs.Wires.{lists as items_of}
-use Rattle.sdf_answer.specs.Answer.{periods_of as firings}
-use Rattle.sdf_answer.specs.Feeds.{GoesOnBy, HasRun}
-use Rattle.sdf_answer.specs.Periods.{HasPeriod}
+use Rattle.sdf_queues.specs.Answer.{periods_of as firings}
+use Rattle.sdf_queues.specs.Feeds.{GoesOnBy, HasRun}
+use Rattle.sdf_queues.specs.Periods.{HasPeriod}
 use Rattle.sdf_kit.specs.declared.kit.Kit.{Kit}
 use Rattle.sdf_kit.specs.Kit.{kit_steps}
 use Rattle.sdf_sched.specs.Period.{Schedule}
-use Rattle.sdf_split.specs.Cuts.{cut, join}
-use Rattle.sdf_split.specs.Parts.{GoesOnInParts, HasParts, read_by}
-use Rattle.sdf_split.specs.Parts.{none as no_part, more as one_part}
-use Rattle.sdf_split.proofs.Theorems.{joined_is, joined_long}
+use Rattle.sdf_parallel.specs.Cuts.{cut, join}
+use Rattle.sdf_parallel.specs.Parts.{GoesOnInParts, HasParts, read_by}
+use Rattle.sdf_parallel.specs.Parts.{none as no_part, more as one_part}
+use Rattle.sdf_parallel.proofs.Theorems.{joined_is, joined_long}
 use Rattle.sdf_wav.specs.Sound.{Sound}
-use Rattle.sdf_process.specs.declared.exchange.Exchange.{Exchange}
+use Rattle.sdf_process.specs.declared.io_rates.IoRates.{IoRates}
 use Rattle.sdf_process.specs.Output.{exchange_of, channel_samples_from, in_turn, interleaved, lists_from, lists_to}
 use Rattle.sdf_process.specs.Output.{sample}
 use Rattle.sdf_process.specs.Streams.{AreWhole}
@@ -61,7 +61,7 @@ cut_map f g i j a (suc n) same =
     ∙ ap (λ (l : List (List ℤ)). g a ∷ l) (cut_map f g i j (a + 1) n same)
 
 -- some samples of the lists of a piece, of each channel
-pub cut_is : (at many : ℕ) (x : Exchange) (s : Sound) (from to : ℕ) → from ≤ to → to ≤ many * x.taken →
+pub cut_is : (at many : ℕ) (x : IoRates) (s : Sound) (from to : ℕ) → from ≤ to → to ≤ many * x.taken →
     cut from to (lists_from at many x s) ≡
     map (channel_samples_from s (at * x.taken + from) (to - from)) (range_with_len 0 x.inputs)
 cut_is at many x s from to order within =
@@ -69,7 +69,7 @@ cut_is at many x s from to order within =
     (channel_samples_from s (at * x.taken + from) (to - from)) from to 0 x.inputs
     (λ e. between_range (sample s e) (at * x.taken) (many * x.taken) from to order within)
 
-pub first_cut : (many : ℕ) (x : Exchange) (s : Sound) (from to : ℕ) → from ≤ to → to ≤ many * x.taken →
+pub first_cut : (many : ℕ) (x : IoRates) (s : Sound) (from to : ℕ) → from ≤ to → to ≤ many * x.taken →
     cut from to (lists_from 0 many x s) ≡ map (channel_samples_from s from (to - from)) (range_with_len 0 x.inputs)
 first_cut many x s from to order within =
     cut_is 0 many x s from to order within
@@ -77,7 +77,7 @@ first_cut many x s from to order within =
     (let z : 0 * x.taken + from ≡ from = omega arith in z)
 
 -- it reads no further than the piece goes
-pub within_piece : (at many : ℕ) (x : Exchange) (s : Sound) (to : ℕ) → 0 < x.inputs →
+pub within_piece : (at many : ℕ) (x : IoRates) (s : Sound) (to : ℕ) → 0 < x.inputs →
     ((e : ℕ) → e < length (lists_from at many x s) → to ≤ length (get_or (lists_from at many x s) e [])) →
     to ≤ many * x.taken
 within_piece at many x s to some within =
@@ -114,14 +114,14 @@ whole_more outputs xs y each (k, is) i l = go (cases_lt i (length xs))
         (k, ap length at ∙ is)
 
 module _ (n : Netlist Kit ℤ) (p : Schedule)
-    (has : HasPeriod kit_steps n p) (s : Sound) (at many : ℕ) (made : List (List ℤ)) (rest : Rest ℤ (List ℤ))
+    (has : HasPeriod kit_steps n p) (s : Sound) (at many : ℕ) (made : List (List ℤ)) (rest : NetState ℤ (List ℤ))
     (run : HasRun kit_steps n (lists_to at (exchange_of n p.repetitions) s) (firings p.repetitions at) made rest)
     (input : Sound) (given : lists_from at many (exchange_of n p.repetitions) s ≡
     lists_from 0 many (exchange_of n p.repetitions) input) where
   abbrev q : List ℕ
   q = p.repetitions
 
-  abbrev x : Exchange
+  abbrev x : IoRates
   x = exchange_of n p.repetitions
 
   abbrev inputs : List (List ℤ)
@@ -137,7 +137,7 @@ module _ (n : Netlist Kit ℤ) (p : Schedule)
       ∙ ap (λ (i : ℕ). map (channel_samples_from s (at * x.taken) i) (range_with_len 0 x.inputs)) size)
 
   -- lists by which the run goes on hold the samples of their periods
-  on_long : (k : ℕ) → k ≤ many → (on : List (List ℤ)) (last : Rest ℤ (List ℤ)) →
+  on_long : (k : ℕ) → k ≤ many → (on : List (List ℤ)) (last : NetState ℤ (List ℤ)) →
       GoesOnBy kit_steps n q rest k (read_by n q inputs 0 k) on last → AllLong (k * x.made) on
   on_long k l on last goes e h =
       let count : length made ≡ length on = run.count ∙ sym goes.count in
@@ -191,17 +191,17 @@ module _ (n : Netlist Kit ℤ) (p : Schedule)
       })
 
   -- so are those of a run in parts
-  pub record IsInParts {Z : Type 0} (ms : List (Vec ℤ Z)) (last : Rest ℤ (List ℤ)) : Type 0 where
+  pub record IsInParts {Z : Type 0} (ms : List (Vec ℤ Z)) (last : NetState ℤ (List ℤ)) : Type 0 where
     pub outputs : List (List ℤ)
     pub goes : GoesOnBy kit_steps n q rest many (lists_from 0 many x input) outputs last
     pub frames : in_turn (items_of ms) ≡ interleaved (many * x.made) outputs
     pub whole : AreWhole x.outputs (many * x.made) (items_of ms)
 
-  pub in_parts : {Z : Type 0} (y : Exchange) → y ≡ x → (ms : List (Vec ℤ Z)) (last : Rest ℤ (List ℤ)) →
+  pub in_parts : {Z : Type 0} (y : IoRates) → y ≡ x → (ms : List (Vec ℤ Z)) (last : NetState ℤ (List ℤ)) →
       GoesOnInParts kit_steps n q (lists_from 0 many y input)
       (λ periods outputs m. m.items ≡ interleaved (periods * y.made) outputs) rest many ms last → IsInParts ms last
   in_parts {Z} y same ms last goes =
-      let own = subst (λ (z : Exchange). GoesOnInParts kit_steps n q (lists_from 0 many z input)
+      let own = subst (λ (z : IoRates). GoesOnInParts kit_steps n q (lists_from 0 many z input)
       (λ periods outputs (m : Vec ℤ Z). m.items ≡ interleaved (periods * z.made) outputs) rest many ms
       last) same goes in
       let parts = subst (λ (l : List (List ℤ)). HasParts kit_steps n q l

@@ -4,10 +4,10 @@ use Rattle.std.proofs.Common.{◌≡◌, ℕ, ◌+◌, ◌*◌, ◌≤◌, ◌<�
 use Rattle.std.specs.Int.{div_ceil}
 use Rattle.sdf_wav.specs.Device.{ReaderState, WriterState}
 use Rattle.sdf_wav.specs.PiecesIn.{sound_read}
-use Rattle.sdf_process.specs.declared.exchange.Exchange.{Exchange}
+use Rattle.sdf_process.specs.declared.io_rates.IoRates.{IoRates}
 use Rattle.sdf_process.specs.declared.flow.Flow.{Flow}
 use Rattle.sdf_process.specs.declared.portion.Portion.{Portion}
-use Rattle.sdf_process.specs.declared.runner.Runner.{Runner}
+use Rattle.sdf_process.specs.declared.runner.PieceRunner.{PieceRunner}
 use Rattle.sdf_process.specs.declared.streaming.Stream.{Stream}
 use Rattle.sdf_process.specs.Flows.{IsUnderWay, Progress, Start, Writes, exchange_in, reading_in}
 use Rattle.sdf_process.specs.Streams.{CanRunNext, Follows, Makes, RunsNext, left_by}
@@ -54,12 +54,12 @@ module _ (b : Start) (g : Progress) (t : Stream) {r : ReaderState} {w w' : Write
           (λ one. is ∙ (count ∙ (single b under.ready.can g writes.flows all_taken blocks just_enough.0
           just_enough.1 one
           ∙ (sym (ap (λ z. blocks * z * (exchange_in b).made) under.ready.blocking)
-          ∙ (sym (ap (λ (x : Exchange). blocks * t.blocking * x.made) (exchange ∙ under.ready.exchange))
+          ∙ (sym (ap (λ (x : IoRates). blocks * t.blocking * x.made) (exchange ∙ under.ready.exchange))
           ∙ sym (ap (λ z. z * y.exchange.made) periods))))));
     }
 
     -- and makes what is missing
-    pub last_made : (v : Runner) (made : List (List ℤ)) → RunsNext t.runner v y made →
+    pub last_made : (v : PieceRunner) (made : List (List ℤ)) → RunsNext t.runner v y made →
         Makes b.net b.period b.blocking (sound_read (reading_in b) g.samples) g.blocks blocks y.frames g.bytes made
         (left_by v)
     last_made v made runs = (runs b.net b.period b.blocking (sound_read (reading_in b) g.samples)

@@ -17,9 +17,9 @@ use Rattle.sdf_wav.specs.PiecesOut.{Owed, file_header}
 use Rattle.sdf_wav.specs.declared.fault.FormatFault.{FormatFault}
 use Rattle.sdf_wav.specs.declared.format.Format.{Format}
 use Rattle.sdf_wav.proofs.Theorems.{files_open}
-use Rattle.sdf_process.specs.declared.exchange.Announced.{Announced}
-use Rattle.sdf_process.specs.declared.exchange.Exchange.{Exchange}
-use Rattle.sdf_process.specs.declared.exchange.Extent.{Extent}
+use Rattle.sdf_process.specs.declared.io_rates.StreamInfo.{StreamInfo}
+use Rattle.sdf_process.specs.declared.io_rates.IoRates.{IoRates}
+use Rattle.sdf_process.specs.declared.io_rates.OutputSize.{OutputSize}
 use Rattle.sdf_faults.specs.declared.fault.Fault.{Fault}
 use Rattle.sdf_faults.specs.declared.fault.Fault.TheVariants.{Write}
 use Rattle.sdf_process.specs.Output.{announced_by, announced_fault, exchange_of, output_frames, output_header}
@@ -67,7 +67,7 @@ no_gone [] left e = refl
 no_gone (x ∷ xs) left e = absurd (omega arith)
 
 pub announced_same : (r h f u v w : ℕ) → r ≡ u → h ≡ v → f ≡ w →
-    ◌≡◌ {A = Announced} (record { rate = r; channels = h; frames = f }) (record { rate = u; channels = v; frames = w })
+    ◌≡◌ {A = StreamInfo} (record { rate = r; channels = h; frames = f }) (record { rate = u; channels = v; frames = w })
 announced_same r h f u v w x y z = rw (x, y, z) refl
 
 -- a sound of so many samples has the frames that are known
@@ -80,7 +80,7 @@ sound_announced c frames is s rate channels size =
     ∙ (ap (λ (z : ℕ). z / (2 * s.channels)) size ∙ (ap (λ (z : ℕ). c.size / (2 * z)) channels
     ∙ sym (frames_known c.size c.channels frames is).1)))
 
-pub owed_is : (x : Exchange) (s : Sound) (e : Extent) (o : Owed) → IsExtent x (announced_by s) e →
+pub owed_is : (x : IoRates) (s : Sound) (e : OutputSize) (o : Owed) → IsExtent x (announced_by s) e →
     o ≡ record { channels = x.outputs; missing = e.periods * x.made; spent = false } →
     o ≡ record { channels = x.outputs; missing = output_frames x s; spent = false }
 owed_is x s e o extent is =
@@ -139,13 +139,13 @@ module _ (r mid : ReaderState) (c : Reading) (opened : IsOpened r mid c) where
 
 module _ (n : Netlist Kit ℤ) (q : List ℕ) (limits : IsExchange (exchange_of n q)) (r mid : ReaderState) (c : Reading)
     (opened : IsOpened r mid c) (frames : ℕ) (unheard : IsUnheard c frames) where
-  abbrev x : Exchange
+  abbrev x : IoRates
   x = exchange_of n q
 
   abbrev Fails : (r' : ReaderState) (w w' : WriterState) → Fault → Type 0
   Fails r' w w' f = IsRun n q r r' w w' (Err f)
 
-  abbrev announced : Announced
+  abbrev announced : StreamInfo
   announced = record { rate = c.rate; channels = c.channels; frames = frames }
 
   sized : c.size ≢ 0xFFFFFFFF
@@ -204,7 +204,7 @@ module _ (n : Netlist Kit ℤ) (q : List ℕ) (limits : IsExchange (exchange_of 
       (sym why ∙ (sym (ap (announced_fault x) (announced_here (format_read c) c.size refl refl refl))
       ∙ allowed (format_read c) c.size (opened.answers.at input known).0 (opens_here input known) sized)))
 
-  module _ (e : Extent) (extent : IsExtent x announced e) where
+  module _ (e : OutputSize) (extent : IsExtent x announced e) where
     abbrev text : List ℕ
     text = output_header x announced ++ []
 
@@ -258,16 +258,16 @@ module _ (n : Netlist Kit ℤ) (q : List ℕ) (limits : IsExchange (exchange_of 
           Hears x r r' w w1 s e o
       heard_ahead s o reads owed =
           let a = sound_announced c frames unheard.known s reads.2 reads.3 (reads.4 sized) in
-          let here : IsExtent x (announced_by s) e = subst (λ (z : Announced). IsExtent x z e) (sym a) extent in
+          let here : IsExtent x (announced_by s) e = subst (λ (z : StreamInfo). IsExtent x z e) (sym a) extent in
           record {
             heard = heard_here r mid c opened r' s reads (λ rest ended. (
               reads.2,
               reads.3,
-              inl (unheard.known ∙ sym (ap (λ (z : Announced). Some z.frames) a)),
+              inl (unheard.known ∙ sym (ap (λ (z : StreamInfo). Some z.frames) a)),
             ));
             allowed = allowed_by;
             extent = here;
-            header = subst (λ (z : Announced). Appends w.contents w1.contents (output_header x z)) (sym a) begun_by;
+            header = subst (λ (z : StreamInfo). Appends w.contents w1.contents (output_header x z)) (sym a) begun_by;
             owed = owed_is x s e o here owed;
             reader = reads.1 ∙ opened.counted;
             writer = fine;

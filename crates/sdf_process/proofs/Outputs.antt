@@ -16,7 +16,7 @@ use Rattle.sdf_sched.specs.Period.{Schedule, IsPeriodOf}
 use Rattle.sdf_actor.specs.Graphs.{graph_of}
 use Rattle.sdf_actor.specs.Laws.{HistoryIsUnique}
 use Rattle.sdf_kit.specs.Kit.{kit_steps}
-use Rattle.sdf_answer.specs.Answer.{AreOutputs, periods_of as firings}
+use Rattle.sdf_queues.specs.Answer.{AreOutputs, periods_of as firings}
 use Rattle.sdf_wav.specs.Sound.{Sound}
 use Rattle.sdf_wav.proofs.Theorems.{one_sound}
 use Rattle.sdf_file.specs.Designs.{DesignValue}

@@ -6,7 +6,7 @@ use Rattle.std.proofs.Math.Nat.{mul-le-mul_right}
 use Rattle.std.proofs.lemmas.List.{get_or_append_left, get_or-drop}
 use Rattle.sdf_wav.specs.PiecesIn.{Reading, sound_read}
 use Rattle.sdf_wav.specs.Sound.{Sound}
-use Rattle.sdf_process.specs.declared.exchange.Exchange.{Exchange}
+use Rattle.sdf_process.specs.declared.io_rates.IoRates.{IoRates}
 use Rattle.sdf_process.specs.Output.{sample, channel_samples, channel_samples_from, lists_to, lists_from}
 
 -- lists by numbers with the same values
@@ -29,7 +29,7 @@ place_before i e n k less here =
     omega (arith, more, here)
 
 -- what is read on changes no sample before
-pub lists_stay : (periods : ℕ) (x : Exchange) (c : Reading) (xs ys : List ℤ) → x.inputs ≤ c.channels →
+pub lists_stay : (periods : ℕ) (x : IoRates) (c : Reading) (xs ys : List ℤ) → x.inputs ≤ c.channels →
     periods * x.taken * c.channels ≤ length xs →
     lists_to periods x (sound_read c (xs ++ ys)) ≡ lists_to periods x (sound_read c xs)
 lists_stay periods x c xs ys lower there =
@@ -44,7 +44,7 @@ lists_stay periods x c xs ys lower there =
     omega (arith, before, there, same))))
 
 -- the lists of some periods are those of what stands behind the first ones
-pub lists_behind : (at many : ℕ) (x : Exchange) (s t : Sound) → t.channels ≡ s.channels →
+pub lists_behind : (at many : ℕ) (x : IoRates) (s t : Sound) → t.channels ≡ s.channels →
     t.samples ≡ drop (at * x.taken * s.channels) s.samples → lists_from at many x s ≡ lists_from 0 many x t
 lists_behind at many x s t same rest =
     map_same (channel_samples_from s (at * x.taken) (many * x.taken))

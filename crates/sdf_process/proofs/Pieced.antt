@@ -1,24 +1,24 @@
 -- What a run that goes on makes of the next blocks of a sound, behind what it made before.
 use Rattle.std.proofs.Common.{◌≡◌, ℕ, zero, suc, ◌+◌, ◌*◌, ◌<◌, ℤ, List, [], ◌∷◌, ◌++◌}
 use Rattle.std.proofs.Common.{length, get_or, Option, Some, refl, sym, ap, ◌∙◌, subst, arith}
-use Rattle.sdf_actor.specs.declared.rest.Rest.{Rest}
+use Rattle.sdf_actor.specs.declared.rest.NetState.{NetState}
 use Rattle.sdf_actor.specs.declared.sides.Lists.TheVariants.{Inputs, Outputs}
 use Rattle.sdf_actor.specs.Nets.{Netlist, IsNet}
 use Rattle.sdf_actor.specs.Rests.{AreJoined, IsRest}
 use Rattle.sdf_actor.specs.Sides.{list_count}
-use Rattle.sdf_answer.specs.Answer.{AreOutputs, HasInputs, periods_of as firings}
-use Rattle.sdf_answer.specs.Feeds.{GoesOnBy, HasRun}
-use Rattle.sdf_answer.specs.Periods.{HasPeriod}
-use Rattle.sdf_answer.proofs.Theorems.{nothing_runs}
+use Rattle.sdf_queues.specs.Answer.{AreOutputs, HasInputs, periods_of as firings}
+use Rattle.sdf_queues.specs.Feeds.{GoesOnBy, HasRun}
+use Rattle.sdf_queues.specs.Periods.{HasPeriod}
+use Rattle.sdf_queues.proofs.Theorems.{nothing_runs}
 use Rattle.sdf_kit.specs.declared.kit.Kit.{Kit}
 use Rattle.sdf_kit.specs.Kit.{kit_steps}
 use Rattle.sdf_sched.specs.Period.{Schedule}
-use Rattle.sdf_split.specs.Cuts.{join}
-use Rattle.sdf_split.proofs.Theorems.{joined_is, joined_long}
+use Rattle.sdf_parallel.specs.Cuts.{join}
+use Rattle.sdf_parallel.proofs.Theorems.{joined_is, joined_long}
 use Rattle.sdf_wav.specs.Canonical.{sample_bytes}
 use Rattle.sdf_wav.specs.Sound.{Sound}
-use Rattle.sdf_process.specs.declared.exchange.Exchange.{Exchange}
-use Rattle.sdf_process.specs.declared.playing.Player.{Player}
+use Rattle.sdf_process.specs.declared.io_rates.IoRates.{IoRates}
+use Rattle.sdf_process.specs.declared.player.Player.{Player}
 use Rattle.sdf_process.specs.declared.portion.Portion.{Portion}
 use Rattle.sdf_process.specs.Output.{exchange_of, in_turn, interleaved, lists_from, lists_to}
 use Rattle.sdf_process.specs.Streams.{AreWhole, Follows, Makes, PlaysBy, StandsAt, StandsWhole, StaysPlayer}
@@ -31,7 +31,7 @@ use Rattle.sdf_process.proofs.Texts.{bytes_append}
 
 -- what a run made
 pub outputs_of : (n : Netlist Kit ℤ) (inputs : List (List ℤ)) (k : ℕ → ℕ) (made : List (List ℤ))
-    (rest : Rest ℤ (List ℤ)) → HasRun kit_steps n inputs k made rest → AreOutputs kit_steps n inputs k made
+    (rest : NetState ℤ (List ℤ)) → HasRun kit_steps n inputs k made rest → AreOutputs kit_steps n inputs k made
 outputs_of n inputs k made rest run = record { history = run.history; is = run.is; count = run.count; each = run.each }
 
 -- lists without a sample
@@ -49,7 +49,7 @@ blank_long zero = refl
 blank_long (suc k) = ap suc (blank_long k)
 
 -- nothing was run
-pub first_stands : (n : Netlist Kit ℤ) (p : Schedule) (rest : Rest ℤ (List ℤ)) →
+pub first_stands : (n : Netlist Kit ℤ) (p : Schedule) (rest : NetState ℤ (List ℤ)) →
     IsNet kit_steps n → 0 < list_count Inputs n.nodes → 0 < (exchange_of n p.repetitions).taken →
     ((inputs : List (List ℤ)) → IsRest kit_steps n inputs (λ _. 0) rest) → (s : Sound) →
     StandsAt n p 1 s 0 0 [] (Some rest)
@@ -77,16 +77,16 @@ first_stands n p rest good some sized first s = record {
 
 -- they were run behind the first `few`: the lists that both runs made, and the net state after them
 pub record AreRun (n : Netlist Kit ℤ) (p : Schedule) (j : ℕ) (s : Sound) (few blocks : ℕ) (bytes : List ℕ)
-    (left : Option (Rest ℤ (List ℤ))) (on : List (List ℤ)) (last : Rest ℤ (List ℤ)) : Type 0 where
+    (left : Option (NetState ℤ (List ℤ))) (on : List (List ℤ)) (last : NetState ℤ (List ℤ)) : Type 0 where
   pub stands : StandsWhole n p j s few bytes left
   pub count : length on ≡ list_count Outputs n.nodes
   pub run : HasRun kit_steps n (lists_to ((few + blocks) * j) (exchange_of n p.repetitions) s)
       (firings p.repetitions ((few + blocks) * j)) (join stands.made on) last
 
 module _ {n : Netlist Kit ℤ} {p : Schedule} {j : ℕ} {s : Sound} {few blocks : ℕ} {bytes : List ℕ}
-    {left : Option (Rest ℤ (List ℤ))} {on : List (List ℤ)} {last : Rest ℤ (List ℤ)} (has : HasPeriod kit_steps n p)
-    (are : AreRun n p j s few blocks bytes left on last) (now : Option (Rest ℤ (List ℤ))) (is : now ≡ Some last) where
-  abbrev x : Exchange
+    {left : Option (NetState ℤ (List ℤ))} {on : List (List ℤ)} {last : NetState ℤ (List ℤ)} (has : HasPeriod kit_steps n p)
+    (are : AreRun n p j s few blocks bytes left on last) (now : Option (NetState ℤ (List ℤ))) (is : now ≡ Some last) where
+  abbrev x : IoRates
   x = exchange_of n p.repetitions
 
   abbrev made : List (List ℤ)
@@ -159,7 +159,7 @@ plays_still n p j v w by (net, period, cut) = record {
 
 -- what it holds is what the run before left
 pub held_is : {n : Netlist Kit ℤ} {p : Schedule} {j : ℕ} {s : Sound} {few frames : ℕ} {bytes : List ℕ}
-    {rest : Rest ℤ (List ℤ)} (at : StandsAt n p j s few frames bytes (Some rest)) →
+    {rest : NetState ℤ (List ℤ)} (at : StandsAt n p j s few frames bytes (Some rest)) →
     HasRun kit_steps n (lists_to (few * j) (exchange_of n p.repetitions) s) (firings p.repetitions (few * j)) at.made
     rest
 held_is {n} {p} {j} {s} {few} {frames} {bytes} {rest} at =
@@ -168,21 +168,21 @@ held_is {n} {p} {j} {s} {few} {frames} {bytes} {rest} at =
 
 -- it goes on by what the portion's own exchange reads
 pub portion_as : (n : Netlist Kit ℤ) (p : Schedule) (y : Portion) → y.exchange ≡ exchange_of n p.repetitions →
-    (rest : Rest ℤ (List ℤ)) (on : List (List ℤ)) (last : Rest ℤ (List ℤ)) →
+    (rest : NetState ℤ (List ℤ)) (on : List (List ℤ)) (last : NetState ℤ (List ℤ)) →
     GoesOnBy kit_steps n p.repetitions rest y.periods (lists_from 0 y.periods y.exchange y.input.now) on last →
     GoesOnBy kit_steps n p.repetitions rest y.periods
     (lists_from 0 y.periods (exchange_of n p.repetitions) y.input.now) on last
 portion_as n p y is rest on last goes =
-    subst (λ (x : Exchange). GoesOnBy kit_steps n p.repetitions rest y.periods (lists_from 0 y.periods x y.input.now) on
+    subst (λ (x : IoRates). GoesOnBy kit_steps n p.repetitions rest y.periods (lists_from 0 y.periods x y.input.now) on
     last) is goes
 
 -- the run before and the one on the portion are one run
 module _ {n : Netlist Kit ℤ} {p : Schedule} {j : ℕ} {s : Sound} {few blocks : ℕ} {bytes : List ℕ}
-    {rest last : Rest ℤ (List ℤ)} {y : Portion} {on : List (List ℤ)}
+    {rest last : NetState ℤ (List ℤ)} {y : Portion} {on : List (List ℤ)}
     (follows : Follows n p j s few blocks bytes (Some rest) y)
     (goes : GoesOnBy kit_steps n p.repetitions rest y.periods (lists_from 0 y.periods (exchange_of n p.repetitions)
     y.input.now) on last) where
-  abbrev e : Exchange
+  abbrev e : IoRates
   e = exchange_of n p.repetitions
 
   abbrev before : List (List ℤ)

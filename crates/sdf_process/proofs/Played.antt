@@ -14,18 +14,18 @@ use Rattle.sdf_actor.specs.Nets.{Netlist, node, wire, wiring, consumed_at, input
 use Rattle.sdf_actor.specs.Rests.{AreJoined}
 use Rattle.sdf_actor.specs.Sides.{period_samples}
 use Rattle.sdf_actor.specs.Steps.{Steps}
-use Rattle.sdf_answer.specs.Answer.{AreOutputs, HasInputs, IsRunFault, periods_of as firings}
-use Rattle.sdf_answer.specs.declared.fault.RunFault.{RunFault}
-use Rattle.sdf_answer.specs.declared.fault.RunFault.TheVariants.{OutOfMemory}
-use Rattle.sdf_answer.specs.Feeds.{AreFull}
-use Rattle.sdf_answer.specs.Periods.{HasPeriod}
+use Rattle.sdf_queues.specs.Answer.{AreOutputs, HasInputs, IsRunFault, periods_of as firings}
+use Rattle.sdf_queues.specs.declared.fault.RunFault.{RunFault}
+use Rattle.sdf_queues.specs.declared.fault.RunFault.TheVariants.{OutOfMemory}
+use Rattle.sdf_queues.specs.Feeds.{AreFull}
+use Rattle.sdf_queues.specs.Periods.{HasPeriod}
 use Rattle.sdf_kit.specs.declared.kit.Kit.{Kit}
 use Rattle.sdf_sched.specs.Period.{Schedule}
-use Rattle.sdf_split.specs.Cuts.{join}
+use Rattle.sdf_parallel.specs.Cuts.{join}
 use Rattle.sdf_actor.proofs.Theorems.{ports_have_channels}
-use Rattle.sdf_answer.proofs.Theorems.{nets_can_run}
+use Rattle.sdf_queues.proofs.Theorems.{nets_can_run}
 use Rattle.sdf_wav.specs.Sound.{Sound}
-use Rattle.sdf_process.specs.declared.exchange.Exchange.{Exchange}
+use Rattle.sdf_process.specs.declared.io_rates.IoRates.{IoRates}
 use Rattle.sdf_process.specs.Output.{exchange_of, sample, channel_samples, channel_samples_from, frame, interleaved}
 use Rattle.sdf_process.specs.Output.{interleaved_from, lists_to, lists_from}
 use Rattle.sdf_process.proofs.Outputs.{sink_of}
@@ -47,7 +47,7 @@ map_joined {X} f a (suc n) m =
     ∙ (ap (λ (l : List X). f a ∷ l) (map_joined f (a + 1) n m) ∙ ap (λ (k : ℕ). map f (range_with_len a k)) all)
 
 -- the lists of some periods and of those behind are those of all
-pub lists_joined : (few more : ℕ) (x : Exchange) (s : Sound) →
+pub lists_joined : (few more : ℕ) (x : IoRates) (s : Sound) →
     AreJoined (lists_to few x s) (lists_from few more x s) (lists_to (few + more) x s)
 lists_joined few more x s e = go (cases_lt e x.inputs)
   where
@@ -79,7 +79,7 @@ lists_joined few more x s e = go (cases_lt e x.inputs)
         (none (channel_samples s (few * x.taken)) past)
         ∙ none (channel_samples_from s (few * x.taken) (more * x.taken)) past)
 
-pub lists_long : (few more : ℕ) (x : Exchange) (s : Sound) →
+pub lists_long : (few more : ℕ) (x : IoRates) (s : Sound) →
     length (lists_to (few + more) x s) ≡ length (lists_to few x s)
 lists_long few more x s = length-map-range_with_len (channel_samples s ((few + more) * x.taken)) 0 x.inputs
     ∙ sym (length-map-range_with_len (channel_samples s (few * x.taken)) 0 x.inputs)
@@ -89,7 +89,7 @@ pub lists_full : (n : Netlist Kit ℤ) (q : List ℕ) (periods : ℕ) (s : Sound
     AreFull n q periods (lists_to periods (exchange_of n q) s)
 lists_full n q periods s e l = list_length periods (exchange_of n q) s e l
 
-module _ (few more : ℕ) (x : Exchange) (s : Sound) where
+module _ (few more : ℕ) (x : IoRates) (s : Sound) where
   pub from_at : (e : ℕ) → e < length (lists_from few more x s) →
       length (get_or (lists_from few more x s) e []) ≡ more * x.taken
   from_at e l =
@@ -115,7 +115,7 @@ pub piece_full : (n : Netlist Kit ℤ) (q : List ℕ) (s : Sound) (few more : �
 piece_full n q s few more e l = from_at few more (exchange_of n q) s e l
 
 -- so a piece fails by memory alone
-pub piece_refused : {X : Type 0} (n : Netlist Kit ℤ) (q : List ℕ) (s : Sound) (x : Exchange) → x ≡ exchange_of n q →
+pub piece_refused : {X : Type 0} (n : Netlist Kit ℤ) (q : List ℕ) (s : Sound) (x : IoRates) → x ≡ exchange_of n q →
     (at many : ℕ) (inputs : List (List ℤ)) → inputs ≡ lists_from at many x s →
     (e : RunFault) (r : Result X RunFault) → IsRunFault n q many inputs e → IsErrAnd r (λ f. f ≡ e) →
     IfErr r (λ f. f ≡ OutOfMemory)

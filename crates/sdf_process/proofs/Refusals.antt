@@ -17,7 +17,7 @@ use Rattle.sdf_wav.specs.declared.fault.WavFault.{WavFault}
 use Rattle.sdf_wav.specs.declared.fault.WavFault.TheVariants as wav
 use Rattle.sdf_wav.specs.declared.format.Format.{Format}
 use Rattle.sdf_wav.proofs.Theorems.{not_both, one_fault}
-use Rattle.sdf_process.specs.declared.exchange.Announced.{Announced}
+use Rattle.sdf_process.specs.declared.io_rates.StreamInfo.{StreamInfo}
 use Rattle.sdf_faults.specs.declared.fault.Fault.{Fault}
 use Rattle.sdf_faults.specs.declared.fault.Fault.TheVariants.{OutOfMemory, Wav, Read, Write, ChannelsMissing}
 use Rattle.sdf_faults.specs.declared.fault.Fault.TheVariants.{RateNotWhole}
@@ -118,7 +118,7 @@ module _ (n : Netlist Kit ℤ) (q : List ℕ) (r r' : ReaderState) (w : WriterSt
 -- ---- there is no output of what is announced
 
 -- what is announced of an input that was read as far as it takes to know it
-pub record AnnouncedAt (a : Announced) (input left : List ℕ) : Type 0 where
+pub record AnnouncedAt (a : StreamInfo) (input left : List ℕ) : Type 0 where
   pub reading : Reading
   pub samples : List ℤ
   pub read : IsReadTo input reading samples left
@@ -131,7 +131,7 @@ some_same x y e = cc
 pub some_no_none : {X : Type 0} (x : X) → Some x ≡ None → ⊥
 some_no_none x e = cc
 
-module _ (n : Netlist Kit ℤ) (q : List ℕ) (r r' : ReaderState) (w : WriterState) (a : Announced)
+module _ (n : Netlist Kit ℤ) (q : List ℕ) (r r' : ReaderState) (w : WriterState) (a : StreamInfo)
     (at : Known r.remaining r'.remaining (AnnouncedAt a)) (counted : r'.failures ≡ r.failures)
     (sounds : (input : List ℕ) (s : Sound) (rest : List ℕ) → r.remaining ≡ Some input → IsWav input s rest →
     announced_by s ≡ a)

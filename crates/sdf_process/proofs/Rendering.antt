@@ -10,26 +10,26 @@ use Rattle.std.proofs.lemmas.List.Concat.{flat_map-cons}
 use Rattle.std.proofs.lemmas.List.FromFn.{length-map-range_with_len, get_or-map-range_with_len, take-map-range_with_len}
 use Rattle.sdf_actor.specs.Nets.{Netlist}
 use Rattle.sdf_kit.specs.declared.kit.Kit.{Kit}
-use Rattle.sdf_answer.specs.Answer.{HasInputs, IsRunFault}
-use Rattle.sdf_answer.specs.Laws.{Begin}
-use Rattle.sdf_answer.specs.declared.fault.RunFault.{RunFault}
-use Rattle.sdf_answer.specs.declared.fault.RunFault.TheVariants as run
+use Rattle.sdf_queues.specs.Answer.{HasInputs, IsRunFault}
+use Rattle.sdf_queues.specs.Laws.{Begin}
+use Rattle.sdf_queues.specs.declared.fault.RunFault.{RunFault}
+use Rattle.sdf_queues.specs.declared.fault.RunFault.TheVariants as run
 use Rattle.sdf_wav.specs.Sound.{Sound}
-use Rattle.sdf_process.specs.declared.exchange.Exchange.{Exchange}
+use Rattle.sdf_process.specs.declared.io_rates.IoRates.{IoRates}
 use Rattle.sdf_process.specs.Output.{exchange_of, sample, channel_samples, lists_to, frame, interleaved}
 
 -- ---- what the runners are given
 
 -- each input list has the samples of so many periods
-list_at : (periods : ℕ) (x : Exchange) (s : Sound) (e : ℕ) → e < x.inputs →
+list_at : (periods : ℕ) (x : IoRates) (s : Sound) (e : ℕ) → e < x.inputs →
     get_or (lists_to periods x s) e [] ≡ channel_samples s (periods * x.taken) e
 list_at periods x s e here = get_or-map-range_with_len (channel_samples s (periods * x.taken)) 0 x.inputs e e []
     here (omega arith)
 
-count_of : (periods : ℕ) (x : Exchange) (s : Sound) → length (lists_to periods x s) ≡ x.inputs
+count_of : (periods : ℕ) (x : IoRates) (s : Sound) → length (lists_to periods x s) ≡ x.inputs
 count_of periods x s = length-map-range_with_len (channel_samples s (periods * x.taken)) 0 x.inputs
 
-pub list_length : (periods : ℕ) (x : Exchange) (s : Sound) (e : ℕ) → e < length (lists_to periods x s) →
+pub list_length : (periods : ℕ) (x : IoRates) (s : Sound) (e : ℕ) → e < length (lists_to periods x s) →
     length (get_or (lists_to periods x s) e []) ≡ periods * x.taken
 list_length periods x s e here =
     ap length (list_at periods x s e (omega (arith, here, count_of periods x s)))
@@ -45,7 +45,7 @@ are_inputs n q s periods = record {
 }
 
 -- those of fewer periods begin those of more
-pub begin : (few many : ℕ) (x : Exchange) (s : Sound) → few ≤ many → Begin (lists_to few x s) (lists_to many x s)
+pub begin : (few many : ℕ) (x : IoRates) (s : Sound) → few ≤ many → Begin (lists_to few x s) (lists_to many x s)
 begin few many x s less e = go (cases_lt e x.inputs)
   where
     go : (e < x.inputs) ⊎ (x.inputs ≤ e) → get_or (lists_to few x s) e [] ≡

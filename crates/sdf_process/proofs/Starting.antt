@@ -4,8 +4,8 @@ use Rattle.std.proofs.Common.{sum, mul-le-mul_left}
 use Rattle.std.proofs.Math.Seq.{drop-nil}
 use Rattle.sdf_actor.specs.Nets.{Netlist}
 use Rattle.sdf_actor.specs.Wires.{lists as items_of}
-use Rattle.sdf_answer.specs.Laws.{RunsGoOn}
-use Rattle.sdf_answer.specs.Periods.{HasPeriod}
+use Rattle.sdf_queues.specs.Laws.{RunsGoOn}
+use Rattle.sdf_queues.specs.Periods.{HasPeriod}
 use Rattle.sdf_kit.specs.declared.kit.Kit.{Kit}
 use Rattle.sdf_kit.specs.Kit.{kit_steps}
 use Rattle.sdf_actor.specs.Graphs.{graph_of}
@@ -16,8 +16,8 @@ use Rattle.sdf_wav.specs.Device.{ReaderState, WriterState}
 use Rattle.sdf_wav.specs.PiecesIn.{Reading, sound_read}
 use Rattle.sdf_wav.specs.PiecesOut.{Owed}
 use Rattle.sdf_wav.specs.declared.wav.TheConstants.{MOST_CHANNELS}
-use Rattle.sdf_process.specs.declared.begun.Begun.{Begun}
-use Rattle.sdf_process.specs.declared.exchange.Exchange.{Exchange}
+use Rattle.sdf_process.specs.declared.opened_output.OpenedOutput.{OpenedOutput}
+use Rattle.sdf_process.specs.declared.io_rates.IoRates.{IoRates}
 use Rattle.sdf_process.specs.declared.streaming.Opened.{Opened}
 use Rattle.sdf_process.specs.declared.streaming.Stream.{Stream}
 use Rattle.sdf_process.specs.Flows.{CameTo, CanFlow, Flows, GoesOn, Progress, Start, samples_run, start_of}
@@ -48,8 +48,8 @@ few_blocks j firings some short =
 
 module _ (t : Opened) (is : IsOpened t)
     (has : (p : Schedule) → IsPeriodOf (rates (graph_of kit_steps t.net.now)) p → HasPeriod kit_steps t.net.now p)
-    (b : Begun) (begun : IsBegun t.net.now t.period.now.repetitions b)
-    (x : Exchange) (x_is : (q : List ℕ) → IsLeastPeriod (rates (graph_of kit_steps t.net.now)) q →
+    (b : OpenedOutput) (begun : IsBegun t.net.now t.period.now.repetitions b)
+    (x : IoRates) (x_is : (q : List ℕ) → IsLeastPeriod (rates (graph_of kit_steps t.net.now)) q →
     x ≡ exchange_of t.net.now q) (limits : IsExchange x) where
   abbrev n : Netlist Kit ℤ
   n = t.net.now
@@ -87,8 +87,8 @@ module _ (t : Opened) (is : IsOpened t)
           fits = begun.unheard.sound.size_fits;
           some = is.some;
           few = few_blocks t.blocking (sum p.repetitions) (some_firings n p (has p is.period)) is.fits;
-          taken = subst (λ (y : Exchange). 0 < y.taken) there limits.some_taken;
-          made = subst (λ (y : Exchange). 0 < y.made) there limits.some_made;
+          taken = subst (λ (y : IoRates). 0 < y.taken) there limits.some_taken;
+          made = subst (λ (y : IoRates). 0 < y.made) there limits.some_made;
           outputs = omega (arith, (has p is.period).accepted.1.lists.output);
           owed = ap (λ (y : Owed). y.missing) begun.owed
               ∙ ap (λ (k : ℕ). k * (exchange_of n p.repetitions).made) begun.extent_is.periods;

@@ -13,10 +13,10 @@ use Rattle.sdf_wav.specs.Canonical.{sample_bytes}
 use Rattle.sdf_wav.specs.PiecesIn.{Reading, sound_read}
 use Rattle.sdf_wav.specs.PiecesOut.{Owed}
 use Rattle.sdf_faults.specs.declared.fault.Fault.{Fault}
-use Rattle.sdf_process.specs.declared.exchange.Exchange.{Exchange}
+use Rattle.sdf_process.specs.declared.io_rates.IoRates.{IoRates}
 use Rattle.sdf_process.specs.declared.flow.Flow.{Flow}
 use Rattle.sdf_process.specs.declared.portion.Portion.{Portion}
-use Rattle.sdf_process.specs.declared.runner.Runner.{Runner}
+use Rattle.sdf_process.specs.declared.runner.PieceRunner.{PieceRunner}
 use Rattle.sdf_process.specs.declared.streaming.Stream.{Stream}
 use Rattle.sdf_process.specs.Flows.{Flows, GoesOn, IsAhead, IsReady, IsStep, IsUnderWay, Progress, Start, Turns}
 use Rattle.sdf_process.specs.Flows.{blocks_on}
@@ -40,7 +40,7 @@ where_ok (Ok x) P Q E go h = go x h
 where_ok (Err e) P Q E go h = tt
 
 -- a run that is ready is so with another runner of its net, and another flow
-pub ready_on : (b : Start) (t : Stream) → IsReady b t → (v : Runner) (f : Flow) → GoesBy b.net b.period b.blocking v →
+pub ready_on : (b : Start) (t : Stream) → IsReady b t → (v : PieceRunner) (f : Flow) → GoesBy b.net b.period b.blocking v →
     f.most ≡ t.flow.most → (is_cut v ≡ false → items_of f.made.items ≡ []) → IsReady b (record {
       runner = v;
       flow = f;
@@ -135,7 +135,7 @@ module _ (b : Start) (g : Progress) (blocks : ℕ) (t : Stream) (y : Portion) {r
   all_frames = step.next.frames ∙ (ap (λ (k : ℕ). k * y.exchange.made) step.next.follows.periods
       ∙ ap (λ (x : _). blocks * b.blocking * x.made) step.next.exchange)
 
-  module _ (v : Runner) (made : List (List ℤ)) (runs : RunsNext t.runner v y made) where
+  module _ (v : PieceRunner) (made : List (List ℤ)) (runs : RunsNext t.runner v y made) where
     ran : Makes b.net b.period b.blocking (sound_read (reading_in b) g.samples) g.blocks blocks y.frames g.bytes made
         (left_by v) × GoesBy b.net b.period b.blocking v
     ran = runs b.net b.period b.blocking (sound_read (reading_in b) g.samples) g.blocks blocks g.bytes step.ready.goes
@@ -229,7 +229,7 @@ blocks_missing b t ready o frames blocks count is =
     let k : ℕ = t.blocking * t.exchange.made in
     let x = exchange_in b in
     let same : k ≡ b.blocking * x.made = ap (λ z. z * t.exchange.made) ready.blocking
-    ∙ ap (λ (y : Exchange). b.blocking * y.made) ready.exchange in
+    ∙ ap (λ (y : IoRates). b.blocking * y.made) ready.exchange in
     let times = subst (λ z. (frames ≤ z * k) × (z * k < frames + k)) (sym is)
     (div_ceil_times frames k (omega (arith, same, positive b.blocking x.made ready.can.some ready.can.made))) in
     let size = ap (λ z. blocks * z) same in
@@ -242,7 +242,7 @@ module _ (b : Start) (g : Progress) (t : Stream) {r : ReaderState} {w : WriterSt
   abbrev c : Reading
   c = reading_in b
 
-  abbrev x : Exchange
+  abbrev x : IoRates
   x = exchange_in b
 
   samples_are : length g.samples ≡ (b.frames - t.flow.left) * c.channels
@@ -309,7 +309,7 @@ module _ (b : Start) (g : Progress) (t : Stream) {r : ReaderState} {w : WriterSt
   pub block_is : (f : ℕ) → f ≡ t.channels →
       t.blocking * t.exchange.taken * f ≡ b.blocking * x.taken * c.channels
   block_is f same = ap (λ z. z * t.exchange.taken * f) under.ready.blocking
-      ∙ (ap (λ (y : Exchange). b.blocking * y.taken * f) under.ready.exchange
+      ∙ (ap (λ (y : IoRates). b.blocking * y.taken * f) under.ready.exchange
       ∙ ap (λ z. b.blocking * x.taken * z) (same ∙ under.ready.channels))
 
   -- whole blocks of it
@@ -323,7 +323,7 @@ module _ (b : Start) (g : Progress) (t : Stream) {r : ReaderState} {w : WriterSt
     there_more : samples_run b (g.blocks + blocks) ≤ length g.samples
     there_more = omega (arith, past, some, kept_long, under.ahead.came.there)
 
-    pub step_by : (v : Runner) (f : Flow) (y : Portion) (rest : List ℤ) → left_by v ≡ left_by t.runner →
+    pub step_by : (v : PieceRunner) (f : Flow) (y : Portion) (rest : List ℤ) → left_by v ≡ left_by t.runner →
         GoesBy b.net b.period b.blocking v → is_cut v ≡ is_cut t.runner → f.left ≡ t.flow.left →
         f.source ≡ t.flow.source →
         f.output ≡ t.flow.output → f.made ≡ t.flow.made → f.most ≡ t.flow.most →
@@ -355,7 +355,7 @@ module _ (b : Start) (g : Progress) (t : Stream) {r : ReaderState} {w : WriterSt
 
 -- inputs are read
 pub some_inputs : (b : Start) (t : Stream) → IsReady b t → 0 < t.exchange.inputs
-some_inputs b t ready = subst (λ (y : Exchange). 0 < y.inputs) (sym ready.exchange)
+some_inputs b t ready = subst (λ (y : IoRates). 0 < y.inputs) (sym ready.exchange)
     (omega (arith, ready.can.has.accepted.1.lists.input))
 
 -- the net can be run on a portion

@@ -1,10 +1,10 @@
 -- A run that reads and writes as it goes: its blocks, as the sound is read on.
 use Rattle.std.proofs.Common.{◌≡◌, ℕ, ◌*◌, ◌≤◌, ℤ, List, ◌++◌, length, drop, Option, sym, ap, ◌∙◌, subst}
 use Rattle.std.proofs.lemmas.List.{drop-append-le}
-use Rattle.sdf_actor.specs.declared.rest.Rest.{Rest}
+use Rattle.sdf_actor.specs.declared.rest.NetState.{NetState}
 use Rattle.sdf_actor.specs.Nets.{Netlist}
-use Rattle.sdf_answer.specs.Answer.{periods_of as firings}
-use Rattle.sdf_answer.specs.Feeds.{HasRun}
+use Rattle.sdf_queues.specs.Answer.{periods_of as firings}
+use Rattle.sdf_queues.specs.Feeds.{HasRun}
 use Rattle.sdf_kit.specs.declared.kit.Kit.{Kit}
 use Rattle.sdf_kit.specs.Kit.{kit_steps}
 use Rattle.sdf_sched.specs.Period.{Schedule}
@@ -12,8 +12,8 @@ use Rattle.sdf_wav.specs.PiecesIn.{Reading, sound_read}
 use Rattle.sdf_process.specs.Flows.{CameTo, Progress, Start, exchange_in, reading_in, samples_run}
 use Rattle.sdf_process.specs.Output.{exchange_of}
 use Rattle.sdf_process.specs.declared.portion.Portion.{Portion}
-use Rattle.sdf_process.specs.declared.runner.Runner.{Runner}
-use Rattle.sdf_process.specs.declared.runner.Runner.TheVariants as runner
+use Rattle.sdf_process.specs.declared.runner.PieceRunner.{PieceRunner}
+use Rattle.sdf_process.specs.declared.runner.PieceRunner.TheVariants as runner
 use Rattle.sdf_process.specs.Streams.{Follows, GoesBy, StandsAt, StandsWhole, WritesOf}
 use Rattle.sdf_process.proofs.Parts.{lists_behind, lists_stay}
 
@@ -21,7 +21,7 @@ use Rattle.sdf_process.proofs.Parts.{lists_behind, lists_stay}
 
 -- more samples change nothing of it
 pub stands_on : (n : Netlist Kit ℤ) (p : Schedule) (j : ℕ) (c : Reading) (xs ys : List ℤ) (blocks frames : ℕ)
-    (bytes : List ℕ) (v : Option (Rest ℤ (List ℤ))) →
+    (bytes : List ℕ) (v : Option (NetState ℤ (List ℤ))) →
     (exchange_of n p.repetitions).inputs ≤ c.channels →
     blocks * j * (exchange_of n p.repetitions).taken * c.channels ≤ length xs →
     StandsAt n p j (sound_read c xs) blocks frames bytes v →
@@ -42,7 +42,7 @@ kept_on k xs ys kept there is = ap (λ (l : List ℤ). l ++ ys) is ∙ sym (drop
 -- ---- a portion of what is kept
 
 -- it follows what was run before
-pub kept_follows : (b : Start) (g : Progress) (v : Option (Rest ℤ (List ℤ))) → CameTo b g → v ≡ g.left → (y : Portion) →
+pub kept_follows : (b : Start) (g : Progress) (v : Option (NetState ℤ (List ℤ))) → CameTo b g → v ≡ g.left → (y : Portion) →
     (blocks : ℕ) → y.periods ≡ blocks * b.blocking → y.input.now.channels ≡ (reading_in b).channels →
     y.input.now.samples ≡ drop (samples_run b g.blocks) g.samples →
     Follows b.net b.period b.blocking (sound_read (reading_in b) g.samples) g.blocks blocks g.bytes v y
@@ -55,12 +55,12 @@ kept_follows b g v came same y blocks periods channels is = record {
 }
 
 -- whole blocks are run whole, by a session as by a player
-pub writes_whole : (v : Runner) (made frames : ℕ) → frames ≡ made → WritesOf v made frames
+pub writes_whole : (v : PieceRunner) (made frames : ℕ) → frames ≡ made → WritesOf v made frames
 writes_whole (runner.Session v) made frames is = tt
 writes_whole (runner.Player v) made frames is = is
 
 -- and so are the last ones, if blocks are single periods
-pub writes_last : (n : Netlist Kit ℤ) (p : Schedule) (j : ℕ) (v : Runner) → GoesBy n p j v → (made missing : ℕ) →
+pub writes_last : (n : Netlist Kit ℤ) (p : Schedule) (j : ℕ) (v : PieceRunner) → GoesBy n p j v → (made missing : ℕ) →
     (j ≡ 1 → missing ≡ made) → WritesOf v made missing
 writes_last n p j (runner.Session v) goes made missing is = tt
 writes_last n p j (runner.Player v) goes made missing is = is goes.single

@@ -8,7 +8,7 @@ use Rattle.std.proofs.lemmas.Bool.{ne_eqb}
 use Rattle.std.proofs.lemmas.Nat.{le-div}
 use Rattle.std.proofs.lemmas.List.{drop-drop, length-append, length-drop, length-take-le, take-append-drop}
 use Rattle.sdf_actor.specs.Nets.{Netlist}
-use Rattle.sdf_answer.specs.Answer.{AreOutputs, periods_of as firings}
+use Rattle.sdf_queues.specs.Answer.{AreOutputs, periods_of as firings}
 use Rattle.sdf_kit.specs.declared.kit.Kit.{Kit}
 use Rattle.sdf_kit.specs.Kit.{kit_steps}
 use Rattle.sdf_wav.specs.Device.{ReaderState, WriterState}

@@ -9,9 +9,9 @@ use Rattle.sdf_wav.specs.Sound.{Sound}
 use Rattle.sdf_wav.specs.Canonical.{header, sample_bytes, write_fault, IsCanonical}
 use Rattle.sdf_wav.specs.PiecesOut.{file_header, Owed}
 use Rattle.sdf_wav.proofs.Theorems.{files_are_canonical, puts_join}
-use Rattle.sdf_process.specs.declared.exchange.Announced.{Announced}
-use Rattle.sdf_process.specs.declared.exchange.Exchange.{Exchange}
-use Rattle.sdf_process.specs.declared.exchange.Extent.{Extent}
+use Rattle.sdf_process.specs.declared.io_rates.StreamInfo.{StreamInfo}
+use Rattle.sdf_process.specs.declared.io_rates.IoRates.{IoRates}
+use Rattle.sdf_process.specs.declared.io_rates.OutputSize.{OutputSize}
 use Rattle.sdf_process.specs.Output.{exchange_of, interleaved, output_header, rate_for, IsExchange, IsExtent}
 use Rattle.sdf_process.specs.Output.{announced_fault}
 use Rattle.sdf_process.specs.Run.{AreFrames}
@@ -24,12 +24,12 @@ bytes_append xs ys = sym (puts_join (Some []) (Some (sample_bytes xs)) (Some (sa
     xs ys refl refl)
 
 -- the header that is written is that of the output of what is announced
-pub header_is : (x : Exchange) (a : Announced) (e : Extent) → IsExtent x a e →
+pub header_is : (x : IoRates) (a : StreamInfo) (e : OutputSize) → IsExtent x a e →
     file_header e.rate x.outputs (e.periods * x.made) ≡ output_header x a
 header_is x a e is = ap (λ (r : ℕ). file_header r x.outputs (e.periods * x.made)) is.rate
     ∙ ap (λ (p : ℕ). file_header (rate_for x a.rate) x.outputs (p * x.made)) is.periods
 
-module _ (x : Exchange) (a : Announced) (e : Extent) (limits : IsExchange x)
+module _ (x : IoRates) (a : StreamInfo) (e : OutputSize) (limits : IsExchange x)
     (is : IsExtent x a e) where
   abbrev frames : ℕ
   frames = e.periods * x.made
@@ -72,7 +72,7 @@ module _ (x : Exchange) (a : Announced) (e : Extent) (limits : IsExchange x)
       (file_of samples long)
 
 -- the frames of some periods behind the header
-pub text_begins : (n : Netlist Kit ℤ) (q : List ℕ) (a : Announced) (e : Extent) →
+pub text_begins : (n : Netlist Kit ℤ) (q : List ℕ) (a : StreamInfo) (e : OutputSize) →
     IsExchange (exchange_of n q) → IsExtent (exchange_of n q) a e →
     (s : Sound) (periods : ℕ) (bytes : List ℕ) → periods ≤ e.periods → AreFrames n q s periods bytes →
     Begins (output_header (exchange_of n q) a ++ bytes)
@@ -91,22 +91,22 @@ text_begins n q a e limits is s periods bytes few (inr (lists, made, same)) =
 
 -- ---- what is said of an exchange that is the net's
 
-pub extent_as : {x y : Exchange} {a b : Announced} {e : Extent} → x ≡ y → a ≡ b → IsExtent x a e → IsExtent y b e
+pub extent_as : {x y : IoRates} {a b : StreamInfo} {e : OutputSize} → x ≡ y → a ≡ b → IsExtent x a e → IsExtent y b e
 extent_as {x} {y} {a} {b} {e} same told is =
-    subst (λ (z : Exchange). IsExtent z b e) same (subst (λ (z : Announced). IsExtent x z e) told is)
+    subst (λ (z : IoRates). IsExtent z b e) same (subst (λ (z : StreamInfo). IsExtent x z e) told is)
 
-pub fault_as : {x y : Exchange} {a b : Announced} {f : Fault} → x ≡ y → a ≡ b → announced_fault x a ≡ Some f →
+pub fault_as : {x y : IoRates} {a b : StreamInfo} {f : Fault} → x ≡ y → a ≡ b → announced_fault x a ≡ Some f →
     announced_fault y b ≡ Some f
 fault_as {x} {y} {a} {b} {f} same told is =
-    subst (λ (z : Exchange). announced_fault z b ≡ Some f) same
-    (subst (λ (z : Announced). announced_fault x z ≡ Some f) told is)
+    subst (λ (z : IoRates). announced_fault z b ≡ Some f) same
+    (subst (λ (z : StreamInfo). announced_fault x z ≡ Some f) told is)
 
-pub owed_as : {x y : Exchange} {o : Owed} (e : Extent) → x ≡ y →
+pub owed_as : {x y : IoRates} {o : Owed} (e : OutputSize) → x ≡ y →
     o ≡ record { channels = x.outputs; missing = e.periods * x.made; spent = false } →
     o ≡ record { channels = y.outputs; missing = e.periods * y.made; spent = false }
 owed_as e same is =
-    is ∙ ap (λ (z : Exchange). record { channels = z.outputs; missing = e.periods * z.made; spent = false }) same
+    is ∙ ap (λ (z : IoRates). record { channels = z.outputs; missing = e.periods * z.made; spent = false }) same
 
-pub header_as : {x y : Exchange} (e : Extent) → x ≡ y →
+pub header_as : {x y : IoRates} (e : OutputSize) → x ≡ y →
     file_header e.rate x.outputs (e.periods * x.made) ≡ file_header e.rate y.outputs (e.periods * y.made)
-header_as e same = ap (λ (z : Exchange). file_header e.rate z.outputs (e.periods * z.made)) same
+header_as e same = ap (λ (z : IoRates). file_header e.rate z.outputs (e.periods * z.made)) same

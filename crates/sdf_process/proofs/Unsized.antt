@@ -10,8 +10,8 @@ use Rattle.sdf_wav.specs.Device.{AppendsFront, Known, LosesFront, ReaderState, W
 use Rattle.sdf_wav.specs.PiecesIn.{Reading, IsEnded, known_frames}
 use Rattle.sdf_wav.specs.PiecesOut.{Owed, file_header}
 use Rattle.sdf_wav.proofs.Theorems.{not_both, one_sound}
-use Rattle.sdf_process.specs.declared.exchange.Exchange.{Exchange}
-use Rattle.sdf_process.specs.declared.exchange.Extent.{Extent}
+use Rattle.sdf_process.specs.declared.io_rates.IoRates.{IoRates}
+use Rattle.sdf_process.specs.declared.io_rates.OutputSize.{OutputSize}
 use Rattle.sdf_faults.specs.declared.fault.Fault.{Fault}
 use Rattle.sdf_process.specs.Output.{announced_by, announced_fault, exchange_of, output_header, IsExchange, IsExtent}
 use Rattle.sdf_process.specs.Run.{IsRun, IsText, IsUnsized, Announces}
@@ -24,7 +24,7 @@ use Rattle.sdf_process.proofs.Opened.{content_has, frames_unknown, heard_here, l
 
 module _ (n : Netlist Kit ℤ) (q : List ℕ) (limits : IsExchange (exchange_of n q)) (r mid : ReaderState) (c : Reading)
     (opened : IsOpened r mid c) (is : known_frames c ≡ None) where
-  abbrev x : Exchange
+  abbrev x : IoRates
   x = exchange_of n q
 
   abbrev Fails : (r' : ReaderState) (w w' : WriterState) → Fault → Type 0
@@ -90,7 +90,7 @@ module _ (n : Netlist Kit ℤ) (q : List ℕ) (limits : IsExchange (exchange_of 
         g why
         (λ input f known has allowed. let y = is_wav input known in not_both input s y.0 f y.1 has)
 
-    module _ (e : Extent) (extent : IsExtent x (announced_by s) e) where
+    module _ (e : OutputSize) (extent : IsExtent x (announced_by s) e) where
       abbrev text : List ℕ
       text = output_header x (announced_by s) ++ []
 

@@ -11,7 +11,7 @@ use Rattle.sdf_wav.specs.PiecesIn.{Reading, sound_read}
 use Rattle.sdf_wav.specs.Sound.{Sound}
 use Rattle.sdf_wav.specs.declared.wav.TheConstants.{MOST_CHANNELS}
 use Rattle.sdf_faults.specs.declared.fault.Fault.{Fault}
-use Rattle.sdf_process.specs.declared.begun.Begun.{Begun}
+use Rattle.sdf_process.specs.declared.opened_output.OpenedOutput.{OpenedOutput}
 use Rattle.sdf_process.specs.declared.source.Source.TheVariants.{Heard}
 use Rattle.sdf_process.specs.Output.{exchange_of, IsExtent}
 use Rattle.sdf_process.specs.Sources.{reading_of, Takes, TakesAll}
@@ -25,7 +25,7 @@ use Rattle.sdf_graph.specs.Rates.{rates}
 use Rattle.sdf_graph.proofs.Theorems.{one_least_period}
 use Rattle.sdf_actor.specs.Graphs.{graph_of}
 use Rattle.sdf_actor.specs.NetFaults.{WasAccepted}
-use Rattle.sdf_process.specs.declared.playing.Score.{Score}
+use Rattle.sdf_process.specs.declared.player.PlayerPlan.{PlayerPlan}
 
 -- ---- a session
 
@@ -40,7 +40,7 @@ session_goes n p j v is stands =
 -- ---- a player
 
 -- its blocks, which are single periods, have few firings
-pub one_short : (t : Score) → IsScore t → WasAccepted kit_steps t.net.now →
+pub one_short : (t : PlayerPlan) → IsScore t → WasAccepted kit_steps t.net.now →
     1 * sum t.period.now.repetitions ≤ MOST_BLOCK
 one_short t is accepted =
     let same : accepted.0 ≡ t.period.now.repetitions =
@@ -51,7 +51,7 @@ one_short t is accepted =
 
 -- ---- a source that is taken whole before it is played
 
-module _ (n : Netlist Kit ℤ) (q : List ℕ) (b : Begun) (begun : IsBegun n q b) (r r1 : ReaderState)
+module _ (n : Netlist Kit ℤ) (q : List ℕ) (b : OpenedOutput) (begun : IsBegun n q b) (r r1 : ReaderState)
     (s : Sound) (takes : TakesAll b.source r r1 (Ok s)) where
   abbrev c : Reading
   c = reading_of b.source

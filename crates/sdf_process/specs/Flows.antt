@@ -5,9 +5,9 @@ use Rattle.std.specs.Io.KnownBytes.{Appends}
 use Rattle.sdf_limits.specs.declared.TheConstants.{MOST_BLOCK}
 use Rattle.sdf_actor.specs.Nets.{Netlist}
 use Rattle.sdf_actor.specs.Wires.{lists as items_of}
-use Rattle.sdf_actor.specs.declared.rest.Rest.{Rest}
-use Rattle.sdf_answer.specs.Laws.{RunsGoOn}
-use Rattle.sdf_answer.specs.Periods.{HasPeriod}
+use Rattle.sdf_actor.specs.declared.rest.NetState.{NetState}
+use Rattle.sdf_queues.specs.Laws.{RunsGoOn}
+use Rattle.sdf_queues.specs.Periods.{HasPeriod}
 use Rattle.sdf_kit.specs.declared.kit.Kit.{Kit}
 use Rattle.sdf_kit.specs.Kit.{kit_steps}
 use Rattle.sdf_sched.specs.Period.{Schedule}
@@ -17,8 +17,8 @@ use Rattle.sdf_wav.specs.PiecesIn.{Reading, sound_read}
 use Rattle.sdf_wav.specs.PiecesOut.{Owed}
 use Rattle.sdf_wav.specs.declared.wav.TheConstants.{MOST_CHANNELS}
 use Rattle.sdf_faults.specs.declared.fault.Fault.{Fault}
-use Rattle.sdf_process.specs.declared.begun.Begun.{Begun}
-use Rattle.sdf_process.specs.declared.exchange.Exchange.{Exchange}
+use Rattle.sdf_process.specs.declared.opened_output.OpenedOutput.{OpenedOutput}
+use Rattle.sdf_process.specs.declared.io_rates.IoRates.{IoRates}
 use Rattle.sdf_process.specs.declared.flow.Flow.{Flow}
 use Rattle.sdf_process.specs.declared.portion.Portion.{Portion}
 use Rattle.sdf_process.specs.declared.source.Source.{Source}
@@ -40,7 +40,7 @@ pub record Start : Type 0 where
   pub reader : ReaderState
   pub writer : WriterState
 
-abbrev pub start_of : Opened → Begun → ReaderState → WriterState → Start
+abbrev pub start_of : Opened → OpenedOutput → ReaderState → WriterState → Start
 start_of t b r w = record {
   net = t.net.now;
   period = t.period.now;
@@ -55,7 +55,7 @@ start_of t b r w = record {
 abbrev pub reading_in : Start → Reading
 reading_in b = reading_of b.source
 
-abbrev pub exchange_in : Start → Exchange
+abbrev pub exchange_in : Start → IoRates
 exchange_in b = exchange_of b.net b.period.repetitions
 
 -- the result of a run with this start, which leaves the devices in these states
@@ -87,7 +87,7 @@ pub record Progress : Type 0 where
   pub samples : List ℤ
   pub blocks : ℕ
   pub bytes : List ℕ
-  pub left : Option (Rest ℤ (List ℤ))
+  pub left : Option (NetState ℤ (List ℤ))
 
 -- the number of samples that this many blocks take
 abbrev pub samples_run : Start → ℕ → ℕ
@@ -116,7 +116,7 @@ pub record Flows (b : Start) (g : Progress) (unread : ℕ) (source : Source) (o 
   pub writer : w.failures ≡ b.writer.failures
 
 -- the progress g, after this many more blocks
-abbrev pub blocks_on : Progress → ℕ → List ℕ → Option (Rest ℤ (List ℤ)) → Progress
+abbrev pub blocks_on : Progress → ℕ → List ℕ → Option (NetState ℤ (List ℤ)) → Progress
 blocks_on g more bytes left =
     record { samples = g.samples; blocks = g.blocks + more; bytes = g.bytes ++ bytes; left = left }
 

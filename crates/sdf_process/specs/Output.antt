@@ -11,14 +11,14 @@ use Rattle.sdf_wav.specs.declared.wav.TheConstants.{MOST_CHANNELS}
 use Rattle.sdf_actor.specs.Nets.{Netlist}
 use Rattle.sdf_actor.specs.Sides.{list_count, period_samples}
 use Rattle.sdf_actor.specs.declared.sides.Lists.TheVariants.{Inputs, Outputs}
-use Rattle.sdf_process.specs.declared.exchange.Announced.{Announced}
-use Rattle.sdf_process.specs.declared.exchange.Exchange.{Exchange}
-use Rattle.sdf_process.specs.declared.exchange.Extent.{Extent}
+use Rattle.sdf_process.specs.declared.io_rates.StreamInfo.{StreamInfo}
+use Rattle.sdf_process.specs.declared.io_rates.IoRates.{IoRates}
+use Rattle.sdf_process.specs.declared.io_rates.OutputSize.{OutputSize}
 use Rattle.sdf_faults.specs.declared.fault.Fault.{Fault}
 use Rattle.sdf_faults.specs.declared.fault.Fault.TheVariants.{Wav, ChannelsMissing, RateNotWhole}
 
 -- what a net with least repetition vector q exchanges with files in a period
-abbrev pub exchange_of : {A : Type 0} → Netlist A ℤ → List ℕ → Exchange
+abbrev pub exchange_of : {A : Type 0} → Netlist A ℤ → List ℕ → IoRates
 exchange_of n q = record {
   inputs = list_count Inputs n.nodes;
   outputs = list_count Outputs n.nodes;
@@ -27,43 +27,43 @@ exchange_of n q = record {
 }
 
 -- the stream info of a sound: what is known of it before its samples are read
-abbrev pub announced_by : Sound → Announced
+abbrev pub announced_by : Sound → StreamInfo
 announced_by s = record { rate = s.rate; channels = s.channels; frames = frames_of s }
 
 -- the number of periods that it takes to read this many frames
-abbrev pub periods_for : Exchange → ℕ → ℕ
+abbrev pub periods_for : IoRates → ℕ → ℕ
 periods_for x frames = (frames + (x.taken - 1)) / x.taken
 
 -- frames a second of the output
-abbrev pub rate_for : Exchange → ℕ → ℕ
+abbrev pub rate_for : IoRates → ℕ → ℕ
 rate_for x rate = rate * x.made / x.taken
 
 -- frames of the output, which has whole periods
-abbrev pub frames_for : Exchange → ℕ → ℕ
+abbrev pub frames_for : IoRates → ℕ → ℕ
 frames_for x frames = periods_for x frames * x.made
 
 -- the reason why there is no output of what is announced, if there is none
-abbrev pub announced_fault : Exchange → Announced → Option Fault
+abbrev pub announced_fault : IoRates → StreamInfo → Option Fault
 announced_fault x a =
     if nat_lt a.channels x.inputs then Some ChannelsMissing
     else (if not (a.rate * x.made % x.taken == 0) then Some RateNotWhole
     else option_map Wav (size_fault (rate_for x a.rate) x.outputs (frames_for x a.frames * x.outputs)))
 
 -- the periods, the rate, the frames and the fault of the output of a sound
-abbrev pub periods_of : Exchange → Sound → ℕ
+abbrev pub periods_of : IoRates → Sound → ℕ
 periods_of x s = periods_for x (frames_of s)
 
-abbrev pub output_rate : Exchange → Sound → ℕ
+abbrev pub output_rate : IoRates → Sound → ℕ
 output_rate x s = rate_for x s.rate
 
-abbrev pub output_frames : Exchange → Sound → ℕ
+abbrev pub output_frames : IoRates → Sound → ℕ
 output_frames x s = frames_for x (frames_of s)
 
-abbrev pub output_fault : Exchange → Sound → Option Fault
+abbrev pub output_fault : IoRates → Sound → Option Fault
 output_fault x s = announced_fault x (announced_by s)
 
 -- the header of the output of what is announced
-abbrev pub output_header : Exchange → Announced → List ℕ
+abbrev pub output_header : IoRates → StreamInfo → List ℕ
 output_header x a = file_header (rate_for x a.rate) x.outputs (frames_for x a.frames)
 
 -- sample i of channel e; there are zeros past the last frame
@@ -78,15 +78,15 @@ abbrev pub channel_samples : Sound → ℕ → ℕ → List ℤ
 channel_samples s n e = channel_samples_from s 0 n e
 
 -- each channel that is read, for this many periods
-abbrev pub lists_to : ℕ → Exchange → Sound → List (List ℤ)
+abbrev pub lists_to : ℕ → IoRates → Sound → List (List ℤ)
 lists_to periods x s = map (channel_samples s (periods * x.taken)) (range_with_len 0 x.inputs)
 
 -- each channel that is read, for this many periods behind the first `at`
-abbrev pub lists_from : ℕ → ℕ → Exchange → Sound → List (List ℤ)
+abbrev pub lists_from : ℕ → ℕ → IoRates → Sound → List (List ℤ)
 lists_from at periods x s = map (channel_samples_from s (at * x.taken) (periods * x.taken)) (range_with_len 0 x.inputs)
 
 -- the input lists, for all periods
-abbrev pub input_lists : Exchange → Sound → List (List ℤ)
+abbrev pub input_lists : IoRates → Sound → List (List ℤ)
 input_lists x s = lists_to (periods_of x s) x s
 
 -- frame i of some lists, each sample clamped to 16 bits
@@ -105,7 +105,7 @@ abbrev pub in_turn : List (List ℤ) → List ℤ
 in_turn lists = flat_map (λ l. l) lists
 
 -- the sound of the output lists
-abbrev pub output_of : Exchange → Sound → List (List ℤ) → Sound
+abbrev pub output_of : IoRates → Sound → List (List ℤ) → Sound
 output_of x s lists = record {
   rate = output_rate x s;
   channels = x.outputs;
@@ -113,7 +113,7 @@ output_of x s lists = record {
 }
 
 -- what is true of a net's exchange with files
-pub record IsExchange (x : Exchange) : Type 0 where
+pub record IsExchange (x : IoRates) : Type 0 where
   pub some_taken : 0 < x.taken
   pub some_made : 0 < x.made
   pub few_taken : x.taken ≤ MOST_RATE * MOST_PERIOD
@@ -123,7 +123,7 @@ pub record IsExchange (x : Exchange) : Type 0 where
   pub few_outputs : x.outputs ≤ MOST_CHANNELS
 
 -- the rate and the length of the output of what is announced, if there is one
-pub record IsExtent (x : Exchange) (a : Announced) (e : Extent) : Type 0 where
+pub record IsExtent (x : IoRates) (a : StreamInfo) (e : OutputSize) : Type 0 where
   pub is_allowed : announced_fault x a ≡ None
   pub rate : e.rate ≡ rate_for x a.rate
   pub periods : e.periods ≡ periods_for x a.frames

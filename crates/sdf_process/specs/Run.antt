@@ -3,7 +3,7 @@ use Rattle.std.specs.Prelude.{◌≡◌, ◌≢◌, ℕ, ◌*◌, ◌/◌, ◌�
 use Rattle.std.specs.Prelude.{IfErr}
 use Rattle.std.specs.Io.KnownBytes.{Appends, Keeps}
 use Rattle.sdf_actor.specs.Nets.{Netlist}
-use Rattle.sdf_answer.specs.Answer.{AreOutputs, periods_of as firings}
+use Rattle.sdf_queues.specs.Answer.{AreOutputs, periods_of as firings}
 use Rattle.sdf_kit.specs.declared.kit.Kit.{Kit}
 use Rattle.sdf_kit.specs.Kit.{kit_steps}
 use Rattle.sdf_wav.specs.Sound.{Sound, frames_of}
@@ -17,8 +17,8 @@ use Rattle.sdf_wav.specs.PiecesIn.{Reading, Opens, IsReadTo, IsEnded, sound_read
 use Rattle.sdf_wav.specs.declared.fault.FormatFault.{FormatFault}
 use Rattle.sdf_wav.specs.declared.fault.FormatFault.TheVariants.{Truncated}
 use Rattle.sdf_wav.specs.declared.format.Format.{Format}
-use Rattle.sdf_process.specs.declared.exchange.Announced.{Announced}
-use Rattle.sdf_process.specs.declared.exchange.Exchange.{Exchange}
+use Rattle.sdf_process.specs.declared.io_rates.StreamInfo.{StreamInfo}
+use Rattle.sdf_process.specs.declared.io_rates.IoRates.{IoRates}
 use Rattle.sdf_faults.specs.declared.fault.Fault.{Fault}
 use Rattle.sdf_faults.specs.declared.fault.Fault.TheVariants.{OutOfMemory, Wav, Read, Write, ChannelsMissing}
 use Rattle.sdf_faults.specs.declared.fault.Fault.TheVariants.{RateNotWhole}
@@ -41,14 +41,14 @@ pub record HasOutput (n : Netlist Kit ℤ) (q : List ℕ) (input : List ℕ) (ou
 
 -- What is announced of a content that was read this far: the frames by the size of its data or, if that was not filled
 -- in, the frames that there are once nothing of it is left.
-abbrev pub Announces : Reading → List ℤ → List ℕ → Announced → Type 0
+abbrev pub Announces : Reading → List ℤ → List ℕ → StreamInfo → Type 0
 Announces r samples rest a =
     (a.rate ≡ r.rate) × (a.channels ≡ r.channels)
     × ((known_frames r ≡ Some a.frames) ⊎ ((known_frames r ≡ None) × IsEnded r rest
     × (a.frames ≡ frames_of (sound_read r samples))))
 
 -- what the size of data announces, if it was filled in
-abbrev pub announced_size : Format → ℕ → Announced
+abbrev pub announced_size : Format → ℕ → StreamInfo
 announced_size f size = record { rate = f.rate; channels = f.channels; frames = size / (2 * f.channels) }
 
 -- the size of the data of an input was never filled in, if the input opens
@@ -56,7 +56,7 @@ abbrev pub IsUnsized : List ℕ → Type 0
 IsUnsized input = (f : Format) (size : ℕ) (rest : List ℕ) → Opens input f size rest → size ≡ 0xFFFFFFFF
 
 -- there is an output of what the size of the data announces, if the input opens and the size was filled in
-abbrev pub IsAllowed : Exchange → List ℕ → Type 0
+abbrev pub IsAllowed : IoRates → List ℕ → Type 0
 IsAllowed x input = (f : Format) (size : ℕ) (rest : List ℕ) → Opens input f size rest → size ≢ 0xFFFFFFFF →
     announced_fault x (announced_size f size) ≡ None
 
@@ -65,13 +65,13 @@ pub record HasOutputFault (n : Netlist Kit ℤ) (q : List ℕ) (input : List ℕ
   pub reading : Reading
   pub samples : List ℤ
   pub rest : List ℕ
-  pub announced : Announced
+  pub announced : StreamInfo
   pub read : IsReadTo input reading samples rest
   pub announces : Announces reading samples rest announced
   pub fault : announced_fault (exchange_of n q) announced ≡ Some f
 
 -- this many whole periods were read of a content, the last one filled up with zeros once nothing is left
-abbrev pub AreRead : Exchange → Reading → List ℤ → List ℕ → ℕ → Type 0
+abbrev pub AreRead : IoRates → Reading → List ℤ → List ℕ → ℕ → Type 0
 AreRead x r samples rest periods =
     (periods * x.taken ≤ frames_of (sound_read r samples))
     ⊎ (IsEnded r rest × (periods ≤ periods_of x (sound_read r samples)))
@@ -90,7 +90,7 @@ pub record IsText (n : Netlist Kit ℤ) (q : List ℕ) (input text : List ℕ) :
   pub reading : Reading
   pub samples : List ℤ
   pub rest : List ℕ
-  pub announced : Announced
+  pub announced : StreamInfo
   pub periods : ℕ
   pub frames : List ℕ
   pub read : IsReadTo input reading samples rest

@@ -3,7 +3,7 @@ use Rattle.std.specs.Prelude.{◌≡◌, ◌≢◌, ◌⊎◌, ℕ, ◌+◌, ◌
 use Rattle.std.specs.Prelude.{Result, Ok, Err, false}
 use Rattle.std.specs.Io.KnownBytes.{Appends}
 use Rattle.sdf_actor.specs.Nets.{Netlist}
-use Rattle.sdf_answer.specs.Answer.{AreOutputs, periods_of as firings}
+use Rattle.sdf_queues.specs.Answer.{AreOutputs, periods_of as firings}
 use Rattle.sdf_kit.specs.declared.kit.Kit.{Kit}
 use Rattle.sdf_kit.specs.Kit.{kit_steps}
 use Rattle.sdf_wav.specs.Canonical.{sample_bytes}
@@ -15,8 +15,8 @@ use Rattle.sdf_wav.specs.Sound.{Sound}
 use Rattle.sdf_wav.specs.declared.format.Format.{Format}
 use Rattle.sdf_wav.specs.declared.fault.FormatFault.{FormatFault}
 use Rattle.sdf_wav.specs.declared.fault.FormatFault.TheVariants.{Truncated}
-use Rattle.sdf_process.specs.declared.exchange.Exchange.{Exchange}
-use Rattle.sdf_process.specs.declared.exchange.Extent.{Extent}
+use Rattle.sdf_process.specs.declared.io_rates.IoRates.{IoRates}
+use Rattle.sdf_process.specs.declared.io_rates.OutputSize.{OutputSize}
 use Rattle.sdf_faults.specs.declared.fault.Fault.{Fault}
 use Rattle.sdf_faults.specs.declared.fault.Fault.TheVariants.{OutOfMemory, Wav, Read, Write}
 use Rattle.sdf_process.specs.Output.{announced_by, exchange_of, input_lists, interleaved, output_frames}
@@ -72,7 +72,7 @@ pub record IsHeard (input : List ℕ) (s : Sound) (left : List ℕ) : Type 0 whe
 
 -- All that is known once a sound was heard and the header of its output is written. e is the rate and length of the
 -- output, of which nothing is written except the header.
-pub record Hears (x : Exchange) (r r' : ReaderState) (w w' : WriterState) (s : Sound) (e : Extent) (o : Owed) :
+pub record Hears (x : IoRates) (r r' : ReaderState) (w w' : WriterState) (s : Sound) (e : OutputSize) (o : Owed) :
     Type 0 where
   pub heard : Known r.remaining r'.remaining (λ input rest. IsHeard input s rest × LosesFront input rest)
   pub allowed : (input : List ℕ) → r.remaining ≡ Some input → IsAllowed x input

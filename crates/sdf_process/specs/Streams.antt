@@ -6,11 +6,11 @@ use Rattle.sdf_graph.specs.Rates.{rates}
 use Rattle.sdf_actor.specs.Graphs.{graph_of}
 use Rattle.sdf_actor.specs.Nets.{Netlist}
 use Rattle.sdf_actor.specs.Sides.{list_count}
-use Rattle.sdf_actor.specs.declared.rest.Rest.{Rest}
+use Rattle.sdf_actor.specs.declared.rest.NetState.{NetState}
 use Rattle.sdf_actor.specs.declared.sides.Lists.TheVariants.{Inputs, Outputs}
-use Rattle.sdf_answer.specs.Answer.{periods_of as firings}
-use Rattle.sdf_answer.specs.Feeds.{HasRun}
-use Rattle.sdf_answer.specs.Periods.{HasPeriod}
+use Rattle.sdf_queues.specs.Answer.{periods_of as firings}
+use Rattle.sdf_queues.specs.Feeds.{HasRun}
+use Rattle.sdf_queues.specs.Periods.{HasPeriod}
 use Rattle.sdf_kit.specs.declared.kit.Kit.{Kit}
 use Rattle.sdf_kit.specs.Kit.{kit_steps}
 use Rattle.sdf_run.specs.Sessions.{SessionValue, IsLive}
@@ -24,12 +24,12 @@ use Rattle.sdf_wav.specs.Sound.{Sound, frames_of}
 use Rattle.sdf_wav.specs.declared.wav.TheConstants.{MOST_CHANNELS}
 use Rattle.sdf_faults.specs.declared.fault.Fault.{Fault}
 use Rattle.sdf_faults.specs.declared.fault.Fault.TheVariants.{Write}
-use Rattle.sdf_process.specs.declared.playing.Player.{Player}
+use Rattle.sdf_process.specs.declared.player.Player.{Player}
 use Rattle.sdf_process.specs.declared.portion.Portion.{Portion}
 use Rattle.sdf_process.specs.declared.source.Source.{Source}
 use Rattle.sdf_process.specs.declared.streaming.Opened.{Opened}
-use Rattle.sdf_process.specs.declared.runner.Runner.{Runner}
-use Rattle.sdf_process.specs.declared.runner.Runner.TheVariants as runner
+use Rattle.sdf_process.specs.declared.runner.PieceRunner.{PieceRunner}
+use Rattle.sdf_process.specs.declared.runner.PieceRunner.TheVariants as runner
 use Rattle.sdf_process.specs.Output.{exchange_of, in_turn, interleaved, lists_from, lists_to, periods_of}
 use Rattle.sdf_process.specs.Run.{AreFrames}
 use Rattle.sdf_process.specs.Sources.{reading_of, Takes, TakesAll}
@@ -39,16 +39,16 @@ use Rattle.sdf_process.specs.Tasks.{IsPlayer, cut_by}
 -- Net n ran the first blocks of j periods of a sound: this is the net state that the run left, and these are the bytes
 -- of the first frames that it made.
 pub record StandsAt (n : Netlist Kit ℤ) (p : Schedule) (j : ℕ) (s : Sound) (blocks frames : ℕ) (bytes : List ℕ)
-    (left : Option (Rest ℤ (List ℤ))) : Type 0 where
+    (left : Option (NetState ℤ (List ℤ))) : Type 0 where
   pub made : List (List ℤ)
-  pub rest : Rest ℤ (List ℤ)
+  pub rest : NetState ℤ (List ℤ)
   pub held : left ≡ Some rest
   pub run : HasRun kit_steps n (lists_to (blocks * j) (exchange_of n p.repetitions) s)
       (firings p.repetitions (blocks * j)) made rest
   pub bytes_are : bytes ≡ sample_bytes (interleaved frames made)
 
 -- the bytes are of all frames that the run made
-abbrev pub StandsWhole : Netlist Kit ℤ → Schedule → ℕ → Sound → ℕ → List ℕ → Option (Rest ℤ (List ℤ)) → Type 0
+abbrev pub StandsWhole : Netlist Kit ℤ → Schedule → ℕ → Sound → ℕ → List ℕ → Option (NetState ℤ (List ℤ)) → Type 0
 StandsWhole n p j s blocks bytes left =
     StandsAt n p j s blocks (blocks * j * (exchange_of n p.repetitions).made) bytes left
 
@@ -68,34 +68,34 @@ pub record PlaysBy (n : Netlist Kit ℤ) (p : Schedule) (j : ℕ) (v : Player) :
   pub period : v.period.now ≡ p
   pub single : j ≡ 1
 
-abbrev pub GoesBy : Netlist Kit ℤ → Schedule → ℕ → Runner → Type 0
+abbrev pub GoesBy : Netlist Kit ℤ → Schedule → ℕ → PieceRunner → Type 0
 GoesBy n p j (runner.Session v) = FeedsBy n p j v
 GoesBy n p j (runner.Player v) = PlaysBy n p j v
 
 -- the net state that the runner left, unless it is spent
-abbrev pub left_by : Runner → Option (Rest ℤ (List ℤ))
+abbrev pub left_by : PieceRunner → Option (NetState ℤ (List ℤ))
 left_by (runner.Session v) = v.rest
 left_by (runner.Player v) = Some v.rest
 
 -- the runner runs parts in parallel, while frames are written and taken
-abbrev pub is_cut : Runner → Bool
+abbrev pub is_cut : PieceRunner → Bool
 is_cut (runner.Session v) = false
 is_cut (runner.Player v) = is_some (cut_by v.manner)
 
 -- all frames that a player makes are written
-abbrev pub WritesOf : Runner → ℕ → ℕ → Type 0
+abbrev pub WritesOf : PieceRunner → ℕ → ℕ → Type 0
 WritesOf (runner.Session v) made frames = Unit {0}
 WritesOf (runner.Player v) made frames = frames ≡ made
 
 -- the portion is the next blocks of a sound, after the first `few` were run
 pub record Follows (n : Netlist Kit ℤ) (p : Schedule) (j : ℕ) (s : Sound) (few blocks : ℕ) (bytes : List ℕ)
-    (left : Option (Rest ℤ (List ℤ))) (y : Portion) : Type 0 where
+    (left : Option (NetState ℤ (List ℤ))) (y : Portion) : Type 0 where
   pub stands : StandsWhole n p j s few bytes left
   pub periods : y.periods ≡ blocks * j
   pub lists : lists_from (few * j) y.periods (exchange_of n p.repetitions) s ≡
       lists_from 0 y.periods (exchange_of n p.repetitions) y.input.now
 
-abbrev pub IsFollowed : Netlist Kit ℤ → Schedule → ℕ → Option (Rest ℤ (List ℤ)) → Portion → Type 0
+abbrev pub IsFollowed : Netlist Kit ℤ → Schedule → ℕ → Option (NetState ℤ (List ℤ)) → Portion → Type 0
 IsFollowed n p j left y =
     (s : Sound) × (few : ℕ) × (blocks : ℕ) × (bytes : List ℕ) × Follows n p j s few blocks bytes left y
 
@@ -116,7 +116,7 @@ CanPut o made = (frames : ℕ) × AreWhole o.channels frames made × (frames ≤
 
 -- The next blocks were run behind the first `few`, and these are the first frames that they made.
 pub record Makes (n : Netlist Kit ℤ) (p : Schedule) (j : ℕ) (s : Sound) (few blocks frames : ℕ) (bytes : List ℕ)
-    (made : List (List ℤ)) (left : Option (Rest ℤ (List ℤ))) : Type 0 where
+    (made : List (List ℤ)) (left : Option (NetState ℤ (List ℤ))) : Type 0 where
   pub stands : StandsAt n p j s (few + blocks) (few * j * (exchange_of n p.repetitions).made + frames)
       (bytes ++ sample_bytes (in_turn made)) left
   pub whole : AreWhole (exchange_of n p.repetitions).outputs frames made
@@ -140,7 +140,7 @@ pub record IsOpened (t : Opened) : Type 0 where
 -- ---- a runner that runs the next portion
 
 -- the runner can run the portion, which follows what it ran
-pub record CanRunNext (v : Runner) (y : Portion) : Type 0 where
+pub record CanRunNext (v : PieceRunner) (y : Portion) : Type 0 where
   pub net : Netlist Kit ℤ
   pub period : Schedule
   pub blocking : ℕ
@@ -150,13 +150,13 @@ pub record CanRunNext (v : Runner) (y : Portion) : Type 0 where
   pub all : WritesOf v (y.periods * y.exchange.made) y.frames
 
 -- the runner ran the portion: whatever sound it ran, it made these frames of its next blocks
-abbrev pub RunsNext : Runner → Runner → Portion → List (List ℤ) → Type 0
+abbrev pub RunsNext : PieceRunner → PieceRunner → Portion → List (List ℤ) → Type 0
 RunsNext v now y made = (n : Netlist Kit ℤ) (p : Schedule) (j : ℕ) (s : Sound) (few blocks : ℕ) (bytes : List ℕ) →
     GoesBy n p j v → CanRun n p j y → Follows n p j s few blocks bytes (left_by v) y →
     Makes n p j s few blocks y.frames bytes made (left_by now) × GoesBy n p j now
 
 -- only the memory of the runner changes
-abbrev pub StaysRunner : Runner → Runner → Type 0
+abbrev pub StaysRunner : PieceRunner → PieceRunner → Type 0
 StaysRunner v w = (left_by w ≡ left_by v) × ((n : Netlist Kit ℤ) (p : Schedule) (j : ℕ) → GoesBy n p j v →
     GoesBy n p j w) × (is_cut w ≡ is_cut v)
 
@@ -167,11 +167,11 @@ FeedsNext v now y made = (n : Netlist Kit ℤ) (p : Schedule) (j : ℕ) (s : Sou
     Makes n p j s few blocks y.frames bytes made now.rest × FeedsBy n p j now
 
 -- a net can be played on the portion, from this state
-abbrev pub CanPlay : Netlist Kit ℤ → Schedule → Rest ℤ (List ℤ) → Portion → Type 0
+abbrev pub CanPlay : Netlist Kit ℤ → Schedule → NetState ℤ (List ℤ) → Portion → Type 0
 CanPlay n p rest y = (j : ℕ) × CanRun n p j y × IsFollowed n p j (Some rest) y
 
 -- a net played the portion: whatever sound it played, it made these frames of the next blocks, and left this state
-abbrev pub Plays : Netlist Kit ℤ → Schedule → Rest ℤ (List ℤ) → Rest ℤ (List ℤ) → Portion → List (List ℤ) → Type 0
+abbrev pub Plays : Netlist Kit ℤ → Schedule → NetState ℤ (List ℤ) → NetState ℤ (List ℤ) → Portion → List (List ℤ) → Type 0
 Plays n p rest last y made = (j : ℕ) (s : Sound) (few blocks : ℕ) (bytes : List ℕ) →
     Follows n p j s few blocks bytes (Some rest) y → Makes n p j s few blocks y.frames bytes made (Some last)
 

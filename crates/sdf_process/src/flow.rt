@@ -6,7 +6,7 @@ ghost use Rattle.sdf_wav.specs.Device.{ReaderState, WriterState};
 ghost use Rattle.sdf_process.specs.Flows.{CanFlow, CanTurn, Flows, IsAhead, Progress, Start, StreamsFrom, TakesNext};
 ghost use Rattle.sdf_process.specs.Flows.{TurnsAll, Writes};
 
-use crate::putting::put_in_turn;
+use crate::writing::put_in_turn;
 use crate::source::Source;
 use sdf_faults::Fault;
 use sdf_wav::{ContentOut, Reader, Wav, Writer};

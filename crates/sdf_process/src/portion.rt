@@ -2,12 +2,12 @@
 
 ghost use Rattle.std.specs.Prelude.{◌≡◌, ◌*◌, ◌≤◌, ◌<◌, ℕ, [], length, slice_index_or, IfOk};
 ghost use Rattle.sdf_actor.specs.Wires.{lists as items_of};
-ghost use Rattle.sdf_split.specs.Cuts.{cut};
+ghost use Rattle.sdf_parallel.specs.Cuts.{cut};
 ghost use Rattle.sdf_process.specs.Output.{interleaved, lists_from, IsExchange};
 
-use crate::exchange::Exchange;
+use crate::io_rates::IoRates;
 use crate::samples::{channel_lists, make_frames};
-use sdf_split::Ends;
+use sdf_parallel::PartIo;
 use sdf_wav::Wav;
 use std::alloc::{AllocError, Global};
 
@@ -15,7 +15,7 @@ use std::alloc::{AllocError, Global};
 /// are written. In a run in parts, each stretch makes its own input lists and its own frames.
 #[derive(Clone, Copy)]
 pub(crate) struct Portion<'a> {
-    pub(crate) exchange: Exchange,
+    pub(crate) exchange: IoRates,
     pub(crate) input: &'a Wav,
     pub(crate) periods: u32,
     pub(crate) frames: usize,
@@ -39,7 +39,7 @@ impl<'a> Portion<'a> {
     }
 }
 
-impl<'a> Ends<i32> for Portion<'a> {
+impl<'a> PartIo<i32> for Portion<'a> {
     type Made = Vec<i16>;
 
     ghost inputs = { λ p. lists_from 0 p.periods p.exchange p.input.now };

@@ -4,7 +4,7 @@ ghost use Rattle.sdf_plan.specs.Plans.{Suits};
 ghost use Rattle.sdf_process.specs.Run.{IsRun};
 
 use crate::running::run_net;
-use crate::task::Task;
+use crate::planned_net::PlannedNet;
 use sdf_faults::Fault;
 use sdf_file::Design;
 use sdf_plan::Plan;
@@ -34,7 +34,7 @@ pub fn process_with<T: Threads + AllocGlobal + Sync, R: Reader, W: Writer, G: Ga
     ensures { IsRun design.now.net plan.now.period.repetitions (R.state reader.old) (R.state reader.new)
         (W.state writer.old) (W.state writer.new) result }
 {
-    let task = Task {
+    let task = PlannedNet {
         net: design.net(),
         plan,
     };

@@ -3,17 +3,17 @@
 ghost use Rattle.std.specs.Prelude.{◌≡◌, ℕ, ℤ, Ok, IfOk, IfErr};
 ghost use Rattle.sdf_actor.specs.Nets.{Netlist};
 ghost use Rattle.sdf_actor.specs.Wires.{lists as items_of};
-ghost use Rattle.sdf_answer.specs.declared.fault.RunFault.TheVariants as run;
+ghost use Rattle.sdf_queues.specs.declared.fault.RunFault.TheVariants as run;
 ghost use Rattle.sdf_kit.specs.declared.kit.Kit.{Kit as KitValue};
 ghost use Rattle.sdf_faults.specs.declared.fault.Fault.TheVariants.{OutOfMemory};
 ghost use Rattle.sdf_sched.specs.Period.{Schedule};
 ghost use Rattle.sdf_process.specs.Streams.{CanRun, CanRunNext, FeedsBy, FeedsNext, IsFollowed, RunsNext, StaysRunner};
 ghost use Rattle.sdf_process.specs.Streams.{is_cut};
 
-use crate::playing::Player;
+use crate::player::Player;
 use crate::portion::Portion;
 use crate::samples::make_frames;
-use sdf_answer::RunFault;
+use sdf_queues::RunFault;
 use sdf_faults::Fault;
 use sdf_kit::Kit;
 use sdf_run::{Gate, Session};
@@ -21,21 +21,21 @@ use std::thread::Threads;
 
 /// The session or player that makes the frames of a run.
 #[derive(Drop)]
-pub(crate) enum Runner<'a> {
+pub(crate) enum PieceRunner<'a> {
     /// Workers that follow a table of blocks, by rows or over rings.
     Session(Session<'a, Kit>),
     /// One thread, or parallel parts of a sound.
     Player(Player<'a>),
 }
 
-impl<'a> Runner<'a> {
+impl<'a> PieceRunner<'a> {
     /// Returns whether it runs parts of a sound in parallel.
     pub(crate) fn is_cut(&self) -> bool
         ensures { result ≡ is_cut self.now }
     {
         match self {
-            Runner::Session(_) => false,
-            Runner::Player(player) => player.is_cut(),
+            PieceRunner::Session(_) => false,
+            PieceRunner::Player(player) => player.is_cut(),
         }
     }
 
@@ -52,8 +52,8 @@ impl<'a> Runner<'a> {
         ensures refused { IfErr result (λ f. f ≡ OutOfMemory) }
     {
         match self {
-            Runner::Session(session) => run_fed(rt, gate, session, portion),
-            Runner::Player(player) => played(player.run(rt, rt.alloc(), portion)),
+            PieceRunner::Session(session) => run_fed(rt, gate, session, portion),
+            PieceRunner::Player(player) => played(player.run(rt, rt.alloc(), portion)),
         }
     }
 
@@ -62,8 +62,8 @@ impl<'a> Runner<'a> {
         ensures { StaysRunner self.old self.new }
     {
         match self {
-            Runner::Session(_) => {}
-            Runner::Player(player) => player.give_back(frames),
+            PieceRunner::Session(_) => {}
+            PieceRunner::Player(player) => player.give_back(frames),
         }
     }
 }

@@ -6,11 +6,11 @@ ghost use Rattle.sdf_process.specs.Run.{IsRun};
 ghost use Rattle.sdf_process.specs.Stages.{RunsOn};
 ghost use Rattle.sdf_process.specs.Tasks.{IsUnheard, IsTask};
 
-use crate::begun::{Begun, run_begun};
-use crate::exchange::{Announced, Exchange};
-use crate::hearing::{begin, read_content};
+use crate::opened_output::{OpenedOutput, run_begun};
+use crate::io_rates::{StreamInfo, IoRates};
+use crate::stages::{begin, read_content};
 use crate::source::Source;
-use crate::task::Task;
+use crate::planned_net::PlannedNet;
 use sdf_faults::Fault;
 use sdf_run::Gate;
 use sdf_wav::{ContentIn, Reader, Writer};
@@ -18,7 +18,7 @@ use std::thread::Threads;
 
 /// A content of `frames` frames that is still to be read. Its size is filled in.
 #[derive(Drop)]
-struct Unheard {
+struct UnreadContent {
     content: ContentIn,
     frames: usize,
 }
@@ -29,25 +29,25 @@ fn run_ahead<T: Threads + AllocGlobal + Sync, R: Reader, W: Writer, G: Gate>(
     rt: &T,
     reader: &mut R,
     writer: &mut W,
-    task: Task<'_>,
+    task: PlannedNet<'_>,
     gate: &G,
-    unheard: Unheard,
+    unheard: UnreadContent,
 ) -> Result<(), Fault>
     requires task { IsTask task }
     requires content { IsUnheard unheard.content unheard.frames }
     ensures { RunsOn task.entry.net.now task.entry.plan.now.period.repetitions unheard.content
         (R.state reader.old) (R.state reader.new) (W.state writer.old) (W.state writer.new) result }
 {
-    let Unheard { content, frames } = unheard;
-    let exchange = Exchange::of_net(task.net);
-    let announced = Announced {
+    let UnreadContent { content, frames } = unheard;
+    let exchange = IoRates::of_net(task.net);
+    let announced = StreamInfo {
         rate: content.rate(),
         channels: content.channels(),
         frames,
     };
     let extent = exchange.extent(announced)?;
     let output = begin(writer, exchange, extent)?;
-    let begun = Begun {
+    let begun = OpenedOutput {
         source: Source::Content(content),
         frames,
         output,
@@ -60,7 +60,7 @@ fn run_behind<T: Threads + AllocGlobal + Sync, R: Reader, W: Writer, G: Gate>(
     rt: &T,
     reader: &mut R,
     writer: &mut W,
-    task: Task<'_>,
+    task: PlannedNet<'_>,
     gate: &G,
     content: ContentIn,
 ) -> Result<(), Fault>
@@ -71,11 +71,11 @@ fn run_behind<T: Threads + AllocGlobal + Sync, R: Reader, W: Writer, G: Gate>(
     ensures { RunsOn task.entry.net.now task.entry.plan.now.period.repetitions content
         (R.state reader.old) (R.state reader.new) (W.state writer.old) (W.state writer.new) result }
 {
-    let exchange = Exchange::of_net(task.net);
+    let exchange = IoRates::of_net(task.net);
     let sound = read_content(rt.alloc(), reader, content)?;
-    let extent = exchange.extent(Announced::by(&sound))?;
+    let extent = exchange.extent(StreamInfo::by(&sound))?;
     let output = begin(writer, exchange, extent)?;
-    let begun = Begun {
+    let begun = OpenedOutput {
         frames: sound.frames(),
         source: Source::Heard { sound, taken: 0 },
         output,
@@ -88,7 +88,7 @@ pub(crate) fn run_net<T: Threads + AllocGlobal + Sync, R: Reader, W: Writer, G: 
     rt: &T,
     reader: &mut R,
     writer: &mut W,
-    task: Task<'_>,
+    task: PlannedNet<'_>,
     gate: &G,
 ) -> Result<(), Fault>
     requires { IsTask task }
@@ -98,7 +98,7 @@ pub(crate) fn run_net<T: Threads + AllocGlobal + Sync, R: Reader, W: Writer, G: 
     let content = ContentIn::open(reader)?;
     match content.frames() {
         Some(frames) => {
-            let unheard = Unheard { content, frames };
+            let unheard = UnreadContent { content, frames };
             run_ahead(rt, reader, writer, task, gate, unheard)
         }
         None => run_behind(rt, reader, writer, task, gate, content),

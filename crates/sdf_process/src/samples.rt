@@ -7,7 +7,7 @@ ghost use Rattle.std.specs.List.{range_with_len};
 ghost use Rattle.sdf_actor.specs.Wires.{lists as items_of};
 ghost use Rattle.sdf_process.specs.Output.{channel_samples_from, interleaved};
 
-use sdf_answer::outputs::take_spare;
+use sdf_queues::outputs::take_spare;
 use sdf_wav::Wav;
 use std::alloc::{AllocError, Global};
 

@@ -6,7 +6,7 @@ ghost use Rattle.sdf_wav.specs.PiecesIn.{Reading};
 ghost use Rattle.sdf_wav.specs.declared.wav.TheConstants.{MOST_CHANNELS};
 ghost use Rattle.sdf_process.specs.Sources.{reading_of, source_behind, ReadsBy, ReadsMore, Takes, TakesAll, TakesMore};
 
-use crate::hearing::read_content;
+use crate::stages::read_content;
 use sdf_faults::Fault;
 use sdf_wav::{ContentIn, Reader, Wav};
 use std::alloc::Global;

@@ -2,7 +2,7 @@
 
 ghost use Rattle.std.specs.Prelude.{◌≡◌, ◌*◌, ◌≤◌, [], length, drop, true, is_some, IfErr, IfOk};
 ghost use Rattle.sdf_actor.specs.Wires.{lists as items_of};
-ghost use Rattle.sdf_answer.specs.declared.fault.RunFault.TheVariants as run;
+ghost use Rattle.sdf_queues.specs.declared.fault.RunFault.TheVariants as run;
 ghost use Rattle.sdf_wav.specs.Device.{ReaderState, WriterState};
 ghost use Rattle.sdf_process.specs.Flows.{CanStep, CanTurn, KeepsGoing, GoesOn, Start, StepsOn, StreamsFrom, TakesMost};
 ghost use Rattle.sdf_process.specs.Flows.{TurnsAll, start_of};
@@ -10,15 +10,15 @@ ghost use Rattle.sdf_process.specs.Streams.{CanPlayNext, IsOpened, PlaysNext, St
 ghost use Rattle.sdf_process.specs.Streams.{is_cut};
 ghost use Rattle.sdf_process.specs.Tasks.{IsBegun, IsPlayer, cut_by};
 
-use crate::begun::Begun;
-use crate::exchange::Exchange;
+use crate::opened_output::OpenedOutput;
+use crate::io_rates::IoRates;
 use crate::flow::Flow;
-use crate::playing::Player;
+use crate::player::Player;
 use crate::portion::Portion;
-use crate::putting::put_in_turn;
-use crate::runner::{Runner, played};
+use crate::writing::put_in_turn;
+use crate::runner::{PieceRunner, played};
 use sdf_actor::Net;
-use sdf_answer::RunFault;
+use sdf_queues::RunFault;
 use sdf_faults::Fault;
 use sdf_kit::Kit;
 use sdf_run::Gate;
@@ -44,7 +44,7 @@ fn behind(alloc: Global, samples: &[i16], from: usize) -> Result<Vec<i16>, Alloc
 pub(crate) struct Opened<'a> {
     pub(crate) net: &'a Net<Kit>,
     pub(crate) period: &'a Period,
-    pub(crate) runner: Runner<'a>,
+    pub(crate) runner: PieceRunner<'a>,
     /// Periods in a block.
     pub(crate) blocking: u32,
     /// Frames that are taken at first.
@@ -55,9 +55,9 @@ pub(crate) struct Opened<'a> {
 
 /// A run that goes on block by block.
 pub(crate) struct Stream<'a> {
-    runner: Runner<'a>,
+    runner: PieceRunner<'a>,
     flow: Flow,
-    exchange: Exchange,
+    exchange: IoRates,
     /// Periods in a block.
     blocking: u32,
     /// Frames a second of the sound.
@@ -82,19 +82,19 @@ impl Drop for Stream<'_> {
 
 impl<'a> Stream<'a> {
     /// Makes the stream of a run before its first frame.
-    fn open(alloc: Global, opened: Opened<'a>, begun: Begun) -> Stream<'a>
+    fn open(alloc: Global, opened: Opened<'a>, begun: OpenedOutput) -> Stream<'a>
         requires opened { IsOpened opened }
         requires begun { IsBegun opened.net.now opened.period.now.repetitions begun }
         ensures { (r : ReaderState) (w : WriterState) →
             GoesOn (start_of opened.entry begun r w) result r w }
     {
-        let Begun {
+        let OpenedOutput {
             source,
             frames: left,
             output,
         } = begun;
         runs_go_on::<Kit>();
-        let exchange = Exchange::of_net(opened.net);
+        let exchange = IoRates::of_net(opened.net);
         let (rate, channels) = (source.rate(), source.channels());
         let flow = Flow {
             source,
@@ -148,7 +148,7 @@ impl<'a> Stream<'a> {
             (W.state writer.old) (W.state writer.new) result }
         ensures left { TakesMost self.old.flow self.new.flow result }
     {
-        let Runner::Player(player) = &mut self.runner else {
+        let PieceRunner::Player(player) = &mut self.runner else {
             unreachable!()
         };
         let (ran, turned) = play_while_turning(rt, player, &mut self.flow, reader, writer, portion);
@@ -283,7 +283,7 @@ pub(crate) fn run_stream<T: Threads + AllocGlobal + Sync, R: Reader, W: Writer, 
     writer: &mut W,
     gate: &G,
     opened: Opened<'_>,
-    begun: Begun,
+    begun: OpenedOutput,
 ) -> Result<(), Fault>
     requires opened { IsOpened opened }
     requires begun { IsBegun opened.net.now opened.period.now.repetitions begun }

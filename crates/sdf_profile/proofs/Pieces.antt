@@ -6,7 +6,7 @@ use Rattle.std.proofs.lemmas.Bool.Decides.{nat_tests}
 use Rattle.std.proofs.Math.Seq.{drop-cons, drop-length}
 use Rattle.std.proofs.lemmas.Option.{none-some, same_Some}
 use Rattle.std.proofs.lemmas.List.{take_more}
-use Rattle.sdf_profile.specs.declared.places.Place.{Place}
+use Rattle.sdf_profile.specs.declared.places.CostPlace.{CostPlace}
 use Rattle.sdf_profile.specs.declared.unwritten.Unwritten.{Unwritten}
 use Rattle.sdf_profile.specs.declared.unwritten.Unwritten.TheVariants.{Cost}
 use Rattle.sdf_profile.specs.Places.{piece, behind, written_from, costed_in}
@@ -22,11 +22,11 @@ behind_both one other (Ok text) = ap Ok (sym (append_assoc one other text))
 behind_both one other (Err fault) = refl
 
 -- what is written in the place of what stands at the place of an actor, and where that ends
-abbrev pub Follows : List ℕ → ℕ → Place → ℕ → List ℕ → List ℕ → ℕ → Type 0
+abbrev pub Follows : List ℕ → ℕ → CostPlace → ℕ → List ℕ → List ℕ → ℕ → Type 0
 Follows graph read p n before after end =
     (new : List ℕ) × (piece graph read p n ≡ Some (record { new = new; end = end })) × (after ≡ before ++ new)
 
-turn : (graph : List ℕ) (read actor : ℕ) (p : Place) (n : ℕ) (places : List Place) (costs before after : List ℕ)
+turn : (graph : List ℕ) (read actor : ℕ) (p : CostPlace) (n : ℕ) (places : List CostPlace) (costs before after : List ℕ)
     (end : ℕ) → Follows graph read p n before after end →
     behind after (written_from graph end (suc actor) places costs)
     ≡ behind before (written_from graph read actor (p ∷ places) (n ∷ costs))
@@ -34,8 +34,8 @@ turn graph read actor p n places costs before after end (new, is, after_is) =
     rw (is, after_is) (sym (behind_both before new (written_from graph end (suc actor) places costs)))
 
 -- behind one more cost
-pub written_turn : (graph : List ℕ) (read actor : ℕ) (places : List Place) (costs before after : List ℕ) (end : ℕ)
-    (d : Place) (o : Option ℕ) → actor < length places → actor < length costs →
+pub written_turn : (graph : List ℕ) (read actor : ℕ) (places : List CostPlace) (costs before after : List ℕ) (end : ℕ)
+    (d : CostPlace) (o : Option ℕ) → actor < length places → actor < length costs →
     MatchOption o (piece graph read (get_or places actor d) (get_or costs actor 0) ≡ None)
     (Follows graph read (get_or places actor d) (get_or costs actor 0) before after) →
     o ≡ Some end →
@@ -50,7 +50,7 @@ written_turn graph read actor places costs before after end d (Some y) place cos
     (drop (suc actor) costs) before after end here)
 
 -- there is no cost in the place of what stands there
-pub written_fault : (graph : List ℕ) (read actor : ℕ) (places : List Place) (costs before after : List ℕ) (d : Place)
+pub written_fault : (graph : List ℕ) (read actor : ℕ) (places : List CostPlace) (costs before after : List ℕ) (d : CostPlace)
     (o : Option ℕ) → actor < length places → actor < length costs →
     MatchOption o (piece graph read (get_or places actor d) (get_or costs actor 0) ≡ None)
     (Follows graph read (get_or places actor d) (get_or costs actor 0) before after) →
@@ -62,13 +62,13 @@ written_fault graph read actor places costs before after d (Some y) place cost f
     absurd (none-some y (sym is))
 
 -- behind all costs
-pub written_end : (graph : List ℕ) (read actor : ℕ) (places : List Place) (costs before after rest : List ℕ) →
+pub written_end : (graph : List ℕ) (read actor : ℕ) (places : List CostPlace) (costs before after rest : List ℕ) →
     length places ≡ actor → length costs ≡ actor → rest ≡ drop read graph → after ≡ before ++ rest →
     behind before (written_from graph read actor (drop actor places) (drop actor costs)) ≡ Ok after
 written_end graph read actor places costs before after rest place cost rest_is after_is =
     rw (after_is, rest_is, sym place, drop-length places) refl
 
-pub costed_by : (graph : List ℕ) (places : List Place) (costs : List ℕ) (text : Result (List ℕ) Unwritten) →
+pub costed_by : (graph : List ℕ) (places : List CostPlace) (costs : List ℕ) (text : Result (List ℕ) Unwritten) →
     length places ≡ length costs → written_from graph 0 0 places costs ≡ text → costed_in graph places costs ≡ text
 unfolding costed_in
 costed_by graph places costs text all is = let test : (length places == length costs) ≡ true =

@@ -6,7 +6,7 @@ use Rattle.std.specs.Char.{is_ascii_digit, is_ascii_whitespace}
 use Rattle.std.specs.List.{prefix_len, starts_with, ends_with, list_all}
 use Rattle.std.specs.Cmp.Lexicographic.{pointwise}
 use Rattle.std.specs.Option.{option_to_list}
-use Rattle.sdf_profile.specs.declared.places.Place.{Place}
+use Rattle.sdf_profile.specs.declared.places.CostPlace.{CostPlace}
 use Rattle.sdf_profile.specs.declared.places.Found.{Found}
 use Rattle.sdf_profile.specs.declared.unwritten.Unwritten.{Unwritten}
 use Rattle.sdf_profile.specs.declared.unwritten.Unwritten.TheVariants.{Cost, Tables}
@@ -68,19 +68,19 @@ cost_length line =
 -- ---- places
 
 -- the place at the end of a line that begins here
-abbrev pub place_behind : ℕ → List ℕ → Bool → Place
+abbrev pub place_behind : ℕ → List ℕ → Bool → CostPlace
 place_behind start line long = record { start = start + (length line - end_length line); length = 0; long = long }
 
 -- the places in the tables before, and the place in the current table, if that is an actor's
 pub record FoundValue : Type 0 where
-  pub places : List Place
-  pub table : Option Place
+  pub places : List CostPlace
+  pub table : Option CostPlace
 
 abbrev pub found_view : Found → FoundValue
 found_view f = record { places = f.places.items; table = f.table }
 
 -- all places, when the last table is over
-abbrev pub closed : FoundValue → List Place
+abbrev pub closed : FoundValue → List CostPlace
 closed f = f.places ++ option_to_list f.table
 
 -- what is found after a line that heads a table
@@ -96,13 +96,13 @@ cost_found start f None = Err (Cost (length f.places))
 cost_found start f (Some n) = Ok (record f { table = Some (record { start = start; length = n; long = false }) })
 
 -- what is found after a line of an actor's table that has a key
-unfoldable pub keyed : ℕ → List ℕ → Place → FoundValue → Result FoundValue Unwritten
+unfoldable pub keyed : ℕ → List ℕ → CostPlace → FoundValue → Result FoundValue Unwritten
 keyed start line place f =
     if names_cost line then cost_found start f (cost_length line)
     else if place.length == 0 then Ok (record f { table = Some (place_behind start line place.long) })
     else Ok f
 
-abbrev pub key_found : ℕ → List ℕ → Option Place → FoundValue → Result FoundValue Unwritten
+abbrev pub key_found : ℕ → List ℕ → Option CostPlace → FoundValue → Result FoundValue Unwritten
 key_found start line None f = Ok f
 key_found start line (Some place) f = keyed start line place f
 
@@ -126,12 +126,12 @@ found_in start (line ∷ rest) f = then_found (line_found start line f) (λ g. f
 abbrev pub none : FoundValue
 none = record { places = []; table = None }
 
-abbrev pub closed_in : Result FoundValue Unwritten → Result (List Place) Unwritten
+abbrev pub closed_in : Result FoundValue Unwritten → Result (List CostPlace) Unwritten
 closed_in (Ok f) = Ok (closed f)
 closed_in (Err fault) = Err fault
 
 -- the place of each actor's cost in a graph file's text, or the first table in which it is written in another form
-unfoldable pub places_of : List ℕ → Result (List Place) Unwritten
+unfoldable pub places_of : List ℕ → Result (List CostPlace) Unwritten
 places_of graph = closed_in (found_in 0 (lines graph) none)
 
 -- ---- a text with costs at its places
@@ -157,7 +157,7 @@ pub record Piece : Type 0 where
   pub end : ℕ
 
 -- what was not read up to a place, and the cost n there, if it may be written
-unfoldable pub piece : List ℕ → ℕ → Place → ℕ → Option Piece
+unfoldable pub piece : List ℕ → ℕ → CostPlace → ℕ → Option Piece
 piece graph read p n =
     let end = p.start + p.length in
     if nat_le read p.start && nat_le end (length graph)
@@ -175,17 +175,17 @@ joined actor None rest = Err (Cost actor)
 joined actor (Some p) rest = behind p.new (rest p.end)
 
 -- what was not read, with the costs from this actor on at their places
-abbrev pub written_from : List ℕ → ℕ → ℕ → List Place → List ℕ → Result (List ℕ) Unwritten
+abbrev pub written_from : List ℕ → ℕ → ℕ → List CostPlace → List ℕ → Result (List ℕ) Unwritten
 written_from graph read actor (p ∷ places) (n ∷ costs) =
     joined actor (piece graph read p n) (λ end. written_from graph end (suc actor) places costs)
 written_from graph read actor places costs = Ok (drop read graph)
 
 -- a text with costs at these places, one each
-unfoldable pub costed_in : List ℕ → List Place → List ℕ → Result (List ℕ) Unwritten
+unfoldable pub costed_in : List ℕ → List CostPlace → List ℕ → Result (List ℕ) Unwritten
 costed_in graph places costs =
     if length places == length costs then written_from graph 0 0 places costs else Err (Tables (length places))
 
-abbrev pub costed_at : List ℕ → List ℕ → Result (List Place) Unwritten → Result (List ℕ) Unwritten
+abbrev pub costed_at : List ℕ → List ℕ → Result (List CostPlace) Unwritten → Result (List ℕ) Unwritten
 costed_at costs graph (Ok places) = costed_in graph places costs
 costed_at costs graph (Err fault) = Err fault
 

@@ -17,7 +17,7 @@ pub(crate) const KEY: &[u8] = b"cost = ";
 
 /// The place of an actor's cost: a key and a number, `length` bytes in all, or 0 bytes at the end of a line.
 #[derive(Clone, Copy)]
-pub(crate) struct Place {
+pub(crate) struct CostPlace {
     pub(crate) start: usize,
     pub(crate) length: usize,
     /// Whether a line end that is added has a carriage return, as the line end of `[[actor]]` has.
@@ -109,11 +109,11 @@ fn cost_length(line: &[u8]) -> Option<usize>
 }
 
 /// Returns the place at the end of `line`, before its line end. `line` begins at `start`.
-fn place_behind(start: usize, line: &[u8], long: bool) -> Place
+fn place_behind(start: usize, line: &[u8], long: bool) -> CostPlace
     requires { start + length line.now ≤ usize.MAX }
     ensures { result ≡ place_behind start line.now long }
 {
-    Place {
+    CostPlace {
         start: start + line.len().saturating_sub(end_length(line)),
         length: 0,
         long,
@@ -123,9 +123,9 @@ fn place_behind(start: usize, line: &[u8], long: bool) -> Place
 /// Places of costs, found line by line.
 #[derive(Drop)]
 struct Found {
-    places: Vec<Place>,
+    places: Vec<CostPlace>,
     /// The place in the current table, if that is an actor's.
-    table: Option<Place>,
+    table: Option<CostPlace>,
 }
 
 impl Found {
@@ -156,7 +156,7 @@ impl Found {
 
     /// Reads a line of an actor's table that has a key. `place` is the place in this table so far.
     #[tactic(auto, unfolding(crate::specs::Places::keyed))]
-    fn key(&mut self, start: usize, line: &[u8], place: Place) -> Result<(), Unwritten>
+    fn key(&mut self, start: usize, line: &[u8], place: CostPlace) -> Result<(), Unwritten>
         requires { start + length line.now ≤ usize.MAX }
         ensures { MatchResult result
             (λ _. keyed start line.now place (found_view self.old) ≡ Ok (found_view self.new))
@@ -166,7 +166,7 @@ impl Found {
             let Some(length) = cost_length(line) else {
                 return Err(Unwritten::Cost(self.places.len()));
             };
-            self.table = Some(Place {
+            self.table = Some(CostPlace {
                 start,
                 length,
                 long: false,
@@ -202,7 +202,7 @@ impl Found {
 /// Returns the place of each actor's cost in the text of a graph file: at the key `cost` of its table or, if there is
 /// none, at the end of the table's last key.
 #[tactic(auto, unfolding(crate::specs::Places::places_of))]
-pub(crate) fn places_of(alloc: Global, graph: &[u8]) -> Result<Vec<Place>, Unwritten>
+pub(crate) fn places_of(alloc: Global, graph: &[u8]) -> Result<Vec<CostPlace>, Unwritten>
     ensures { MatchResult result
         (λ places. places_of graph.now ≡ Ok places.items)
         (λ fault. (fault ≡ OutOfMemory) ⊎ (places_of graph.now ≡ Err fault)) }

@@ -8,7 +8,7 @@ ghost use Rattle.std.specs.Char.{IsAsciiDigit, is_ascii_digit};
 ghost use Rattle.sdf_profile.specs.Places.{is_cost, before, text_for, piece, costed_in};
 ghost use Rattle.sdf_profile.specs.Written.{IsCost, IsBefore, IsReplaced, DifferInCosts};
 
-use crate::places::{KEY, Place};
+use crate::places::{KEY, CostPlace};
 use crate::unwritten::Unwritten;
 use std::alloc::{AllocError, Global};
 
@@ -69,7 +69,7 @@ fn push_cost(
     text: &mut Vec<u8>,
     graph: &[u8],
     read: usize,
-    place: Place,
+    place: CostPlace,
     cost: u32,
 ) -> Result<Option<usize>, AllocError>
     requires { read ≤ length graph.now }
@@ -81,7 +81,7 @@ fn push_cost(
     ensures cost { (ns : List ℕ) → DifferInCosts ns (take read graph.now) text.old.items →
         IfOk result (λ end. IfSome end (λ end. DifferInCosts (ns ++ cost ∷ []) (take end graph.now) text.new.items)) }
 {
-    let Place {
+    let CostPlace {
         start,
         length,
         long,
@@ -106,7 +106,7 @@ fn push_cost(
 pub(crate) fn text_with(
     alloc: Global,
     graph: &[u8],
-    places: &[Place],
+    places: &[CostPlace],
     costs: &[u32],
 ) -> Result<Vec<u8>, Unwritten>
     ensures exactly { MatchResult result

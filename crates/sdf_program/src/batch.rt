@@ -2,7 +2,7 @@
 
 ghost use Rattle.std.specs.Prelude.{◌≡◌, ◌≤◌, IfSome, false};
 ghost use Rattle.sdf_plan.specs.Plans.{Suits};
-ghost use Rattle.sdf_words.specs.Limits.{IsCrew};
+ghost use Rattle.sdf_cli.specs.Limits.{IsCrew};
 
 use crate::desk::{Desk, Done};
 use crate::guards::keep_inputs;
@@ -12,10 +12,10 @@ use crate::plans::{Prepared, plan_of, workers_of};
 use crate::running::{Planned, Running, run_planned};
 use sdf_commands::making::make_folder;
 use sdf_faults::Fault;
-use sdf_files::files::Sources;
-use sdf_files::storage::Storage;
-use sdf_files::world::World;
-use sdf_words::{Batch, Crew, Run};
+use sdf_io::files::Sources;
+use sdf_io::storage::Storage;
+use sdf_io::world::World;
+use sdf_cli::{Batch, ParallelWorkers, RunRequest};
 use std::alloc::{AllocError, Global};
 use std::io::Write;
 use std::sync::Mutex;
@@ -44,7 +44,7 @@ fn running_of<'a>(batching: Batching<'a>, input: &'a str, output: &'a str) -> Ru
     Running {
         graph: batching.graph,
         loaded: batching.loaded,
-        asked: Run {
+        asked: RunRequest {
             input,
             output,
             options: *options,
@@ -190,7 +190,7 @@ fn files_at_once<T: Threads>(threads: &T, batch: &Batch<'_>) -> usize
 {
     match batch.parallel {
         Some(_) => 1,
-        None => workers_of(threads, Crew::Processors),
+        None => workers_of(threads, ParallelWorkers::Processors),
     }
 }
 

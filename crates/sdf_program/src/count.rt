@@ -1,6 +1,6 @@
 //! The number of files of a batch that are done, on one line of a terminal.
 
-use sdf_files::progress::GONE;
+use sdf_io::progress::GONE;
 use sdf_options::plural::plural;
 use std::alloc::{AllocError, Global};
 use std::io::Write;

@@ -4,7 +4,7 @@ use crate::count::Count;
 use crate::items::Batching;
 use crate::outcome::Outcome;
 use sdf_faults::Fault;
-use sdf_files::files::Sources;
+use sdf_io::files::Sources;
 use std::alloc::{AllocError, Global};
 use std::io::Write;
 

@@ -2,9 +2,9 @@
 
 use crate::items::{Batching, Item};
 use sdf_faults::Fault;
-use sdf_files::overwriting::{Paths, canonical_path, keep_what_is_read, same_file};
-use sdf_files::storage::Storage;
-use sdf_files::world::STANDARD;
+use sdf_io::overwriting::{Paths, canonical_path, keep_what_is_read, same_file};
+use sdf_io::storage::Storage;
+use sdf_io::world::STANDARD;
 use sdf_options::printable::printable;
 use std::alloc::Global;
 use std::path::PathBuf;

@@ -1,11 +1,11 @@
 //! A batch that is asked for, and the places where its files are written.
 
 use sdf_faults::Fault;
-use sdf_files::files::{Loaded, Refused, or_refuse};
-use sdf_files::storage::Storage;
-use sdf_files::world::STANDARD;
+use sdf_io::files::{Loaded, Refused, or_refuse};
+use sdf_io::storage::Storage;
+use sdf_io::world::STANDARD;
 use sdf_options::printable::printable;
-use sdf_words::{Batch, mistake};
+use sdf_cli::{Batch, mistake};
 use std::alloc::{AllocError, Global};
 use std::path::Path;
 

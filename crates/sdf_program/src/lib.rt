@@ -1,6 +1,6 @@
 //! The program `sdfw`: its commands, over a file system, streams and threads that the caller provides.
 //!
-//! It depends on `sdf_words`, which reads the command line into the options of `sdf_options`, and on `sdf_files` for
+//! It depends on `sdf_cli`, which reads the command line into the options of `sdf_options`, and on `sdf_io` for
 //! files and streams. `sdf_commands` has the commands that do not run a net. It also reports faults, and so do
 //! `sdf_why` and `sdf_json`. `sdf_file` and `sdf_plan` read and plan a design, `sdf_process` runs it, and `sdf_profile`
 //! measures a run. `sdf_faults` has the faults. The project's main promise is the contract of `sdf_process::process`.

@@ -6,7 +6,7 @@ ghost use Rattle.sdf_faults.specs.Statuses.{status_of};
 use crate::items::Batching;
 use sdf_commands::telling::why;
 use sdf_faults::{Fault, fault_text, status};
-use sdf_files::files::{Sources, put};
+use sdf_io::files::{Sources, put};
 use sdf_options::printable::printable;
 use std::alloc::{AllocError, Global};
 use std::io::Write;

@@ -3,18 +3,18 @@
 ghost use Rattle.std.specs.Prelude.{◌≡◌, ◌≤◌, ℕ, IfOk, IfSome};
 ghost use Rattle.sdf_limits.specs.declared.TheConstants.{MOST_WORKERS};
 ghost use Rattle.sdf_plan.specs.Plans.{Suits};
-ghost use Rattle.sdf_words.specs.Limits.{IsCrew};
-ghost use Rattle.sdf_words.specs.declared.asked.Crew.TheVariants as crews;
+ghost use Rattle.sdf_cli.specs.Limits.{IsCrew};
+ghost use Rattle.sdf_cli.specs.declared.asked.ParallelWorkers.TheVariants as crews;
 
 use sdf_faults::Fault;
 use sdf_file::Design;
 use sdf_limits::MOST_WORKERS;
 use sdf_options::Options;
 use sdf_plan::Plan;
-use sdf_plan::parallel::{Pace, Paced, parallel_plan};
+use sdf_plan::parallel::{Pace, ParallelPlan, parallel_plan};
 use sdf_plan::planning::plan;
 use sdf_why::loop_text;
-use sdf_words::Crew;
+use sdf_cli::ParallelWorkers;
 use std::alloc::{AllocError, Global};
 use std::io::Write;
 use std::thread::{Threads, available_parallelism};
@@ -30,15 +30,15 @@ pub(crate) struct Prepared {
 }
 
 /// Returns the number of workers that `crew` asks for.
-pub(crate) fn workers_of<T: Threads>(threads: &T, crew: Crew) -> usize
+pub(crate) fn workers_of<T: Threads>(threads: &T, crew: ParallelWorkers) -> usize
     requires { IsCrew crew }
     ensures some { 1 ≤ result }
     ensures few { result ≤ MOST_WORKERS }
     ensures asked { (workers : ℕ) → crew ≡ crews.Workers workers → result ≡ workers }
 {
     match crew {
-        Crew::Workers(workers) => workers,
-        Crew::Processors => match available_parallelism(threads) {
+        ParallelWorkers::Workers(workers) => workers,
+        ParallelWorkers::Processors => match available_parallelism(threads) {
             Ok(processors) => processors.get().min(MOST_WORKERS),
             Err(_) => WORKERS,
         },
@@ -80,14 +80,14 @@ fn crew_plan<T: Threads + AllocGlobal, E: Write>(
     threads: &T,
     err: &mut E,
     design: &Design,
-    crew: Crew,
+    crew: ParallelWorkers,
     is_said: bool,
 ) -> Result<Prepared, Fault>
     requires { IsCrew crew }
     ensures { IfOk result (λ prepared. Suits design.now.net prepared.plan) }
 {
     let alloc = threads.alloc();
-    let Paced { plan, pace } = parallel_plan(alloc, design, workers_of(threads, crew))?;
+    let ParallelPlan { plan, pace } = parallel_plan(alloc, design, workers_of(threads, crew))?;
     let told = if is_said {
         tell_pace(alloc, err, design, pace)
     } else {
@@ -111,7 +111,7 @@ pub(crate) fn plan_of<T: Threads + AllocGlobal, E: Write>(
     err: &mut E,
     design: &Design,
     options: &Options,
-    parallel: Option<Crew>,
+    parallel: Option<ParallelWorkers>,
     is_said: bool,
 ) -> Result<Prepared, Fault>
     requires { IfSome parallel IsCrew }

@@ -3,13 +3,13 @@
 use sdf_commands::printing::show;
 use sdf_faults::Fault;
 use sdf_file::Design;
-use sdf_files::files::{Loaded, Refused, Sources, bytes_of, or_refuse, put, read_at, write_at};
-use sdf_files::overwriting::{Paths, keep_what_is_read};
-use sdf_files::storage::Storage;
-use sdf_files::world::{STANDARD, World};
+use sdf_io::files::{Loaded, Refused, Sources, bytes_of, or_refuse, put, read_at, write_at};
+use sdf_io::overwriting::{Paths, keep_what_is_read};
+use sdf_io::storage::Storage;
+use sdf_io::world::{STANDARD, World};
 use sdf_options::plural::plural;
 use sdf_profile::{Measured, Unwritten, costed_text, profile};
-use sdf_words::mistake;
+use sdf_cli::mistake;
 use std::alloc::{AllocError, Global};
 use std::io::{self, Read, Write};
 use std::thread::Threads;

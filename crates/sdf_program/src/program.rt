@@ -4,7 +4,7 @@ ghost use Rattle.std.specs.Prelude.{◌≡◌, ◌⊎◌, IfSome};
 ghost use Rattle.sdf_faults.specs.Statuses.{status_of};
 ghost use Rattle.sdf_faults.specs.declared.fault.Fault.TheVariants.{OutOfMemory};
 ghost use Rattle.sdf_options.specs.Limits.{AreWithinLimits};
-ghost use Rattle.sdf_words.specs.Limits.{IsCrew, IsTaskWithinLimits, IsWithinLimits};
+ghost use Rattle.sdf_cli.specs.Limits.{IsCrew, IsTaskWithinLimits, IsWithinLimits};
 
 use crate::batch::run_batch;
 use crate::items::Batching;
@@ -17,13 +17,13 @@ use sdf_commands::printing::{
 };
 use sdf_commands::telling::Background;
 use sdf_faults::{Fault, fault_text, status};
-use sdf_files::files::{Loaded, Sources, load_into};
-use sdf_files::storage::Storage;
-use sdf_files::world::World;
+use sdf_io::files::{Loaded, Sources, load_into};
+use sdf_io::storage::Storage;
+use sdf_io::world::World;
 use sdf_json::{comparison_json, fault_json};
 use sdf_options::{Options, WordFault};
-use sdf_words::arguments::Given;
-use sdf_words::{Batch, Format, Run, Task, Why, Words};
+use sdf_cli::arguments::Arguments;
+use sdf_cli::{Batch, Format, RunRequest, DesignCommand, Why, Words};
 use std::alloc::{AllocError, Global};
 use std::io::{Read, Write};
 use std::thread::Threads;
@@ -33,7 +33,7 @@ use std::time::Clock;
 #[derive(Clone, Copy)]
 struct Asked<'a> {
     graph: &'a str,
-    task: Task<'a>,
+    task: DesignCommand<'a>,
     why: Why,
 }
 
@@ -41,7 +41,7 @@ struct Asked<'a> {
 #[derive(Clone, Copy)]
 struct Job<'a> {
     graph: &'a str,
-    task: Task<'a>,
+    task: DesignCommand<'a>,
     loaded: &'a Loaded,
     /// Whether diagnostics and reports are printed.
     is_said: bool,
@@ -49,7 +49,7 @@ struct Job<'a> {
 
 impl<'a> Job<'a> {
     /// Returns the run that is `asked` for. Its progress is shown on a `terminal`, if reports are printed.
-    fn running(self, asked: Run<'a>, terminal: bool) -> Running<'a>
+    fn running(self, asked: RunRequest<'a>, terminal: bool) -> Running<'a>
         ensures loaded { result.loaded ≡ self.entry.loaded }
         ensures asked { result.asked ≡ asked.entry }
     {
@@ -111,16 +111,16 @@ fn work<
     let alloc = world.threads.alloc();
     let design = &job.loaded.design;
     match job.task {
-        Task::Check { format } => print_check(alloc, out, design, format),
-        Task::Schedule { options, format } => print_schedule(alloc, out, design, &options, format),
-        Task::Analyze { options, format } => print_analysis(alloc, out, design, &options, format),
-        Task::Compare { options, format } => compare(alloc, out, err, job, &options, format),
-        Task::Draw { options, picture } => print_picture(alloc, out, design, &options, picture),
-        Task::Run(asked) => {
+        DesignCommand::Check { format } => print_check(alloc, out, design, format),
+        DesignCommand::Schedule { options, format } => print_schedule(alloc, out, design, &options, format),
+        DesignCommand::Analyze { options, format } => print_analysis(alloc, out, design, &options, format),
+        DesignCommand::Compare { options, format } => compare(alloc, out, err, job, &options, format),
+        DesignCommand::Draw { options, picture } => print_picture(alloc, out, design, &options, picture),
+        DesignCommand::RunRequest(asked) => {
             let running = job.running(asked, world.terminal);
             run(world, stdin, out, err, running, sources)
         }
-        Task::Profile { input, write } => {
+        DesignCommand::Profile { input, write } => {
             let asked = job.profiling(input, write);
             print_profile(world, stdin, out, asked, sources)
         }
@@ -308,7 +308,7 @@ fn answer<
     stdin: &mut I,
     out: &mut O,
     err: &mut E,
-    given: &Given,
+    given: &Arguments,
     background: &mut Background,
 ) -> Result<u8, Fault> {
     let alloc = world.threads.alloc();
@@ -351,7 +351,7 @@ pub fn serve<
     stdin: &mut I,
     out: &mut O,
     err: &mut E,
-    given: Result<Given, WordFault>,
+    given: Result<Arguments, WordFault>,
 ) -> u8 {
     let alloc = world.threads.alloc();
     let mut background = Background::new(alloc);

@@ -2,27 +2,27 @@
 
 ghost use Rattle.std.specs.Prelude.{IfSome};
 ghost use Rattle.sdf_plan.specs.Plans.{Suits};
-ghost use Rattle.sdf_words.specs.Limits.{IsCrew};
+ghost use Rattle.sdf_cli.specs.Limits.{IsCrew};
 
 use crate::plans::plan_of;
 use sdf_faults::Fault;
 use sdf_file::Design;
-use sdf_files::Levels;
-use sdf_files::files::{Loaded, Refused, Sources, or_refuse, refuse_kind};
-use sdf_files::input::Input;
-use sdf_files::output::{Output, Shown};
-use sdf_files::overwriting::{Paths, keep_what_is_read};
-use sdf_files::progress::Progress;
-use sdf_files::storage::Storage;
-use sdf_files::world::{STANDARD, World};
+use sdf_io::SoundLevels;
+use sdf_io::files::{Loaded, Refused, Sources, or_refuse, refuse_kind};
+use sdf_io::input::Input;
+use sdf_io::output::{Output, Shown};
+use sdf_io::overwriting::{Paths, keep_what_is_read};
+use sdf_io::progress::Progress;
+use sdf_io::storage::Storage;
+use sdf_io::world::{STANDARD, World};
 use sdf_limits::MOST_WORKERS;
 use sdf_options::plural::plural;
 use sdf_plan::Plan;
 use sdf_plan::parallel::Pace;
-use sdf_process::cut::parts_at_once;
+use sdf_process::part_sizes::parts_at_once;
 use sdf_process::process::process;
 use sdf_wav::{FromRead, ToWrite};
-use sdf_words::Run;
+use sdf_cli::RunRequest;
 use std::alloc::{AllocError, Global};
 use std::io::{ErrorKind, Read, Write};
 use std::thread::Threads;
@@ -33,7 +33,7 @@ use std::time::Clock;
 pub(crate) struct Running<'a> {
     pub(crate) graph: &'a str,
     pub(crate) loaded: &'a Loaded,
-    pub(crate) asked: Run<'a>,
+    pub(crate) asked: RunRequest<'a>,
     /// Whether diagnostics and reports are printed.
     pub(crate) is_said: bool,
     /// Whether the progress of the run is shown.
@@ -107,7 +107,7 @@ fn tell_end<E: Write>(
     alloc: Global,
     err: &mut E,
     planned: Planned<'_>,
-    levels: Option<Levels>,
+    levels: Option<SoundLevels>,
 ) -> Result<(), AllocError> {
     let Some(levels) = levels else {
         return Ok(());
@@ -122,7 +122,7 @@ fn tell_end<E: Write>(
 #[derive(Drop)]
 struct Ran {
     ended: Result<(), Fault>,
-    levels: Option<Levels>,
+    levels: Option<SoundLevels>,
     refused: Option<ErrorKind>,
 }
 
@@ -226,7 +226,7 @@ fn run_traced<S: Storage, T: Threads + AllocGlobal + Clock + Sync, R: Read, O: W
 {
     let alloc = world.threads.alloc();
     let Sources { trace, refused, .. } = sources;
-    let Run {
+    let RunRequest {
         input: name,
         open_ended,
         ..

@@ -12,14 +12,14 @@ use Rattle.sdf_prec.specs.Blocks.{block}
 use Rattle.sdf_prec.specs.Laws.{AreBlocks}
 use Rattle.sdf_prec.specs.Tables.{Tabled, IsHomed}
 use Rattle.sdf_prec.proofs.Theorems.{tables_count, tables_repeat}
-use Rattle.sdf_actor.specs.declared.rest.Rest.{Rest}
+use Rattle.sdf_actor.specs.declared.rest.NetState.{NetState}
 use Rattle.sdf_actor.specs.Graphs.{graph_of}
 use Rattle.sdf_actor.specs.Laws.{AreCountsOf}
 use Rattle.sdf_actor.specs.Nets.{Netlist}
 use Rattle.sdf_actor.specs.Steps.{Steps}
-use Rattle.sdf_answer.specs.Answer.{HasInputs, AreOutputs, periods_of}
-use Rattle.sdf_answer.specs.Feeds as feeds
-use Rattle.sdf_answer.specs.Periods.{HasPeriod}
+use Rattle.sdf_queues.specs.Answer.{HasInputs, AreOutputs, periods_of}
+use Rattle.sdf_queues.specs.Feeds as feeds
+use Rattle.sdf_queues.specs.Periods.{HasPeriod}
 use Rattle.sdf_prec.specs.BlockTables.{IsTableOf}
 use Rattle.sdf_rings.specs.Asks.{IsPlanned}
 use Rattle.sdf_rings.specs.Outcome.{HasRunInRounds, HasEnded}
@@ -136,7 +136,7 @@ module _ {A S T : Type 0} (s : Steps A S T) (n : Netlist A T) (q : List ℕ) (j 
       HasRunInRounds s n q j t b inputs patience outputs rounds
   has_run outputs given = run_with outputs (at_counts (λ m is k. AreOutputs s m is k outputs) given)
 
-  pub has_fed : (outputs : List (List T)) (rest : Rest T S) →
+  pub has_fed : (outputs : List (List T)) (rest : NetState T S) →
       ((order : List ℕ) (cap k : ℕ → ℕ) → IsPlanned s r.net r.seats r.places order cap → AreCountsOf r.net order k →
       feeds.HasRun s r.net r.inputs k outputs rest) →
       HasRunInRounds s n q j t b inputs patience outputs rounds

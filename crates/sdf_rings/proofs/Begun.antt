@@ -18,7 +18,7 @@ use Rattle.sdf_actor.specs.declared.sides.Side.TheVariants.{Input, Output}
 use Rattle.sdf_actor.proofs.Theorems.{locals_begin}
 use Rattle.sdf_node.specs.Nodes.{takes_of, puts_of, IsAt}
 use Rattle.sdf_node.specs.declared.node.NodeState.{NodeState}
-use Rattle.sdf_answer.specs.Sizes.{AreRows}
+use Rattle.sdf_queues.specs.Sizes.{AreRows}
 use Rattle.sdf_rings.specs.Stands.{OwnArePairs, IsStand}
 use Rattle.sdf_rings.specs.Openings.{end_at, AreEndsAt, HasEnds}
 use Rattle.sdf_rings.specs.Begun.{HasIns, HasOuts}

@@ -18,8 +18,8 @@ use Rattle.sdf_actor.specs.Nets.{wire, node, wiring, inputs_of, outputs_of, cons
 use Rattle.sdf_actor.specs.Nets.{from_port}
 use Rattle.sdf_actor.specs.declared.sides.Side.TheVariants.{Input, Output}
 use Rattle.sdf_actor.proofs.Theorems.{nets_are_wired, ports_have_channels}
-use Rattle.sdf_answer.specs.Sizes.{sizes}
-use Rattle.sdf_rings.specs.declared.stand.Stand.{Stand}
+use Rattle.sdf_queues.specs.Sizes.{sizes}
+use Rattle.sdf_rings.specs.declared.seat.ring_node.RingNode.{RingNode}
 use Rattle.sdf_rings.specs.declared.seat.Seat.{Seat}
 use Rattle.sdf_rings.specs.Stands.{CanFire}
 use Rattle.sdf_rings.specs.Seats.{HasFirst, times_between}
@@ -53,14 +53,14 @@ module _ {A S T : Type 0} {s : Steps A S T} {hand : InHand A S T} (r : AreRings 
     abbrev past : ℕ → ℕ
     past b = done home order next b
 
-    part_apart : (b : ℕ) → Stand A T S → b < length n.nodes → (j : ℕ) → j < length (part home order (home b)) →
+    part_apart : (b : ℕ) → RingNode A T S → b < length n.nodes → (j : ℕ) → j < length (part home order (home b)) →
         stand (get_or (part home order (home b)) j 0) ≡ stand b → get_or (part home order (home b)) j 0 ≡ b
     part_apart b d l j h e =
         let is = part_all home order (home b) (λ a. a < length n.nodes) (λ i m. (plan.admissible i m).0) j h in
         one_node r.placed e0 d is.0 l is.1 e
 
     -- so many of the firings of b stand in the first m of its seat's list
-    counted : (b : ℕ) → Stand A T S → b < length n.nodes → (m : ℕ) → m ≤ length (part home order (home b)) →
+    counted : (b : ℕ) → RingNode A T S → b < length n.nodes → (m : ℕ) → m ≤ length (part home order (home b)) →
         times_between (stand b) (get_or seats (home b) e0).left 0 m ≡ times (take m (part home order (home b))) b
     counted b d l m fits =
         let P = part home order (home b) in
@@ -73,7 +73,7 @@ module _ {A S T : Type 0} {s : Steps A S T} {hand : InHand A S T} (r : AreRings 
         let same : get_or (take m P) j 0 ≡ get_or P j 0 = get_or-take m P j 0 (omega arith) in
         same ∙ part_apart b d l j (omega arith) (ap stand (sym same) ∙ e))
 
-    module _ (d0 : Stand A T S) where
+    module _ (d0 : RingNode A T S) where
       -- the firings done
       abbrev k : ℕ → ℕ
       k a = (stand_of n seats places e0 d0 a).done

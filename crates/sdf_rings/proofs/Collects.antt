@@ -6,9 +6,9 @@ use Rattle.std.proofs.lemmas.Bool.{cases_lt}
 use Rattle.sdf_actor.specs.declared.node.Node.TheVariants as kind
 use Rattle.sdf_actor.specs.Nets.{Netlist, node}
 use Rattle.sdf_actor.specs.Wires.{lists}
-use Rattle.sdf_answer.specs.Periods.{HasSinks}
+use Rattle.sdf_queues.specs.Periods.{HasSinks}
 use Rattle.sdf_node.specs.Collected.{IsCollected}
-use Rattle.sdf_rings.specs.declared.stand.Stand.{Stand}
+use Rattle.sdf_rings.specs.declared.seat.ring_node.RingNode.{RingNode}
 use Rattle.sdf_rings.specs.declared.seat.Seat.{Seat}
 use Rattle.sdf_rings.specs.Places.{OnlyStand}
 use Rattle.sdf_rings.specs.Rests.{stand_of, IsPlaced, AreGiven}
@@ -18,7 +18,7 @@ use Rattle.sdf_rings.proofs.Placed.{one_node}
 module _ {A S T : Type 0} {n : Netlist A T} (sinks : HasSinks n) {seats : List (Seat A T S)} {places : List (ℕ × ℕ)}
     (placed : IsPlaced n seats places) {cur new : List (Seat A T S)} {a : ℕ} (known : a < length n.nodes)
     (stands : (j : ℕ) (e : Seat A T S) → vec_len (get_or cur j e).stands ≡ vec_len (get_or seats j e).stands)
-    (rest : (b : ℕ) (e : Seat A T S) (d : Stand A T S) → a ≤ b → b < length n.nodes →
+    (rest : (b : ℕ) (e : Seat A T S) (d : RingNode A T S) → a ≤ b → b < length n.nodes →
     stand_of n cur places e d b ≡ stand_of n seats places e d b)
     (u : OnlyStand cur new (get_or places a (0, 0)).0 (get_or places a (0, 0)).1) where
   pub stands_more : (j : ℕ) (e : Seat A T S) → vec_len (get_or new j e).stands ≡ vec_len (get_or seats j e).stands
@@ -27,7 +27,7 @@ module _ {A S T : Type 0} {n : Netlist A T} (sinks : HasSinks n) {seats : List (
       (λ f. placed.stand_in a f known) e in
       ((u e d).seats j e).stands_same ∙ stands j e
 
-  pub rest_more : (b : ℕ) (e : Seat A T S) (d : Stand A T S) → a + 1 ≤ b → b < length n.nodes →
+  pub rest_more : (b : ℕ) (e : Seat A T S) (d : RingNode A T S) → a + 1 ≤ b → b < length n.nodes →
       stand_of n new places e d b ≡ stand_of n seats places e d b
   rest_more b e d h l =
       (u e d).others (get_or places b (0, 0)).0 (get_or places b (0, 0)).1 e d
@@ -35,7 +35,7 @@ module _ {A S T : Type 0} {n : Netlist A T} (sinks : HasSinks n) {seats : List (
       rest b e d (omega arith) l
 
   pub given_more : {outputs outputs' : List (Vec T Global)} →
-      ((e : Seat A T S) (d : Stand A T S) → IsCollected (node n a) (stand_of n cur places e d a).state
+      ((e : Seat A T S) (d : RingNode A T S) → IsCollected (node n a) (stand_of n cur places e d a).state
       outputs outputs') →
       AreGiven n seats places a outputs → AreGiven n seats places (a + 1) outputs'
   given_more {outputs} {outputs'} one before b ext block made e d h is at = go (cases_lt b a)
@@ -47,5 +47,5 @@ module _ {A S T : Type 0} {n : Netlist A T} (sinks : HasSinks n) {seats : List (
       go (inr more) =
           let same : b ≡ a = omega arith in
           (one e d).own ext block made (subst (λ i. node n i ≡ kind.Sink ext block) same is)
-          (ap (λ (z : Stand A T S). z.state) (rest a e d (omega arith) known)
+          (ap (λ (z : RingNode A T S). z.state) (rest a e d (omega arith) known)
           ∙ (ap (λ i. (stand_of n seats places e d i).state) (sym same) ∙ at))

@@ -10,17 +10,17 @@ use Rattle.sdf_actor.specs.declared.sides.Lists.TheVariants.{Outputs}
 use Rattle.sdf_actor.specs.Histories.{taken_before}
 use Rattle.sdf_actor.specs.Laws.{AreCountsOf}
 use Rattle.sdf_actor.specs.NetFaults.{IsAccepted}
-use Rattle.sdf_actor.specs.declared.rest.Rest.{Rest}
+use Rattle.sdf_actor.specs.declared.rest.NetState.{NetState}
 use Rattle.sdf_actor.specs.Nets.{node, wiring, arrived}
 use Rattle.sdf_actor.specs.Sides.{list_count}
 use Rattle.sdf_actor.specs.Steps.{Steps}
 use Rattle.sdf_actor.specs.Wires.{lists}
 use Rattle.sdf_node.proofs.Theorems.{nodes_keep_states, sinks_hold_lists}
-use Rattle.sdf_answer.specs.Answer.{AreOutputs}
-use Rattle.sdf_answer.specs.Feeds.{HasRun}
+use Rattle.sdf_queues.specs.Answer.{AreOutputs}
+use Rattle.sdf_queues.specs.Feeds.{HasRun}
 use Rattle.sdf_node.specs.Nodes.{IsAt}
-use Rattle.sdf_answer.proofs.Theorems.{sinks_take_all}
-use Rattle.sdf_rings.specs.declared.stand.Stand.{Stand}
+use Rattle.sdf_queues.proofs.Theorems.{sinks_take_all}
+use Rattle.sdf_rings.specs.declared.seat.ring_node.RingNode.{RingNode}
 use Rattle.sdf_rings.specs.declared.seat.Seat.{Seat}
 use Rattle.sdf_rings.specs.Seats.{times_between}
 use Rattle.sdf_rings.specs.Rests.{stand_of, InHand, AreRings, StandAtRest, AreAtRest, HoldRest, AreGiven}
@@ -35,7 +35,7 @@ module _ {A S T : Type 0} {s : Steps A S T} {hand : InHand A S T} (r : AreRings 
     (none : total_left hand.seats ≡ 0) where
   open hand use {net as n, inputs, seats, places}
 
-  ended : (a : ℕ) (e : Seat A T S) (d : Stand A T S) → a < length n.nodes →
+  ended : (a : ℕ) (e : Seat A T S) (d : RingNode A T S) → a < length n.nodes →
       (stand_of n seats places e d a).done ≡ times order a
   ended a e d l =
       let i : ℕ = (get_or places a (0, 0)).0 in
@@ -86,7 +86,7 @@ module _ {A S T : Type 0} {s : Steps A S T} {hand : InHand A S T} (r : AreRings 
       }
 
       -- and what the seats hold is left
-      pub run_given : {rest : Rest T S} → HoldRest n seats places rest → HasRun s n inputs k (lists outputs) rest
+      pub run_given : {rest : NetState T S} → HoldRest n seats places rest → HasRun s n inputs k (lists outputs) rest
       run_given {rest} held = record {
         history = at_end.history;
         is = at_end.is;

@@ -14,9 +14,9 @@ use Rattle.sdf_actor.specs.declared.sides.Side.TheVariants.{Input, Output}
 use Rattle.sdf_actor.proofs.Theorems.{nets_are_wired}
 use Rattle.sdf_node.specs.Nodes.{IsAt}
 use Rattle.sdf_node.specs.declared.node.NodeState.{NodeState}
-use Rattle.sdf_rings.specs.declared.stand.Stand.{Stand}
+use Rattle.sdf_rings.specs.declared.seat.ring_node.RingNode.{RingNode}
 use Rattle.sdf_rings.specs.Blocks.{start_at, block_of}
-use Rattle.sdf_answer.specs.Sizes.{sizes}
+use Rattle.sdf_queues.specs.Sizes.{sizes}
 use Rattle.sdf_rings.specs.Stands.{OwnBegin, IsStand, HasMoved}
 use Rattle.sdf_rings.proofs.Blocks.{block_in}
 use Rattle.sdf_rings.proofs.Known.{out_in, in_in, sent_at, received_at}
@@ -27,7 +27,7 @@ use Rattle.sdf_rings.proofs.Looking.{vec_in}
 use Rattle.sdf_rings.proofs.PortBlocks.{outs_long, consumed_in, produced_out, out_block}
 
 -- one firing: the blocks that were taken and put, and the state and what the stand holds then
-pub record OneFiring {A S T : Type 0} (s : Steps A S T) (n : Netlist A T) (inputs : List (List T)) (x : Stand A T S) :
+pub record OneFiring {A S T : Type 0} (s : Steps A S T) (n : Netlist A T) (inputs : List (List T)) (x : RingNode A T S) :
     Type 0 where
   pub left : x.done < x.asked
   pub t : List T
@@ -44,7 +44,7 @@ pub record OneFiring {A S T : Type 0} (s : Steps A S T) (n : Netlist A T) (input
   pub begin : OwnBegin n x.actor held.ins.items x.outs.items
 
 module _ {A S T : Type 0} {s : Steps A S T} {n : Netlist A T} (good : IsNet s n) {inputs : List (List T)}
-    {x : Stand A T S} (st : IsStand s n inputs x) (one : OneFiring s n inputs x) where
+    {x : RingNode A T S} (st : IsStand s n inputs x) (one : OneFiring s n inputs x) where
   open one use {t, b, w, held}
 
   -- what it moves at each port

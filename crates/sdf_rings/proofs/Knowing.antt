@@ -16,7 +16,7 @@ use Rattle.sdf_actor.specs.Nets.{Netlist, wire, node, wiring, answers, answer_of
 use Rattle.sdf_actor.specs.declared.sides.Side.TheVariants.{Input, Output}
 use Rattle.sdf_actor.proofs.Theorems.{locals_grow, nets_are_wired, ports_have_channels, taken_stays}
 use Rattle.sdf_rings.specs.Blocks.{start_at, block_of}
-use Rattle.sdf_answer.specs.Sizes.{sizes}
+use Rattle.sdf_queues.specs.Sizes.{sizes}
 use Rattle.sdf_rings.proofs.Blocks.{block_in}
 use Rattle.sdf_rings.proofs.Spreads.{blocks_joined}
 use Rattle.sdf_rings.proofs.PortBlocks.{size_at, port_of, consumed_is, all_out}

@@ -11,7 +11,7 @@ use Rattle.sdf_actor.specs.Locals.{IsLocal}
 use Rattle.sdf_actor.specs.Nets.{Netlist, Wire, wire, node, wiring, answers, inputs_of, outputs_of, to_port, from_port}
 use Rattle.sdf_actor.specs.Nets.{IsNet}
 use Rattle.sdf_actor.proofs.Theorems.{ports_have_channels}
-use Rattle.sdf_rings.specs.declared.stand.Stand.{Stand}
+use Rattle.sdf_rings.specs.declared.seat.ring_node.RingNode.{RingNode}
 use Rattle.sdf_rings.specs.Stands.{IsStand}
 
 module _ {A S T : Type 0} {s : Steps A S T} {n : Netlist A T} (good : IsNet s n) where
@@ -69,7 +69,7 @@ module _ {A S T : Type 0} {s : Steps A S T} {n : Netlist A T} (good : IsNet s n)
   at_port {a} {p} {c} l t e = (λ i. get_or ((wiring s n).ins (sym t i)) (sym e i) 0) ∙ in_channel c l
 
   -- what the ends of a stand that is node a have moved
-  module _ {inputs : List (List T)} {z : Stand A T S} (st : IsStand s n inputs z) {a : ℕ} (is : z.actor ≡ a) where
+  module _ {inputs : List (List T)} {z : RingNode A T S} (st : IsStand s n inputs z) {a : ℕ} (is : z.actor ≡ a) where
     pub as_local : IsLocal (wiring s n) (answers s n inputs) a z.done st.own
     as_local = subst (λ b. IsLocal (wiring s n) (answers s n inputs) b z.done st.own) is st.local
 

@@ -7,9 +7,9 @@ use Rattle.rtrb.specs.declared.consumer.Consumer.{Consumer}
 use Rattle.rtrb.specs.declared.AnyItems.{AnyItems}
 use Rattle.sdf_actor.specs.Steps.{Steps}
 use Rattle.sdf_actor.specs.Nets.{Netlist, wire}
-use Rattle.sdf_rings.specs.declared.stand.Stand.{Stand}
+use Rattle.sdf_rings.specs.declared.seat.ring_node.RingNode.{RingNode}
 use Rattle.sdf_rings.specs.declared.seat.Seat.{Seat}
-use Rattle.sdf_rings.specs.declared.meet.Spot.{Spot}
+use Rattle.sdf_rings.specs.declared.rings.meet.RingEnd.{RingEnd}
 use Rattle.sdf_rings.specs.Places.{stand_at, consumer_at, HoldsOfStand, OnlyIns, TakesAt, SameStand, SameButEnds}
 use Rattle.sdf_rings.specs.Places.{IsEmptied}
 use Rattle.sdf_rings.specs.Rests.{consumer_of, IsPlaced, InHand, AreRings, spot_of, AreGiven}
@@ -19,11 +19,11 @@ use Rattle.sdf_rings.proofs.Tells.{some, some_stand}
 
 module _ {A T S : Type 0} where
   -- the consumers of a stand are taken out, one is changed, and they are put back
-  pub emptied : (s0 s1 s2 : List (Seat A T S)) (at : Spot) (v0 v1 : Vec (Consumer T Global AnyItems) Global)
+  pub emptied : (s0 s1 s2 : List (Seat A T S)) (at : RingEnd) (v0 v1 : Vec (Consumer T Global AnyItems) Global)
       (c : Consumer T Global AnyItems)
       → TakesAt s0 at
       → OnlyIns s0 s1 at.seat at.stand v0
-      → HoldsOfStand (λ (x : Stand A T S). v1 ≡ x.ins) s0 at.seat at.stand
+      → HoldsOfStand (λ (x : RingNode A T S). v1 ≡ x.ins) s0 at.seat at.stand
       → OnlyIns s1 s2 at.seat at.stand (with_item v1 at.port c)
       → IsEmptied s0 s2 at
   emptied s0 s1 s2 at v0 v1 c there u1 had u2 =
@@ -31,7 +31,7 @@ module _ {A T S : Type 0} where
       let d0 = some_stand s0 at.seat at.stand there.stand_in e0 in
       let a = ins_changed s0 s1 at.seat at.stand v0 u1 in
       let z = ins_changed s1 s2 at.seat at.stand (with_item v1 at.port c) u2 in
-      let but : (j l : ℕ) (e : Seat A T S) (d : Stand A T S) → ButEnds (stand_at s0 j l e d) (stand_at s2 j l e d) =
+      let but : (j l : ℕ) (e : Seat A T S) (d : RingNode A T S) → ButEnds (stand_at s0 j l e d) (stand_at s2 j l e d) =
       λ j l e d. ends_join _ _ _ (a.but j l e d) (z.but j l e d) in
       record {
         but_ends = record {
@@ -57,7 +57,7 @@ module _ {A T S : Type 0} where
             ];
       }
 
-  same_stand : (x : Stand A T S) → SameStand x x
+  same_stand : (x : RingNode A T S) → SameStand x x
   same_stand x = record {
     actor_same = refl;
     state_same = refl;
@@ -136,7 +136,7 @@ module _ {A T S : Type 0} where
 
     -- the rings of other channels stay as they are
     pub others_kept : {new : List (Seat A T S)} → IsEmptied cur new (spot_of places (wire n m).to) →
-        {c : ℕ} (e : Seat A T S) (d : Stand A T S) (x : Consumer T Global AnyItems) → m < c → c < length n.wires →
+        {c : ℕ} (e : Seat A T S) (d : RingNode A T S) (x : Consumer T Global AnyItems) → m < c → c < length n.wires →
         consumer_of n new places e d x c ≡ consumer_of n cur places e d x c
     others_kept {new} gone {c} e d x more l =
         gone.others_kept (spot_of places (wire n c).to) e d x (λ z.

@@ -9,7 +9,7 @@ use Rattle.std.proofs.lemmas.List.Sums.{sum_by-cons}
 use Rattle.sdf_graph.specs.Sequences.{times}
 use Rattle.sdf_actor.specs.Steps.{Steps}
 use Rattle.sdf_actor.specs.Nets.{Netlist}
-use Rattle.sdf_rings.specs.declared.stand.Stand.{Stand}
+use Rattle.sdf_rings.specs.declared.seat.ring_node.RingNode.{RingNode}
 use Rattle.sdf_rings.specs.declared.seat.Seat.{Seat}
 use Rattle.sdf_rings.specs.Seats.{times_between}
 use Rattle.sdf_rings.specs.Rests.{stand_of, AreRings}
@@ -100,7 +100,7 @@ module _ {A S T : Type 0} (s : Steps A S T) (n : Netlist A T) (inputs : List (Li
       omega (arith, all, parts_within home order (length seats))
 
   -- where nothing is done, what is asked is left
-  pub left_some : (a : ℕ) → a < length n.nodes → ((e : Seat A T S) (d : Stand A T S) →
+  pub left_some : (a : ℕ) → a < length n.nodes → ((e : Seat A T S) (d : RingNode A T S) →
       (stand_of n seats places e d a).done ≡ 0) → 0 < times order a → 0 < total_left seats
   left_some a l undone asked =
       let i : ℕ = (get_or places a (0, 0)).0 in

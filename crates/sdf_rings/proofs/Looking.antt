@@ -12,7 +12,7 @@ use Rattle.sdf_actor.specs.Steps.{Steps}
 use Rattle.sdf_actor.specs.Nets.{Netlist, node}
 use Rattle.sdf_actor.specs.Sides.{moved_at}
 use Rattle.sdf_actor.specs.declared.sides.Side.TheVariants.{Input, Output}
-use Rattle.sdf_rings.specs.declared.stand.Stand.{Stand}
+use Rattle.sdf_rings.specs.declared.seat.ring_node.RingNode.{RingNode}
 use Rattle.sdf_rings.specs.Ends.{DrewEach, GaveEach}
 use Rattle.sdf_rings.specs.Stands.{IsStand, CanFire, HasMoved}
 use Rattle.sdf_rings.proofs.OwnEnds.{own_pairs_kept}
@@ -33,7 +33,7 @@ nil [] m e = refl
 nil (x ∷ xs) m e = absurd (omega arith)
 
 module _ {A S T : Type 0} {s : Steps A S T} {n : Netlist A T} where
-  pub moved_none : {x : Stand A T S} → HasMoved s n x x
+  pub moved_none : {x : RingNode A T S} → HasMoved s n x x
   moved_none {x} = record {
     actor_kept = refl;
     asked_kept = refl;
@@ -48,7 +48,7 @@ module _ {A S T : Type 0} {s : Steps A S T} {n : Netlist A T} where
     put_count = λ i h. omega arith;
   }
 
-  pub moved_join : {x y z : Stand A T S} → HasMoved s n x y → HasMoved s n y z → HasMoved s n x z
+  pub moved_join : {x y z : RingNode A T S} → HasMoved s n x y → HasMoved s n y z → HasMoved s n x z
   moved_join {x} {y} {z} p q =
       let same_node = ap (node n) p.actor_kept in
       record {
@@ -81,7 +81,7 @@ module _ {A S T : Type 0} {s : Steps A S T} {n : Netlist A T} where
             omega (arith, a, b, length-append (p.put i) (q.put i));
       }
 
-  module _ (x : Stand A T S) (ins : Vec (Consumer T Global AnyItems) Global)
+  module _ (x : RingNode A T S) (ins : Vec (Consumer T Global AnyItems) Global)
       (outs : Vec (Producer T Global AnyItems) Global)
       (drew : DrewEach x.ins.items ins.items (λ _. [])) (gave : GaveEach x.outs.items outs.items (λ _. []))
       (ins_is : vec_len ins ≡ vec_len x.ins) (outs_is : vec_len outs ≡ vec_len x.outs) where
@@ -125,7 +125,7 @@ module _ {A S T : Type 0} {s : Steps A S T} {n : Netlist A T} where
     }
 
   -- what was possible stays so while nothing fires
-  pub can_kept : {x y : Stand A T S} → HasMoved s n x y → y.done ≡ x.done → CanFire s n x → CanFire s n y
+  pub can_kept : {x y : RingNode A T S} → HasMoved s n x y → y.done ≡ x.done → CanFire s n x → CanFire s n y
   can_kept {x} {y} m same can = record {
     holds = λ i d h.
         let l : i < vec_len x.ins = (let k = vec_out y.ins i h in let e = m.ins_kept in omega arith) in

@@ -16,7 +16,7 @@ use Rattle.sdf_actor.specs.declared.node.Node.{Node}
 use Rattle.sdf_actor.specs.declared.sides.Side.TheVariants.{Input, Output}
 use Rattle.sdf_node.specs.Nodes.{IsAt}
 use Rattle.sdf_node.specs.declared.node.NodeState.{NodeState}
-use Rattle.sdf_rings.specs.declared.stand.Stand.{Stand}
+use Rattle.sdf_rings.specs.declared.seat.ring_node.RingNode.{RingNode}
 use Rattle.sdf_rings.specs.Ends.{DrewEach, GaveEach}
 use Rattle.sdf_rings.specs.Stands.{IsStand, HasMoved}
 use Rattle.sdf_rings.proofs.Known.{received_at, in_in, port_at}
@@ -24,7 +24,7 @@ use Rattle.sdf_rings.proofs.OwnEnds.{own_pairs_kept}
 use Rattle.sdf_rings.proofs.Looking.{vec_in, items_long}
 
 -- the ends and the working blocks of a stand that took and put these at its ports
-pub record HoldsThen {A S T : Type 0} (x : Stand A T S) (taken_at put_at : ℕ → List T) : Type 0 where
+pub record HoldsThen {A S T : Type 0} (x : RingNode A T S) (taken_at put_at : ℕ → List T) : Type 0 where
   pub ins : Vec (Consumer T Global AnyItems) Global
   pub outs : Vec (Producer T Global AnyItems) Global
   pub taken : Vec T Global
@@ -37,8 +37,8 @@ pub record HoldsThen {A S T : Type 0} (x : Stand A T S) (taken_at put_at : ℕ �
   pub put_is : length put.items ≡ length x.put.items
 
 -- the stand behind its next so many firings, with its state and what it holds then
-abbrev pub stand_after : {A S T : Type 0} (x : Stand A T S) {taken_at put_at : ℕ → List T} → ℕ → NodeState T S →
-    HoldsThen x taken_at put_at → Stand A T S
+abbrev pub stand_after : {A S T : Type 0} (x : RingNode A T S) {taken_at put_at : ℕ → List T} → ℕ → NodeState T S →
+    HoldsThen x taken_at put_at → RingNode A T S
 stand_after x more w held = record x {
   state = w;
   ins = held.ins;
@@ -48,7 +48,7 @@ stand_after x more w held = record x {
   done = x.done + more;
 }
 
-module _ {A S T : Type 0} {s : Steps A S T} {n : Netlist A T} {inputs : List (List T)} {x : Stand A T S}
+module _ {A S T : Type 0} {s : Steps A S T} {n : Netlist A T} {inputs : List (List T)} {x : RingNode A T S}
     (st : IsStand s n inputs x) where
   abbrev f : Wiring T
   f = wiring s n
@@ -84,7 +84,7 @@ module _ {A S T : Type 0} {s : Steps A S T} {n : Netlist A T} {inputs : List (Li
         (drew (wire n c).to.1 d h).received_then ∙ (ap (λ r. r ++ taken (wire n c).to.1)
         (received_at good st refl c d l e) ∙ sym (on.into c l e))
 
-    abbrev y : Stand A T S
+    abbrev y : RingNode A T S
     y = stand_after x more w held
 
     on_stand : IsStand s n inputs y

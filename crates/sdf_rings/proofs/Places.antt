@@ -9,20 +9,20 @@ use Rattle.std.specs.Global.{Global}
 use Rattle.rtrb.specs.Ring.{ProducerLooked}
 use Rattle.rtrb.specs.declared.producer.Producer.{Producer}
 use Rattle.rtrb.specs.declared.AnyItems.{AnyItems}
-use Rattle.sdf_rings.specs.declared.stand.Stand.{Stand}
+use Rattle.sdf_rings.specs.declared.seat.ring_node.RingNode.{RingNode}
 use Rattle.sdf_rings.specs.declared.seat.Seat.{Seat}
 use Rattle.sdf_rings.specs.Places.{stand_at, HasStand, SameSeat, IsUpdated, ProducerLookedAt}
 use Rattle.sdf_rings.proofs.Looking.{vec_in}
 
 -- what stands at a place: the seat f, and its stand r
 pub record AtStand {A T S : Type 0} (old : List (Seat A T S)) (i k : ℕ) (f : Seat A T S)
-    (r : Stand A T S) : Type 0 where
+    (r : RingNode A T S) : Type 0 where
   pub inside : i < length old
   pub seat_is : f ≡ slice_index_or old i f
   pub below : k < length f.stands.items
   pub stand_is : r ≡ slice_index_or f.stands.items k r
 
-pub at_stand : {A T S : Type 0} (old : List (Seat A T S)) (i k : ℕ) (e : Seat A T S) (r : Stand A T S) →
+pub at_stand : {A T S : Type 0} (old : List (Seat A T S)) (i k : ℕ) (e : Seat A T S) (r : RingNode A T S) →
     i < length old → HasStand old i k → r ≡ slice_index_or (slice_index_or old i e).stands.items k r →
     AtStand old i k (slice_index_or old i e) r
 at_stand old i k e r inside has is = record {
@@ -32,23 +32,23 @@ at_stand old i k e r inside has is = record {
   stand_is = is;
 }
 
-pub update_as : {A T S : Type 0} (old new : List (Seat A T S)) (i k : ℕ) (x y : Stand A T S) → x ≡ y →
+pub update_as : {A T S : Type 0} (old new : List (Seat A T S)) (i k : ℕ) (x y : RingNode A T S) → x ≡ y →
     IsUpdated old new i k x → IsUpdated old new i k y
-update_as {A} {T} {S} old new i k x y e u = subst (λ (z : Stand A T S). IsUpdated old new i k z) e u
+update_as {A} {T} {S} old new i k x y e u = subst (λ (z : RingNode A T S). IsUpdated old new i k z) e u
 
 same_seat : {A T S : Type 0} (s : Seat A T S) → SameSeat s s
 same_seat s = record { processor_same = refl; left_same = refl; next_same = refl; stands_same = refl }
 
-module _ {A T S : Type 0} {old : List (Seat A T S)} {i k : ℕ} {f : Seat A T S} {r : Stand A T S}
+module _ {A T S : Type 0} {old : List (Seat A T S)} {i k : ℕ} {f : Seat A T S} {r : RingNode A T S}
     (x : AtStand old i k f r) where
   seat_was : (e : Seat A T S) → slice_index_or old i e ≡ f
   seat_was e = get_or_default old i e f x.inside ∙ sym x.seat_is
 
-  pub stand_was : (e : Seat A T S) (d : Stand A T S) → stand_at old i k e d ≡ r
+  pub stand_was : (e : Seat A T S) (d : RingNode A T S) → stand_at old i k e d ≡ r
   stand_was e d = ap (λ (s : Seat A T S). slice_index_or s.stands.items k d) (seat_was e)
       ∙ get_or_default f.stands.items k d r x.below ∙ sym x.stand_is
 
-  module _ (y : Stand A T S) where
+  module _ (y : RingNode A T S) where
     abbrev f' : Seat A T S
     f' = record f { stands = with_item f.stands k y }
 
@@ -84,13 +84,13 @@ module _ {A T S : Type 0} {old : List (Seat A T S)} {i k : ℕ} {f : Seat A T S}
       (slice_set old i (record f { stands = with_item f.stands k (record r { outs = with_item r.outs port p }) }))
       (record { seat = i; stand = k; port = port })
   looked_at port q p there q_is looked e d y =
-      let z : Stand A T S = record r { outs = with_item r.outs port p } in
+      let z : RingNode A T S = record r { outs = with_item r.outs port p } in
       let new : List (Seat A T S) = slice_set old i (record f { stands = with_item f.stands k z }) in
       let was : slice_index_or (stand_at old i k e d).outs.items port y ≡ q =
-      ap (λ (s : Stand A T S). slice_index_or s.outs.items port y) (stand_was e d)
+      ap (λ (s : RingNode A T S). slice_index_or s.outs.items port y) (stand_was e d)
       ∙ (get_or_default r.outs.items port y q there ∙ sym q_is) in
       let then : slice_index_or (stand_at new i k e d).outs.items port y ≡ p =
-      ap (λ (s : Stand A T S). slice_index_or s.outs.items port y) ((updated z).here e d)
+      ap (λ (s : RingNode A T S). slice_index_or s.outs.items port y) ((updated z).here e d)
       ∙ get_or-set_same r.outs.items port p y there in
       subst (λ v. ProducerLooked (slice_index_or (stand_at old i k e d).outs.items port y) v) (sym then)
       (subst (λ v. ProducerLooked v p) (sym was) looked)

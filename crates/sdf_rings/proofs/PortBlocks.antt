@@ -16,7 +16,7 @@ use Rattle.sdf_actor.specs.Sides.{ports_of}
 use Rattle.sdf_actor.proofs.Theorems.{nets_are_wired, ports_have_channels}
 use Rattle.sdf_node.specs.Nodes.{takes_of, puts_of}
 use Rattle.sdf_rings.specs.Blocks.{start_at, block_of}
-use Rattle.sdf_answer.specs.Sizes.{sizes, at_phase, AreRows}
+use Rattle.sdf_queues.specs.Sizes.{sizes, at_phase, AreRows}
 use Rattle.sdf_rings.proofs.Blocks.{start_at_zero, start_at_next}
 use Rattle.sdf_rings.proofs.Spreads.{start_at_same, start_at_all, start_at_range, spread_is_block, block_same}
 

@@ -12,7 +12,7 @@ use Rattle.rtrb.specs.declared.AnyItems.{AnyItems}
 use Rattle.sdf_graph.specs.Sequences.{times, IsAdmissible, FitsIn}
 use Rattle.sdf_actor.specs.Steps.{Steps}
 use Rattle.sdf_actor.specs.Nets.{Netlist, wire, wiring, IsNet}
-use Rattle.sdf_rings.specs.declared.stand.Stand.{Stand}
+use Rattle.sdf_rings.specs.declared.seat.ring_node.RingNode.{RingNode}
 use Rattle.sdf_rings.specs.declared.seat.Seat.{Seat}
 use Rattle.sdf_rings.specs.Ends.{IsMet}
 use Rattle.sdf_rings.specs.Seats.{IsSeat, times_between}
@@ -52,7 +52,7 @@ module _ {A S T : Type 0} {s : Steps A S T} {n : Netlist A T} {inputs : List (Li
     {order : List ℕ} {seats : List (Seat A T S)} {places : List (ℕ × ℕ)}
     (laid : AreLaidOut s n inputs asked cap order seats places) where
   -- the stand of a node
-  here : (a : ℕ) (e : Seat A T S) (d : Stand A T S) → a < length n.nodes →
+  here : (a : ℕ) (e : Seat A T S) (d : RingNode A T S) → a < length n.nodes →
       HasBegun s n inputs asked laid.ps laid.xs a (stand_of n seats places e d a)
   here a e d l = (laid.each (place places a).0 e (laid.seated a l)).stands_are.here a d l refl
 
@@ -65,12 +65,12 @@ module _ {A S T : Type 0} {s : Steps A S T} {n : Netlist A T} {inputs : List (Li
   }
 
   -- one place is one node's
-  one : (a b : ℕ) (e : Seat A T S) (d : Stand A T S) → a < length n.nodes → b < length n.nodes →
+  one : (a b : ℕ) (e : Seat A T S) (d : RingNode A T S) → a < length n.nodes → b < length n.nodes →
       (place places a).0 ≡ (place places b).0 → (place places a).1 ≡ (place places b).1 → a ≡ b
   one a b e d la lb p q =
       let same : stand_of n seats places e d a ≡ stand_of n seats places e d b =
       λ k. get_or (get_or seats (p k) e).stands.items (q k) d in
-      sym (here a e d la).actor_is ∙ (ap (λ (z : Stand A T S). z.actor) same ∙ (here b e d lb).actor_is)
+      sym (here a e d la).actor_is ∙ (ap (λ (z : RingNode A T S). z.actor) same ∙ (here b e d lb).actor_is)
 
   abbrev home : ℕ → ℕ
   home a = (place places a).0
@@ -84,7 +84,7 @@ module _ {A S T : Type 0} {s : Steps A S T} {n : Netlist A T} {inputs : List (Li
   dealt_here i = part_all home order i (λ a. a < length n.nodes) laid.known
 
   -- how often the seat's list names the stand of a node
-  named : (a : ℕ) (e : Seat A T S) (d : Stand A T S) → a < length n.nodes →
+  named : (a : ℕ) (e : Seat A T S) (d : RingNode A T S) → a < length n.nodes →
       times (map stand (dealt places order (home a))) (stand a) ≡ asked a
   named a e d l =
       times_map stand a (dealt places order (home a))
@@ -100,11 +100,11 @@ module _ {A S T : Type 0} {s : Steps A S T} {n : Netlist A T} {inputs : List (Li
     begun = laid.each i e inside
 
     -- a stand is a node's
-    at_stand : (k : ℕ) (d : Stand A T S) → k < length x.stands.items →
+    at_stand : (k : ℕ) (d : RingNode A T S) → k < length x.stands.items →
         (a : ℕ) × (a < length n.nodes) × (home a ≡ i) × (stand a ≡ k)
     at_stand k d h = begun.stands_are.only k h
 
-    counted : (k : ℕ) (d : Stand A T S) → k < length x.stands.items →
+    counted : (k : ℕ) (d : RingNode A T S) → k < length x.stands.items →
         (get_or x.stands.items k d).done + times_between k x.left x.next (length x.left) ≡
         (get_or x.stands.items k d).asked
     counted k d h =
@@ -148,7 +148,7 @@ module _ {A S T : Type 0} {s : Steps A S T} {n : Netlist A T} {inputs : List (Li
     }
 
   -- the ends of a channel are those that were opened
-  module _ (c : ℕ) (e : Seat A T S) (d : Stand A T S) (v : Consumer T Global AnyItems) (w : Producer T Global AnyItems)
+  module _ (c : ℕ) (e : Seat A T S) (d : RingNode A T S) (v : Consumer T Global AnyItems) (w : Producer T Global AnyItems)
       (l : c < length n.wires) where
     ring : HasRing s n cap c laid.ps laid.xs
     ring = laid.rings.each c l
@@ -192,6 +192,6 @@ module _ {A S T : Type 0} {s : Steps A S T} {n : Netlist A T} {inputs : List (Li
         subst (λ p. IsRoomOf (wiring s n).rates cap c (producer_capacity p)) (sym same) r.room;
   }
 
-  pub undone : (a : ℕ) (e : Seat A T S) (d : Stand A T S) → a < length n.nodes →
+  pub undone : (a : ℕ) (e : Seat A T S) (d : RingNode A T S) → a < length n.nodes →
       (stand_of n seats places e d a).done ≡ 0
   undone a e d l = (here a e d l).undone

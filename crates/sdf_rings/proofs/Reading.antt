@@ -15,7 +15,7 @@ use Rattle.sdf_actor.specs.Steps.{Steps, state_after}
 use Rattle.sdf_node.specs.declared.node.NodeState.{NodeState}
 use Rattle.sdf_node.specs.declared.node.NodeState.TheVariants.{Source, Sink, Inner}
 use Rattle.sdf_node.specs.Nodes.{IsAt}
-use Rattle.sdf_rings.specs.declared.stand.Stand.{Stand}
+use Rattle.sdf_rings.specs.declared.seat.ring_node.RingNode.{RingNode}
 use Rattle.sdf_rings.specs.declared.seat.Seat.{Seat}
 use Rattle.sdf_rings.specs.Rests.{stand_of, state_in, InHand, AreRings, StandAtRest, AreAtRest}
 use Rattle.sdf_rings.proofs.Looking.{vec_in}
@@ -50,19 +50,19 @@ module _ {A S T : Type 0} {s : Steps A S T} {hand : InHand A S T} (r : AreRings 
   pub a_seat : {a : ℕ} → a < length n.nodes → Seat A T S
   a_seat {a} l = some seats (get_or places a (0, 0)).0 (r.placed.seat_in a l)
 
-  pub a_stand : {a : ℕ} → a < length n.nodes → Stand A T S
+  pub a_stand : {a : ℕ} → a < length n.nodes → RingNode A T S
   a_stand {a} l = some (get_or seats (get_or places a (0, 0)).0 (a_seat l)).stands.items (get_or places a (0, 0)).1
       (vec_in (get_or seats (get_or places a (0, 0)).0 (a_seat l)).stands (get_or places a (0, 0)).1
       (r.placed.stand_in a (a_seat l) l))
 
-  pub taker : {c : ℕ} → c < length n.wires → Seat A T S → Stand A T S → Consumer T Global AnyItems
+  pub taker : {c : ℕ} → c < length n.wires → Seat A T S → RingNode A T S → Consumer T Global AnyItems
   taker {c} l e d =
       let to = r.is_net.to_in c l in
       let ins_all = ins_of r e d to.0 in
       some (stand_of n seats places e d (wire n c).to.0).ins.items (wire n c).to.1
       (vec_in (stand_of n seats places e d (wire n c).to.0).ins (wire n c).to.1 (omega (arith, to.1, ins_all)))
 
-  pub putter : {c : ℕ} → c < length n.wires → Seat A T S → Stand A T S → Producer T Global AnyItems
+  pub putter : {c : ℕ} → c < length n.wires → Seat A T S → RingNode A T S → Producer T Global AnyItems
   putter {c} l e d =
       let from = r.is_net.from_in c l in
       let outs_all = outs_of r e d from.0 in
@@ -71,7 +71,7 @@ module _ {A S T : Type 0} {s : Steps A S T} {hand : InHand A S T} (r : AreRings 
       (omega (arith, from.1, outs_all)))
 
   pub rest_at : AreAtRest s n inputs seats places → {q : List ℕ} → IsAccepted s n q → {k : ℕ → ℕ} →
-      ((a : ℕ) (e : Seat A T S) (d : Stand A T S) → a < length n.nodes → (stand_of n seats places e d a).done ≡ k a) →
+      ((a : ℕ) (e : Seat A T S) (d : RingNode A T S) → a < length n.nodes → (stand_of n seats places e d a).done ≡ k a) →
       StandAtRest s n inputs seats places k
   rest_at at_rest {q} accepted {k} counts =
       let wires : 0 < length n.wires = some_wire s n q accepted r.is_net in

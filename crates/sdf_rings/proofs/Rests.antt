@@ -14,7 +14,7 @@ use Rattle.sdf_actor.specs.Nets.{wire, node, wiring, answers}
 use Rattle.sdf_actor.specs.Locals.{IsLocal}
 use Rattle.sdf_actor.proofs.Theorems.{locals_meet, taken_stays}
 use Rattle.sdf_node.specs.Nodes.{IsAt}
-use Rattle.sdf_rings.specs.declared.stand.Stand.{Stand}
+use Rattle.sdf_rings.specs.declared.seat.ring_node.RingNode.{RingNode}
 use Rattle.sdf_rings.specs.declared.seat.Seat.{Seat}
 use Rattle.sdf_rings.specs.Stands.{IsStand}
 use Rattle.sdf_rings.specs.Rests.{stand_of, producer_of, consumer_of, InHand, HaveMet, StandAtRest, AreRings}
@@ -31,7 +31,7 @@ begins false m xs ys h = refl
 module _ {A S T : Type 0} {s : Steps A S T} {hand : InHand A S T} (r : AreRings s hand)
     (met : HaveMet hand.net hand.seats hand.places)
     -- a seat, a stand and ends to read lists with
-    (e0 : Seat A T S) (d0 : Stand A T S) (x0 : Consumer T Global AnyItems) (y0 : Producer T Global AnyItems)
+    (e0 : Seat A T S) (d0 : RingNode A T S) (x0 : Consumer T Global AnyItems) (y0 : Producer T Global AnyItems)
     {done : ℕ → ℕ} (counts : (a : ℕ) → a < length hand.net.nodes →
     (stand_of hand.net hand.seats hand.places e0 d0 a).done ≡ done a) where
   open hand use {net as n, inputs, seats, places}
@@ -161,7 +161,7 @@ module _ {A S T : Type 0} {s : Steps A S T} {hand : InHand A S T} (r : AreRings 
               take ((wiring s n).rates.consumed c (done b)) (own (wire n c).from.0 c)) e (meets c m),
         )))
 
-  same_stand : (a : ℕ) (e : Seat A T S) (d : Stand A T S) → a < length n.nodes →
+  same_stand : (a : ℕ) (e : Seat A T S) (d : RingNode A T S) → a < length n.nodes →
       stand_of n seats places e d a ≡ stand_of n seats places e0 d0 a
   same_stand a e d l =
       let seat : get_or seats (get_or places a (0, 0)).0 e ≡ get_or seats (get_or places a (0, 0)).0 e0 =
@@ -175,12 +175,12 @@ module _ {A S T : Type 0} {s : Steps A S T} {hand : InHand A S T} (r : AreRings 
   is_rest = record {
     history = λ c. own (wire n c).from.0 c;
     is = locals_meet s n inputs done own r.is_net (λ a l. own_local a l (cases_lt a (length n.nodes))) enough meets;
-    dones = λ a e d l. ap (λ (z : Stand A T S). z.done) (same_stand a e d l) ∙ counts a l;
-    put = λ c e d y l. ap (λ (z : Stand A T S). sent (get_or z.outs.items (wire n c).from.1 y))
+    dones = λ a e d l. ap (λ (z : RingNode A T S). z.done) (same_stand a e d l) ∙ counts a l;
+    put = λ c e d y l. ap (λ (z : RingNode A T S). sent (get_or z.outs.items (wire n c).from.1 y))
         (same_stand (wire n c).from.0 e d (from_known c l)) ∙ put_is c l y;
-    left = λ c e d x l. ap (λ (z : Stand A T S). known_items (get_or z.ins.items (wire n c).to.1 x))
+    left = λ c e d x l. ap (λ (z : RingNode A T S). known_items (get_or z.ins.items (wire n c).to.1 x))
         (same_stand (wire n c).to.0 e d (to_known c l)) ∙ left_is c l x;
-    states = λ a e d l. subst (λ (z : Stand A T S). IsAt s inputs z.asked (node n a)
+    states = λ a e d l. subst (λ (z : RingNode A T S). IsAt s inputs z.asked (node n a)
         (taken_before (wiring s n) (λ c. own (wire n c).from.0 c) a (done a)) z.state) (sym (same_stand a e d l))
         (subst (λ past. IsAt s inputs (stand_of n seats places e0 d0 a).asked (node n a) past
         (stand_of n seats places e0 d0 a).state) (same_taken a l) (own_at a l (cases_lt a (length n.nodes))));

@@ -24,9 +24,9 @@ use Rattle.sdf_node.specs.Many.{nth_block, listed, joined, AreFullBlocks, CanSte
 use Rattle.sdf_node.specs.Nodes.{phase_at, takes_of, puts_of, IsAt}
 use Rattle.sdf_node.specs.declared.node.NodeState.{NodeState}
 use Rattle.sdf_node.proofs.Theorems.{blocks_join, nodes_can_step_many}
-use Rattle.sdf_answer.specs.Sizes.{sizes, phase_of, at_phase, AreRows}
-use Rattle.sdf_rings.specs.declared.run_ends.RunBlocks.{RunBlocks}
-use Rattle.sdf_rings.specs.declared.stand.Stand.{Stand}
+use Rattle.sdf_queues.specs.Sizes.{sizes, phase_of, at_phase, AreRows}
+use Rattle.sdf_rings.specs.declared.seat.run_ends.RunBlocks.{RunBlocks}
+use Rattle.sdf_rings.specs.declared.seat.ring_node.RingNode.{RingNode}
 use Rattle.sdf_rings.specs.Blocks.{start_at, block_of}
 use Rattle.sdf_rings.specs.RunBlocks.{HasPorts}
 use Rattle.sdf_rings.specs.Ends.{Drew, Gave, DrewEach, GaveEach, HoldsEach, HasRoomEach}
@@ -63,7 +63,7 @@ count_on moved size from f (suc many) rise long =
     omega (arith, before, next, rise (from + many), length-append (joined f many) (f many), long many (omega arith))
 
 -- a node of one phase moves the same in each firing
-module _ {A S T : Type 0} {s : Steps A S T} {n : Netlist A T} {inputs : List (List T)} {x : Stand A T S}
+module _ {A S T : Type 0} {s : Steps A S T} {n : Netlist A T} {inputs : List (List T)} {x : RingNode A T S}
     (st : IsStand s n inputs x) (one : phase_of s (node n x.actor) ≡ λ i. 0) where
   pub sizes_same : {side : Side} {rows : List (List ℕ)} → AreRows s side (node n x.actor) rows → (k p : ℕ) →
       p < ports_of s side (node n x.actor) → sizes s side (node n x.actor) k p ≡ sizes s side (node n x.actor) x.done p
@@ -72,12 +72,12 @@ module _ {A S T : Type 0} {s : Steps A S T} {n : Netlist A T} {inputs : List (Li
       ∙ ((λ i. get_or (at_phase rows (sym one i x.done)) p 0) ∙ are.each x.done p l))
 
 -- and is always at its phase
-pub at_zero : {A S T : Type 0} {s : Steps A S T} {n : Netlist A T} {inputs : List (List T)} {x : Stand A T S} →
+pub at_zero : {A S T : Type 0} {s : Steps A S T} {n : Netlist A T} {inputs : List (List T)} {x : RingNode A T S} →
     IsStand s n inputs x → GoesInRuns s n x.actor → 0 ≡ phase_at x.state
 at_zero {x = x} st goes = sym (phase_is st ∙ (ap (λ c. x.done % c) goes.one_phase ∙ mod-one x.done))
 
 -- what so many of its firings take or put at each port, where each moves the same
-module _ {A S T : Type 0} (s : Steps A S T) (n : Netlist A T) (x : Stand A T S) (many : ℕ) where
+module _ {A S T : Type 0} (s : Steps A S T) (n : Netlist A T) (x : RingNode A T S) (many : ℕ) where
   abbrev pub run_in : List T → ℕ → List T
   run_in t p = joined (λ i. block_of (sizes s Input (node n x.actor) x.done) p
       (nth_block (takes_of s (node n x.actor) 0) t i)) many
@@ -88,7 +88,7 @@ module _ {A S T : Type 0} (s : Steps A S T) (n : Netlist A T) (x : Stand A T S) 
 
 -- so many firings: the blocks that were taken and put, and the state and what the stand holds then
 pub record ManyFirings {A S T : Type 0} (s : Steps A S T) (n : Netlist A T) (inputs : List (List T))
-    (x : Stand A T S) (many : ℕ) : Type 0 where
+    (x : RingNode A T S) (many : ℕ) : Type 0 where
   pub t : List T
   pub b : List T
   pub w : NodeState T S
@@ -103,7 +103,7 @@ pub record ManyFirings {A S T : Type 0} (s : Steps A S T) (n : Netlist A T) (inp
   pub held : HoldsThen x (run_in s n x many t) (run_out s n x many b)
 
 module _ {A S T : Type 0} {s : Steps A S T} {n : Netlist A T} (good : IsNet s n) {inputs : List (List T)}
-    {x : Stand A T S} (st : IsStand s n inputs x) {many : ℕ} (can : CanRun s n x many) where
+    {x : RingNode A T S} (st : IsStand s n inputs x) {many : ℕ} (can : CanRun s n x many) where
   abbrev f : Wiring T
   f = wiring s n
 
@@ -314,7 +314,7 @@ module _ {A S T : Type 0} {s : Steps A S T} {n : Netlist A T} (good : IsNet s n)
     run_fired = gone_on st good on r.held
 
 -- as many firings can run as each of the tests leaves
-module _ {A S T : Type 0} {s : Steps A S T} {n : Netlist A T} {inputs : List (List T)} {x : Stand A T S}
+module _ {A S T : Type 0} {s : Steps A S T} {n : Netlist A T} {inputs : List (List T)} {x : RingNode A T S}
     (st : IsStand s n inputs x) (goes : GoesInRuns s n x.actor) {z : Node A} (z_is : z ≡ node n x.actor)
     {takes puts : List ℕ} (takes_is : takes ≡ at_phase (lists x.takes.items) 0)
     (puts_is : puts ≡ at_phase (lists x.puts.items) 0) where
@@ -357,7 +357,7 @@ module _ {A S T : Type 0} {s : Steps A S T} {n : Netlist A T} {inputs : List (Li
       }
 
 -- fewer firings can run too
-pub fewer_run : {A S T : Type 0} (s : Steps A S T) (n : Netlist A T) (x : Stand A T S) (few many : ℕ) → few ≤ many →
+pub fewer_run : {A S T : Type 0} (s : Steps A S T) (n : Netlist A T) (x : RingNode A T S) (few many : ℕ) → few ≤ many →
     CanRun s n x many → CanRun s n x few
 fewer_run s n x few many l can = record {
   goes = can.goes;

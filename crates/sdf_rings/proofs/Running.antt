@@ -8,7 +8,7 @@ use Rattle.sdf_actor.specs.Nets.{Netlist, wire, node, wiring, answers, answer_of
 use Rattle.sdf_actor.specs.declared.sides.Side.TheVariants.{Input, Output}
 use Rattle.sdf_actor.proofs.Theorems.{nets_are_wired}
 use Rattle.sdf_node.specs.Many.{listed, joined}
-use Rattle.sdf_answer.specs.Sizes.{sizes}
+use Rattle.sdf_queues.specs.Sizes.{sizes}
 use Rattle.sdf_rings.specs.Blocks.{start_at, block_of}
 use Rattle.sdf_rings.proofs.Spreads.{start_at_same, block_same}
 use Rattle.sdf_rings.proofs.Knowing.{IsOneMore, one_more}

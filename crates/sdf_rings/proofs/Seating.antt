@@ -10,7 +10,7 @@ use Rattle.rtrb.specs.declared.consumer.Consumer.{Consumer}
 use Rattle.rtrb.specs.declared.AnyItems.{AnyItems}
 use Rattle.sdf_actor.specs.Steps.{Steps}
 use Rattle.sdf_actor.specs.Nets.{Netlist, wire}
-use Rattle.sdf_rings.specs.declared.stand.Stand.{Stand}
+use Rattle.sdf_rings.specs.declared.seat.ring_node.RingNode.{RingNode}
 use Rattle.sdf_rings.specs.declared.seat.Seat.{Seat}
 use Rattle.sdf_rings.specs.Openings.{end_at, HasEnds}
 use Rattle.sdf_rings.specs.Begun.{place, standing, AreNext, HasBegun, AreBegun, IsBegun, HaveBegun}
@@ -31,7 +31,7 @@ ends_same n a ps qs xs ys same_out same_in has = record {
 -- a node that has not fired has its ends where they are as they were
 begun_same : {A S T : Type 0} {s : Steps A S T} {n : Netlist A T} {inputs : List (List T)} {asked : ℕ → ℕ}
     (ps qs : List (Option (Producer T Global AnyItems))) (xs ys : List (Option (Consumer T Global AnyItems))) (a : ℕ)
-    (x : Stand A T S) → ((c : ℕ) → (wire n c).from.0 ≡ a → end_at qs c ≡ end_at ps c) →
+    (x : RingNode A T S) → ((c : ℕ) → (wire n c).from.0 ≡ a → end_at qs c ≡ end_at ps c) →
     ((c : ℕ) → (wire n c).to.0 ≡ a → end_at ys c ≡ end_at xs c) →
     HasBegun s n inputs asked ps xs a x → HasBegun s n inputs asked qs ys a x
 begun_same ps qs xs ys a x same_out same_in b = record {
@@ -47,11 +47,11 @@ module _ {A S T : Type 0} (s : Steps A S T) (n : Netlist A T) (inputs : List (Li
     (ps : List (Option (Producer T Global AnyItems))) (xs : List (Option (Consumer T Global AnyItems)))
     (places : List (ℕ × ℕ)) where
   -- the nodes of seat i below a stand on it, and the ends at the others are as they were
-  pub record IsSeating (i a : ℕ) (stands : List (Stand A T S)) (qs : List (Option (Producer T Global AnyItems)))
+  pub record IsSeating (i a : ℕ) (stands : List (RingNode A T S)) (qs : List (Option (Producer T Global AnyItems)))
       (ys : List (Option (Consumer T Global AnyItems))) : Type 0 where
     pub len : length stands ≡ standing (take a places) i
     pub known : (b : ℕ) → b < a → (place places b).0 ≡ i → (place places b).1 < length stands
-    pub here : (b : ℕ) (d : Stand A T S) → b < a → (place places b).0 ≡ i →
+    pub here : (b : ℕ) (d : RingNode A T S) → b < a → (place places b).0 ≡ i →
         HasBegun s n inputs asked ps xs b (get_or stands (place places b).1 d)
     pub only : (k : ℕ) → k < length stands → (b : ℕ) × (b < a) × ((place places b).0 ≡ i) × ((place places b).1 ≡ k)
     pub producers : (c : ℕ) → ((place places (wire n c).from.0).0 ≡ i → a ≤ (wire n c).from.0) →
@@ -78,7 +78,7 @@ module _ {A S T : Type 0} {s : Steps A S T} {n : Netlist A T} {inputs : List (Li
     consumers = λ c h. refl;
   }
 
-  module _ {i a : ℕ} {stands : List (Stand A T S)} {qs : List (Option (Producer T Global AnyItems))}
+  module _ {i a : ℕ} {stands : List (RingNode A T S)} {qs : List (Option (Producer T Global AnyItems))}
       {ys : List (Option (Consumer T Global AnyItems))}
       (st : IsSeating s n inputs asked ps xs places i a stands qs ys) where
     -- what stands at a node of the seat that comes later
@@ -102,8 +102,8 @@ module _ {A S T : Type 0} {s : Steps A S T} {n : Netlist A T} {inputs : List (Li
         below b l e (inr above) = let same : b ≡ a = omega arith in
             absurd (ne (sym (ap (λ j. (place places j).0) same) ∙ e))
 
-    module _ (inside : a < length places) (e : (place places a).0 ≡ i) (next : AreNext places) {x : Stand A T S}
-        (begun : HasBegun s n inputs asked qs ys a x) {stands' : List (Stand A T S)} (is : stands' ≡ stands ++ x ∷ [])
+    module _ (inside : a < length places) (e : (place places a).0 ≡ i) (next : AreNext places) {x : RingNode A T S}
+        (begun : HasBegun s n inputs asked qs ys a x) {stands' : List (RingNode A T S)} (is : stands' ≡ stands ++ x ∷ [])
         (qs' : List (Option (Producer T Global AnyItems))) (ys' : List (Option (Consumer T Global AnyItems)))
         (same_out : (c : ℕ) → ((wire n c).from.0 ≡ a → ⊥) → end_at qs' c ≡ end_at qs c)
         (same_in : (c : ℕ) → ((wire n c).to.0 ≡ a → ⊥) → end_at ys' c ≡ end_at ys c) where
@@ -118,10 +118,10 @@ module _ {A S T : Type 0} {s : Steps A S T} {n : Netlist A T} {inputs : List (Li
       first = begun_same qs ps ys xs a x (λ c from. sym (st.producers c (λ h. omega (arith, from))))
           (λ c to. sym (st.consumers c (λ h. omega (arith, to)))) begun
 
-      old_at : (k : ℕ) (d : Stand A T S) → k < length stands → get_or stands' k d ≡ get_or stands k d
+      old_at : (k : ℕ) (d : RingNode A T S) → k < length stands → get_or stands' k d ≡ get_or stands k d
       old_at k d l = ap (λ zs. get_or zs k d) is ∙ get_or_append_left stands (x ∷ []) d k l
 
-      new_at : (d : Stand A T S) → get_or stands' (place places a).1 d ≡ x
+      new_at : (d : RingNode A T S) → get_or stands' (place places a).1 d ≡ x
       new_at d = ap (λ zs. get_or zs (place places a).1 d) is ∙ get_or_push stands x d (place places a).1 (sym at)
 
       go_known : (b : ℕ) → b < a + 1 → (place places b).0 ≡ i → (b < a) ⊎ (a ≤ b) →
@@ -130,7 +130,7 @@ module _ {A S T : Type 0} {s : Steps A S T} {n : Netlist A T} {inputs : List (Li
       go_known b l f (inr above) = let same : a ≡ b = omega arith in
           subst (λ j. (place places j).1 < length stands') same (omega (arith, at, more))
 
-      go_here : (b : ℕ) (d : Stand A T S) → b < a + 1 → (place places b).0 ≡ i → (b < a) ⊎ (a ≤ b) →
+      go_here : (b : ℕ) (d : RingNode A T S) → b < a + 1 → (place places b).0 ≡ i → (b < a) ⊎ (a ≤ b) →
           HasBegun s n inputs asked ps xs b (get_or stands' (place places b).1 d)
       go_here b d l f (inl below) = subst (HasBegun s n inputs asked ps xs b)
           (sym (old_at (place places b).1 d (st.known b below f))) (st.here b d below f)

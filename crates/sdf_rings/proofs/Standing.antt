@@ -9,15 +9,15 @@ use Rattle.sdf_actor.specs.declared.sides.Side.TheVariants.{Input, Output}
 use Rattle.sdf_actor.specs.Sides.{ports_of}
 use Rattle.sdf_node.specs.Nodes.{phase_at, takes_of, puts_of, CanStep}
 use Rattle.sdf_node.proofs.Theorems.{nodes_can_step, nodes_keep_phase}
-use Rattle.sdf_rings.specs.declared.stand.Stand.{Stand}
+use Rattle.sdf_rings.specs.declared.seat.ring_node.RingNode.{RingNode}
 use Rattle.sdf_rings.specs.Blocks.{start_at, block_of}
-use Rattle.sdf_answer.specs.Sizes.{sizes, at_phase, AreRows}
+use Rattle.sdf_queues.specs.Sizes.{sizes, at_phase, AreRows}
 use Rattle.sdf_rings.specs.Stands.{IsStand}
 use Rattle.sdf_rings.proofs.Spreads.{start_at_same, block_same}
 use Rattle.sdf_rings.proofs.PortBlocks.{sizes_taken, sizes_put}
 use Rattle.sdf_rings.proofs.Knowing.{length_taken_before}
 
-module _ {A S T : Type 0} {s : Steps A S T} {n : Netlist A T} {inputs : List (List T)} {x : Stand A T S}
+module _ {A S T : Type 0} {s : Steps A S T} {n : Netlist A T} {inputs : List (List T)} {x : RingNode A T S}
     (st : IsStand s n inputs x) where
   abbrev v : Node A
   v = node n x.actor

@@ -15,11 +15,11 @@ use Rattle.sdf_actor.specs.Sides.{period_samples}
 use Rattle.sdf_actor.specs.declared.node.Node.{Node}
 use Rattle.sdf_actor.specs.declared.node.Node.TheVariants.{Source, Sink, Inner}
 use Rattle.sdf_actor.specs.declared.sides.Lists.TheVariants.{Inputs, Outputs}
-use Rattle.sdf_answer.specs.Answer.{HasInputs}
-use Rattle.sdf_answer.specs.Periods.{HasPeriod, CanRun}
+use Rattle.sdf_queues.specs.Answer.{HasInputs}
+use Rattle.sdf_queues.specs.Periods.{HasPeriod, CanRun}
 use Rattle.sdf_prec.specs.BlockTables.{IsTableOf}
 use Rattle.sdf_node.specs.Nodes.{CanBegin}
-use Rattle.sdf_answer.proofs.Theorems.{nets_can_run}
+use Rattle.sdf_queues.proofs.Theorems.{nets_can_run}
 use Rattle.sdf_rings.specs.Begun.{CanStart}
 use Rattle.sdf_rings.specs.Prepared.{IsAsked}
 

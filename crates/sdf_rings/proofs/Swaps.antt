@@ -6,9 +6,9 @@ use Rattle.std.specs.Global.{Global}
 use Rattle.rtrb.specs.declared.producer.Producer.{Producer}
 use Rattle.rtrb.specs.declared.consumer.Consumer.{Consumer}
 use Rattle.rtrb.specs.declared.AnyItems.{AnyItems}
-use Rattle.sdf_rings.specs.declared.stand.Stand.{Stand}
+use Rattle.sdf_rings.specs.declared.seat.ring_node.RingNode.{RingNode}
 use Rattle.sdf_rings.specs.declared.seat.Seat.{Seat}
-use Rattle.sdf_rings.specs.declared.meet.Spot.{Spot}
+use Rattle.sdf_rings.specs.declared.rings.meet.RingEnd.{RingEnd}
 use Rattle.sdf_rings.specs.Places.{stand_at, producer_at, SameSeat, SameStand, IsUpdated, OnlyIns, OnlyProducer}
 
 pub same_place : (j l i k : ℕ) → ((j ≡ i) × (l ≡ k)) ⊎ ((j ≡ i) × (l ≡ k) → ⊥)
@@ -22,7 +22,7 @@ same_place j l i k =
 pub in_vec : {X Z : Type 0} (v : Vec X Z) (i : ℕ) → i < vec_len v → i < length v.items
 in_vec v i h = omega arith
 
-pub record ButEnds {A T S : Type 0} (s t : Stand A T S) : Type 0 where
+pub record ButEnds {A T S : Type 0} (s t : RingNode A T S) : Type 0 where
   pub actor_is : t.actor ≡ s.actor
   pub state_is : t.state ≡ s.state
   pub takes_is : t.takes ≡ s.takes
@@ -32,7 +32,7 @@ pub record ButEnds {A T S : Type 0} (s t : Stand A T S) : Type 0 where
   pub done_is : t.done ≡ s.done
   pub asked_is : t.asked ≡ s.asked
 
-pub same_stand_of : {A T S : Type 0} (s t : Stand A T S) → ButEnds s t → vec_len t.ins ≡ vec_len s.ins →
+pub same_stand_of : {A T S : Type 0} (s t : RingNode A T S) → ButEnds s t → vec_len t.ins ≡ vec_len s.ins →
     vec_len t.outs ≡ vec_len s.outs → SameStand s t
 same_stand_of s t k ins outs = record {
   actor_same = k.actor_is;
@@ -48,7 +48,7 @@ same_stand_of s t k ins outs = record {
 }
 
 module _ {A T S : Type 0} where
-  pub ends_join : (s t u : Stand A T S) → ButEnds s t → ButEnds t u → ButEnds s u
+  pub ends_join : (s t u : RingNode A T S) → ButEnds s t → ButEnds t u → ButEnds s u
   ends_join s t u p q = record {
     actor_is = q.actor_is ∙ p.actor_is;
     state_is = q.state_is ∙ p.state_is;
@@ -68,7 +68,7 @@ module _ {A T S : Type 0} where
     stands_same = q.stands_same ∙ p.stands_same;
   }
 
-  ends_same : (x : Stand A T S) → ButEnds x x
+  ends_same : (x : RingNode A T S) → ButEnds x x
   ends_same x = record {
     actor_is = refl;
     state_is = refl;
@@ -80,7 +80,7 @@ module _ {A T S : Type 0} where
     asked_is = refl;
   }
 
-  ends_other : (x : Stand A T S) (ins : Vec (Consumer T Global AnyItems) Global)
+  ends_other : (x : RingNode A T S) (ins : Vec (Consumer T Global AnyItems) Global)
       (outs : Vec (Producer T Global AnyItems) Global) → ButEnds x (record x { ins = ins; outs = outs })
   ends_other x ins outs = record {
     actor_is = refl;
@@ -94,8 +94,8 @@ module _ {A T S : Type 0} where
   }
 
   -- where one stand is changed, what ties it to what it was, and each stand to itself, ties each to what it was
-  each_stand : (R : Stand A T S → Stand A T S → Type 0) → ((x : Stand A T S) → R x x) → (old new : List (Seat A T S))
-      (i k : ℕ) (x : Stand A T S) (e : Seat A T S) (d : Stand A T S) → R (stand_at old i k e d) x →
+  each_stand : (R : RingNode A T S → RingNode A T S → Type 0) → ((x : RingNode A T S) → R x x) → (old new : List (Seat A T S))
+      (i k : ℕ) (x : RingNode A T S) (e : Seat A T S) (d : RingNode A T S) → R (stand_at old i k e d) x →
       IsUpdated old new i k x → (j l : ℕ) → R (stand_at old j l e d) (stand_at new j l e d)
   each_stand R same old new i k x e d here u j l =
       elim (same_place j l i k) as (λ _. R (stand_at old j l e d) (stand_at new j l e d)) [
@@ -106,11 +106,11 @@ module _ {A T S : Type 0} where
   -- other consumers came on a stand
   pub record InsChanged (old new : List (Seat A T S)) (i k : ℕ)
       (v : Vec (Consumer T Global AnyItems) Global) : Type 0 where
-    pub but : (j l : ℕ) (e : Seat A T S) (d : Stand A T S) → ButEnds (stand_at old j l e d) (stand_at new j l e d)
-    pub outs_is : (j l : ℕ) (e : Seat A T S) (d : Stand A T S) →
+    pub but : (j l : ℕ) (e : Seat A T S) (d : RingNode A T S) → ButEnds (stand_at old j l e d) (stand_at new j l e d)
+    pub outs_is : (j l : ℕ) (e : Seat A T S) (d : RingNode A T S) →
         (stand_at new j l e d).outs ≡ (stand_at old j l e d).outs
-    pub ins_here : (e : Seat A T S) (d : Stand A T S) → (stand_at new i k e d).ins ≡ v
-    pub ins_other : (j l : ℕ) (e : Seat A T S) (d : Stand A T S) → ((j ≡ i) × (l ≡ k) → ⊥) →
+    pub ins_here : (e : Seat A T S) (d : RingNode A T S) → (stand_at new i k e d).ins ≡ v
+    pub ins_other : (j l : ℕ) (e : Seat A T S) (d : RingNode A T S) → ((j ≡ i) × (l ≡ k) → ⊥) →
         (stand_at new j l e d).ins ≡ (stand_at old j l e d).ins
 
   pub ins_changed : (old new : List (Seat A T S)) (i k : ℕ) (v : Vec (Consumer T Global AnyItems) Global) →
@@ -124,16 +124,16 @@ module _ {A T S : Type 0} where
   }
 
   -- another producer came to a place
-  pub record OutChanged (old new : List (Seat A T S)) (at : Spot) : Type 0 where
-    pub but : (j l : ℕ) (e : Seat A T S) (d : Stand A T S) → ButEnds (stand_at old j l e d) (stand_at new j l e d)
-    pub ins_is : (j l : ℕ) (e : Seat A T S) (d : Stand A T S) → (stand_at new j l e d).ins ≡ (stand_at old j l e d).ins
-    pub outs_len : (j l : ℕ) (e : Seat A T S) (d : Stand A T S) →
+  pub record OutChanged (old new : List (Seat A T S)) (at : RingEnd) : Type 0 where
+    pub but : (j l : ℕ) (e : Seat A T S) (d : RingNode A T S) → ButEnds (stand_at old j l e d) (stand_at new j l e d)
+    pub ins_is : (j l : ℕ) (e : Seat A T S) (d : RingNode A T S) → (stand_at new j l e d).ins ≡ (stand_at old j l e d).ins
+    pub outs_len : (j l : ℕ) (e : Seat A T S) (d : RingNode A T S) →
         vec_len (stand_at new j l e d).outs ≡ vec_len (stand_at old j l e d).outs
-    pub out_other : (q : Spot) (e : Seat A T S) (d : Stand A T S) (y : Producer T Global AnyItems) →
+    pub out_other : (q : RingEnd) (e : Seat A T S) (d : RingNode A T S) (y : Producer T Global AnyItems) →
         ((q.seat ≡ at.seat) × (q.stand ≡ at.stand) × (q.port ≡ at.port) → ⊥) →
         producer_at new q e d y ≡ producer_at old q e d y
 
-  pub out_changed : (old new : List (Seat A T S)) (at : Spot) → OnlyProducer old new at → Producer T Global AnyItems →
+  pub out_changed : (old new : List (Seat A T S)) (at : RingEnd) → OnlyProducer old new at → Producer T Global AnyItems →
       OutChanged old new at
   out_changed old new at u y0 = record {
     but = λ j l e d. each_stand (λ x y. ButEnds x y) ends_same old new at.seat at.stand _ e d
@@ -145,7 +145,7 @@ module _ {A T S : Type 0} where
     out_other = λ q e d y apart. elim (same_place q.seat q.stand at.seat at.stand) as (λ _. producer_at new q e d y ≡
         producer_at old q e d y) [
           | inl h ↦ let ne : q.port ≢ at.port = λ z. apart (h.0, h.1, z) in
-              rw (h.0, h.1) (ap (λ (s : Stand A T S). slice_index_or s.outs.items q.port y) ((u e d y0).here e d)
+              rw (h.0, h.1) (ap (λ (s : RingNode A T S). slice_index_or s.outs.items q.port y) ((u e d y0).here e d)
               ∙ get_or-set_other (stand_at old at.seat at.stand e d).outs.items at.port q.port
               (producer_at new at e d y0) y ne)
           | inr h ↦ rw ((u e d y0).others q.seat q.stand e d h) refl

@@ -8,9 +8,9 @@ use Rattle.rtrb.specs.declared.consumer.Consumer.{Consumer}
 use Rattle.rtrb.specs.declared.AnyItems.{AnyItems}
 use Rattle.sdf_actor.specs.Steps.{Steps}
 use Rattle.sdf_actor.specs.Nets.{Netlist, wire}
-use Rattle.sdf_rings.specs.declared.stand.Stand.{Stand}
+use Rattle.sdf_rings.specs.declared.seat.ring_node.RingNode.{RingNode}
 use Rattle.sdf_rings.specs.declared.seat.Seat.{Seat}
-use Rattle.sdf_rings.specs.declared.meet.Spot.{Spot}
+use Rattle.sdf_rings.specs.declared.rings.meet.RingEnd.{RingEnd}
 use Rattle.sdf_rings.specs.Ends.{Drew, Gave, DrewEach, GaveEach, IsMet}
 use Rattle.sdf_rings.specs.Places.{stand_at, SameStand, IsTold, consumer_at, producer_at}
 use Rattle.sdf_rings.specs.Stands.{IsStand, HasMoved}
@@ -33,7 +33,7 @@ same_port j l p i k q =
 
 module _ {A S T : Type 0} where
   -- a stand but for its ends
-  stand_with : (x y : Stand A T S) → SameStand x y → record x { ins = y.ins; outs = y.outs } ≡ y
+  stand_with : (x y : RingNode A T S) → SameStand x y → record x { ins = y.ins; outs = y.outs } ≡ y
   stand_with x y t = λ i. record {
     actor = (sym t.actor_same) i;
     state = (sym t.state_same) i;
@@ -47,9 +47,9 @@ module _ {A S T : Type 0} where
     asked = (sym t.asked_same) i;
   }
 
-  module _ (s : Steps A S T) (n : Netlist A T) {old new : List (Seat A T S)} {from to : Spot}
+  module _ (s : Steps A S T) (n : Netlist A T) {old new : List (Seat A T S)} {from to : RingEnd}
       (t : IsTold old new from to) where
-    drew : (j k : ℕ) (e : Seat A T S) (d : Stand A T S) →
+    drew : (j k : ℕ) (e : Seat A T S) (d : RingNode A T S) →
         DrewEach (stand_at old j k e d).ins.items (stand_at new j k e d).ins.items (λ _. [])
     drew j k e d p x h = elim (same_port j k p to.seat to.stand to.port) as (λ _. Drew
         (get_or (stand_at old j k e d).ins.items p x) (get_or (stand_at new j k e d).ins.items p x) []) [
@@ -58,7 +58,7 @@ module _ {A S T : Type 0} where
           | inr b ↦ rw (t.other_consumers (record { seat = j; stand = k; port = p }) e d x b) (drew_none _)
         ]
 
-    gave : (j k : ℕ) (e : Seat A T S) (d : Stand A T S) →
+    gave : (j k : ℕ) (e : Seat A T S) (d : RingNode A T S) →
         GaveEach (stand_at old j k e d).outs.items (stand_at new j k e d).outs.items (λ _. [])
     gave j k e d p y h = elim (same_port j k p from.seat from.stand from.port) as (λ _. Gave
         (get_or (stand_at old j k e d).outs.items p y) (get_or (stand_at new j k e d).outs.items p y) []) [
@@ -67,7 +67,7 @@ module _ {A S T : Type 0} where
           | inr b ↦ rw (t.other_producers (record { seat = j; stand = k; port = p }) e d y b) (gave_none _)
         ]
 
-    told_stand : (inputs : List (List T)) (j k : ℕ) (e : Seat A T S) (d : Stand A T S) →
+    told_stand : (inputs : List (List T)) (j k : ℕ) (e : Seat A T S) (d : RingNode A T S) →
         IsStand s n inputs (stand_at old j k e d) → IsStand s n inputs (stand_at new j k e d)
     told_stand inputs j k e d st =
         let x = stand_at old j k e d in
@@ -77,7 +77,7 @@ module _ {A S T : Type 0} where
         (looked_stand x y.ins y.outs (drew j k e d) (gave j k e d) same.ins_len_same
         same.outs_len_same st)
 
-    told_moved : (j k : ℕ) (e : Seat A T S) (d : Stand A T S) →
+    told_moved : (j k : ℕ) (e : Seat A T S) (d : RingNode A T S) →
         HasMoved s n (stand_at old j k e d) (stand_at new j k e d)
     told_moved j k e d =
         let x = stand_at old j k e d in
@@ -131,7 +131,7 @@ module _ {A S T : Type 0} where
         (λ j e h. told_worked s n t j e (r.each j e h).next_fits)
 
     -- the ring is met, and those before it stay so
-    pub met_told : (k : ℕ) (e : Seat A T S) (d : Stand A T S) (x : Consumer T Global AnyItems)
+    pub met_told : (k : ℕ) (e : Seat A T S) (d : RingNode A T S) (x : Consumer T Global AnyItems)
         (y : Producer T Global AnyItems) → k ≤ m →
         (k < m → IsMet (producer_of n seats places e d y k) (consumer_of n seats places e d x k)) →
         IsMet (producer_of n new places e d y k) (consumer_of n new places e d x k)

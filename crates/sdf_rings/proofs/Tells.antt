@@ -8,9 +8,9 @@ use Rattle.rtrb.specs.Ring.{ConsumerLooked}
 use Rattle.rtrb.specs.declared.producer.Producer.{Producer}
 use Rattle.rtrb.specs.declared.consumer.Consumer.{Consumer}
 use Rattle.rtrb.specs.declared.AnyItems.{AnyItems}
-use Rattle.sdf_rings.specs.declared.stand.Stand.{Stand}
+use Rattle.sdf_rings.specs.declared.seat.ring_node.RingNode.{RingNode}
 use Rattle.sdf_rings.specs.declared.seat.Seat.{Seat}
-use Rattle.sdf_rings.specs.declared.meet.Spot.{Spot}
+use Rattle.sdf_rings.specs.declared.rings.meet.RingEnd.{RingEnd}
 use Rattle.sdf_rings.specs.Ends.{IsMet}
 use Rattle.sdf_rings.specs.Places.{stand_at, consumer_at, HasStand, HoldsOfStand, HoldsOfProducer, OnlyIns}
 use Rattle.sdf_rings.specs.Places.{OnlyProducer}
@@ -22,16 +22,16 @@ pub some : {X : Type 0} (xs : List X) (i : ℕ) → i < length xs → X
 some [] i h = absurd (omega arith)
 some (x ∷ xs) i h = x
 
-pub some_stand : {A T S : Type 0} (seats : List (Seat A T S)) (i k : ℕ) → HasStand seats i k → Seat A T S → Stand A T S
+pub some_stand : {A T S : Type 0} (seats : List (Seat A T S)) (i k : ℕ) → HasStand seats i k → Seat A T S → RingNode A T S
 some_stand seats i k has e = some (slice_index_or seats i e).stands.items k
     (in_vec (slice_index_or seats i e).stands k (has e))
 
 module _ {A T S : Type 0} where
-  pub told : (s0 s1 s2 s3 : List (Seat A T S)) (from to : Spot) (v0 v1 : Vec (Consumer T Global AnyItems) Global)
+  pub told : (s0 s1 s2 s3 : List (Seat A T S)) (from to : RingEnd) (v0 v1 : Vec (Consumer T Global AnyItems) Global)
       (c c' : Consumer T Global AnyItems)
       → IsRing s0 from to
       → OnlyIns s0 s1 to.seat to.stand v0
-      → HoldsOfStand (λ (x : Stand A T S). v1 ≡ x.ins) s0 to.seat to.stand
+      → HoldsOfStand (λ (x : RingNode A T S). v1 ≡ x.ins) s0 to.seat to.stand
       → c ≡ slice_index_or v1.items to.port c
       → OnlyProducer s1 s2 from
       → ConsumerLooked c c'
@@ -48,21 +48,21 @@ module _ {A T S : Type 0} where
       let a = ins_changed s0 s1 to.seat to.stand v0 u1 in
       let b = out_changed s1 s2 from u2 y0 in
       let z = ins_changed s2 s3 to.seat to.stand (with_item v1 to.port c') u3 in
-      let but : (j l : ℕ) (e : Seat A T S) (d : Stand A T S) → ButEnds (stand_at s0 j l e d) (stand_at s3 j l e d) =
+      let but : (j l : ℕ) (e : Seat A T S) (d : RingNode A T S) → ButEnds (stand_at s0 j l e d) (stand_at s3 j l e d) =
       λ j l e d. ends_join _ _ _ (ends_join _ _ _ (a.but j l e d) (b.but j l e d)) (z.but j l e d) in
-      let outs : (j l p : ℕ) (e : Seat A T S) (d : Stand A T S) (y : Producer T Global AnyItems) →
+      let outs : (j l p : ℕ) (e : Seat A T S) (d : RingNode A T S) (y : Producer T Global AnyItems) →
       slice_index_or (stand_at s3 j l e d).outs.items p y ≡ slice_index_or (stand_at s2 j l e d).outs.items p y =
       λ j l p e d y. ap (λ (v : Vec (Producer T Global AnyItems) Global). slice_index_or v.items p y)
       (z.outs_is j l e d) in
-      let outs1 : (j l p : ℕ) (e : Seat A T S) (d : Stand A T S) (y : Producer T Global AnyItems) →
+      let outs1 : (j l p : ℕ) (e : Seat A T S) (d : RingNode A T S) (y : Producer T Global AnyItems) →
       slice_index_or (stand_at s1 j l e d).outs.items p y ≡ slice_index_or (stand_at s0 j l e d).outs.items p y =
       λ j l p e d y. ap (λ (v : Vec (Producer T Global AnyItems) Global). slice_index_or v.items p y)
       (a.outs_is j l e d) in
       let port : to.port < length v1.items = in_vec v1 to.port (rw (had e0 d0) (ring.takes_there.port_in e0 d0)) in
-      let here : (e : Seat A T S) (d : Stand A T S) (x : Consumer T Global AnyItems) → consumer_at s3 to e d x ≡ c' =
+      let here : (e : Seat A T S) (d : RingNode A T S) (x : Consumer T Global AnyItems) → consumer_at s3 to e d x ≡ c' =
       λ e d x. ap (λ (v : Vec (Consumer T Global AnyItems) Global). slice_index_or v.items to.port x)
       (z.ins_here e d) ∙ get_or-set_same v1.items to.port c' x port in
-      let was : (e : Seat A T S) (d : Stand A T S) (x : Consumer T Global AnyItems) → consumer_at s0 to e d x ≡ c =
+      let was : (e : Seat A T S) (d : RingNode A T S) (x : Consumer T Global AnyItems) → consumer_at s0 to e d x ≡ c =
       λ e d x. ap (λ (v : Vec (Consumer T Global AnyItems) Global). slice_index_or v.items to.port x)
       (sym (had e d)) ∙ get_or_default v1.items to.port x c port ∙ sym is in
       record {

@@ -8,7 +8,7 @@ use Rattle.sdf_graph.specs.Rates.{Rates}
 use Rattle.sdf_graph.specs.Sequences.{times, IsAdmissible, FitsIn}
 use Rattle.sdf_actor.specs.Steps.{Steps}
 use Rattle.sdf_actor.specs.Nets.{Netlist, wiring}
-use Rattle.sdf_rings.specs.declared.stand.Stand.{Stand}
+use Rattle.sdf_rings.specs.declared.seat.ring_node.RingNode.{RingNode}
 use Rattle.sdf_rings.specs.declared.seat.Seat.{Seat}
 use Rattle.sdf_rings.specs.Seats.{HasFirst}
 use Rattle.sdf_rings.specs.Rests.{stand_of, producer_of}
@@ -33,13 +33,13 @@ module _ {A S T : Type 0} (n : Netlist A T) (seats : List (Seat A T S)) (places 
   pub record AsksFor (order : List ℕ) : Type 0 where
     pub lists : (i : ℕ) (e : Seat A T S) → i < length seats →
         (slice_index_or seats i e).left ≡ map (λ a. (slice_index_or places a (0, 0)).1) (dealt places order i)
-    pub asked : (a : ℕ) (e : Seat A T S) (d : Stand A T S) → a < length n.nodes →
+    pub asked : (a : ℕ) (e : Seat A T S) (d : RingNode A T S) → a < length n.nodes →
         (stand_of n seats places e d a).asked ≡ times order a
 
   -- each ring has the room that belongs to the capacity of its channel
   abbrev pub HaveCapacities : Steps A S T → (ℕ → ℕ) → Type 0
   HaveCapacities s cap =
-      (c : ℕ) (e : Seat A T S) (d : Stand A T S) (y : Producer T Global AnyItems) → c < length n.wires →
+      (c : ℕ) (e : Seat A T S) (d : RingNode A T S) (y : Producer T Global AnyItems) → c < length n.wires →
       IsRoomOf (wiring s n).rates cap c (producer_capacity (producer_of n seats places e d y c))
 
 -- what is asked is an admissible sequence that keeps within the rings

@@ -12,10 +12,10 @@ use Rattle.sdf_actor.specs.NetFaults.{WasAccepted}
 use Rattle.sdf_actor.specs.Nets.{Netlist, wire, node, wiring, inputs_of, outputs_of, cycle_of, IsNet}
 use Rattle.sdf_actor.specs.Wires.{lists}
 use Rattle.sdf_node.specs.Nodes.{CanBegin}
-use Rattle.sdf_answer.specs.Sizes.{AreSizes}
-use Rattle.sdf_rings.specs.declared.setup.roster.Roster.{Roster}
-use Rattle.sdf_rings.specs.declared.setup.stands.Start.{Start}
-use Rattle.sdf_rings.specs.declared.stand.Stand.{Stand}
+use Rattle.sdf_queues.specs.Sizes.{AreSizes}
+use Rattle.sdf_rings.specs.declared.setup.assignment.Assignment.{Assignment}
+use Rattle.sdf_rings.specs.declared.setup.ring_nodes.Start.{Start}
+use Rattle.sdf_rings.specs.declared.seat.ring_node.RingNode.{RingNode}
 use Rattle.sdf_rings.specs.declared.seat.Seat.{Seat}
 use Rattle.sdf_rings.specs.Asks.{dealt}
 use Rattle.sdf_rings.specs.Openings.{end_at}
@@ -34,7 +34,7 @@ abbrev pub AreNext : List (ℕ × ℕ) → Type 0
 AreNext places = (a : ℕ) → a < length places → (place places a).1 ≡ standing (take a places) (place places a).0
 
 -- each firing is of a node that has a place
-abbrev pub IsRoster : Roster → Type 0
+abbrev pub IsRoster : Assignment → Type 0
 IsRoster r = (i : ℕ) → i < length r.order.now → slice_index r.order.now i < length r.places.now
 
 -- each node can do the firings that are asked of it if a sink has this room. If any firing is asked, there is a sample
@@ -70,7 +70,7 @@ module _ {A S T : Type 0} (s : Steps A S T) (n : Netlist A T) (inputs : List (Li
     (producers : List (Option (Producer T Global AnyItems)))
     (consumers : List (Option (Consumer T Global AnyItems))) where
   -- node a has not fired, and asked a is the number of firings asked of it. It has its ends of these rings
-  pub record HasBegun (a : ℕ) (x : Stand A T S) : Type 0 where
+  pub record HasBegun (a : ℕ) (x : RingNode A T S) : Type 0 where
     pub is : IsStand s n inputs x
     pub actor_is : x.actor ≡ a
     pub undone : x.done ≡ 0
@@ -81,9 +81,9 @@ module _ {A S T : Type 0} (s : Steps A S T) (n : Netlist A T) (inputs : List (Li
         end_at producers c ≡ Some (slice_index_or x.outs.items (wire n c).from.1 d)
 
   -- the nodes of seat i are there, each at its index, and nothing else is
-  pub record AreBegun (places : List (ℕ × ℕ)) (i : ℕ) (stands : List (Stand A T S)) : Type 0 where
+  pub record AreBegun (places : List (ℕ × ℕ)) (i : ℕ) (stands : List (RingNode A T S)) : Type 0 where
     pub known : (a : ℕ) → a < length n.nodes → (place places a).0 ≡ i → (place places a).1 < length stands
-    pub here : (a : ℕ) (d : Stand A T S) → a < length n.nodes → (place places a).0 ≡ i →
+    pub here : (a : ℕ) (d : RingNode A T S) → a < length n.nodes → (place places a).0 ≡ i →
         HasBegun a (slice_index_or stands (place places a).1 d)
     pub only : (k : ℕ) → k < length stands → (a : ℕ) × (a < length n.nodes) × ((place places a).0 ≡ i)
         × ((place places a).1 ≡ k)

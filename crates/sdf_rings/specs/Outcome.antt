@@ -3,18 +3,18 @@ use Rattle.std.specs.Prelude.{ℕ, ◌≡◌, ◌*◌, ◌≤◌, ◌<◌, List,
 use Rattle.sdf_limits.specs.declared.TheConstants.{MOST_PATIENCE}
 use Rattle.sdf_graph.specs.Sequences.{repeated}
 use Rattle.sdf_prec.specs.Tables.{Tabled, IsHomed}
-use Rattle.sdf_actor.specs.declared.rest.Rest.{Rest}
+use Rattle.sdf_actor.specs.declared.rest.NetState.{NetState}
 use Rattle.sdf_actor.specs.Laws.{AreCountsOf}
 use Rattle.sdf_actor.specs.Steps.{Steps}
 use Rattle.sdf_actor.specs.Nets.{Netlist}
-use Rattle.sdf_answer.specs.Feeds.{GoesOnBy}
+use Rattle.sdf_queues.specs.Feeds.{GoesOnBy}
 use Rattle.sdf_rings.specs.Asks.{IsPlanned}
 use Rattle.sdf_rings.specs.Rests.{InHand, HaveMet}
 use Rattle.sdf_rings.specs.Totals.{total_left}
-use Rattle.sdf_answer.specs.Answer.{HasInputs, AreOutputs, periods_of}
-use Rattle.sdf_answer.specs.declared.fault.RunFault.{RunFault}
-use Rattle.sdf_answer.specs.declared.fault.RunFault.TheVariants.{OutOfMemory, InputLength, NotHomed, Patience, NoWorker}
-use Rattle.sdf_answer.specs.declared.fault.RunFault.TheVariants.{SessionFailed}
+use Rattle.sdf_queues.specs.Answer.{HasInputs, AreOutputs, periods_of}
+use Rattle.sdf_queues.specs.declared.fault.RunFault.{RunFault}
+use Rattle.sdf_queues.specs.declared.fault.RunFault.TheVariants.{OutOfMemory, InputLength, NotHomed, Patience, NoWorker}
+use Rattle.sdf_queues.specs.declared.fault.RunFault.TheVariants.{SessionFailed}
 
 -- what a run returns if no test fails: the outputs and the number of rounds. Each round does some firing
 pub record HasRunInRounds {A S T : Type 0} (s : Steps A S T) (n : Netlist A T) (q : List ℕ) (j : ℕ)
@@ -29,8 +29,8 @@ pub record HasRunInRounds {A S T : Type 0} (s : Steps A S T) (n : Netlist A T) (
 
 -- what a resumed run returns if no test fails. Its rounds have the bounds of any run
 pub record HasGoneOn {A S T : Type 0} (s : Steps A S T) (n : Netlist A T) (q : List ℕ) (j : ℕ) (t : Tabled)
-    (rest : Rest T S) (blocks : ℕ) (inputs : List (List T)) (patience : ℕ) (outputs : List (List T)) (rounds : ℕ)
-    (last : Rest T S) : Type 0 where
+    (rest : NetState T S) (blocks : ℕ) (inputs : List (List T)) (patience : ℕ) (outputs : List (List T)) (rounds : ℕ)
+    (last : NetState T S) : Type 0 where
   pub homed : IsHomed t
   pub patient : patience ≤ MOST_PATIENCE
   pub goes_on : GoesOnBy s n q rest (blocks * j) inputs outputs last

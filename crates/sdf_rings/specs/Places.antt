@@ -2,9 +2,9 @@
 use Rattle.std.specs.Prelude.{ℕ, ◌≡◌, ◌<◌, List, length, vec_len, slice_index_or}
 use Rattle.std.specs.Vec.{with_item}
 use Rattle.std.specs.declared.vec.Vec.{Vec}
-use Rattle.sdf_rings.specs.declared.stand.Stand.{Stand}
+use Rattle.sdf_rings.specs.declared.seat.ring_node.RingNode.{RingNode}
 use Rattle.sdf_rings.specs.declared.seat.Seat.{Seat}
-use Rattle.sdf_rings.specs.declared.meet.Spot.{Spot}
+use Rattle.sdf_rings.specs.declared.rings.meet.RingEnd.{RingEnd}
 use Rattle.std.specs.Global.{Global}
 use Rattle.rtrb.specs.Ring.{IsPair, ConsumerLooked, ProducerLooked}
 use Rattle.rtrb.specs.declared.producer.Producer.{Producer}
@@ -13,7 +13,7 @@ use Rattle.rtrb.specs.declared.AnyItems.{AnyItems}
 use Rattle.sdf_rings.specs.Ends.{IsMet}
 
 module _ {A T S : Type 0} where
-  abbrev pub stand_at : List (Seat A T S) → ℕ → ℕ → Seat A T S → Stand A T S → Stand A T S
+  abbrev pub stand_at : List (Seat A T S) → ℕ → ℕ → Seat A T S → RingNode A T S → RingNode A T S
   stand_at seats i k e d = slice_index_or (slice_index_or seats i e).stands.items k d
 
   -- seat i has a stand k
@@ -21,8 +21,8 @@ module _ {A T S : Type 0} where
   HasStand seats i k = (e : Seat A T S) → k < vec_len (slice_index_or seats i e).stands
 
   -- P is true of stand k of seat i
-  abbrev pub HoldsOfStand : (Stand A T S → Type 0) → List (Seat A T S) → ℕ → ℕ → Type 0
-  HoldsOfStand P seats i k = (e : Seat A T S) (d : Stand A T S) → P (stand_at seats i k e d)
+  abbrev pub HoldsOfStand : (RingNode A T S → Type 0) → List (Seat A T S) → ℕ → ℕ → Type 0
+  HoldsOfStand P seats i k = (e : Seat A T S) (d : RingNode A T S) → P (stand_at seats i k e d)
 
   -- two seats differ at most in what is on their stands
   pub record SameSeat (s t : Seat A T S) : Type 0 where
@@ -32,11 +32,11 @@ module _ {A T S : Type 0} where
     pub stands_same : vec_len t.stands ≡ vec_len s.stands
 
   -- stand k of seat i is now x, and nothing else is changed
-  pub record IsUpdated (old new : List (Seat A T S)) (i k : ℕ) (x : Stand A T S) : Type 0 where
+  pub record IsUpdated (old new : List (Seat A T S)) (i k : ℕ) (x : RingNode A T S) : Type 0 where
     pub len : length new ≡ length old
     pub seats : (j : ℕ) (e : Seat A T S) → SameSeat (slice_index_or old j e) (slice_index_or new j e)
-    pub here : (e : Seat A T S) (d : Stand A T S) → stand_at new i k e d ≡ x
-    pub others : (j l : ℕ) (e : Seat A T S) (d : Stand A T S) → ((j ≡ i) × (l ≡ k) → ⊥) →
+    pub here : (e : Seat A T S) (d : RingNode A T S) → stand_at new i k e d ≡ x
+    pub others : (j l : ℕ) (e : Seat A T S) (d : RingNode A T S) → ((j ≡ i) × (l ≡ k) → ⊥) →
         stand_at new j l e d ≡ stand_at old j l e d
 
   -- only stand k of seat i is changed
@@ -47,38 +47,38 @@ module _ {A T S : Type 0} where
   abbrev pub OnlyIns : List (Seat A T S) → List (Seat A T S) → ℕ → ℕ → Vec (Consumer T Global AnyItems) Global → Type 0
   OnlyIns old new i k v = HoldsOfStand (λ x. IsUpdated old new i k (record x { ins = v })) old i k
 
-  abbrev pub consumer_at : List (Seat A T S) → Spot → Seat A T S → Stand A T S → Consumer T Global AnyItems →
+  abbrev pub consumer_at : List (Seat A T S) → RingEnd → Seat A T S → RingNode A T S → Consumer T Global AnyItems →
       Consumer T Global AnyItems
   consumer_at seats q e d x = slice_index_or (stand_at seats q.seat q.stand e d).ins.items q.port x
 
-  abbrev pub producer_at : List (Seat A T S) → Spot → Seat A T S → Stand A T S → Producer T Global AnyItems →
+  abbrev pub producer_at : List (Seat A T S) → RingEnd → Seat A T S → RingNode A T S → Producer T Global AnyItems →
       Producer T Global AnyItems
   producer_at seats q e d x = slice_index_or (stand_at seats q.seat q.stand e d).outs.items q.port x
 
   -- P is true of the consumer at a place
-  abbrev pub HoldsOfConsumer : (Consumer T Global AnyItems → Type 0) → List (Seat A T S) → Spot → Type 0
-  HoldsOfConsumer P seats q = (e : Seat A T S) (d : Stand A T S) (x : Consumer T Global AnyItems) →
+  abbrev pub HoldsOfConsumer : (Consumer T Global AnyItems → Type 0) → List (Seat A T S) → RingEnd → Type 0
+  HoldsOfConsumer P seats q = (e : Seat A T S) (d : RingNode A T S) (x : Consumer T Global AnyItems) →
       P (consumer_at seats q e d x)
 
   -- P is true of the producer at a place
-  abbrev pub HoldsOfProducer : (Producer T Global AnyItems → Type 0) → List (Seat A T S) → Spot → Type 0
-  HoldsOfProducer P seats q = (e : Seat A T S) (d : Stand A T S) (y : Producer T Global AnyItems) →
+  abbrev pub HoldsOfProducer : (Producer T Global AnyItems → Type 0) → List (Seat A T S) → RingEnd → Type 0
+  HoldsOfProducer P seats q = (e : Seat A T S) (d : RingNode A T S) (y : Producer T Global AnyItems) →
       P (producer_at seats q e d y)
 
   -- the producer at a place looked for room
-  abbrev pub ProducerLookedAt : List (Seat A T S) → List (Seat A T S) → Spot → Type 0
-  ProducerLookedAt old new q = (e : Seat A T S) (d : Stand A T S) (y : Producer T Global AnyItems) →
+  abbrev pub ProducerLookedAt : List (Seat A T S) → List (Seat A T S) → RingEnd → Type 0
+  ProducerLookedAt old new q = (e : Seat A T S) (d : RingNode A T S) (y : Producer T Global AnyItems) →
       ProducerLooked (producer_at old q e d y) (producer_at new q e d y)
 
   -- only the producer at a place is changed
-  abbrev pub OnlyProducer : List (Seat A T S) → List (Seat A T S) → Spot → Type 0
-  OnlyProducer old new q = (e : Seat A T S) (d : Stand A T S) (y : Producer T Global AnyItems) →
+  abbrev pub OnlyProducer : List (Seat A T S) → List (Seat A T S) → RingEnd → Type 0
+  OnlyProducer old new q = (e : Seat A T S) (d : RingNode A T S) (y : Producer T Global AnyItems) →
       IsUpdated old new q.seat q.stand (record (stand_at old q.seat q.stand e d) {
         outs = with_item (stand_at old q.seat q.stand e d).outs q.port (producer_at new q e d y);
       })
 
   -- two stands differ at most in their ends
-  pub record SameStand (s t : Stand A T S) : Type 0 where
+  pub record SameStand (s t : RingNode A T S) : Type 0 where
     pub actor_same : t.actor ≡ s.actor
     pub state_same : t.state ≡ s.state
     pub takes_same : t.takes ≡ s.takes
@@ -91,39 +91,39 @@ module _ {A T S : Type 0} where
     pub outs_len_same : vec_len t.outs ≡ vec_len s.outs
 
   -- a place for a consumer
-  pub record TakesAt (seats : List (Seat A T S)) (q : Spot) : Type 0 where
+  pub record TakesAt (seats : List (Seat A T S)) (q : RingEnd) : Type 0 where
     pub seat_in : q.seat < length seats
     pub stand_in : HasStand seats q.seat q.stand
     pub port_in : HoldsOfStand (λ x. q.port < vec_len x.ins) seats q.seat q.stand
 
   -- a place for a producer
-  pub record PutsAt (seats : List (Seat A T S)) (q : Spot) : Type 0 where
+  pub record PutsAt (seats : List (Seat A T S)) (q : RingEnd) : Type 0 where
     pub seat_in : q.seat < length seats
     pub stand_in : HasStand seats q.seat q.stand
     pub port_in : HoldsOfStand (λ x. q.port < vec_len x.outs) seats q.seat q.stand
 
   -- the ring between two places
-  pub record IsRing (seats : List (Seat A T S)) (from to : Spot) : Type 0 where
+  pub record IsRing (seats : List (Seat A T S)) (from to : RingEnd) : Type 0 where
     pub puts_there : PutsAt seats from
     pub takes_there : TakesAt seats to
-    pub pair_there : (e : Seat A T S) (d : Stand A T S) (x : Consumer T Global AnyItems)
+    pub pair_there : (e : Seat A T S) (d : RingNode A T S) (x : Consumer T Global AnyItems)
         (y : Producer T Global AnyItems) → IsPair (producer_at seats from e d y) (consumer_at seats to e d x)
 
   -- the ends of one ring were synchronized, and nothing else is changed
-  pub record IsTold (old new : List (Seat A T S)) (from to : Spot) : Type 0 where
+  pub record IsTold (old new : List (Seat A T S)) (from to : RingEnd) : Type 0 where
     pub told_len : length new ≡ length old
     pub told_seats : (j : ℕ) (e : Seat A T S) → SameSeat (slice_index_or old j e) (slice_index_or new j e)
-    pub told_stands : (j l : ℕ) (e : Seat A T S) (d : Stand A T S) →
+    pub told_stands : (j l : ℕ) (e : Seat A T S) (d : RingNode A T S) →
         SameStand (stand_at old j l e d) (stand_at new j l e d)
-    pub told_consumer : (e : Seat A T S) (d : Stand A T S) (x : Consumer T Global AnyItems) →
+    pub told_consumer : (e : Seat A T S) (d : RingNode A T S) (x : Consumer T Global AnyItems) →
         ConsumerLooked (consumer_at old to e d x) (consumer_at new to e d x)
     pub told_producer : ProducerLookedAt old new from
-    pub met : (e : Seat A T S) (d : Stand A T S) (x : Consumer T Global AnyItems) (y : Producer T Global AnyItems) →
+    pub met : (e : Seat A T S) (d : RingNode A T S) (x : Consumer T Global AnyItems) (y : Producer T Global AnyItems) →
         IsMet (producer_at new from e d y) (consumer_at new to e d x)
-    pub other_consumers : (q : Spot) (e : Seat A T S) (d : Stand A T S) (x : Consumer T Global AnyItems) →
+    pub other_consumers : (q : RingEnd) (e : Seat A T S) (d : RingNode A T S) (x : Consumer T Global AnyItems) →
         ((q.seat ≡ to.seat) × (q.stand ≡ to.stand) × (q.port ≡ to.port) → ⊥) →
         consumer_at new q e d x ≡ consumer_at old q e d x
-    pub other_producers : (q : Spot) (e : Seat A T S) (d : Stand A T S) (y : Producer T Global AnyItems) →
+    pub other_producers : (q : RingEnd) (e : Seat A T S) (d : RingNode A T S) (y : Producer T Global AnyItems) →
         ((q.seat ≡ from.seat) × (q.stand ≡ from.stand) × (q.port ≡ from.port) → ⊥) →
         producer_at new q e d y ≡ producer_at old q e d y
 
@@ -131,12 +131,12 @@ module _ {A T S : Type 0} where
   pub record SameButEnds (old new : List (Seat A T S)) : Type 0 where
     pub all_same : length new ≡ length old
     pub each_seat : (j : ℕ) (e : Seat A T S) → SameSeat (slice_index_or old j e) (slice_index_or new j e)
-    pub each_stand : (j l : ℕ) (e : Seat A T S) (d : Stand A T S) →
+    pub each_stand : (j l : ℕ) (e : Seat A T S) (d : RingNode A T S) →
         SameStand (stand_at old j l e d) (stand_at new j l e d)
 
   -- the items of one ring may be gone, and nothing else is changed
-  pub record IsEmptied (old new : List (Seat A T S)) (at : Spot) : Type 0 where
+  pub record IsEmptied (old new : List (Seat A T S)) (at : RingEnd) : Type 0 where
     pub but_ends : SameButEnds old new
-    pub others_kept : (q : Spot) (e : Seat A T S) (d : Stand A T S) (x : Consumer T Global AnyItems) →
+    pub others_kept : (q : RingEnd) (e : Seat A T S) (d : RingNode A T S) (x : Consumer T Global AnyItems) →
         ((q.seat ≡ at.seat) × (q.stand ≡ at.stand) × (q.port ≡ at.port) → ⊥) →
         consumer_at new q e d x ≡ consumer_at old q e d x

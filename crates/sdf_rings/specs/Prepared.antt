@@ -3,12 +3,12 @@ use Rattle.std.specs.Prelude.{ℕ, ◌≡◌, ◌<◌, List, length, slice_index
 use Rattle.sdf_graph.specs.Sequences.{repeated}
 use Rattle.sdf_prec.specs.Tables.{Tabled, row, home_in, IsHomed}
 use Rattle.sdf_actor.specs.Steps.{Steps}
-use Rattle.sdf_answer.specs.declared.fault.RunFault.{RunFault}
-use Rattle.sdf_answer.specs.declared.fault.RunFault.TheVariants.{OutOfMemory, NotHomed, InputLength}
-use Rattle.sdf_answer.specs.Answer.{HasInputs}
+use Rattle.sdf_queues.specs.declared.fault.RunFault.{RunFault}
+use Rattle.sdf_queues.specs.declared.fault.RunFault.TheVariants.{OutOfMemory, NotHomed, InputLength}
+use Rattle.sdf_queues.specs.Answer.{HasInputs}
 use Rattle.sdf_actor.specs.NetFaults.{WasAccepted}
 use Rattle.sdf_actor.specs.Nets.{Netlist}
-use Rattle.sdf_rings.specs.declared.stand.Stand.{Stand}
+use Rattle.sdf_rings.specs.declared.seat.ring_node.RingNode.{RingNode}
 use Rattle.sdf_rings.specs.declared.seat.Seat.{Seat}
 use Rattle.sdf_rings.specs.Rests.{stand_of, InHand, AreRings, HaveMet}
 use Rattle.sdf_rings.specs.Asks.{IsPlanned}
@@ -27,7 +27,7 @@ pub record IsPrepared {A S T : Type 0} (s : Steps A S T) (n : Netlist A T) (inpu
   pub columns : (i : ℕ) → i < length t.rows → length (row t.rows i) ≡ length r.seats
   pub processors : (i : ℕ) (e : Seat A T S) → i < length r.seats → (slice_index_or r.seats i e).processor ≡ i
   pub homes : (a : ℕ) → a < length n.nodes → home_in t a ≡ Some (place r.places a).0
-  pub undone : (a : ℕ) (e : Seat A T S) (d : Stand A T S) → a < length n.nodes →
+  pub undone : (a : ℕ) (e : Seat A T S) (d : RingNode A T S) → a < length n.nodes →
       (stand_of n r.seats r.places e d a).done ≡ 0
   pub first : (i : ℕ) (e : Seat A T S) → i < length r.seats → (slice_index_or r.seats i e).next ≡ 0
   pub met : HaveMet n r.seats r.places

@@ -8,7 +8,7 @@ use Rattle.sdf_graph.specs.Sequences.{repeated}
 use Rattle.sdf_actor.specs.declared.node.Node.TheVariants.{Inner}
 use Rattle.sdf_actor.specs.Steps.{Steps}
 use Rattle.sdf_actor.specs.Nets.{Netlist, node}
-use Rattle.sdf_rings.specs.declared.stand.Stand.{Stand}
+use Rattle.sdf_rings.specs.declared.seat.ring_node.RingNode.{RingNode}
 use Rattle.sdf_rings.specs.declared.seat.Seat.{Seat}
 use Rattle.sdf_rings.specs.Asks.{IsPlanned}
 use Rattle.sdf_rings.specs.MachineLaws.{MachinePlan, Idle, IsMachinePlan, IsQuiescent, IsReached, capacity}
@@ -18,11 +18,11 @@ use Rattle.sdf_rings.specs.Rests.{stand_of, state_in, producer_of, InHand}
 -- any state
 pub record IsMadeOf {A S T : Type 0} (n : Netlist A T) (seats : List (Seat A T S)) (places : List (ℕ × ℕ))
     (x : Idle S T) : Type 0 where
-  pub dones : (a : ℕ) (e : Seat A T S) (d : Stand A T S) → a < length n.nodes →
+  pub dones : (a : ℕ) (e : Seat A T S) (d : RingNode A T S) → a < length n.nodes →
       x.done a ≡ (stand_of n seats places e d a).done
-  pub states : (a : ℕ) (y : A) (e : Seat A T S) (d : Stand A T S) → a < length n.nodes → node n a ≡ Inner y →
+  pub states : (a : ℕ) (y : A) (e : Seat A T S) (d : RingNode A T S) → a < length n.nodes → node n a ≡ Inner y →
       state_in (stand_of n seats places e d a).state ≡ Some (x.states a)
-  pub lists : (c : ℕ) (e : Seat A T S) (d : Stand A T S) (y : Producer T Global AnyItems) → c < length n.wires →
+  pub lists : (c : ℕ) (e : Seat A T S) (d : RingNode A T S) (y : Producer T Global AnyItems) → c < length n.wires →
       x.lists c ≡ sent (producer_of n seats places e d y c)
 
 -- if b blocks of a valid table are asked, the state is quiescent, and a run of the machine from the start leads to it

@@ -1,7 +1,7 @@
 -- The blocks of a batch of a node's firings, at its ports and in one list.
 use Rattle.std.specs.Prelude.{◌≡◌, ℕ, ◌*◌, List, length, slice_index}
 use Rattle.sdf_node.specs.Many.{nth_block, joined}
-use Rattle.sdf_rings.specs.declared.run_ends.RunBlocks.{RunBlocks}
+use Rattle.sdf_rings.specs.declared.seat.run_ends.RunBlocks.{RunBlocks}
 use Rattle.sdf_rings.specs.Blocks.{start_at, block_of}
 
 -- there is this number of ports, and size is the sum of the sizes at all of them

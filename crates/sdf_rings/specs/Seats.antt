@@ -4,7 +4,7 @@ use Rattle.std.specs.Prelude.{length}
 use Rattle.sdf_graph.specs.Sequences.{times}
 use Rattle.sdf_actor.specs.Steps.{Steps}
 use Rattle.sdf_actor.specs.Nets.{Netlist}
-use Rattle.sdf_rings.specs.declared.stand.Stand.{Stand}
+use Rattle.sdf_rings.specs.declared.seat.ring_node.RingNode.{RingNode}
 use Rattle.sdf_rings.specs.declared.seat.Seat.{Seat}
 use Rattle.sdf_rings.specs.Stands.{IsStand, CanFire, HasMoved}
 
@@ -17,14 +17,14 @@ module _ {A S T : Type 0} (s : Steps A S T) (n : Netlist A T) where
   pub record IsSeat (inputs : List (List T)) (x : Seat A T S) : Type 0 where
     pub next_fits : x.next ≤ length x.left
     pub names : (j : ℕ) → j < length x.left → slice_index x.left j < vec_len x.stands
-    pub each : (k : ℕ) (d : Stand A T S) → k < vec_len x.stands → IsStand s n inputs (slice_index_or x.stands.items k d)
-    pub counts : (k : ℕ) (d : Stand A T S) → k < vec_len x.stands →
+    pub each : (k : ℕ) (d : RingNode A T S) → k < vec_len x.stands → IsStand s n inputs (slice_index_or x.stands.items k d)
+    pub counts : (k : ℕ) (d : RingNode A T S) → k < vec_len x.stands →
         (slice_index_or x.stands.items k d).done + times_between k x.left x.next (length x.left) ≡
         (slice_index_or x.stands.items k d).asked
 
   -- the first firing of the list is known to be possible
   abbrev pub HasFirst : Seat A T S → Type 0
-  HasFirst x = (d : Stand A T S) → CanFire s n (slice_index_or x.stands.items (slice_index x.left x.next) d)
+  HasFirst x = (d : RingNode A T S) → CanFire s n (slice_index_or x.stands.items (slice_index x.left x.next) d)
 
   -- the firings between the two places of the list were done, and nothing else
   pub record HasWorked (x y : Seat A T S) : Type 0 where
@@ -33,9 +33,9 @@ module _ {A S T : Type 0} (s : Steps A S T) (n : Netlist A T) where
     pub next_grows : x.next ≤ y.next
     pub next_fits : y.next ≤ length x.left
     pub stands_kept : vec_len y.stands ≡ vec_len x.stands
-    pub moved : (k : ℕ) (d : Stand A T S) → k < vec_len x.stands →
+    pub moved : (k : ℕ) (d : RingNode A T S) → k < vec_len x.stands →
         HasMoved s n (slice_index_or x.stands.items k d) (slice_index_or y.stands.items k d)
-    pub dones : (k : ℕ) (d : Stand A T S) → k < vec_len x.stands →
+    pub dones : (k : ℕ) (d : RingNode A T S) → k < vec_len x.stands →
         (slice_index_or y.stands.items k d).done ≡ (slice_index_or x.stands.items k d).done
         + times_between k x.left x.next y.next
 

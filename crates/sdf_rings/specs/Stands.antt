@@ -14,9 +14,9 @@ use Rattle.sdf_actor.specs.Sides.{moved_at}
 use Rattle.sdf_actor.specs.Wires.{lists}
 use Rattle.sdf_actor.specs.declared.sides.Side.TheVariants.{Input, Output}
 use Rattle.sdf_node.specs.Nodes.{takes_of, puts_of, IsAt}
-use Rattle.sdf_rings.specs.declared.stand.Stand.{Stand}
+use Rattle.sdf_rings.specs.declared.seat.ring_node.RingNode.{RingNode}
 use Rattle.sdf_rings.specs.Ends.{DrewEach, GaveEach, HoldsEach, HasRoomEach}
-use Rattle.sdf_answer.specs.Sizes.{sizes, AreRows}
+use Rattle.sdf_queues.specs.Sizes.{sizes, AreRows}
 
 -- channels from node a to itself, by its ends of rings
 module _ {A T : Type 0} (n : Netlist A T) (a : ℕ) (ins : List (Consumer T Global AnyItems))
@@ -38,7 +38,7 @@ module _ {A T : Type 0} (n : Netlist A T) (a : ℕ) (ins : List (Consumer T Glob
 module _ {A S T : Type 0} (s : Steps A S T) (n : Netlist A T) where
   -- it has its ring ends by port, and what went through them is what it knows of its own channels. Its firings done put
   -- their answers to what they took, and its state is the one after them
-  pub record IsStand (inputs : List (List T)) (x : Stand A T S) : Type 0 where
+  pub record IsStand (inputs : List (List T)) (x : RingNode A T S) : Type 0 where
     pub known : x.actor < length n.nodes
     pub own_pairs : OwnArePairs n x.actor x.ins.items x.outs.items
     pub within : x.done ≤ x.asked
@@ -64,12 +64,12 @@ module _ {A S T : Type 0} (s : Steps A S T) (n : Netlist A T) where
         length x.put.items
 
   -- the samples of its next firing and the room for what that puts are known at its ends
-  pub record CanFire (x : Stand A T S) : Type 0 where
+  pub record CanFire (x : RingNode A T S) : Type 0 where
     pub holds : HoldsEach (sizes s Input (node n x.actor) x.done) x.ins.items
     pub has_room : HasRoomEach (sizes s Output (node n x.actor) x.done) x.outs.items
 
   -- at each port exactly the samples of the firings since then were taken and put
-  pub record HasMoved (x y : Stand A T S) : Type 0 where
+  pub record HasMoved (x y : RingNode A T S) : Type 0 where
     pub actor_kept : y.actor ≡ x.actor
     pub asked_kept : y.asked ≡ x.asked
     pub more : x.done ≤ y.done

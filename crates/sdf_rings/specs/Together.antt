@@ -4,8 +4,8 @@ use Rattle.sdf_actor.specs.Steps.{Steps}
 use Rattle.sdf_actor.specs.Nets.{Netlist, wire, node, cycle_of}
 use Rattle.sdf_actor.specs.declared.sides.Side.TheVariants.{Input, Output}
 use Rattle.sdf_node.specs.Nodes.{takes_of, puts_of}
-use Rattle.sdf_answer.specs.Sizes.{sizes}
-use Rattle.sdf_rings.specs.declared.stand.Stand.{Stand}
+use Rattle.sdf_queues.specs.Sizes.{sizes}
+use Rattle.sdf_rings.specs.declared.seat.ring_node.RingNode.{RingNode}
 use Rattle.sdf_rings.specs.Ends.{HoldsEach, HasRoomEach}
 
 -- a node of one phase without a channel to itself
@@ -15,7 +15,7 @@ pub record GoesInRuns {A S T : Type 0} (s : Steps A S T) (n : Netlist A T) (a : 
 
 -- this number of firings is left of it, and its working blocks hold them. The samples and the room for all of them are
 -- known at its ends
-pub record CanRun {A S T : Type 0} (s : Steps A S T) (n : Netlist A T) (x : Stand A T S) (many : ℕ) : Type 0 where
+pub record CanRun {A S T : Type 0} (s : Steps A S T) (n : Netlist A T) (x : RingNode A T S) (many : ℕ) : Type 0 where
   pub goes : GoesInRuns s n x.actor
   pub left : x.done + many ≤ x.asked
   pub holds : HoldsEach (λ i. many * sizes s Input (node n x.actor) x.done i) x.ins.items

@@ -5,16 +5,16 @@ ghost use Rattle.sdf_graph.specs.Rates.{rates};
 ghost use Rattle.sdf_actor.specs.Graphs.{graph_of};
 ghost use Rattle.sdf_actor.specs.Rests.{IsRest};
 ghost use Rattle.sdf_actor.specs.Wires.{lists};
-ghost use Rattle.sdf_answer.specs.Answer.{periods_of};
-ghost use Rattle.sdf_answer.specs.Feeds as feeds;
+ghost use Rattle.sdf_queues.specs.Answer.{periods_of};
+ghost use Rattle.sdf_queues.specs.Feeds as feeds;
 ghost use Rattle.sdf_prec.specs.BlockTables.{IsBlockTableOf};
 ghost use Rattle.sdf_rings.specs.Outcome.{HasRunInRounds, HasGoneOn, IsRingsFault};
 
 use crate::runner::run_through;
 use crate::workers::Workers;
-use sdf_actor::{Actor, Net, Rest};
-use sdf_answer::laws::nets_have_periods;
-use sdf_answer::{Ran, RunFault};
+use sdf_actor::{Actor, Net, NetState};
+use sdf_queues::laws::nets_have_periods;
+use sdf_queues::{Ran, RunFault};
 use sdf_node::Gate;
 use sdf_prec::BlockTable;
 use std::alloc::AllocGlobal;
@@ -28,7 +28,7 @@ pub fn feed_rings<R: Threads + AllocGlobal + Sync, A: Actor, G: Gate>(
     table: &BlockTable,
     blocks: u32,
     inputs: &[Vec<A::Token>],
-) -> Result<(Ran<A::Token>, Rest<A::Token, A::State>), RunFault>
+) -> Result<(Ran<A::Token>, NetState<A::Token, A::State>), RunFault>
     requires fits { IsBlockTableOf (rates (graph_of A.steps net.now)) table.now }
     ensures { let t = table.now in let q = t.period.repetitions in let j = t.factor in MatchResult result
         (λ fed. HasRunInRounds A.steps net.now q j t.table blocks (lists inputs.now) workers.entry.patience
@@ -47,10 +47,10 @@ pub fn resume_rings<R: Threads + AllocGlobal + Sync, A: Actor, G: Gate>(
     workers: Workers<'_, R, G>,
     net: &Net<A>,
     table: &BlockTable,
-    rest: &Rest<A::Token, A::State>,
+    rest: &NetState<A::Token, A::State>,
     blocks: u32,
     inputs: &[Vec<A::Token>],
-) -> Result<(Ran<A::Token>, Rest<A::Token, A::State>), RunFault>
+) -> Result<(Ran<A::Token>, NetState<A::Token, A::State>), RunFault>
     requires fits { IsBlockTableOf (rates (graph_of A.steps net.now)) table.now }
     requires rest { (first : List (List A.Token)) × (few : ℕ)
         × IsRest A.steps net.now first (periods_of table.now.period.repetitions few) rest.now }

@@ -1,6 +1,6 @@
 //! Self-timed execution over bounded rings: each actor fires when it can, and the laws cover every order of the moves.
 //!
-//! It depends on `sdf_graph`, `sdf_sched`, `sdf_prec`, `sdf_actor`, `sdf_node`, `sdf_answer`, `sdf_limits` and the
+//! It depends on `sdf_graph`, `sdf_sched`, `sdf_prec`, `sdf_actor`, `sdf_node`, `sdf_queues`, `sdf_limits` and the
 //! rings of `rtrb`. Begin at `specs/Machine.antt`, the ring machine. `specs/MachineLaws.antt` states its laws,
 //! `specs/Laws.antt` the laws of rounds, and `specs/Pair.antt` shows one ring at work.
 //!
@@ -16,31 +16,20 @@
 //! (`specs/Asks.antt`, `specs/Outcome.antt`). `feed` makes runs that another run can resume.
 #![tactic(auto)]
 
-pub mod busy;
-mod course;
-mod ends;
 pub mod feed;
-mod finish;
 pub mod laws;
-mod leave;
-mod meet;
-mod own_rings;
 pub mod pair;
 mod prepare;
 pub mod rings;
-mod round;
-mod run_ends;
 pub mod runner;
 pub mod seat;
 mod setup;
-pub mod stand;
-mod together;
 mod workers;
 
-pub use course::Course;
+pub use seat::firing_list::FiringList;
 pub use feed::{feed_rings, resume_rings};
 pub use rings::Rings;
 pub use runner::run_rings;
 pub use seat::{Seat, work};
-pub use stand::Stand;
+pub use seat::ring_node::RingNode;
 pub use workers::Workers;

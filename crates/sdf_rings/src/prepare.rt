@@ -7,7 +7,7 @@ ghost use Rattle.sdf_actor.specs.declared.sides.Lists.TheVariants.{Inputs};
 ghost use Rattle.sdf_actor.specs.Graphs.{graph_of};
 ghost use Rattle.sdf_actor.specs.Sides.{period_samples};
 ghost use Rattle.sdf_actor.specs.Wires.{lists};
-ghost use Rattle.sdf_answer.specs.Answer.{HasInputs};
+ghost use Rattle.sdf_queues.specs.Answer.{HasInputs};
 ghost use Rattle.sdf_prec.specs.BlockTables.{IsBlockTableOf};
 ghost use Rattle.sdf_rings.specs.Begun.{IsStart};
 ghost use Rattle.sdf_rings.specs.Prepared.{IsPrepared, IsAsked, IsPrepareFault};
@@ -16,14 +16,14 @@ use crate::rings::Rings;
 use crate::setup::asked::asked;
 use crate::setup::openings::open_rings;
 use crate::setup::places::places;
-use crate::setup::roster::Roster;
+use crate::setup::assignment::Assignment;
 use crate::setup::seats::seats;
-use crate::setup::stands::Start;
+use crate::setup::ring_nodes::Start;
 use sdf_actor::{Actor, Net};
-use sdf_answer::inputs::{are_inputs, first_sample};
-use sdf_answer::outputs::make_outputs;
-use sdf_answer::sizes::samples_of_blocks;
-use sdf_answer::{RunFault, Sizes};
+use sdf_queues::inputs::{are_inputs, first_sample};
+use sdf_queues::outputs::make_outputs;
+use sdf_queues::sizes::samples_of_blocks;
+use sdf_queues::{RunFault, Sizes};
 use sdf_prec::{BlockTable, Table};
 use std::alloc::{AllocError, Global};
 
@@ -41,7 +41,7 @@ fn lay_out<'a, A: Actor>(
 {
     let places = places(alloc, table, start.net.len())?;
     let mut ends = open_rings(alloc, start.net, table)?;
-    let roster = Roster {
+    let roster = Assignment {
         places: &places,
         order: table.order(),
         blocks,

@@ -1,5 +1,11 @@
 //! Rounds by hand: the seats of a run. Between two rounds, one owner has both ends of each ring.
 
+pub(crate) mod round;
+pub mod busy;
+pub(crate) mod meet;
+pub(crate) mod finish;
+pub(crate) mod leave;
+
 ghost use Rattle.std.specs.Prelude.{◌≡◌, ◌+◌, ◌<◌, ◌≤◌, ◌⊎◌, ◌^◌, ◌-◌, ℕ, List, length, min, HoldsAt, IfErr, IfOk};
 ghost use Rattle.sdf_rings.specs.Changes.{BecameAt, AllBecame, SameBut};
 ghost use Rattle.sdf_rings.specs.Seats.{HasFirst, HasWorked, HasIdled, HasRounded};
@@ -11,18 +17,18 @@ ghost use Rattle.sdf_actor.specs.Laws.{AreCountsOf};
 ghost use Rattle.sdf_actor.specs.Sides.{list_count};
 ghost use Rattle.sdf_actor.specs.Wires.{lists};
 ghost use Rattle.sdf_actor.specs.declared.sides.Lists.TheVariants.{Outputs};
-ghost use Rattle.sdf_answer.specs.Answer.{AreOutputs};
-ghost use Rattle.sdf_answer.specs.Feeds.{HasRun};
+ghost use Rattle.sdf_queues.specs.Answer.{AreOutputs};
+ghost use Rattle.sdf_queues.specs.Feeds.{HasRun};
 
-use crate::finish::collect;
-use crate::leave::leave;
-use crate::meet::meet_all;
-use crate::round::run_round;
+use crate::rings::finish::collect;
+use crate::rings::leave::leave;
+use crate::rings::meet::meet_all;
+use crate::rings::round::run_round;
 use crate::seat::{Seat, work};
 use crate::workers::Workers;
-use sdf_actor::{Actor, Net, Rest};
-use sdf_answer::RunFault;
-use sdf_answer::laws::net_facts;
+use sdf_actor::{Actor, Net, NetState};
+use sdf_queues::RunFault;
+use sdf_queues::laws::net_facts;
 use sdf_node::Gate;
 use std::alloc::{AllocError, Global};
 use std::marker::Model;
@@ -273,7 +279,7 @@ impl<'a, A: Actor> Rings<'a, A> {
 
     /// Returns the output lists and the net state: the states of the actors and the samples on the channels. Another
     /// run can resume from it.
-    pub fn leave(self) -> Result<(Vec<Vec<A::Token>>, Rest<A::Token, A::State>), AllocError>
+    pub fn leave(self) -> Result<(Vec<Vec<A::Token>>, NetState<A::Token, A::State>), AllocError>
         requires left { total_left self.seats ≡ 0 }
         requires met { HaveMet self.net self.seats self.places }
         ensures { IfOk result (λ made. (order : List ℕ) (cap k : ℕ → ℕ) →

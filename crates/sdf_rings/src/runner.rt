@@ -10,7 +10,7 @@ ghost use Rattle.sdf_rings.specs.Outcome.{HasRunInRounds, HasEnded, IsRingsFault
 use crate::rings::Rings;
 use crate::workers::Workers;
 use sdf_actor::{Actor, Net};
-use sdf_answer::{Ran, RunFault};
+use sdf_queues::{Ran, RunFault};
 use sdf_limits::MOST_PATIENCE;
 use sdf_node::Gate;
 use sdf_prec::BlockTable;

@@ -1,15 +1,22 @@
 //! One worker.
 
+pub(crate) mod firing_list;
+pub mod ring_node;
+pub(crate) mod batch;
+pub(crate) mod ends;
+pub(crate) mod run_ends;
+pub(crate) mod own_rings;
+
 ghost use Rattle.std.specs.Prelude.{◌≡◌, ◌+◌, ◌<◌, ◌≤◌, ◌^◌, ◌⊎◌, ℕ, IsTrue, IsFalse, length, slice_index};
 ghost use Rattle.sdf_actor.specs.Nets.{IsNet};
 ghost use Rattle.sdf_actor.specs.Wires.{lists};
 ghost use Rattle.sdf_rings.specs.Stands.{IsStand, CanFire, HasMoved};
 ghost use Rattle.sdf_rings.specs.Seats.{times_between, IsSeat, HasFirst, HasWorked};
 
-use crate::busy::Busy;
-use crate::course::Course;
-use crate::stand::{Stand, fire_one, is_ready};
-use crate::together::{fire_run, in_one_run};
+use crate::rings::busy::Busy;
+use crate::seat::firing_list::FiringList;
+use crate::seat::ring_node::{RingNode, fire_one, is_ready};
+use crate::seat::batch::{fire_run, in_one_run};
 use sdf_actor::{Actor, Net};
 use sdf_node::Gate;
 use std::thread;
@@ -21,8 +28,8 @@ const MOST_AT_ONCE: u64 = 65_536;
 #[derive(Drop)]
 pub struct Seat<A: Actor> {
     pub processor: usize,
-    pub stands: Vec<Stand<A>>,
-    pub left: Course,
+    pub stands: Vec<RingNode<A>>,
+    pub left: FiringList,
     pub next: usize,
 }
 
@@ -47,7 +54,7 @@ struct Orders<'a, A: Actor, G> {
 /// and lets another thread run first.
 fn becomes_ready<A: Actor, G: Gate>(
     orders: Orders<'_, A, G>,
-    stand: &mut Stand<A>,
+    stand: &mut RingNode<A>,
     tries: &mut u32,
 ) -> bool
     requires { IsStand A.steps orders.net.now (lists orders.inputs.now) stand.old }
@@ -74,8 +81,8 @@ fn becomes_ready<A: Actor, G: Gate>(
 /// Returns their number.
 fn fire_known<A: Actor, G: Gate>(
     orders: Orders<'_, A, G>,
-    stand: &mut Stand<A>,
-    left: &Course,
+    stand: &mut RingNode<A>,
+    left: &FiringList,
     next: usize,
 ) -> usize
     requires net { IsNet A.steps orders.net.now }
@@ -117,8 +124,8 @@ fn fire_known<A: Actor, G: Gate>(
 /// Does the next firings of `stand` if the first is or becomes possible within `tries`. Returns their number.
 fn fire_next<A: Actor, G: Gate>(
     orders: Orders<'_, A, G>,
-    stand: &mut Stand<A>,
-    left: &Course,
+    stand: &mut RingNode<A>,
+    left: &FiringList,
     next: usize,
     tries: &mut u32,
 ) -> usize

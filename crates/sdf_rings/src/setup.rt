@@ -4,6 +4,6 @@
 pub(crate) mod asked;
 pub(crate) mod openings;
 pub(crate) mod places;
-pub(crate) mod roster;
 pub(crate) mod seats;
-pub(crate) mod stands;
+pub(crate) mod assignment;
+pub(crate) mod ring_nodes;

@@ -12,10 +12,10 @@ use Rattle.sdf_node.specs.declared.node.NodeState.{NodeState}
 use Rattle.sdf_prec.specs.declared.firing.Firing.{Firing}
 use Rattle.sdf_prec.specs.Tables.{firing, firings, no_firing, cell_of}
 use Rattle.sdf_node.proofs.Theorems.{nodes_keep_phase}
-use Rattle.sdf_answer.proofs.Theorems.{blocks_are_counted}
-use Rattle.sdf_rows.specs.declared.job.Job.{Job}
-use Rattle.sdf_answer.specs.Held.{Held}
-use Rattle.sdf_answer.specs.Sizes.{phase_of}
+use Rattle.sdf_queues.proofs.Theorems.{blocks_are_counted}
+use Rattle.sdf_rows.specs.declared.row_firing.RowFiring.{RowFiring}
+use Rattle.sdf_queues.specs.Held.{Held}
+use Rattle.sdf_queues.specs.Sizes.{phase_of}
 use Rattle.sdf_rows.specs.Stage.{actors_of, row_actors, AreLoaded}
 use Rattle.sdf_rows.specs.Stands.{HaveBlocks, IsLoaded, IsFilling, IsBetween, IsRow, KeepBlocks}
 use Rattle.sdf_rows.proofs.Jobs.{actors_are}
@@ -53,12 +53,12 @@ cells_known s n k high row is j f l cell =
 
 -- between two rows, with the jobs at the front loaded for the next row
 module _ {A S T : Type 0} {s : Steps A S T} {n : Netlist A T} {inputs : List (List T)} {many low high k : ℕ → ℕ}
-    {states states' : List (NodeState T S)} {ls : List (Held T)} {jobs jobs' : List (Job A T S)}
+    {states states' : List (NodeState T S)} {ls : List (Held T)} {jobs jobs' : List (RowFiring A T S)}
     {row : List (Option Firing)} {done : List ℕ} (st : IsBetween s n inputs many low high k states ls)
     (is : IsRow s n k high (row_actors row)) (blocks : HaveBlocks s n jobs) (few : length (firings row) ≤ length jobs)
-    (loaded : AreLoaded row done (firings row) states states' jobs jobs') (front : List (Job A T S))
+    (loaded : AreLoaded row done (firings row) states states' jobs jobs') (front : List (RowFiring A T S))
     (all : length front ≡ length (firings row))
-    (same : (i : ℕ) (d : Job A T S) → i < length (firings row) → get_or front i d ≡ get_or jobs' i d) where
+    (same : (i : ℕ) (d : RowFiring A T S) → i < length (firings row) → get_or front i d ≡ get_or jobs' i d) where
   abbrev fs : List Firing
   fs = firings row
 
@@ -73,7 +73,7 @@ module _ {A S T : Type 0} {s : Steps A S T} {n : Netlist A T} {inputs : List (Li
       IsAt s inputs (many a) (node n a) (taken_before (wiring s n) st.history a (k a)) (get_or states a w)
   idle a w l = st.idle a w l (λ i from h. absurd (omega arith))
 
-  loaded_at : (i : ℕ) (j : Job A T S) → i < length fs →
+  loaded_at : (i : ℕ) (j : RowFiring A T S) → i < length fs →
       IsLoaded s n inputs many k st.history (get_or (row_actors row) i 0) (get_or front i j)
   loaded_at i j h =
       let a : ℕ = (firing fs i).actor in
@@ -134,7 +134,7 @@ module _ {A S T : Type 0} {s : Steps A S T} {n : Netlist A T} {inputs : List (Li
       (sym front_actors) filling
 
   -- each job keeps its blocks, whether it was filled or not
-  pub row_keeps : (front' back : List (Job A T S)) → back ≡ drop (length fs) jobs' → KeepBlocks front front' →
+  pub row_keeps : (front' back : List (RowFiring A T S)) → back ≡ drop (length fs) jobs' → KeepBlocks front front' →
       KeepBlocks jobs (front' ++ back)
   row_keeps front' back back_is keeps = record {
     all = omega (
@@ -146,17 +146,17 @@ module _ {A S T : Type 0} {s : Steps A S T} {n : Netlist A T} {inputs : List (Li
       length-drop (length fs) jobs',
       loaded.jobs_all,
     );
-    taken = λ i j h. ap (λ (x : Job A T S). vec_capacity x.taken) (there i j (cases_lt i (length fs)))
+    taken = λ i j h. ap (λ (x : RowFiring A T S). vec_capacity x.taken) (there i j (cases_lt i (length fs)))
         ∙ cap i j h (cases_lt i (length fs));
-    put = λ i j h. ap (λ (x : Job A T S). length x.put.items) (there i j (cases_lt i (length fs)))
+    put = λ i j h. ap (λ (x : RowFiring A T S). length x.put.items) (there i j (cases_lt i (length fs)))
         ∙ len i j h (cases_lt i (length fs));
   }
     where
-      at_end : (i : ℕ) (j : Job A T S) → (i < length fs) ⊎ (length fs ≤ i) → Job A T S
+      at_end : (i : ℕ) (j : RowFiring A T S) → (i < length fs) ⊎ (length fs ≤ i) → RowFiring A T S
       at_end i j (inl h) = get_or front' i j
       at_end i j (inr h) = get_or jobs i j
 
-      there : (i : ℕ) (j : Job A T S) (b : (i < length fs) ⊎ (length fs ≤ i)) →
+      there : (i : ℕ) (j : RowFiring A T S) (b : (i < length fs) ⊎ (length fs ≤ i)) →
           get_or (front' ++ back) i j ≡ at_end i j b
       there i j (inl h) = get_or_append_left front' back j i (omega (arith, keeps.all, all))
       there i j (inr h) =
@@ -165,16 +165,16 @@ module _ {A S T : Type 0} {s : Steps A S T} {n : Netlist A T} {inputs : List (Li
           (ap (λ m. get_or jobs' m j) (let e : length fs + (i - length fs) ≡ i = omega arith in e)
           ∙ loaded.rest i j h)))
 
-      cap : (i : ℕ) (j : Job A T S) → i < length jobs → (b : (i < length fs) ⊎ (length fs ≤ i)) →
+      cap : (i : ℕ) (j : RowFiring A T S) → i < length jobs → (b : (i < length fs) ⊎ (length fs ≤ i)) →
           vec_capacity (at_end i j b).taken ≡ vec_capacity (get_or jobs i j).taken
       cap i j l (inl h) =
-          keeps.taken i j (omega (arith, all)) ∙ (ap (λ (x : Job A T S). vec_capacity x.taken) (same i j h) ∙
+          keeps.taken i j (omega (arith, all)) ∙ (ap (λ (x : RowFiring A T S). vec_capacity x.taken) (same i j h) ∙
           ap (λ v. vec_capacity v) (loaded.each apart i (get_or jobs i j).state j h).2.taken)
       cap i j l (inr h) = refl
 
-      len : (i : ℕ) (j : Job A T S) → i < length jobs → (b : (i < length fs) ⊎ (length fs ≤ i)) →
+      len : (i : ℕ) (j : RowFiring A T S) → i < length jobs → (b : (i < length fs) ⊎ (length fs ≤ i)) →
           length (at_end i j b).put.items ≡ length (get_or jobs i j).put.items
       len i j l (inl h) =
-          keeps.put i j (omega (arith, all)) ∙ (ap (λ (x : Job A T S). length x.put.items) (same i j h) ∙
+          keeps.put i j (omega (arith, all)) ∙ (ap (λ (x : RowFiring A T S). length x.put.items) (same i j h) ∙
           ap (λ v. length v.items) (loaded.each apart i (get_or jobs i j).state j h).2.put)
       len i j l (inr h) = refl

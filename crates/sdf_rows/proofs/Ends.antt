@@ -20,31 +20,31 @@ use Rattle.sdf_actor.specs.Nets as nets
 use Rattle.sdf_actor.specs.Nets.{Netlist, wire, wiring, cycle_of, IsNet, InputsReach}
 use Rattle.sdf_actor.specs.Graphs.{graph_of}
 use Rattle.sdf_actor.specs.Rests.{Leaves}
-use Rattle.sdf_actor.specs.declared.rest.Rest.{Rest}
+use Rattle.sdf_actor.specs.declared.rest.NetState.{NetState}
 use Rattle.sdf_actor.specs.Sides.{list_count, period_samples}
 use Rattle.sdf_actor.specs.Wires.{lists}
 use Rattle.sdf_node.specs.declared.node.NodeState.{NodeState}
 use Rattle.sdf_node.specs.declared.node.NodeState.TheVariants.{Source, Sink, Inner}
 use Rattle.sdf_node.specs.Nodes.{CanBegin, IsAt}
 use Rattle.sdf_node.proofs.Theorems.{nodes_keep_states}
-use Rattle.sdf_answer.proofs.Theorems.{histories_begin, sinks_make_runs}
-use Rattle.sdf_rows.specs.declared.job.Job.{Job}
-use Rattle.sdf_answer.specs.Answer.{AreOutputs, periods_of}
-use Rattle.sdf_answer.specs.Feeds.{HasRun}
-use Rattle.sdf_answer.specs.Held.{Held}
-use Rattle.sdf_answer.specs.Blocks.{room, nothing}
-use Rattle.sdf_answer.specs.Sizes.{Rows, AreSizes, phase_of}
+use Rattle.sdf_queues.proofs.Theorems.{histories_begin, sinks_make_runs}
+use Rattle.sdf_rows.specs.declared.row_firing.RowFiring.{RowFiring}
+use Rattle.sdf_queues.specs.Answer.{AreOutputs, periods_of}
+use Rattle.sdf_queues.specs.Feeds.{HasRun}
+use Rattle.sdf_queues.specs.Held.{Held}
+use Rattle.sdf_queues.specs.Blocks.{room, nothing}
+use Rattle.sdf_queues.specs.Sizes.{Rows, AreSizes, phase_of}
 use Rattle.sdf_rows.specs.Setup.{AreUnfired, HasPlaces}
 use Rattle.sdf_rows.specs.Stands.{HaveBlocks}
 use Rattle.sdf_rows.specs.Blocks.{IsResting}
 use Rattle.sdf_rows.specs.Collect.{AreCollected, AreKept}
 use Rattle.sdf_rows.proofs.Readings.{some_of}
-use Rattle.sdf_answer.specs.Laws.{SinksMakeOutputs}
-use Rattle.sdf_answer.specs.Periods.{CanRun}
+use Rattle.sdf_queues.specs.Laws.{SinksMakeOutputs}
+use Rattle.sdf_queues.specs.Periods.{CanRun}
 
 -- the blocks of a job, firing by firing
 pub have_blocks : {A S T : Type 0} (s : Steps A S T) (n : Netlist A T) (z : Rows) → AreSizes s n z →
-    (jobs : List (Job A T S)) → All (HasPlaces s n) jobs → HaveBlocks s n jobs
+    (jobs : List (RowFiring A T S)) → All (HasPlaces s n) jobs → HaveBlocks s n jobs
 have_blocks s n z sizes jobs places i d h = record {
   taken = λ a f l. (places i d h a (phase_of s (nets.node n a) f) l
       (mod_below f (cycle_of s (nets.node n a)) (sizes.some a l))).0;
@@ -187,7 +187,7 @@ module _ {A S T : Type 0} (s : Steps A S T) (n : Netlist A T) (inputs : List (Li
       (length-map outputs (λ v. v.items) ∙ count) (sinks_took outputs collected)
 
   -- copies of the actors' states and of the samples on the channels are what is left
-  leaves : (rest : Rest T S) → length rest.states.items ≡ length n.nodes →
+  leaves : (rest : NetState T S) → length rest.states.items ≡ length n.nodes →
       AreKept n states rest.states.items → lists rest.held.items ≡ map (λ queue. queue.samples) ls →
       Leaves s n k over.between.history rest
   leaves rest all copies held = record {
@@ -209,7 +209,7 @@ module _ {A S T : Type 0} (s : Steps A S T) (n : Netlist A T) (inputs : List (Li
   -- and that is a run
   pub row_run : IsNet s n → (outputs : List (Vec T Global)) →
       AreCollected n (length n.nodes) states outputs → length outputs ≡ list_count Outputs n.nodes →
-      (rest : Rest T S) → length rest.states.items ≡ length n.nodes →
+      (rest : NetState T S) → length rest.states.items ≡ length n.nodes →
       AreKept n states rest.states.items → lists rest.held.items ≡ map (λ queue. queue.samples) ls →
       HasRun s n inputs (periods_of q (blocks * j)) (lists outputs) rest
   row_run good outputs collected count rest all copies held =

@@ -9,10 +9,10 @@ use Rattle.sdf_actor.specs.declared.node.Node.{Node}
 use Rattle.sdf_actor.specs.declared.node.Node.TheVariants.{Source, Sink, Inner}
 use Rattle.sdf_actor.specs.Nets.{Netlist, node, wiring}
 use Rattle.sdf_node.specs.Nodes.{takes_of, puts_of, CanStep}
-use Rattle.sdf_rows.specs.declared.job.Job.{Job}
-use Rattle.sdf_answer.specs.Held.{Held}
-use Rattle.sdf_answer.specs.Blocks.{samples, HoldBlocks, front}
-use Rattle.sdf_answer.specs.Sizes.{Rows, at_phase, phase_of, in_all, out_all}
+use Rattle.sdf_rows.specs.declared.row_firing.RowFiring.{RowFiring}
+use Rattle.sdf_queues.specs.Held.{Held}
+use Rattle.sdf_queues.specs.Blocks.{samples, HoldBlocks, front}
+use Rattle.sdf_queues.specs.Sizes.{Rows, at_phase, phase_of, in_all, out_all}
 use Rattle.sdf_rows.specs.Jobs.{JobFits}
 use Rattle.sdf_rows.specs.Stage.{actors_of}
 
@@ -28,16 +28,16 @@ out_is s (Sink ext block) i = refl
 out_is s (Inner x) i = refl
 
 -- jobs of these actors
-pub actors_are : {A S T : Type 0} (jobs : List (Job A T S)) (acts : List ℕ) → length jobs ≡ length acts →
-    ((i : ℕ) (d : Job A T S) → i < length jobs → (get_or jobs i d).actor ≡ get_or acts i 0) → actors_of jobs ≡ acts
+pub actors_are : {A S T : Type 0} (jobs : List (RowFiring A T S)) (acts : List ℕ) → length jobs ≡ length acts →
+    ((i : ℕ) (d : RowFiring A T S) → i < length jobs → (get_or jobs i d).actor ≡ get_or acts i 0) → actors_of jobs ≡ acts
 actors_are {A} {S} {T} jobs acts all each =
     same_lists (actors_of jobs) acts (length-map jobs (λ j. j.actor) ∙ all)
     (λ i d h.
     let l : i < length jobs = omega (arith, length-map jobs (λ j. j.actor)) in
-    let j : Job A T S = some_job jobs i l in
-    get_or-map (λ (j : Job A T S). j.actor) jobs i j d l ∙ (each i j l ∙ get_or_default acts i 0 d (omega arith)))
+    let j : RowFiring A T S = some_job jobs i l in
+    get_or-map (λ (j : RowFiring A T S). j.actor) jobs i j d l ∙ (each i j l ∙ get_or_default acts i 0 d (omega arith)))
   where
-    some_job : (js : List (Job A T S)) (i : ℕ) → i < length js → Job A T S
+    some_job : (js : List (RowFiring A T S)) (i : ℕ) → i < length js → RowFiring A T S
     some_job [] i h = absurd (omega arith)
     some_job (j ∷ js) i h = j
 
@@ -63,7 +63,7 @@ read_is ins ins' takes takes' ls was items is ts none all =
     all ∙ (ap (λ xs. xs ++ front takes ins ls) none ∙ (λ i. front (ts i) (is i) ls))
 
 module _ {A S T : Type 0} (s : Steps A S T) (n : Netlist A T) (inputs : List (List T)) (z : Rows) (ls : List (Held T))
-    (j : Job A T S) (fits : JobFits s n inputs z ls j) where
+    (j : RowFiring A T S) (fits : JobFits s n inputs z ls j) where
   pub can_here : (x : Node A) (items : List T) (many : ℕ) → x ≡ node n j.actor →
       items ≡ front (at_phase z.takes j.phase) ((wiring s n).ins j.actor) ls → many ≡ puts_of s x j.phase →
       CanStep s inputs x j.state (length items) many

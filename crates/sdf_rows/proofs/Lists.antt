@@ -7,8 +7,8 @@ use Rattle.sdf_actor.specs.declared.node.Node.TheVariants as node
 use Rattle.sdf_actor.specs.Nets as nets
 use Rattle.sdf_actor.specs.Nets.{Netlist}
 use Rattle.sdf_node.specs.declared.node.NodeState.{NodeState}
-use Rattle.sdf_answer.specs.Lists.{list}
-use Rattle.sdf_answer.specs.Periods.{AreApart}
+use Rattle.sdf_queues.specs.Lists.{list}
+use Rattle.sdf_queues.specs.Periods.{AreApart}
 use Rattle.sdf_node.specs.Collected.{IsCollected}
 use Rattle.sdf_rows.specs.Collect.{AreCollected}
 

@@ -9,12 +9,12 @@ use Rattle.sdf_node.specs.declared.node.NodeState.{NodeState}
 use Rattle.sdf_node.specs.Nodes.{phase_at}
 use Rattle.sdf_prec.specs.declared.firing.Firing.{Firing}
 use Rattle.sdf_prec.specs.Tables.{firing, firings, no_firing, cell_of}
-use Rattle.sdf_rows.specs.declared.job.Job.{Job}
+use Rattle.sdf_rows.specs.declared.row_firing.RowFiring.{RowFiring}
 use Rattle.sdf_rows.specs.Stage.{CanLoad, IsFilled, HasLoaded, AreLoaded}
 
 -- a job filled, whatever stands in its actor's place
-module _ {A S T : Type 0} (states : List (NodeState T S)) (jobs : List (Job A T S)) (f : Firing)
-    (many column : ℕ) (done : List ℕ) (v gone : NodeState T S) (k filled : Job A T S) (known : f.actor < length states)
+module _ {A S T : Type 0} (states : List (NodeState T S)) (jobs : List (RowFiring A T S)) (f : Firing)
+    (many column : ℕ) (done : List ℕ) (v gone : NodeState T S) (k filled : RowFiring A T S) (known : f.actor < length states)
     (has : many < length jobs)
     (is : filled ≡ record (get_or jobs many k) {
       processor = column;
@@ -23,10 +23,10 @@ module _ {A S T : Type 0} (states : List (NodeState T S)) (jobs : List (Job A T 
       phase = phase_at (get_or states f.actor v);
       state = get_or states f.actor v;
     }) where
-  abbrev IsFull : NodeState T S → Job A T S → Job A T S → Type 0
+  abbrev IsFull : NodeState T S → RowFiring A T S → RowFiring A T S → Type 0
   IsFull u j k = IsFilled column (slice_index done f.actor) f.actor u j k
 
-  here : (w : NodeState T S) (j : Job A T S) → IsFull (get_or states f.actor w) (get_or jobs many j)
+  here : (w : NodeState T S) (j : RowFiring A T S) → IsFull (get_or states f.actor w) (get_or jobs many j)
       (get_or (set jobs many filled) many j)
   here w j =
       let state = get_or_default states f.actor v w known in
@@ -98,10 +98,10 @@ can_load row done states jobs e many counted few l many_is = go (cell_of row e) 
         (k.0, k.1, omega (arith, next, firings_within row (e + 1)))
 
 module _ {A S T : Type 0} (row : List (Option Firing)) (done : List ℕ) (p : ℕ) (fs : List Firing)
-    (states was states' : List (NodeState T S)) (jobs now jobs' : List (Job A T S))
+    (states was states' : List (NodeState T S)) (jobs now jobs' : List (RowFiring A T S))
     (before : AreLoaded row done fs states was jobs now) where
   -- the job of a firing of the row is filled for its column
-  abbrev IsPlaced : Firing → NodeState T S → Job A T S → Job A T S → Type 0
+  abbrev IsPlaced : Firing → NodeState T S → RowFiring A T S → RowFiring A T S → Type 0
   IsPlaced f u j k = (c : ℕ) × (cell_of row c ≡ Some f) × IsFilled c (slice_index done f.actor) f.actor u j k
 
   one_more : (f : Firing) (more : ℕ) → cell_of row p ≡ Some f →
@@ -129,7 +129,7 @@ module _ {A S T : Type 0} (row : List (Option Firing)) (done : List ℕ) (p : �
 
       each : ((i m : ℕ) → i < length (fs ++ f ∷ []) → m < length (fs ++ f ∷ []) →
           (firing (fs ++ f ∷ []) i).actor ≡ (firing (fs ++ f ∷ []) m).actor → i ≡ m) →
-          (i : ℕ) (w : NodeState T S) (j : Job A T S) → i < length (fs ++ f ∷ []) → (i < length fs) ⊎ (length fs ≤ i) →
+          (i : ℕ) (w : NodeState T S) (j : RowFiring A T S) → i < length (fs ++ f ∷ []) → (i < length fs) ⊎ (length fs ≤ i) →
           IsPlaced (firing (fs ++ f ∷ []) i) (get_or states (firing (fs ++ f ∷ []) i).actor w) (get_or jobs i j)
           (get_or jobs' i j)
       each apart i w j h (inl below) =
@@ -174,7 +174,7 @@ module _ {A S T : Type 0} (row : List (Option Firing)) (done : List ℕ) (p : �
 
 -- the jobs filled up to the next cell
 pub loaded_more : {A S T : Type 0} (row : List (Option Firing)) (done : List ℕ) (e many more : ℕ)
-    (states was states' : List (NodeState T S)) (jobs now jobs' : List (Job A T S)) → e < length row →
+    (states was states' : List (NodeState T S)) (jobs now jobs' : List (RowFiring A T S)) → e < length row →
     many ≡ length (firings (take e row)) → AreLoaded row done (firings (take e row)) states was jobs now →
     HasLoaded (cell_of row e) e done was states' now jobs' many more →
     (more ≡ length (firings (take (e + 1) row)))

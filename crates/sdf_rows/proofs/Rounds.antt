@@ -8,7 +8,7 @@ use Rattle.sdf_actor.specs.Steps.{Steps}
 use Rattle.sdf_actor.specs.Nets.{Netlist, wiring}
 use Rattle.sdf_node.specs.declared.node.NodeState.{NodeState}
 use Rattle.sdf_prec.specs.Blocks.{block}
-use Rattle.sdf_answer.specs.Held.{Held}
+use Rattle.sdf_queues.specs.Held.{Held}
 use Rattle.sdf_rows.specs.Stands.{IsBetween}
 use Rattle.sdf_rows.specs.Blocks.{IsRound, IsResting, block_after}
 

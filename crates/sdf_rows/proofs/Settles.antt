@@ -18,15 +18,15 @@ use Rattle.sdf_actor.specs.Laws.{after_firing}
 use Rattle.sdf_actor.proofs.Theorems.{nets_are_wired}
 use Rattle.sdf_node.specs.Nodes.{takes_of, puts_of, IsAt}
 use Rattle.sdf_node.specs.declared.node.NodeState.{NodeState}
-use Rattle.sdf_rows.specs.declared.job.Job.{Job}
-use Rattle.sdf_answer.specs.Held.{Held}
-use Rattle.sdf_answer.specs.Blocks.{samples, room, at_ports, ArePorts, HoldBlocks}
-use Rattle.sdf_answer.specs.Sizes.{Rows, IsPlan, AreSizes, at_phase, phase_of}
+use Rattle.sdf_rows.specs.declared.row_firing.RowFiring.{RowFiring}
+use Rattle.sdf_queues.specs.Held.{Held}
+use Rattle.sdf_queues.specs.Blocks.{samples, room, at_ports, ArePorts, HoldBlocks}
+use Rattle.sdf_queues.specs.Sizes.{Rows, IsPlan, AreSizes, at_phase, phase_of}
 use Rattle.sdf_rows.specs.Stage.{CanSettle, HasSettled}
 use Rattle.sdf_rows.specs.Stands.{IsBack, IsStage, IsSettling}
-use Rattle.sdf_answer.specs.Laws.{FiringsMoveOn}
-use Rattle.sdf_answer.specs.Moves.{FitsPorts, MovesOn}
-use Rattle.sdf_answer.proofs.Theorems.{plans_fit}
+use Rattle.sdf_queues.specs.Laws.{FiringsMoveOn}
+use Rattle.sdf_queues.specs.Moves.{FitsPorts, MovesOn}
+use Rattle.sdf_queues.proofs.Theorems.{plans_fit}
 use Rattle.sdf_rows.proofs.Jobs.{in_is, out_is}
 
 -- inputs that are long enough are so for fewer firings
@@ -46,7 +46,7 @@ enabled_within r k a on c l e = subst (λ n. r.consumed c (n + 1) ≤ r.initial 
 -- an actor stands at place i of a row, and its next firing is at this phase
 pub record AtPlace {A S T : Type 0} (s : Steps A S T) (n : Netlist A T) (z : Rows) (inputs : List (List T))
     (many low high : ℕ → ℕ) (acts : List ℕ) (from i : ℕ) (k : ℕ → ℕ) (states : List (NodeState T S))
-    (ls : List (Held T)) (jobs : List (Job A T S)) (P : (ℕ → ℕ) → (ℕ → List T) → ℕ → Job A T S → Type 0)
+    (ls : List (Held T)) (jobs : List (RowFiring A T S)) (P : (ℕ → ℕ) → (ℕ → List T) → ℕ → RowFiring A T S → Type 0)
     (phase : ℕ) : Type 0 where
   pub good : IsNet s n
   pub sizes : AreSizes s n z
@@ -57,7 +57,7 @@ pub record AtPlace {A S T : Type 0} (s : Steps A S T) (n : Netlist A T) (z : Row
 
 module _ {A S T : Type 0} {s : Steps A S T} {n : Netlist A T} {z : Rows} {inputs : List (List T)}
     {many low high : ℕ → ℕ} {acts : List ℕ} {from i : ℕ} {k : ℕ → ℕ} {states : List (NodeState T S)}
-    {ls : List (Held T)} {jobs : List (Job A T S)} {P : (ℕ → ℕ) → (ℕ → List T) → ℕ → Job A T S → Type 0} {phase : ℕ}
+    {ls : List (Held T)} {jobs : List (RowFiring A T S)} {P : (ℕ → ℕ) → (ℕ → List T) → ℕ → RowFiring A T S → Type 0} {phase : ℕ}
     (x : AtPlace s n z inputs many low high acts from i k states ls jobs P phase) where
   abbrev pub who : ℕ
   who = get_or acts i 0
@@ -149,7 +149,7 @@ module _ {A S T : Type 0} {s : Steps A S T} {n : Netlist A T} {z : Rows} {inputs
 -- the firings of a row are settled up to place i, and one stands there
 pub record Settling {A S T : Type 0} (s : Steps A S T) (n : Netlist A T) (z : Rows) (inputs : List (List T))
     (many low high : ℕ → ℕ) (acts : List ℕ) (i : ℕ) (done : List ℕ) (states : List (NodeState T S)) (ls : List (Held T))
-    (jobs : List (Job A T S)) : Type 0 where
+    (jobs : List (RowFiring A T S)) : Type 0 where
   pub good : IsNet s n
   pub moves : FiringsMoveOn s
   pub sizes : AreSizes s n z
@@ -159,8 +159,8 @@ pub record Settling {A S T : Type 0} (s : Steps A S T) (n : Netlist A T) (z : Ro
 
 module _ {A S T : Type 0} {s : Steps A S T} {n : Netlist A T} {z : Rows} {inputs : List (List T)}
     {many low high : ℕ → ℕ} {acts : List ℕ} {i : ℕ} {done : List ℕ} {states : List (NodeState T S)}
-    {ls : List (Held T)} {jobs : List (Job A T S)}
-    (x : Settling s n z inputs many low high acts i done states ls jobs) (d : Job A T S) where
+    {ls : List (Held T)} {jobs : List (RowFiring A T S)}
+    (x : Settling s n z inputs many low high acts i done states ls jobs) (d : RowFiring A T S) where
   abbrev k : ℕ → ℕ
   k b = get_or done b 0
 
@@ -173,7 +173,7 @@ module _ {A S T : Type 0} {s : Steps A S T} {n : Netlist A T} {z : Rows} {inputs
   abbrev a : ℕ
   a = get_or acts i 0
 
-  abbrev job : Job A T S
+  abbrev job : RowFiring A T S
   job = get_or jobs i d
 
   abbrev V : ℕ → List T
@@ -235,7 +235,7 @@ module _ {A S T : Type 0} {s : Steps A S T} {n : Netlist A T} {z : Rows} {inputs
   -- the firing is settled
   module _ {ls' : List (Held T)} (did : HasSettled s n z job ls ls') {states' : List (NodeState T S)}
       (states_are : states' ≡ set states job.actor job.state) {done' : List ℕ}
-      (done_is : done' ≡ set done job.actor (get_or done job.actor 0 + 1)) (job' : Job A T S) where
+      (done_is : done' ≡ set done job.actor (get_or done job.actor 0 + 1)) (job' : RowFiring A T S) where
     abbrev m : ℕ → ℕ
     m b = get_or done' b 0
 
@@ -328,7 +328,7 @@ module _ {A S T : Type 0} {s : Steps A S T} {n : Netlist A T} {z : Rows} {inputs
       b_on : IsEnabled (wiring s n).rates k b
       b_on = st.able p (omega arith) q
 
-      back_then : (j : Job A T S) → IsBack s n inputs many m W b (get_or (set jobs i job') p j)
+      back_then : (j : RowFiring A T S) → IsBack s n inputs many m W b (get_or (set jobs i job') p j)
       back_then j =
           let was = st.jobs_are p j (omega arith) q in
           let e : taken_before (wiring s n) V b (k b) ≡ taken_before (wiring s n) W b (m b) =

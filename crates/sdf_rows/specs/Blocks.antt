@@ -4,8 +4,8 @@ use Rattle.sdf_actor.specs.Steps.{Steps}
 use Rattle.sdf_actor.specs.Nets.{Netlist, wiring}
 use Rattle.sdf_node.specs.declared.node.NodeState.{NodeState}
 use Rattle.sdf_prec.specs.Blocks.{block}
-use Rattle.sdf_answer.specs.Held.{Held}
-use Rattle.sdf_answer.specs.Blocks.{room}
+use Rattle.sdf_queues.specs.Held.{Held}
+use Rattle.sdf_queues.specs.Blocks.{room}
 use Rattle.sdf_rows.specs.Stands.{IsBetween}
 
 -- counts of whole periods: the firings after them move what the first ones move, and each channel holds its initial

@@ -8,7 +8,7 @@ use Rattle.sdf_actor.specs.Nets.{Netlist}
 use Rattle.sdf_node.specs.Kept.{kept_of}
 use Rattle.sdf_node.specs.declared.node.NodeState.{NodeState}
 use Rattle.sdf_node.specs.declared.node.NodeState.TheVariants.{Sink}
-use Rattle.sdf_answer.specs.Lists.{list}
+use Rattle.sdf_queues.specs.Lists.{list}
 
 -- the list of each sink among the first m nodes is in outputs at its number
 abbrev pub AreCollected : {A S T : Type 0} → Netlist A T → ℕ → List (NodeState T S) → List (Vec T Global) → Type 0

@@ -5,7 +5,7 @@ use Rattle.sdf_actor.specs.declared.node.Node.{Node}
 use Rattle.sdf_actor.specs.Nets.{Netlist, node, cycle_of}
 use Rattle.sdf_node.specs.Nodes.{takes_of, puts_of, CanBegin, IsAt}
 use Rattle.sdf_node.specs.declared.node.NodeState.{NodeState}
-use Rattle.sdf_rows.specs.declared.job.Job.{Job}
+use Rattle.sdf_rows.specs.declared.row_firing.RowFiring.{RowFiring}
 
 -- a node's state before its first firing, if its list has this room
 abbrev pub IsUnfired : {A S T : Type 0} → Steps A S T → ℕ → Node A → NodeState T S → Type 0
@@ -18,6 +18,6 @@ AreUnfired {A} {S} {T} s room n states = (a : ℕ) (w : NodeState T S) → a < l
     IsUnfired s room (node n a) (slice_index_or states a w)
 
 -- a job's blocks have room for any firing of any node, phase by phase
-abbrev pub HasPlaces : {A S T : Type 0} → Steps A S T → Netlist A T → Job A T S → Type 0
+abbrev pub HasPlaces : {A S T : Type 0} → Steps A S T → Netlist A T → RowFiring A T S → Type 0
 HasPlaces s n j = (a i : ℕ) → a < length n.nodes → i < cycle_of s (node n a) →
     (takes_of s (node n a) i ≤ vec_capacity j.taken) × (puts_of s (node n a) i ≤ length j.put.items)

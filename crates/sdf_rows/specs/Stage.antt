@@ -9,13 +9,13 @@ use Rattle.sdf_node.specs.Nodes.{phase_at, puts_of}
 use Rattle.sdf_node.specs.declared.node.NodeState.{NodeState}
 use Rattle.sdf_prec.specs.declared.firing.Firing.{Firing}
 use Rattle.sdf_prec.specs.Tables.{firing, firings, cell_of}
-use Rattle.sdf_rows.specs.declared.job.Job.{Job}
-use Rattle.sdf_answer.specs.Held.{Held}
-use Rattle.sdf_answer.specs.Blocks.{samples, room, at_ports, ArePorts, HoldBlocks}
-use Rattle.sdf_answer.specs.Sizes.{Rows, at_phase}
+use Rattle.sdf_rows.specs.declared.row_firing.RowFiring.{RowFiring}
+use Rattle.sdf_queues.specs.Held.{Held}
+use Rattle.sdf_queues.specs.Blocks.{samples, room, at_ports, ArePorts, HoldBlocks}
+use Rattle.sdf_queues.specs.Sizes.{Rows, at_phase}
 
 -- the actors of some jobs
-abbrev pub actors_of : {A S T : Type 0} → List (Job A T S) → List ℕ
+abbrev pub actors_of : {A S T : Type 0} → List (RowFiring A T S) → List ℕ
 actors_of jobs = map (λ j. j.actor) jobs
 
 -- the actors of a row's firings
@@ -28,7 +28,7 @@ CanLoad None done states jobs many = Unit {0}
 CanLoad (Some f) done states jobs many = (f.actor < done) × (f.actor < states) × (many < jobs)
 
 -- job k is job j filled for processor p with firing m of actor a, whose state is w
-pub record IsFilled {A S T : Type 0} (p m a : ℕ) (w : NodeState T S) (j k : Job A T S) : Type 0 where
+pub record IsFilled {A S T : Type 0} (p m a : ℕ) (w : NodeState T S) (j k : RowFiring A T S) : Type 0 where
   pub processor : k.processor ≡ p
   pub actor : k.actor ≡ a
   pub firing : k.firing ≡ m
@@ -39,33 +39,33 @@ pub record IsFilled {A S T : Type 0} (p m a : ℕ) (w : NodeState T S) (j k : Jo
 
 -- what a cell of column p fills; done has the number of firings of each actor
 abbrev pub HasLoaded : {A S T : Type 0} → Option Firing → ℕ → List ℕ → List (NodeState T S) → List (NodeState T S) →
-    List (Job A T S) → List (Job A T S) → ℕ → ℕ → Type 0
+    List (RowFiring A T S) → List (RowFiring A T S) → ℕ → ℕ → Type 0
 HasLoaded None p done states states' jobs jobs' many more = (more ≡ many) × (states' ≡ states) × (jobs' ≡ jobs)
 HasLoaded {A} {S} {T} (Some f) p done states states' jobs jobs' many more =
     (more ≡ many + 1) × (length states' ≡ length states) × (length jobs' ≡ length jobs) ×
-    ((w : NodeState T S) (j : Job A T S) → IsFilled p (slice_index done f.actor) f.actor
+    ((w : NodeState T S) (j : RowFiring A T S) → IsFilled p (slice_index done f.actor) f.actor
     (slice_index_or states f.actor w) (slice_index_or jobs many j) (slice_index_or jobs' many j)) ×
     ((a : ℕ) (w : NodeState T S) → (f.actor ≡ a → ⊥) → slice_index_or states' a w ≡ slice_index_or states a w) ×
-    ((i : ℕ) (j : Job A T S) → (many ≡ i → ⊥) → slice_index_or jobs' i j ≡ slice_index_or jobs i j)
+    ((i : ℕ) (j : RowFiring A T S) → (many ≡ i → ⊥) → slice_index_or jobs' i j ≡ slice_index_or jobs i j)
 
 -- a job is filled for each firing of fs, for its column in the row, if their actors are all different; done has the
 -- number of firings of each actor. Every other state and job is unchanged
 pub record AreLoaded {A S T : Type 0} (row : List (Option Firing)) (done : List ℕ) (fs : List Firing)
-    (states states' : List (NodeState T S)) (jobs jobs' : List (Job A T S)) : Type 0 where
+    (states states' : List (NodeState T S)) (jobs jobs' : List (RowFiring A T S)) : Type 0 where
   pub states_all : length states' ≡ length states
   pub jobs_all : length jobs' ≡ length jobs
   pub each : ((i m : ℕ) → i < length fs → m < length fs → (firing fs i).actor ≡ (firing fs m).actor → i ≡ m) →
-      (i : ℕ) (w : NodeState T S) (j : Job A T S) → i < length fs →
+      (i : ℕ) (w : NodeState T S) (j : RowFiring A T S) → i < length fs →
       (p : ℕ) × (cell_of row p ≡ Some (firing fs i))
       × IsFilled p (slice_index done (firing fs i).actor) (firing fs i).actor
       (slice_index_or states (firing fs i).actor w) (slice_index_or jobs i j) (slice_index_or jobs' i j)
   pub idle : (a : ℕ) (w : NodeState T S) → ((i : ℕ) → i < length fs → (firing fs i).actor ≡ a → ⊥) →
       slice_index_or states' a w ≡ slice_index_or states a w
-  pub rest : (i : ℕ) (j : Job A T S) → length fs ≤ i → slice_index_or jobs' i j ≡ slice_index_or jobs i j
+  pub rest : (i : ℕ) (j : RowFiring A T S) → length fs ≤ i → slice_index_or jobs' i j ≡ slice_index_or jobs i j
 
 -- the input of a job's firing is on its channels, there is room for its output once the input is gone, and the length
 -- of its output is what its ports put
-pub record CanSettle {A S T : Type 0} (s : Steps A S T) (n : Netlist A T) (z : Rows) (j : Job A T S)
+pub record CanSettle {A S T : Type 0} (s : Steps A S T) (n : Netlist A T) (z : Rows) (j : RowFiring A T S)
     (ls : List (Held T)) : Type 0 where
   pub known : j.actor < length n.nodes
   pub in_cycle : j.phase < cycle_of s (node n j.actor)
@@ -83,7 +83,7 @@ pub record CanSettle {A S T : Type 0} (s : Steps A S T) (n : Netlist A T) (z : R
       sum_by (slice_index (at_phase z.puts j.phase)) ((wiring s n).outs j.actor)
 
 -- the channels after a job was settled
-pub record HasSettled {A S T : Type 0} (s : Steps A S T) (n : Netlist A T) (z : Rows) (j : Job A T S)
+pub record HasSettled {A S T : Type 0} (s : Steps A S T) (n : Netlist A T) (z : Rows) (j : RowFiring A T S)
     (ls ls' : List (Held T)) : Type 0 where
   pub all : length ls' ≡ length ls
   pub left : (c : ℕ) → c < length ls →

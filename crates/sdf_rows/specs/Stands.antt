@@ -8,32 +8,32 @@ use Rattle.sdf_actor.specs.NetFaults.{WasAccepted}
 use Rattle.sdf_actor.specs.Nets.{Netlist, node, wiring, answers, IsNet, IsHistoryOf, InputsReach}
 use Rattle.sdf_node.specs.Nodes.{takes_of, puts_of, IsAt}
 use Rattle.sdf_node.specs.declared.node.NodeState.{NodeState}
-use Rattle.sdf_rows.specs.declared.job.Job.{Job}
-use Rattle.sdf_answer.specs.Held.{Held}
-use Rattle.sdf_answer.specs.Blocks.{samples, room}
-use Rattle.sdf_answer.specs.Sizes.{Rows, AreSizes, phase_of}
+use Rattle.sdf_rows.specs.declared.row_firing.RowFiring.{RowFiring}
+use Rattle.sdf_queues.specs.Held.{Held}
+use Rattle.sdf_queues.specs.Blocks.{samples, room}
+use Rattle.sdf_queues.specs.Sizes.{Rows, AreSizes, phase_of}
 
 module _ {A S T : Type 0} (s : Steps A S T) (n : Netlist A T) where
   -- a job's blocks have room for any firing of any node
-  pub record HasBlocks (j : Job A T S) : Type 0 where
+  pub record HasBlocks (j : RowFiring A T S) : Type 0 where
     pub taken : (a i : ℕ) → a < length n.nodes → takes_of s (node n a) (phase_of s (node n a) i) ≤ vec_capacity j.taken
     pub put : (a i : ℕ) → a < length n.nodes → puts_of s (node n a) (phase_of s (node n a) i) ≤ length j.put.items
 
   -- each of some jobs has blocks with room for any firing of any node
-  abbrev pub HaveBlocks : List (Job A T S) → Type 0
-  HaveBlocks jobs = (i : ℕ) (j : Job A T S) → i < length jobs → HasBlocks (slice_index_or jobs i j)
+  abbrev pub HaveBlocks : List (RowFiring A T S) → Type 0
+  HaveBlocks jobs = (i : ℕ) (j : RowFiring A T S) → i < length jobs → HasBlocks (slice_index_or jobs i j)
 
 -- each of some jobs keeps its blocks
-pub record KeepBlocks {A S T : Type 0} (jobs jobs' : List (Job A T S)) : Type 0 where
+pub record KeepBlocks {A S T : Type 0} (jobs jobs' : List (RowFiring A T S)) : Type 0 where
   pub all : length jobs' ≡ length jobs
-  pub taken : (i : ℕ) (j : Job A T S) → i < length jobs →
+  pub taken : (i : ℕ) (j : RowFiring A T S) → i < length jobs →
       vec_capacity (slice_index_or jobs' i j).taken ≡ vec_capacity (slice_index_or jobs i j).taken
-  pub put : (i : ℕ) (j : Job A T S) → i < length jobs →
+  pub put : (i : ℕ) (j : RowFiring A T S) → i < length jobs →
       length (slice_index_or jobs' i j).put.items ≡ length (slice_index_or jobs i j).put.items
 
 module _ {A S T : Type 0} (s : Steps A S T) (n : Netlist A T) (inputs : List (List T)) (many : ℕ → ℕ) where
   -- the next firing of actor a is done: its job has its new state, and at the front of a block what it put
-  pub record IsBack (k : ℕ → ℕ) (V : ℕ → List T) (a : ℕ) (j : Job A T S) : Type 0 where
+  pub record IsBack (k : ℕ → ℕ) (V : ℕ → List T) (a : ℕ) (j : RowFiring A T S) : Type 0 where
     pub actor : j.actor ≡ a
     pub phase : j.phase ≡ phase_of s (node n a) (k a)
     pub long : puts_of s (node n a) j.phase ≤ length j.put.items
@@ -43,7 +43,7 @@ module _ {A S T : Type 0} (s : Steps A S T) (n : Netlist A T) (inputs : List (Li
         answers s n inputs a (taken_before (wiring s n) V a (k a)) (taken (wiring s n) V a (k a))
 
   -- the job of the next firing of actor a is filled with its state, and has blocks for it
-  pub record IsLoaded (k : ℕ → ℕ) (V : ℕ → List T) (a : ℕ) (j : Job A T S) : Type 0 where
+  pub record IsLoaded (k : ℕ → ℕ) (V : ℕ → List T) (a : ℕ) (j : RowFiring A T S) : Type 0 where
     pub actor : j.actor ≡ a
     pub phase : j.phase ≡ phase_of s (node n a) (k a)
     pub state : IsAt s inputs (many a) (node n a) (taken_before (wiring s n) V a (k a)) j.state
@@ -52,8 +52,8 @@ module _ {A S T : Type 0} (s : Steps A S T) (n : Netlist A T) (inputs : List (Li
   -- each node a has fired k a times, at least low a and at most high a, of many a in all. The channels hold the rest of
   -- a history, and have room for all up to high. The actors of acts from one place on are in jobs as P says; every
   -- other node has its state
-  pub record IsStage (P : (ℕ → ℕ) → (ℕ → List T) → ℕ → Job A T S → Type 0) (low high : ℕ → ℕ) (acts : List ℕ) (from : ℕ)
-      (k : ℕ → ℕ) (states : List (NodeState T S)) (ls : List (Held T)) (jobs : List (Job A T S)) : Type 0 where
+  pub record IsStage (P : (ℕ → ℕ) → (ℕ → List T) → ℕ → RowFiring A T S → Type 0) (low high : ℕ → ℕ) (acts : List ℕ) (from : ℕ)
+      (k : ℕ → ℕ) (states : List (NodeState T S)) (ls : List (Held T)) (jobs : List (RowFiring A T S)) : Type 0 where
     pub small : (a : ℕ) → a < length n.nodes → many a < 2 ^ 63
     pub reach : InputsReach n inputs many
     pub top : (a : ℕ) → a < length n.nodes → high a ≤ many a
@@ -73,18 +73,18 @@ module _ {A S T : Type 0} (s : Steps A S T) (n : Netlist A T) (inputs : List (Li
     pub idle : (a : ℕ) (w : NodeState T S) → a < length n.nodes →
         ((i : ℕ) → from ≤ i → i < length acts → slice_index acts i ≡ a → ⊥) →
         IsAt s inputs (many a) (node n a) (taken_before (wiring s n) history a (k a)) (slice_index_or states a w)
-    pub jobs_are : (i : ℕ) (j : Job A T S) → from ≤ i → i < length acts →
+    pub jobs_are : (i : ℕ) (j : RowFiring A T S) → from ≤ i → i < length acts →
         P k history (slice_index acts i) (slice_index_or jobs i j)
     pub able : (i : ℕ) → from ≤ i → i < length acts → IsEnabled (wiring s n).rates k (slice_index acts i)
     pub within : (i : ℕ) → from ≤ i → i < length acts → k (slice_index acts i) < high (slice_index acts i)
 
   -- before the firings of a row, and after them
   abbrev pub IsFilling : (ℕ → ℕ) → (ℕ → ℕ) → List ℕ → ℕ → (ℕ → ℕ) → List (NodeState T S) → List (Held T) →
-      List (Job A T S) → Type 0
+      List (RowFiring A T S) → Type 0
   IsFilling low high acts from k states ls jobs = IsStage IsLoaded low high acts from k states ls jobs
 
   abbrev pub IsSettling : (ℕ → ℕ) → (ℕ → ℕ) → List ℕ → ℕ → (ℕ → ℕ) → List (NodeState T S) → List (Held T) →
-      List (Job A T S) → Type 0
+      List (RowFiring A T S) → Type 0
   IsSettling low high acts from k states ls jobs = IsStage IsBack low high acts from k states ls jobs
 
   -- between two rows

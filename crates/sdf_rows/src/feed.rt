@@ -7,20 +7,20 @@ ghost use Rattle.sdf_actor.specs.Rests.{IsRest};
 ghost use Rattle.sdf_actor.specs.Sides.{period_samples};
 ghost use Rattle.sdf_actor.specs.Wires.{lists};
 ghost use Rattle.sdf_actor.specs.declared.sides.Lists.TheVariants.{Inputs};
-ghost use Rattle.sdf_answer.specs.Answer.{HasInputs, periods_of, IsRunFault};
-ghost use Rattle.sdf_answer.specs.Feeds.{HasRun, GoesOnBy};
+ghost use Rattle.sdf_queues.specs.Answer.{HasInputs, periods_of, IsRunFault};
+ghost use Rattle.sdf_queues.specs.Feeds.{HasRun, GoesOnBy};
 ghost use Rattle.sdf_prec.specs.BlockTables.{IsBlockTableOf};
 ghost use Rattle.sdf_rows.specs.Collect.{AreKept};
 
 use crate::collect::collect;
 use crate::fired::{TableBlocks, fire, rounds_of};
-use sdf_actor::{Actor, Net, Rest};
-use sdf_answer::inputs::{are_inputs, first_sample};
-use sdf_answer::laws::nets_have_periods;
-use sdf_answer::outputs::make_outputs;
-use sdf_answer::queue::held;
-use sdf_answer::sizes::samples_of_blocks;
-use sdf_answer::{Ran, RunFault};
+use sdf_actor::{Actor, Net, NetState};
+use sdf_queues::inputs::{are_inputs, first_sample};
+use sdf_queues::laws::nets_have_periods;
+use sdf_queues::outputs::make_outputs;
+use sdf_queues::queue::held;
+use sdf_queues::sizes::samples_of_blocks;
+use sdf_queues::{Ran, RunFault};
 use sdf_node::{Gate, NodeState, kept};
 use std::alloc::{AllocError, Global};
 use std::thread::Threads;
@@ -50,7 +50,7 @@ fn fill<R: Threads + AllocGlobal + Sync, A: Actor, G: Gate>(
     plan: &TableBlocks,
     inputs: &[Vec<A::Token>],
     gate: &G,
-) -> Result<(Vec<Vec<A::Token>>, Rest<A::Token, A::State>), AllocError>
+) -> Result<(Vec<Vec<A::Token>>, NetState<A::Token, A::State>), AllocError>
     requires fits { IsBlockTableOf (rates (graph_of A.steps net.now)) plan.now.table.now }
     requires inputs { HasInputs net.now plan.now.table.now.period.repetitions
         (plan.now.blocks * plan.now.table.now.factor) (lists inputs.now) }
@@ -63,7 +63,7 @@ fn fill<R: Threads + AllocGlobal + Sync, A: Actor, G: Gate>(
     match first_sample(inputs) {
         Some(filler) => {
             let mut stage = fire(rt, net, plan, inputs, filler, gate)?;
-            let rest = Rest {
+            let rest = NetState {
                 states: kept_by(alloc, net, &stage.states)?,
                 held: held(alloc, &stage.queues)?,
             };
@@ -81,7 +81,7 @@ pub fn feed_rows<R: Threads + AllocGlobal + Sync, A: Actor, G: Gate>(
     plan: &TableBlocks,
     inputs: &[Vec<A::Token>],
     gate: &G,
-) -> Result<(Ran<A::Token>, Rest<A::Token, A::State>), RunFault>
+) -> Result<(Ran<A::Token>, NetState<A::Token, A::State>), RunFault>
     requires fits { IsBlockTableOf (rates (graph_of A.steps net.now)) plan.now.table.now }
     ensures { let t = plan.now.table.now in let q = t.period.repetitions in
         let periods = plan.now.blocks * t.factor in MatchResult result
@@ -106,10 +106,10 @@ pub fn resume_rows<R: Threads + AllocGlobal + Sync, A: Actor, G: Gate>(
     rt: &R,
     net: &Net<A>,
     plan: &TableBlocks,
-    rest: &Rest<A::Token, A::State>,
+    rest: &NetState<A::Token, A::State>,
     inputs: &[Vec<A::Token>],
     gate: &G,
-) -> Result<(Ran<A::Token>, Rest<A::Token, A::State>), RunFault>
+) -> Result<(Ran<A::Token>, NetState<A::Token, A::State>), RunFault>
     requires fits { IsBlockTableOf (rates (graph_of A.steps net.now)) plan.now.table.now }
     requires rest { (first : List (List A.Token)) × (few : ℕ)
         × IsRest A.steps net.now first (periods_of plan.now.table.now.period.repetitions few) rest.now }

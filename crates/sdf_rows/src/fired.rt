@@ -6,18 +6,18 @@ ghost use Rattle.sdf_actor.specs.Graphs.{graph_of};
 ghost use Rattle.sdf_actor.specs.Wires.{lists};
 ghost use Rattle.sdf_limits.specs.declared.TheConstants.{MOST_BLOCK};
 ghost use Rattle.sdf_prec.specs.Tables.{row, firings};
-ghost use Rattle.sdf_answer.specs.Answer.{HasInputs};
+ghost use Rattle.sdf_queues.specs.Answer.{HasInputs};
 ghost use Rattle.sdf_prec.specs.BlockTables.{IsBlockTableOf};
 ghost use Rattle.sdf_rows.specs.Blocks.{IsOver};
 
 use crate::runs::{Timetable, run_blocks};
 use crate::scene::Scene;
 use crate::setup::{make_jobs, make_states};
-use crate::stage::Stage;
+use crate::row_state::RowState;
 use sdf_actor::{Actor, Net};
-use sdf_answer::Sizes;
-use sdf_answer::rooms::make_queues;
-use sdf_answer::sizes::samples_of_blocks;
+use sdf_queues::Sizes;
+use sdf_queues::rooms::make_queues;
+use sdf_queues::sizes::samples_of_blocks;
 use sdf_node::Gate;
 use sdf_prec::{BlockTable, Table};
 use std::alloc::{AllocError, Global};
@@ -45,7 +45,7 @@ pub(crate) fn fire<R: Threads + AllocGlobal + Sync, A: Actor, G: Gate>(
     inputs: &[Vec<A::Token>],
     filler: A::Token,
     gate: &G,
-) -> Result<Stage<A>, AllocError>
+) -> Result<RowState<A>, AllocError>
     requires fits { IsBlockTableOf (rates (graph_of A.steps net.now)) plan.now.table.now }
     requires inputs { HasInputs net.now plan.now.table.now.period.repetitions
         (plan.now.blocks * plan.now.table.now.factor) (lists inputs.now) }
@@ -56,7 +56,7 @@ pub(crate) fn fire<R: Threads + AllocGlobal + Sync, A: Actor, G: Gate>(
     let table = plan.table;
     let repetitions = table.period.repetitions();
     let room = samples_of_blocks(plan.blocks, table.factor, net.samples_out());
-    let mut stage = Stage {
+    let mut stage = RowState {
         states: make_states(alloc, net, room)?,
         queues: make_queues(alloc, net, repetitions, table.factor, filler)?,
         done: none_done(alloc, repetitions)?,

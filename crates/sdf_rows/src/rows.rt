@@ -4,13 +4,13 @@ ghost use Rattle.std.specs.Prelude.{◌≡◌, ◌*◌, length, MatchResult};
 ghost use Rattle.sdf_graph.specs.Rates.{rates};
 ghost use Rattle.sdf_actor.specs.Graphs.{graph_of};
 ghost use Rattle.sdf_actor.specs.Wires.{lists};
-ghost use Rattle.sdf_answer.specs.Answer.{HasInputs, AreOutputs, periods_of, IsRunFault};
+ghost use Rattle.sdf_queues.specs.Answer.{HasInputs, AreOutputs, periods_of, IsRunFault};
 ghost use Rattle.sdf_prec.specs.BlockTables.{IsBlockTableOf};
 
 use crate::feed::feed_rows;
 use crate::fired::TableBlocks;
 use sdf_actor::{Actor, Net};
-use sdf_answer::{Ran, RunFault};
+use sdf_queues::{Ran, RunFault};
 use sdf_node::Gate;
 use sdf_prec::BlockTable;
 use std::thread::Threads;

@@ -10,9 +10,9 @@ ghost use Rattle.sdf_prec.specs.BlockTables.{IsTableOf};
 ghost use Rattle.sdf_rows.specs.Stands.{HaveBlocks, KeepBlocks, IsBetween, IsScene};
 ghost use Rattle.sdf_rows.specs.Blocks.{IsRound, IsResting, block_after};
 
-use crate::job::Job;
+use crate::row_firing::RowFiring;
 use crate::scene::Scene;
-use crate::stage::{Stage, run_row};
+use crate::row_state::{RowState, run_row};
 use sdf_actor::Actor;
 use sdf_node::Gate;
 use sdf_prec::Table;
@@ -31,8 +31,8 @@ pub(crate) fn run_block<R: Threads + Sync, A: Actor, G: Gate>(
     rt: &R,
     scene: &Scene<A, G>,
     timetable: &Timetable,
-    jobs: &mut [Job<A>],
-    stage: &mut Stage<A>,
+    jobs: &mut [RowFiring<A>],
+    stage: &mut RowState<A>,
 )
     requires scene { IsScene A.steps scene.now.net.now scene.now.sizes }
     requires table { IsTableOf (rates (graph_of A.steps scene.now.net.now)) timetable.now.repetitions.now
@@ -71,8 +71,8 @@ pub(crate) fn run_blocks<R: Threads + Sync, A: Actor, G: Gate>(
     scene: &Scene<A, G>,
     timetable: &Timetable,
     blocks: u32,
-    jobs: &mut [Job<A>],
-    stage: &mut Stage<A>,
+    jobs: &mut [RowFiring<A>],
+    stage: &mut RowState<A>,
 )
     requires scene { IsScene A.steps scene.now.net.now scene.now.sizes }
     requires period { IsLeastPeriod (rates (graph_of A.steps scene.now.net.now)) timetable.now.repetitions.now }

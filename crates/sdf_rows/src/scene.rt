@@ -1,7 +1,7 @@
 //! The data that all firings of a run share.
 
 use sdf_actor::{Actor, Net};
-use sdf_answer::Sizes;
+use sdf_queues::Sizes;
 
 /// The data that all firings of a run share.
 #[derive(Drop)]

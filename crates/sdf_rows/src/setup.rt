@@ -5,7 +5,7 @@ ghost use Rattle.sdf_actor.specs.Nets.{node};
 ghost use Rattle.sdf_node.specs.Nodes.{IsMost};
 ghost use Rattle.sdf_rows.specs.Setup.{AreUnfired, HasPlaces};
 
-use crate::job::Job;
+use crate::row_firing::RowFiring;
 use sdf_actor::{Actor, Net};
 use sdf_node::{NodeState, begin};
 use std::alloc::{AllocError, Global};
@@ -42,13 +42,13 @@ fn make_job<A: Actor>(
     net: &Net<A>,
     places: usize,
     filler: A::Token,
-) -> Result<Job<A>, AllocError>
+) -> Result<RowFiring<A>, AllocError>
     requires { (a : ℕ) → a < length net.now.nodes → IsMost A.steps (node net.now a) places }
     ensures { IfOk result (HasPlaces A.steps net.now) }
 {
     let taken = Vec::with_capacity(alloc, places)?;
     let put = vec![in alloc; filler; places]?;
-    Ok(Job {
+    Ok(RowFiring {
         processor: 0,
         actor: 0,
         firing: 0,
@@ -65,7 +65,7 @@ pub(crate) fn make_jobs<A: Actor>(
     net: &Net<A>,
     width: usize,
     filler: A::Token,
-) -> Result<Vec<Job<A>>, AllocError>
+) -> Result<Vec<RowFiring<A>>, AllocError>
     ensures { IfOk result (λ v. (vec_len v ≡ width) × All (HasPlaces A.steps net.now) v.items) }
 {
     let places = most(net);

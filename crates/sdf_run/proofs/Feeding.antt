@@ -13,14 +13,14 @@ use Rattle.sdf_actor.specs.Nets.{Netlist}
 use Rattle.sdf_actor.specs.Rests.{IsRest, AreJoined}
 use Rattle.sdf_actor.specs.Sides.{list_count, period_samples}
 use Rattle.sdf_actor.specs.Steps.{Steps}
-use Rattle.sdf_actor.specs.declared.rest.Rest.{Rest}
+use Rattle.sdf_actor.specs.declared.rest.NetState.{NetState}
 use Rattle.sdf_actor.specs.declared.sides.Lists.TheVariants.{Inputs, Outputs}
-use Rattle.sdf_answer.specs.Answer.{HasInputs, periods_of, IsRunFault}
-use Rattle.sdf_answer.specs.Feeds.{HasRun, AreFull, GoesOnBy}
+use Rattle.sdf_queues.specs.Answer.{HasInputs, periods_of, IsRunFault}
+use Rattle.sdf_queues.specs.Feeds.{HasRun, AreFull, GoesOnBy}
 use Rattle.sdf_prec.specs.BlockTables.{IsTableOf}
-use Rattle.sdf_answer.specs.declared.fault.RunFault.{RunFault}
-use Rattle.sdf_answer.specs.declared.fault.RunFault.TheVariants.{OutOfMemory, InputLength, NotHomed, Patience, NoWorker}
-use Rattle.sdf_answer.specs.declared.fault.RunFault.TheVariants.{SessionFailed}
+use Rattle.sdf_queues.specs.declared.fault.RunFault.{RunFault}
+use Rattle.sdf_queues.specs.declared.fault.RunFault.TheVariants.{OutOfMemory, InputLength, NotHomed, Patience, NoWorker}
+use Rattle.sdf_queues.specs.declared.fault.RunFault.TheVariants.{SessionFailed}
 use Rattle.sdf_one.proofs.Theorems.{no_period_runs}
 use Rattle.sdf_run.specs.declared.mode.Mode.{Mode}
 use Rattle.sdf_run.specs.Sessions.{AreBlocks, AreNone, SessionValue, MayRun, HasRounds, counted, IsLive, FeedsBlocks}
@@ -86,7 +86,7 @@ blank_are T k = record { count = blank_long T k; each = blank_at T k }
 
 -- a session that was fed nothing
 module _ {A S T : Type 0} (s : Steps A S T) (n : Netlist A T) (p : Schedule) (j : ℕ) (t : Tabled) (mode : Mode)
-    (rest : Rest T S) (first : (inputs : List (List T)) → IsRest s n inputs (λ _. 0) rest) where
+    (rest : NetState T S) (first : (inputs : List (List T)) → IsRest s n inputs (λ _. 0) rest) where
   abbrev opened : SessionValue A S T
   opened = record { net = n; period = p; factor = j; table = t; mode = mode; rest = Some rest; blocks = 0; rounds = 0 }
 
@@ -123,7 +123,7 @@ module _ {A S T : Type 0} (s : Steps A S T) (n : Netlist A T) (p : Schedule) (j 
   }
 
 -- where it stands after some lists, its rest is what they leave
-pub rest_of : {A S T : Type 0} (s : Steps A S T) (v : SessionValue A S T) (old : Rest T S) → v.rest ≡ Some old →
+pub rest_of : {A S T : Type 0} (s : Steps A S T) (v : SessionValue A S T) (old : NetState T S) → v.rest ≡ Some old →
     (few : ℕ) (fed made : List (List T)) → StandsAfter s v few fed made →
     IsRest s v.net fed (periods_of v.period.repetitions (few * v.factor)) old
 rest_of s v old held few fed made stood =
@@ -150,7 +150,7 @@ feed_fault v blocks inputs live are Patience why = absurd why
 feed_fault v blocks inputs live are NoWorker why = absurd why
 feed_fault v blocks inputs live are SessionFailed why = absurd why
 
-module _ {A S T : Type 0} (s : Steps A S T) (v : SessionValue A S T) (old last : Rest T S) (held : v.rest ≡ Some old)
+module _ {A S T : Type 0} (s : Steps A S T) (v : SessionValue A S T) (old last : NetState T S) (held : v.rest ≡ Some old)
     (blocks : ℕ) (fed made : List (List T)) (are : FeedsBlocks v blocks fed)
     (on : GoesOnBy s v.net v.period.repetitions old (blocks * v.factor) fed made last) where
   abbrev q : List ℕ
@@ -203,7 +203,7 @@ module _ {A S T : Type 0} (s : Steps A S T) (v : SessionValue A S T) (old last :
       )
 
 -- what a feed does
-pub has_fed : {A S T : Type 0} (s : Steps A S T) (v : SessionValue A S T) (old last : Rest T S) → v.rest ≡ Some old →
+pub has_fed : {A S T : Type 0} (s : Steps A S T) (v : SessionValue A S T) (old last : NetState T S) → v.rest ≡ Some old →
     (blocks rounds seen taken : ℕ) (fed made : List (List T)) → FeedsBlocks v blocks fed →
     GoesOnBy s v.net v.period.repetitions old (blocks * v.factor) fed made last →
     HasRounds v.table v.period.repetitions v.factor v.mode blocks rounds →

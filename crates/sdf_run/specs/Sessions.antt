@@ -11,14 +11,14 @@ use Rattle.sdf_actor.specs.Nets.{Netlist}
 use Rattle.sdf_actor.specs.Rests.{AreJoined}
 use Rattle.sdf_actor.specs.Sides.{list_count, period_samples}
 use Rattle.sdf_actor.specs.Steps.{Steps}
-use Rattle.sdf_actor.specs.declared.rest.Rest.{Rest}
+use Rattle.sdf_actor.specs.declared.rest.NetState.{NetState}
 use Rattle.sdf_actor.specs.declared.sides.Lists.TheVariants.{Inputs, Outputs}
-use Rattle.sdf_answer.specs.Answer.{HasInputs, periods_of}
-use Rattle.sdf_answer.specs.Feeds.{HasRun, AreFull}
+use Rattle.sdf_queues.specs.Answer.{HasInputs, periods_of}
+use Rattle.sdf_queues.specs.Feeds.{HasRun, AreFull}
 use Rattle.sdf_prec.specs.BlockTables.{IsTableOf}
-use Rattle.sdf_answer.specs.declared.fault.RunFault.{RunFault}
-use Rattle.sdf_answer.specs.declared.fault.RunFault.TheVariants.{OutOfMemory, InputLength, NotHomed, Patience, NoWorker}
-use Rattle.sdf_answer.specs.declared.fault.RunFault.TheVariants.{SessionFailed}
+use Rattle.sdf_queues.specs.declared.fault.RunFault.{RunFault}
+use Rattle.sdf_queues.specs.declared.fault.RunFault.TheVariants.{OutOfMemory, InputLength, NotHomed, Patience, NoWorker}
+use Rattle.sdf_queues.specs.declared.fault.RunFault.TheVariants.{SessionFailed}
 use Rattle.sdf_run.specs.declared.mode.Mode.{Mode}
 use Rattle.sdf_run.specs.declared.mode.Mode.TheVariants.{Rows, Rings}
 
@@ -36,7 +36,7 @@ pub record SessionValue (A S T : Type 0) : Type 0 where
   pub factor : ℕ
   pub table : Tabled
   pub mode : Mode
-  pub rest : Option (Rest T S)
+  pub rest : Option (NetState T S)
   pub blocks : ℕ
   pub rounds : ℕ
 
@@ -65,7 +65,7 @@ counted n = min n (2 ^ 64 - 1)
 
 -- the session is not spent
 abbrev pub IsLive : {A S T : Type 0} → SessionValue A S T → Type 0
-IsLive {A} {S} {T} v = (rest : Rest T S) × (v.rest ≡ Some rest)
+IsLive {A} {S} {T} v = (rest : NetState T S) × (v.rest ≡ Some rest)
 
 -- the lists are this number of blocks for the session
 abbrev pub FeedsBlocks : {A S T : Type 0} → SessionValue A S T → ℕ → List (List T) → Type 0
@@ -78,7 +78,7 @@ pub record StandsAfter {A S T : Type 0} (s : Steps A S T) (v : SessionValue A S 
     (fed made : List (List T)) : Type 0 where
   pub given : HasInputs v.net v.period.repetitions (blocks * v.factor) fed
   pub full : AreFull v.net v.period.repetitions (blocks * v.factor) fed
-  pub rest : Rest T S
+  pub rest : NetState T S
   pub held : v.rest ≡ Some rest
   pub run : HasRun s v.net fed (periods_of v.period.repetitions (blocks * v.factor)) made rest
 
@@ -98,7 +98,7 @@ pub record HasFed {A S T : Type 0} (s : Steps A S T) (v w : SessionValue A S T) 
   pub whole : FeedsBlocks v blocks fed
   pub count : length made ≡ list_count Outputs v.net.nodes
   pub taken : HasRounds v.table v.period.repetitions v.factor v.mode blocks rounds
-  pub rest : Rest T S
+  pub rest : NetState T S
   pub now : w ≡ record v {
     rest = Some rest;
     blocks = counted (v.blocks + blocks);

@@ -7,17 +7,17 @@ ghost use Rattle.sdf_actor.specs.Rests.{IsRest};
 ghost use Rattle.sdf_actor.specs.Sides.{list_count};
 ghost use Rattle.sdf_actor.specs.Wires.{lists};
 ghost use Rattle.sdf_actor.specs.declared.sides.Lists.TheVariants.{Inputs, Outputs};
-ghost use Rattle.sdf_answer.specs.Answer.{periods_of, IsRunFault};
-ghost use Rattle.sdf_answer.specs.Feeds.{GoesOnBy};
+ghost use Rattle.sdf_queues.specs.Answer.{periods_of, IsRunFault};
+ghost use Rattle.sdf_queues.specs.Feeds.{GoesOnBy};
 ghost use Rattle.sdf_prec.specs.BlockTables.{IsBlockTableOf};
-ghost use Rattle.sdf_answer.specs.declared.fault.RunFault.TheVariants.{SessionFailed};
+ghost use Rattle.sdf_queues.specs.declared.fault.RunFault.TheVariants.{SessionFailed};
 ghost use Rattle.sdf_run.specs.Sessions.{AreBlocks, AreNone, SessionValue, MayRun, IsModeFault, HasRounds, IsLive};
 ghost use Rattle.sdf_run.specs.Sessions.{StandsAfter, HasFed, IsFeedFault, after_fault, FeedsAreOneRun};
 
 use crate::mode::Mode;
-use sdf_actor::{Actor, Net, Rest};
-use sdf_answer::inputs::are_inputs;
-use sdf_answer::{Ran, RunFault};
+use sdf_actor::{Actor, Net, NetState};
+use sdf_queues::inputs::are_inputs;
+use sdf_queues::{Ran, RunFault};
 use sdf_limits::MOST_PATIENCE;
 use sdf_node::Gate;
 use sdf_prec::{BlockTable, Table};
@@ -36,7 +36,7 @@ pub struct Session<'a, A: Actor> {
     table: &'a BlockTable,
     mode: Mode,
     /// The net state, or `None` once memory was refused.
-    rest: Option<Rest<A::Token, A::State>>,
+    rest: Option<NetState<A::Token, A::State>>,
     blocks: u64,
     rounds: u64,
 }
@@ -128,11 +128,11 @@ struct Terms<'a, A: Actor> {
 fn go_on<R: Threads + AllocGlobal + Sync, A: Actor, G: Gate>(
     rt: &R,
     terms: Terms<'_, A>,
-    rest: &Rest<A::Token, A::State>,
+    rest: &NetState<A::Token, A::State>,
     blocks: u32,
     inputs: &[Vec<A::Token>],
     gate: &G,
-) -> Result<(Ran<A::Token>, Rest<A::Token, A::State>), RunFault>
+) -> Result<(Ran<A::Token>, NetState<A::Token, A::State>), RunFault>
     requires fits { IsBlockTableOf (rates (graph_of A.steps terms.net.now)) terms.table.now }
     requires may { MayRun terms.table.now.table terms.mode }
     requires rest { (first : List (List A.Token)) × (few : ℕ)

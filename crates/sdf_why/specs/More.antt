@@ -9,7 +9,7 @@ use Rattle.sdf_graph.specs.Faults.{numbers_fault}
 use Rattle.sdf_graph.specs.Marks.{is_marked, AreJoined}
 use Rattle.sdf_graph.specs.declared.fault.GraphFault.{GraphFault}
 use Rattle.sdf_graph.specs.declared.fault.GraphFault.TheVariants.{NotConnected, Inconsistent}
-use Rattle.sdf_graph.specs.declared.meeting.Meeting.{Meeting}
+use Rattle.sdf_graph.specs.declared.meeting.Balance.{Balance}
 use Rattle.sdf_actor.specs.declared.fault.NetFault.{NetFault}
 use Rattle.sdf_actor.specs.declared.fault.NetFault.TheVariants.{Graph, NoPort}
 use Rattle.sdf_document.specs.Fault.{Fault}
@@ -41,7 +41,7 @@ unfoldable pub so_many : ℕ → Option (List ℕ) → List ℕ
 so_many n name = decimal n ++ codes " of " ++ name_text name
 
 -- the firings of a link's two actors, as the other links set them
-unfoldable pub firings_line : Meeting → Option (List ℕ) → Option (List ℕ) → List ℕ
+unfoldable pub firings_line : Balance → Option (List ℕ) → Option (List ℕ) → List ℕ
 firings_line m source target =
     codes "  firings by the other links: " ++ so_many m.source source ++ codes ", " ++ so_many m.target target ++ end
 
@@ -50,19 +50,19 @@ unfoldable pub moves_text : Option (List ℕ) → List ℕ → ℕ → List ℕ
 moves_text at verb n = end_text at ++ verb ++ decimal n
 
 -- the samples that the firings of m put on a link and take from it
-unfoldable pub samples_line : Meeting → Option (List ℕ) → Option (List ℕ) → List ℕ
+unfoldable pub samples_line : Balance → Option (List ℕ) → Option (List ℕ) → List ℕ
 samples_line m from to =
     codes "  samples on this link: " ++ moves_text from (codes " puts ") m.puts ++ codes ", "
     ++ moves_text to (codes " takes ") m.takes ++ end
 
-unfoldable pub firings_told : Data → Edge → Meeting → List ℕ
+unfoldable pub firings_told : Data → Edge → Balance → List ℕ
 firings_told d e m = firings_line m (actor_text (codes "name") d e.from) (actor_text (codes "name") d e.to)
 
-unfoldable pub samples_told : Data → ℕ → Meeting → List ℕ
+unfoldable pub samples_told : Data → ℕ → Balance → List ℕ
 samples_told d c m = samples_line m (end_at (codes "from") d c) (end_at (codes "to") d c)
 
 -- the lines about the channel balance at link c, or nothing if there is no link c
-unfoldable pub meeting_told : Data → List Edge → ℕ → Meeting → List ℕ
+unfoldable pub meeting_told : Data → List Edge → ℕ → Balance → List ℕ
 meeting_told d channels c m = if nat_lt c (length channels) then
     firings_told d (slice_index_or channels c no_channel) m ++ samples_told d c m else []
 

@@ -24,7 +24,7 @@ use crate::told::DesignFiles;
 use crate::words::{push_end, push_name};
 use sdf_actor::NetFault;
 use sdf_document::{Document, ReadFault, read_document};
-use sdf_graph::{Channel, GraphFault, Meeting, joined};
+use sdf_graph::{Channel, GraphFault, Balance, joined};
 use std::alloc::{AllocError, Global};
 use toml::Value;
 
@@ -112,7 +112,7 @@ fn push_so_many(
 fn push_firings(
     alloc: Global,
     text: &mut String,
-    meeting: Meeting,
+    meeting: Balance,
     source: Option<&str>,
     target: Option<&str>,
 ) -> Result<(), AllocError>
@@ -147,7 +147,7 @@ fn push_moves(
 fn push_samples(
     alloc: Global,
     text: &mut String,
-    meeting: Meeting,
+    meeting: Balance,
     from: Option<&str>,
     to: Option<&str>,
 ) -> Result<(), AllocError>
@@ -167,7 +167,7 @@ fn push_firings_of(
     text: &mut String,
     tables: &Value,
     channel: &Channel,
-    meeting: Meeting,
+    meeting: Balance,
 ) -> Result<(), AllocError>
     ensures { OnOk result (string_bytes text.new ≡ string_bytes text.old
         ++ firings_told (view tables.now) channel.now meeting) }
@@ -183,7 +183,7 @@ fn push_samples_of(
     text: &mut String,
     tables: &Value,
     link: usize,
-    meeting: Meeting,
+    meeting: Balance,
 ) -> Result<(), AllocError>
     ensures { OnOk result (string_bytes text.new ≡ string_bytes text.old
         ++ samples_told (view tables.now) link meeting) }
@@ -200,7 +200,7 @@ fn meeting_text(
     tables: &Value,
     channels: &[Channel],
     link: usize,
-    meeting: Meeting,
+    meeting: Balance,
 ) -> Result<String, AllocError>
     ensures { IfOk result (λ text. string_bytes text ≡ meeting_told (view tables.now) channels.now link meeting) }
 {

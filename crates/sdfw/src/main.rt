@@ -1,15 +1,15 @@
 //! The program `sdfw`: synchronous dataflow graphs over 16-bit PCM WAV files.
 //!
-//! `main` provides the streams, the arguments, the threads and the files of the system. It depends on `sdf_words`,
-//! which reads the arguments, on `sdf_files` for the system's files, and on `sdf_program`, which does the rest. Begin
+//! `main` provides the streams, the arguments, the threads and the files of the system. It depends on `sdf_cli`,
+//! which reads the arguments, on `sdf_io` for the system's files, and on `sdf_program`, which does the rest. Begin
 //! there, at `program::serve`.
 #![tactic(auto)]
 
-use sdf_files::files::MOST_BYTES;
-use sdf_files::storage::Disk;
-use sdf_files::world::World;
+use sdf_io::files::MOST_BYTES;
+use sdf_io::storage::Disk;
+use sdf_io::world::World;
 use sdf_program::program::serve;
-use sdf_words::arguments::arguments;
+use sdf_cli::arguments::arguments;
 use std::io::IsTerminal;
 use std::process::ExitCode;
 

@@ -8,7 +8,7 @@ ghost use Rattle.sdf_times.specs.Times.{IsBlockTable};
 use crate::graphs::{BLOCKS, FORK, LONGER_FORK, costs_of, fault_of, period_of};
 use sdf_graph::Graph;
 use sdf_prec::hu::hu;
-use sdf_prec::{Costs, Table, Team};
+use sdf_prec::{Costs, Table, Columns};
 use std::alloc::Global;
 use std::test::Fail;
 use test_actors::graphs::{Row, graph};
@@ -29,7 +29,7 @@ pub(crate) fn table(
     graph.channels();
     let costs = costs_of(alloc, graph, costs)?;
     let period = period_of(alloc, graph)?;
-    let team = Team { workers: m, homed };
+    let team = Columns { workers: m, homed };
     Ok(hu(alloc, graph, &period, j, team, &costs)?)
 }
 
@@ -61,7 +61,7 @@ fn told(alloc: Global, graph: &Graph, j: u32, homed: bool, costs: &[u32]) -> Res
 fn refusal(alloc: Global, graph: &Graph, m: usize) -> Result<String, Fail> {
     let costs = Costs::unit(alloc, graph)?;
     let period = period_of(alloc, graph)?;
-    let team = Team {
+    let team = Columns {
         workers: m,
         homed: true,
     };

@@ -6,7 +6,7 @@ ghost use Rattle.sdf_actor.specs.Nets.{wire, wiring};
 ghost use Rattle.sdf_rings.specs.Asks.{IsRoomOf};
 ghost use Rattle.sdf_rings.specs.Openings.{IsOpened, IsGreatestOf, HaveRings};
 
-use crate::meet::tell;
+use crate::rings::meet::tell;
 use rtrb::{Consumer, Producer, RingBuffer};
 use sdf_actor::{Actor, Net};
 use sdf_graph::Channel;
@@ -15,7 +15,7 @@ use std::alloc::{AllocError, Global};
 
 /// The ends of rings, by channel. An end is `None` once a node has taken it.
 #[derive(Drop)]
-pub(crate) struct Ends<T> {
+pub(crate) struct OpenEnds<T> {
     pub(crate) producers: Vec<Option<Producer<T, Global>>>,
     pub(crate) consumers: Vec<Option<Consumer<T, Global>>>,
 }
@@ -82,7 +82,7 @@ pub(crate) fn open_rings<A: Actor>(
     alloc: Global,
     net: &Net<A>,
     table: &Table,
-) -> Result<Ends<A::Token>, AllocError>
+) -> Result<OpenEnds<A::Token>, AllocError>
     requires caps { length table.now.caps ≡ length net.now.wires }
     requires held { (c : ℕ) → c < length net.now.wires →
         length (wire net.now c).initial ≤ slice_index table.now.caps c }
@@ -97,7 +97,7 @@ pub(crate) fn open_rings<A: Actor>(
         producers.push(Some(ring.0))?;
         consumers.push(Some(ring.1))?;
     }
-    Ok(Ends {
+    Ok(OpenEnds {
         producers,
         consumers,
     })

@@ -8,10 +8,10 @@ ghost use Rattle.sdf_rings.specs.Openings.{end_at, HasEnds};
 ghost use Rattle.sdf_rings.specs.Begun.{place, AreNext, IsRoster, IsStart, AreBegun, IsBegun, HaveBegun};
 
 use crate::seat::Seat;
-use crate::setup::openings::Ends;
-use crate::setup::roster::Roster;
-use crate::setup::stands::{Start, begin_stand};
-use crate::stand::Stand;
+use crate::setup::openings::OpenEnds;
+use crate::setup::assignment::Assignment;
+use crate::setup::ring_nodes::{Start, begin_stand};
+use crate::seat::ring_node::RingNode;
 use sdf_actor::Actor;
 use std::alloc::{AllocError, Global};
 
@@ -20,9 +20,9 @@ fn stands<A: Actor>(
     alloc: Global,
     start: &Start<A>,
     places: &[(usize, usize)],
-    ends: &mut Ends<A::Token>,
+    ends: &mut OpenEnds<A::Token>,
     seat: usize,
-) -> Result<Vec<Stand<A>>, AllocError>
+) -> Result<Vec<RingNode<A>>, AllocError>
     requires start { IsStart A.steps start.now }
     requires all { length places.now ≡ length start.now.net.now.nodes }
     requires next { AreNext places.now }
@@ -49,8 +49,8 @@ fn stands<A: Actor>(
 fn begin_seat<A: Actor>(
     alloc: Global,
     start: &Start<A>,
-    roster: &Roster<'_>,
-    ends: &mut Ends<A::Token>,
+    roster: &Assignment<'_>,
+    ends: &mut OpenEnds<A::Token>,
     seat: usize,
 ) -> Result<Seat<A>, AllocError>
     requires start { IsStart A.steps start.now }
@@ -83,8 +83,8 @@ fn begin_seat<A: Actor>(
 pub(crate) fn seats<A: Actor>(
     alloc: Global,
     start: &Start<A>,
-    roster: &Roster<'_>,
-    ends: &mut Ends<A::Token>,
+    roster: &Assignment<'_>,
+    ends: &mut OpenEnds<A::Token>,
     many: usize,
 ) -> Result<Vec<Seat<A>>, AllocError>
     requires start { IsStart A.steps start.now }

@@ -1,5 +1,5 @@
 use Rattle.std.proofs.Common.{◌<◌, ◌≤◌, ◌*◌, ℕ, length, slice_index}
-use Rattle.sdf_answer.specs.Blocks.{samples, HoldBlocks}
+use Rattle.sdf_queues.specs.Blocks.{samples, HoldBlocks}
 use Rattle.sdf_one.proofs.block.blocks_held.Given as goal
 
 abbrev pub invariant-loop-c : goal.invariant-loop-c

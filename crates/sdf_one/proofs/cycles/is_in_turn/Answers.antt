@@ -1,5 +1,5 @@
 use Rattle.std.proofs.Common.{length, ap, arith}
-use Rattle.sdf_answer.specs.Sizes.{rows_on}
+use Rattle.sdf_queues.specs.Sizes.{rows_on}
 use Rattle.sdf_one.proofs.WholeCycles.{turn_more}
 use Rattle.sdf_one.proofs.cycles.is_in_turn.Goals as goal
 

@@ -1,5 +1,5 @@
 use Rattle.std.proofs.Common.{◌≡◌, ◌<◌, ℕ, length, slice_index}
-use Rattle.sdf_answer.specs.Sizes.{at_phase, rows_on}
+use Rattle.sdf_queues.specs.Sizes.{at_phase, rows_on}
 use Rattle.sdf_one.specs.Cycles.{IsInTurn}
 use Rattle.sdf_one.proofs.cycles.is_in_turn.Given as goal
 

@@ -2,8 +2,8 @@ use Rattle.std.proofs.Common.{◌≡◌, [], length, subst, sym, ◌∙◌, ⊎_
 use Rattle.std.proofs.lemmas.Bool.{cases_lt}
 use Rattle.std.proofs.lemmas.List.{get_or_past, length-map}
 use Rattle.sdf_actor.specs.Wires.{lists}
-use Rattle.sdf_answer.specs.Answer.{periods_of}
-use Rattle.sdf_answer.specs.Feeds.{HasRun}
+use Rattle.sdf_queues.specs.Answer.{periods_of}
+use Rattle.sdf_queues.specs.Feeds.{HasRun}
 use Rattle.sdf_one.proofs.Idle.{no_period_runs, no_periods}
 use Rattle.sdf_one.proofs.feed.fill.Goals as goal
 

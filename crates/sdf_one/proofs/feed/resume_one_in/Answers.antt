@@ -3,8 +3,8 @@ use Rattle.std.specs.Prelude.{MatchResult}
 use Rattle.sdf_graph.specs.Rates.{rates}
 use Rattle.sdf_sched.specs.Period.{IsPeriodOf}
 use Rattle.sdf_actor.specs.Wires.{lists}
-use Rattle.sdf_answer.specs.Answer.{periods_of}
-use Rattle.sdf_answer.proofs.Theorems.{begun_runs_fail, begun_runs_go_on, periods_may_leave}
+use Rattle.sdf_queues.specs.Answer.{periods_of}
+use Rattle.sdf_queues.proofs.Theorems.{begun_runs_fail, begun_runs_go_on, periods_may_leave}
 use Rattle.sdf_one.proofs.feed.resume_one_in.Goals as goal
 
 pub begun-requires-clause-rest : goal.begun-requires-clause-rest

@@ -1,10 +1,10 @@
 use Rattle.std.proofs.Common.{map, get_or, ap, ◌∙◌}
 use Rattle.std.proofs.lemmas.List.{length-map}
-use Rattle.sdf_actor.specs.declared.rest.Rest.{Rest}
+use Rattle.sdf_actor.specs.declared.rest.NetState.{NetState}
 use Rattle.sdf_actor.specs.Wires.{lists}
 use Rattle.sdf_actor.proofs.Theorems.{nets_are_wired}
-use Rattle.sdf_answer.specs.Answer.{periods_of}
-use Rattle.sdf_answer.proofs.Theorems.{sinks_make_runs}
+use Rattle.sdf_queues.specs.Answer.{periods_of}
+use Rattle.sdf_queues.proofs.Theorems.{sinks_make_runs}
 use Rattle.sdf_one.specs.Fired.{state_in}
 use Rattle.sdf_one.proofs.Ends.{all_taken}
 use Rattle.sdf_one.proofs.Left.{leaves}
@@ -17,7 +17,7 @@ returns g c =
     let q = c.args.passage.period.now.repetitions in
     let made = c.in_ok-finished.finished in
     let has = c.in_ok-finished.ensures in
-    let rest : Rest g.row.A-Token.Denot g.row.A-State.Denot =
+    let rest : NetState g.row.A-Token.Denot g.row.A-State.Denot =
     record { states = c.in_ok-states_of.field-0; held = c.in_ok-held.field-0 } in
     sinks_make_runs s n (lists c.args.passage.inputs.now) q c.args.passage.periods
     (λ a. get_or made.done.items a 0)

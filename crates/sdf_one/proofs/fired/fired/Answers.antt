@@ -3,13 +3,13 @@ use Rattle.std.proofs.Math.ListN.{get_or-map}
 use Rattle.std.proofs.lemmas.List.{length-map}
 use Rattle.sdf_actor.specs.declared.sides.Lists.TheVariants.{Outputs}
 use Rattle.sdf_actor.specs.Sides.{period_samples}
-use Rattle.sdf_answer.specs.Periods.{CanRun}
+use Rattle.sdf_queues.specs.Periods.{CanRun}
 use Rattle.sdf_actor.specs.Nets.{wiring}
 use Rattle.sdf_actor.specs.Wires.{lists}
 use Rattle.sdf_actor.proofs.Theorems.{nets_are_wired}
-use Rattle.sdf_answer.specs.Answer.{periods_of}
-use Rattle.sdf_answer.proofs.Theorems.{nets_have_facts, histories_begin, nets_can_run, nets_have_periods}
-use Rattle.sdf_answer.specs.Blocks.{room}
+use Rattle.sdf_queues.specs.Answer.{periods_of}
+use Rattle.sdf_queues.proofs.Theorems.{nets_have_facts, histories_begin, nets_can_run, nets_have_periods}
+use Rattle.sdf_queues.specs.Blocks.{room}
 use Rattle.sdf_one.specs.Runs.{Stands}
 use Rattle.sdf_one.specs.Sweeps.{Sweeps}
 use Rattle.sdf_one.proofs.Ends.{begun_stands, the_none}

@@ -3,7 +3,7 @@ use Rattle.std.proofs.Common.{below_more, length}
 use Rattle.std.specs.List.{sum_by}
 use Rattle.std.proofs.lemmas.List.{get_or_append_left, get_or_push}
 use Rattle.sdf_graph.specs.Rates.{sum_to}
-use Rattle.sdf_answer.specs.Sizes.{at_phase, rows_on}
+use Rattle.sdf_queues.specs.Sizes.{at_phase, rows_on}
 use Rattle.sdf_one.proofs.Readings.{vec_long}
 use Rattle.sdf_one.proofs.setup.make_blocks.Goals as goal
 

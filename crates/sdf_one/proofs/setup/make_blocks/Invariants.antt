@@ -1,7 +1,7 @@
 use Rattle.std.proofs.Common.{◌≡◌, ◌<◌, ℕ, slice_index, vec_len}
 use Rattle.std.specs.List.{sum_by}
 use Rattle.sdf_graph.specs.Rates.{sum_to}
-use Rattle.sdf_answer.specs.Sizes.{at_phase, rows_on}
+use Rattle.sdf_queues.specs.Sizes.{at_phase, rows_on}
 use Rattle.sdf_one.proofs.setup.make_blocks.Given as goal
 
 abbrev pub invariant-loop-phase : goal.invariant-loop-phase

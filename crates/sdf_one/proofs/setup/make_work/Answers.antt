@@ -2,7 +2,7 @@ use Rattle.std.proofs.Common.{◌≡◌, ◌≤◌, get_or, vec_len, refl, sym, 
 use Rattle.std.specs.List.{sum_by}
 use Rattle.sdf_actor.specs.declared.node.Node.TheVariants.{Inner}
 use Rattle.sdf_actor.specs.Nets.{node, wiring}
-use Rattle.sdf_answer.specs.Sizes.{at_phase}
+use Rattle.sdf_queues.specs.Sizes.{at_phase}
 use Rattle.sdf_graph.specs.Rates.{sum_to}
 use Rattle.sdf_one.specs.Cycles.{AreRowsAt}
 use Rattle.sdf_one.proofs.Beginnings.{rows_in, rows_out, blocks, begun}

@@ -1,8 +1,8 @@
 use Rattle.std.proofs.Common.{◌≡◌, ℕ, ◌*◌, ◌++◌, List, length, get_or, set, take, drop, sym, ap, ◌∙◌, arith}
 use Rattle.std.proofs.lemmas.List.{get_or-set_other, get_or_default, length-take-le}
 use Rattle.sdf_actor.specs.Steps.{state_at, puts_to}
-use Rattle.sdf_answer.specs.Blocks.{nothing, ArePorts}
-use Rattle.sdf_answer.specs.Held.{Held}
+use Rattle.sdf_queues.specs.Blocks.{nothing, ArePorts}
+use Rattle.sdf_queues.specs.Held.{Held}
 use Rattle.sdf_one.specs.AtOnce.{fronts}
 use Rattle.sdf_one.proofs.FiringAtOnce.{through, taken_through}
 use Rattle.sdf_one.proofs.work.fire_through.Goals as goal

@@ -3,8 +3,8 @@ use Rattle.sdf_graph.specs.Periods.{IsLeastPeriod}
 use Rattle.sdf_graph.specs.Rates.{rates}
 use Rattle.sdf_actor.specs.Graphs.{graph_of}
 use Rattle.sdf_kit.specs.Kit.{kit_steps}
-use Rattle.sdf_fission.specs.Warm.{IsLeast}
-use Rattle.sdf_fission.specs.WarmUps.{IsLasting, WarmsIn}
+use Rattle.sdf_warm_up.specs.Warm.{IsLeast}
+use Rattle.sdf_warm_up.specs.WarmUps.{IsLasting, WarmsIn}
 use Rattle.sdf_plan.proofs.Alone.{is_alone}
 use Rattle.sdf_plan.proofs.parallel.parallel_plan.Goals as goal
 

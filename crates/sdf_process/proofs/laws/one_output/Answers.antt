@@ -1,6 +1,6 @@
 use Rattle.std.proofs.Common.{subst}
 use Rattle.sdf_actor.specs.NetFaults.{WasAccepted}
-use Rattle.sdf_answer.proofs.Theorems.{nets_have_facts}
+use Rattle.sdf_queues.proofs.Theorems.{nets_have_facts}
 use Rattle.sdf_kit.specs.Kit.{kit_steps}
 use Rattle.sdf_process.proofs.Outputs.{one_output_of}
 use Rattle.sdf_process.proofs.laws.one_output.Goals as goal

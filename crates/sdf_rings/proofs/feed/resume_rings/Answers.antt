@@ -4,12 +4,12 @@ use Rattle.sdf_graph.specs.Rates.{rates}
 use Rattle.sdf_prec.specs.Tables.{Tabled}
 use Rattle.sdf_actor.specs.Nets.{Netlist}
 use Rattle.sdf_actor.specs.Wires.{lists}
-use Rattle.sdf_answer.specs.Answer.{HasInputs, periods_of}
+use Rattle.sdf_queues.specs.Answer.{HasInputs, periods_of}
 use Rattle.sdf_prec.specs.BlockTables.{IsBlockTableOf}
-use Rattle.sdf_answer.proofs.Theorems.{begun_nets_ask, begun_runs_go_on, periods_may_leave}
-use Rattle.sdf_answer.specs.declared.fault.RunFault.{RunFault}
-use Rattle.sdf_answer.specs.declared.fault.RunFault.TheVariants.{OutOfMemory, InputLength, NotHomed, Patience, NoWorker}
-use Rattle.sdf_answer.specs.declared.fault.RunFault.TheVariants.{SessionFailed}
+use Rattle.sdf_queues.proofs.Theorems.{begun_nets_ask, begun_runs_go_on, periods_may_leave}
+use Rattle.sdf_queues.specs.declared.fault.RunFault.{RunFault}
+use Rattle.sdf_queues.specs.declared.fault.RunFault.TheVariants.{OutOfMemory, InputLength, NotHomed, Patience, NoWorker}
+use Rattle.sdf_queues.specs.declared.fault.RunFault.TheVariants.{SessionFailed}
 use Rattle.sdf_rings.specs.Outcome.{IsRingsFault}
 use Rattle.sdf_rings.proofs.feed.resume_rings.Goals as goal
 

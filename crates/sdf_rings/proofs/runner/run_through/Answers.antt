@@ -1,6 +1,6 @@
 use Rattle.std.proofs.Common.{sym, subst, arith}
 use Rattle.sdf_actor.specs.Wires.{lists}
-use Rattle.sdf_answer.proofs.Theorems.{nets_have_periods}
+use Rattle.sdf_queues.proofs.Theorems.{nets_have_periods}
 use Rattle.sdf_rings.specs.Rests.{HaveMet}
 use Rattle.sdf_rings.proofs.Answered.{few_rounds, has_ended}
 use Rattle.sdf_rings.proofs.runner.run_through.Goals as goal

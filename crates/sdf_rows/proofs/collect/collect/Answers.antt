@@ -1,7 +1,7 @@
 use Rattle.std.proofs.Common.{◌<◌, ◌∙◌, length, get_or, sym, subst, arith}
 use Rattle.std.proofs.lemmas.List.{get_or-set_other, get_or_default, length-set}
 use Rattle.sdf_node.specs.Collected.{IsCollected}
-use Rattle.sdf_answer.proofs.Theorems.{nets_have_facts}
+use Rattle.sdf_queues.proofs.Theorems.{nets_have_facts}
 use Rattle.sdf_rows.proofs.Lists.{collected_more}
 use Rattle.sdf_rows.proofs.collect.collect.Goals as goal
 

@@ -4,7 +4,7 @@ use Rattle.sdf_graph.specs.Rates.{rates}
 use Rattle.sdf_actor.specs.Graphs.{graph_of}
 use Rattle.sdf_actor.specs.Wires.{lists}
 use Rattle.sdf_actor.specs.declared.sides.Lists.TheVariants.{Inputs}
-use Rattle.sdf_answer.proofs.Theorems.{blocks_are_small, nets_have_facts}
+use Rattle.sdf_queues.proofs.Theorems.{blocks_are_small, nets_have_facts}
 use Rattle.sdf_rows.proofs.Counts.{rows_few}
 use Rattle.sdf_rows.proofs.Readings.{given, asked}
 use Rattle.sdf_rows.proofs.feed.feed_rows.Goals as goal

@@ -1,13 +1,13 @@
 use Rattle.std.proofs.Common.{◌≡◌, ◌++◌, ◌*◌, length, map, take, drop, sym, ap, ◌∙◌, subst, arith}
 use Rattle.std.proofs.Math.Seq.{take-append_seam}
 use Rattle.std.proofs.lemmas.List.{length-map}
-use Rattle.sdf_actor.specs.declared.rest.Rest.{Rest}
+use Rattle.sdf_actor.specs.declared.rest.NetState.{NetState}
 use Rattle.sdf_actor.specs.Wires.{lists}
 use Rattle.sdf_actor.specs.declared.sides.Lists.TheVariants.{Outputs}
 use Rattle.sdf_actor.specs.Sides.{list_count}
-use Rattle.sdf_answer.specs.Answer.{periods_of}
-use Rattle.sdf_answer.specs.Feeds.{HasRun}
-use Rattle.sdf_answer.proofs.Theorems.{nets_have_facts, nothing_runs}
+use Rattle.sdf_queues.specs.Answer.{periods_of}
+use Rattle.sdf_queues.specs.Feeds.{HasRun}
+use Rattle.sdf_queues.proofs.Theorems.{nets_have_facts, nothing_runs}
 use Rattle.sdf_rows.specs.Collect.{AreCollected, AreKept}
 use Rattle.sdf_rows.proofs.Readings.{vec_long}
 use Rattle.sdf_rows.proofs.Ends.{row_run}
@@ -23,7 +23,7 @@ returns-in_ok-held-in-Some g c =
     let items = c.in_ok-outputs.outputs.items in
     let run = c.in_ok-stage-in-Some.stage in
     let over = c.in_ok-stage-in-Some.ensures in
-    let rest : Rest g.row.A-Token.Denot g.row.A-State.Denot =
+    let rest : NetState g.row.A-Token.Denot g.row.A-State.Denot =
     record { states = c.in_ok-kept_by-in-Some.field-0; held = c.in_ok-held-in-Some.field-0 } in
     let same : length made ≡ length items = c.collect.ensures.all ∙ ap length c.deref_mut-in-Some.ensures.value in
     let count : length made ≡ list_count Outputs n.nodes = same

@@ -2,9 +2,9 @@ use Rattle.std.proofs.Common.{◌*◌, Result, Ok, Err, sym, subst}
 use Rattle.std.specs.Prelude.{MatchResult}
 use Rattle.sdf_graph.specs.Rates.{rates}
 use Rattle.sdf_actor.specs.Wires.{lists}
-use Rattle.sdf_answer.specs.Answer.{periods_of}
+use Rattle.sdf_queues.specs.Answer.{periods_of}
 use Rattle.sdf_prec.specs.BlockTables.{IsBlockTableOf}
-use Rattle.sdf_answer.proofs.Theorems.{begun_runs_fail, begun_runs_go_on, periods_may_leave}
+use Rattle.sdf_queues.proofs.Theorems.{begun_runs_fail, begun_runs_go_on, periods_may_leave}
 use Rattle.sdf_rows.proofs.feed.resume_rows.Goals as goal
 
 pub begun-requires-clause-rest : goal.begun-requires-clause-rest

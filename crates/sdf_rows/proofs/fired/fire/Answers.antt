@@ -10,9 +10,9 @@ use Rattle.sdf_actor.specs.Graphs.{graph_of}
 use Rattle.sdf_actor.specs.Wires.{lists}
 use Rattle.sdf_actor.specs.declared.sides.Lists.TheVariants.{Outputs}
 use Rattle.sdf_actor.proofs.Theorems.{nets_are_wired}
-use Rattle.sdf_answer.specs.Periods.{CanRun}
+use Rattle.sdf_queues.specs.Periods.{CanRun}
 use Rattle.sdf_prec.specs.BlockTables.{IsTableOf}
-use Rattle.sdf_answer.proofs.Theorems.{nets_have_facts, blocks_are_small, nets_can_run, nets_have_periods}
+use Rattle.sdf_queues.proofs.Theorems.{nets_have_facts, blocks_are_small, nets_can_run, nets_have_periods}
 use Rattle.sdf_rows.specs.Blocks.{IsResting}
 use Rattle.sdf_prec.specs.Tables.{row}
 use Rattle.sdf_rows.proofs.Counts.{factor_few, firings_few}

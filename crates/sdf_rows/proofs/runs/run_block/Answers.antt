@@ -3,7 +3,7 @@ use Rattle.sdf_graph.specs.Rates.{rates}
 use Rattle.sdf_graph.specs.Sequences.{times}
 use Rattle.sdf_graph.proofs.Theorems.{graphs_are_sound}
 use Rattle.sdf_actor.specs.Graphs.{graph_of}
-use Rattle.sdf_answer.proofs.Theorems.{nets_have_facts}
+use Rattle.sdf_queues.proofs.Theorems.{nets_have_facts}
 use Rattle.sdf_prec.specs.Blocks.{block}
 use Rattle.sdf_prec.specs.Tables.{row, firings}
 use Rattle.sdf_rows.specs.Stage.{row_actors}

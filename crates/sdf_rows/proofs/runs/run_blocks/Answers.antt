@@ -2,7 +2,7 @@ use Rattle.std.proofs.Common.{◌≡◌, ◌*◌, get_or, subst, ◌∙◌, arit
 use Rattle.sdf_graph.proofs.Theorems.{graphs_are_sound, graphs_have_periods}
 use Rattle.sdf_actor.specs.Graphs.{graph_of}
 use Rattle.sdf_actor.specs.Wires.{lists}
-use Rattle.sdf_answer.proofs.Theorems.{nets_have_facts}
+use Rattle.sdf_queues.proofs.Theorems.{nets_have_facts}
 use Rattle.sdf_rows.specs.Blocks.{IsResting}
 use Rattle.sdf_rows.proofs.Keeps.{keep_twice, keep_have}
 use Rattle.sdf_rows.proofs.Rounds.{round_here, block_begins, block_ends}

@@ -1,7 +1,7 @@
 use Rattle.std.proofs.Common.{◌+◌, ◌*◌, ap, get_or, pos, FitsSigned, sym, subst, refl, inl, inr, arith}
 use Rattle.std.specs.Int.{w16}
 use Rattle.std.specs.Simd.Lanes.{Each1}
-use Rattle.sdf_kit.specs.declared.window.Way.TheVariants.{Split}
+use Rattle.sdf_kit.specs.declared.window.SampleForm.TheVariants.{Split}
 use Rattle.sdf_kit.proofs.Windows.{high_fits, low_short, front_long, read, held_are, quiet_small, quiet_output}
 use Rattle.sdf_kit.proofs.Windows.{wide_sent, wide_settles, wide_output, split_output}
 use Rattle.sdf_kit.proofs.window.Window.four.Goals as goal

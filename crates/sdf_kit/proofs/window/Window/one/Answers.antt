@@ -3,7 +3,7 @@ use Rattle.std.specs.Int.{w16}
 use Rattle.std.specs.Simd.Lanes.{Each1}
 use Rattle.std.proofs.lemmas.Int.{to_z-of_z}
 use Rattle.sdf_kit.specs.Dots.{dot}
-use Rattle.sdf_kit.specs.declared.window.Way.TheVariants.{Split}
+use Rattle.sdf_kit.specs.declared.window.SampleForm.TheVariants.{Split}
 use Rattle.sdf_kit.proofs.Windows.{high_fits, low_short, front_long, passed, held_are, quiet_small, quiet_output}
 use Rattle.sdf_kit.proofs.Windows.{wide_small, wide_output, split_output}
 use Rattle.sdf_kit.proofs.window.Window.one.Goals as goal

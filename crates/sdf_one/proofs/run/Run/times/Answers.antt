@@ -1,7 +1,7 @@
 use Rattle.std.proofs.Common.{◌≡◌, ◌<◌, length, get_or, sym, ap, ◌∙◌, subst, arith}
 use Rattle.sdf_actor.specs.Nets.{wiring}
-use Rattle.sdf_answer.specs.Blocks.{ArePorts}
-use Rattle.sdf_answer.specs.Sizes.{at_phase}
+use Rattle.sdf_queues.specs.Blocks.{ArePorts}
+use Rattle.sdf_queues.specs.Sizes.{at_phase}
 use Rattle.sdf_one.specs.Firings.{phase_at}
 use Rattle.sdf_one.proofs.Sweeping.{swept_node, phase_in, ports_in, may_holds, holds_along}
 use Rattle.sdf_one.proofs.run.Run.times.Goals as goal

@@ -1,7 +1,7 @@
 use Rattle.std.proofs.Common.{◌≡◌, ◌+◌, ◌%◌, ◌++◌, length, ap, ◌∙◌, arith, get_or}
 use Rattle.std.specs.List.{sum_by}
 use Rattle.sdf_actor.specs.Histories.{spread}
-use Rattle.sdf_answer.specs.Blocks.{samples, front}
+use Rattle.sdf_queues.specs.Blocks.{samples, front}
 use Rattle.sdf_one.proofs.Firing.{length_front, fired_inner}
 use Rattle.sdf_one.proofs.work.Work.fire.Goals as goal
 use Rattle.sdf_one.proofs.work.Work.fire.Goals.{After-take_block}

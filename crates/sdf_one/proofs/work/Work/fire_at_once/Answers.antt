@@ -4,8 +4,8 @@ use Rattle.std.proofs.Math.Facts.{Fits-le}
 use Rattle.std.proofs.lemmas.List.{length-map, length-take-le, get_or_default}
 use Rattle.std.proofs.lemmas.List.Edits.{length-between}
 use Rattle.sdf_actor.specs.Wires.{lists}
-use Rattle.sdf_answer.specs.Blocks.{nothing}
-use Rattle.sdf_answer.specs.Lists.{list}
+use Rattle.sdf_queues.specs.Blocks.{nothing}
+use Rattle.sdf_queues.specs.Lists.{list}
 use Rattle.sdf_one.proofs.FiringAtOnce.{fired_source, fired_sink}
 use Rattle.sdf_one.proofs.Readings.{list_fits, list_is}
 use Rattle.sdf_one.proofs.work.Work.fire_at_once.Goals as goal

@@ -1,5 +1,5 @@
 use Rattle.std.proofs.Common.{refl, rules}
-use Rattle.sdf_answer.proofs.Theorems.{nets_have_periods}
+use Rattle.sdf_queues.proofs.Theorems.{nets_have_periods}
 use Rattle.sdf_kit.specs.Kit.{kit_steps}
 use Rattle.sdf_process.proofs.Starting.{goes_first}
 use Rattle.sdf_process.proofs.streaming.Stream.open.Goals as goal

@@ -1,7 +1,7 @@
 use Rattle.std.proofs.Common.{◌≡◌, IfOk, refl, subst, sym, ap, ◌∙◌, true}
 use Rattle.std.specs.Prelude.{is_some}
 use Rattle.sdf_actor.specs.Wires.{lists as items_of}
-use Rattle.sdf_process.specs.declared.runner.Runner.TheVariants as runner
+use Rattle.sdf_process.specs.declared.runner.PieceRunner.TheVariants as runner
 use Rattle.sdf_process.specs.Streams.{PlaysNext, RunsNext, is_cut}
 use Rattle.sdf_process.proofs.Flowing.{memory_refused}
 use Rattle.sdf_process.proofs.Refusals.{at_err, at_ok, fails_by}

@@ -1,7 +1,7 @@
 use Rattle.std.proofs.Common.{◌≡◌, length, ap, arith, sym, subst, ◌∙◌}
 use Rattle.std.proofs.lemmas.List.{with_items_is}
 use Rattle.sdf_actor.specs.Wires.{lists}
-use Rattle.sdf_answer.specs.Feeds.{HasRun}
+use Rattle.sdf_queues.specs.Feeds.{HasRun}
 use Rattle.sdf_rings.specs.Places.{SameButEnds}
 use Rattle.sdf_rings.specs.Rests.{InHand, HaveMet, IsPlaced, HoldRest, AreGiven}
 use Rattle.sdf_rings.specs.Asks.{IsPlanned}

@@ -2,8 +2,8 @@ use Rattle.std.proofs.Common.{◌*◌, refl, ap, ◌∙◌, subst, arith}
 use Rattle.sdf_actor.specs.Sides.{period_samples}
 use Rattle.sdf_actor.specs.Wires.{lists}
 use Rattle.sdf_actor.specs.declared.sides.Lists.TheVariants.{Inputs}
-use Rattle.sdf_answer.specs.Answer.{AreInputs}
-use Rattle.sdf_answer.proofs.Theorems.{blocks_are_small, nets_have_facts}
+use Rattle.sdf_queues.specs.Answer.{AreInputs}
+use Rattle.sdf_queues.proofs.Theorems.{blocks_are_small, nets_have_facts}
 use Rattle.sdf_rings.proofs.rings.Rings.prepare.Goals as goal
 
 pub samples_of_blocks-least-requires : goal.samples_of_blocks-least-requires

@@ -1,5 +1,0 @@
-use Rattle.sdf_answer.proofs.Theorems.{plans_fit}
-use Rattle.sdf_answer.proofs.laws.plans_fit.Goals as goal
-
-pub returns : goal.returns
-returns g c = plans_fit g.A.Actor.steps

@@ -1,5 +1,0 @@
-use Rattle.sdf_answer.specs.Parts.{AreCopied}
-use Rattle.sdf_answer.proofs.parts.copy_wide_parts.Given as goal
-
-abbrev pub invariant-loop-i : goal.invariant-loop-i
-invariant-loop-i g l = AreCopied l.out l.into l.width l.i l.from l.initial.to l.to

@@ -1,0 +1,330 @@
+//! Reading a command line.
+
+ghost use Rattle.std.specs.Prelude.{IfOk, IfErr, IfSome};
+ghost use Rattle.sdf_options.specs.Limits.{IsUsage};
+ghost use Rattle.sdf_cli.specs.Limits.{IsTaskWithinLimits, IsWithinLimits};
+ghost use Rattle.sdf_cli.specs.declared.asked.TheConstants.{MOST_FAULT};
+
+use crate::asked::{Batch, Conversion, MOST_FAULT, RunRequest, DesignCommand, Words};
+use crate::commands::{batch_command, sdfw_command};
+use crate::explain::{NAMES, number_named};
+use crate::values::{
+    any_number_of, band_of, crew_of, format_of, number_of, options_of, picture_of, plan_options_of,
+    why_of,
+};
+use clap::error::ErrorKind;
+use clap::{ArgMatches, Command};
+use sdf_filters::FilterSpec;
+use sdf_options::WordFault;
+use sdf_options::printable::printable;
+use sdf_similar::nearest;
+use std::alloc::{AllocError, Global};
+
+/// Reads the task of the command `schedule`.
+fn schedule_of<'a>(matches: &ArgMatches<'a>) -> Option<DesignCommand<'a>>
+    ensures { IfSome result IsTaskWithinLimits }
+{
+    Some(DesignCommand::Schedule {
+        options: plan_options_of(matches)?,
+        format: format_of(matches),
+    })
+}
+
+/// Reads the task of the command `analyze`.
+fn analyze_of<'a>(matches: &ArgMatches<'a>) -> Option<DesignCommand<'a>>
+    ensures { IfSome result IsTaskWithinLimits }
+{
+    let options = plan_options_of(matches)?;
+    let format = format_of(matches);
+    if matches.get_flag("compare") {
+        Some(DesignCommand::Compare { options, format })
+    } else {
+        Some(DesignCommand::Analyze { options, format })
+    }
+}
+
+/// Reads the task of the command `draw`.
+fn draw_of<'a>(matches: &ArgMatches<'a>) -> Option<DesignCommand<'a>>
+    ensures { IfSome result IsTaskWithinLimits }
+{
+    Some(DesignCommand::Draw {
+        options: plan_options_of(matches)?,
+        picture: picture_of(matches),
+    })
+}
+
+/// Reads the task of the command `profile`.
+fn profile_of<'a>(matches: &ArgMatches<'a>) -> Option<DesignCommand<'a>>
+    ensures { IfSome result IsTaskWithinLimits }
+{
+    Some(DesignCommand::Profile {
+        input: matches.get_str("IN")?,
+        write: matches.get_str("write"),
+    })
+}
+
+/// Reads the task of the command `run` for one file.
+fn run_of<'a>(matches: &ArgMatches<'a>) -> Option<DesignCommand<'a>>
+    ensures { IfSome result IsTaskWithinLimits }
+{
+    Some(DesignCommand::RunRequest(RunRequest {
+        input: matches.get_str("IN")?,
+        output: matches.get_str("OUT")?,
+        options: options_of(matches)?,
+        parallel: crew_of(matches),
+        open_ended: matches.get_flag("open-ended"),
+    }))
+}
+
+/// Reads the task of a design for the command `name`.
+fn task_of<'a>(name: &str, matches: &ArgMatches<'a>) -> Option<DesignCommand<'a>>
+    ensures { IfSome result IsTaskWithinLimits }
+{
+    match name {
+        "check" => Some(DesignCommand::Check {
+            format: format_of(matches),
+        }),
+        "schedule" => schedule_of(matches),
+        "analyze" => analyze_of(matches),
+        "draw" => draw_of(matches),
+        "profile" => profile_of(matches),
+        "run" => run_of(matches),
+        _ => None,
+    }
+}
+
+/// Reads the command `name` of a design: the graph file, the task, and when a diagnostic is printed.
+fn design_of<'a>(name: &str, matches: &ArgMatches<'a>) -> Option<Words<'a>>
+    ensures { IfSome result IsWithinLimits }
+{
+    Some(Words::Design {
+        graph: matches.get_str("GRAPH")?,
+        task: task_of(name, matches)?,
+        why: why_of(matches),
+    })
+}
+
+/// Reads the parameters of the command `fir`.
+fn fir_of<'a>(matches: &ArgMatches<'a>) -> Option<Words<'a>>
+    ensures { IfSome result IsWithinLimits }
+{
+    let wanted = FilterSpec {
+        rate: any_number_of(matches, "rate")?,
+        band: band_of(matches)?,
+        attenuation: any_number_of(matches, "attenuation")?,
+        up: any_number_of(matches, "up")?,
+        shift: any_number_of(matches, "shift")?,
+    };
+    Some(Words::Fir { wanted })
+}
+
+/// Reads the parameters of the command `resample`.
+fn resample_of<'a>(matches: &ArgMatches<'a>) -> Option<Words<'a>>
+    ensures { IfSome result IsWithinLimits }
+{
+    let conversion = Conversion {
+        from: any_number_of(matches, "FROM")?,
+        to: any_number_of(matches, "TO")?,
+        folder: matches.get_str("FOLDER")?,
+        channels: any_number_of(matches, "channels")?,
+        attenuation: any_number_of(matches, "attenuation")?,
+    };
+    Some(Words::Resample { conversion })
+}
+
+/// Reads the arguments of the command `name`.
+fn words_for<'a>(name: &str, matches: &ArgMatches<'a>) -> Option<Words<'a>>
+    ensures { IfSome result IsWithinLimits }
+{
+    match name {
+        "fir" => fir_of(matches),
+        "resample" => resample_of(matches),
+        "kinds" => Some(Words::Kinds {
+            format: format_of(matches),
+        }),
+        "explain" => Some(Words::Explain {
+            number: number_of(matches, "NUMBER", 1, MOST_FAULT)?,
+        }),
+        _ => design_of(name, matches),
+    }
+}
+
+/// Returns the usage error for a missing argument.
+fn missing(command: &mut Command<'_>) -> WordFault
+    ensures { IsUsage result }
+{
+    match command.error(ErrorKind::MissingRequiredArgument, "an argument is missing") {
+        Ok(error) => WordFault::from(error),
+        Err(_) => WordFault::OutOfMemory,
+    }
+}
+
+fn words_of<'a>(matches: &ArgMatches<'a>) -> Option<Words<'a>>
+    ensures { IfSome result IsWithinLimits }
+{
+    let (name, inner) = matches.subcommand()?;
+    words_for(name, inner)
+}
+
+/// Parses `words` by `command`. The first word is the program's name.
+fn read_by<'a>(command: &mut Command<'a>, words: &'a [&'a str]) -> Result<Words<'a>, WordFault>
+    ensures within { IfOk result IsWithinLimits }
+    ensures usage { IfErr result IsUsage }
+{
+    let matches = command.try_get_matches_from_mut(words)?;
+    match words_of(&matches) {
+        Some(read) => Ok(read),
+        None => Err(missing(command)),
+    }
+}
+
+/// Parses `words`, whose first one is the program's name.
+fn read<'a>(alloc: Global, words: &'a [&'a str]) -> Result<Words<'a>, WordFault>
+    ensures within { IfOk result IsWithinLimits }
+    ensures usage { IfErr result IsUsage }
+{
+    let mut command = sdfw_command(alloc)?;
+    read_by(&mut command, words)
+}
+
+/// Returns whether `words`, which follow `run`, name a folder to write into.
+fn is_batch(words: &[&str]) -> bool {
+    for word in words {
+        if *word == "--" {
+            return false;
+        }
+        if *word == "--into" || word.starts_with("--into=") {
+            return true;
+        }
+    }
+    false
+}
+
+/// Returns the paths of the files that a batch reads.
+fn inputs_of<'a>(alloc: Global, matches: &ArgMatches<'a>) -> Result<Vec<&'a str>, AllocError> {
+    match matches.get_strs("IN") {
+        Some(paths) => Vec::from_slice(alloc, paths),
+        None => Ok(Vec::new(alloc)),
+    }
+}
+
+/// Returns the batch that reads `inputs`, if no argument is missing.
+fn batch_of<'a>(matches: &ArgMatches<'a>, inputs: Vec<&'a str>) -> Option<Words<'a>>
+    ensures { IfSome result IsWithinLimits }
+{
+    let graph = matches.get_str("GRAPH")?;
+    let folder = matches.get_str("into")?;
+    let options = options_of(matches)?;
+    Some(Words::Batch {
+        graph,
+        batch: Batch {
+            inputs,
+            folder,
+            options,
+            parallel: crew_of(matches),
+            open_ended: matches.get_flag("open-ended"),
+        },
+        why: why_of(matches),
+    })
+}
+
+/// Reads a batch, if no argument is missing.
+fn batch_in<'a>(alloc: Global, matches: &ArgMatches<'a>) -> Result<Option<Words<'a>>, AllocError>
+    ensures { IfOk result (λ read. IfSome read IsWithinLimits) }
+{
+    let Some(inner) = matches.subcommand_matches("run") else {
+        return Ok(None);
+    };
+    let inputs = inputs_of(alloc, inner)?;
+    Ok(batch_of(inner, inputs))
+}
+
+/// Parses `words` by `command`, which is a `run` of several files. The first word is the program's name.
+fn read_batch_by<'a>(
+    alloc: Global,
+    command: &mut Command<'a>,
+    words: &'a [&'a str],
+) -> Result<Words<'a>, WordFault>
+    ensures within { IfOk result IsWithinLimits }
+    ensures usage { IfErr result IsUsage }
+{
+    let matches = command.try_get_matches_from_mut(words)?;
+    match batch_in(alloc, &matches)? {
+        Some(read) => Ok(read),
+        None => Err(missing(command)),
+    }
+}
+
+/// Parses `words` as a `run` of several files. The first word is the program's name.
+fn read_batch<'a>(alloc: Global, words: &'a [&'a str]) -> Result<Words<'a>, WordFault>
+    ensures within { IfOk result IsWithinLimits }
+    ensures usage { IfErr result IsUsage }
+{
+    let mut command = batch_command(alloc)?;
+    read_batch_by(alloc, &mut command, words)
+}
+
+/// Returns the error of the parser with the message `text`.
+fn refuse(alloc: Global, text: &str) -> Result<clap::Error, AllocError> {
+    sdfw_command(alloc)?.error(ErrorKind::InvalidValue, text)
+}
+
+/// Returns the usage error with the message `text`.
+pub fn mistake(alloc: Global, text: &str) -> WordFault
+    ensures { IsUsage result }
+{
+    match refuse(alloc, text) {
+        Ok(error) => WordFault::from(error),
+        Err(_) => WordFault::OutOfMemory,
+    }
+}
+
+/// Checks whether `word` begins with a letter, like the name of a fault.
+fn is_name(word: &str) -> bool {
+    matches!(word.as_bytes(), [b'A'..=b'Z' | b'a'..=b'z', ..])
+}
+
+/// Returns the message for a `name` that no fault has, with the most similar name if there is one.
+fn unnamed_text(alloc: Global, name: &str) -> Result<String, AllocError> {
+    let shown = printable(alloc, name)?;
+    let shown = shown.as_str();
+    match nearest(alloc, NAMES, name)? {
+        Some(near) => {
+            format!(in alloc; "no fault has the name '{shown}'\n\n  tip: did you mean '{near}'?")
+        }
+        None => format!(in alloc; "no fault has the name '{shown}'"),
+    }
+}
+
+/// Returns the usage error for a `name` that no fault has.
+fn unnamed(alloc: Global, name: &str) -> WordFault
+    ensures { IsUsage result }
+{
+    match unnamed_text(alloc, name) {
+        Ok(text) => mistake(alloc, text.as_str()),
+        Err(_) => WordFault::OutOfMemory,
+    }
+}
+
+/// Returns the command that explains the fault with this `name`.
+fn explain<'a>(alloc: Global, name: &str) -> Result<Words<'a>, WordFault>
+    ensures within { IfOk result IsWithinLimits }
+    ensures usage { IfErr result IsUsage }
+{
+    match number_named(name) {
+        Some(number) => Ok(Words::Explain { number }),
+        None => Err(unnamed(alloc, name)),
+    }
+}
+
+/// Parses a command line, whose first word is the program's name.
+pub fn words<'a>(alloc: Global, words: &'a [&'a str]) -> Result<Words<'a>, WordFault>
+    ensures within { IfOk result IsWithinLimits }
+    ensures usage { IfErr result IsUsage }
+{
+    match words {
+        [_, "explain", name] if is_name(name) => explain(alloc, name),
+        [_, "run", rest @ ..] if is_batch(rest) => read_batch(alloc, words),
+        _ => read(alloc, words),
+    }
+}

@@ -1,0 +1,148 @@
+//! The commands that make filters and converters: their arguments and help texts.
+
+use super::{Argument, CommandRow, Syntax, Values};
+use sdf_filters::MOST_ATTENUATION;
+use sdf_limits::{MOST_CHANNEL, MOST_FACTOR, MOST_SHIFT};
+
+const SHAPE: Argument = Argument {
+    name: "SHAPE",
+    help: "lowpass, highpass or bandpass",
+    more: "What passes:
+- lowpass: what is up to `--pass` passes, what is from `--stop` on is stopped
+- highpass: what is up to `--stop` is stopped, what is from `--pass` on passes
+- bandpass: what is up to `--low-stop` is stopped, what is from `--low-pass` to `--pass` passes, and
+  what is from `--stop` on is stopped",
+    syntax: Syntax::Place(Values::OneOf(&["lowpass", "highpass", "bandpass"])),
+};
+
+const RATE: Argument = Argument {
+    name: "rate",
+    help: "Samples a second at the filter",
+    more: "Samples a second at the filter: those of the actor's input times its `up`",
+    syntax: Syntax::Choice("HZ", Values::Unsigned(1, u32::MAX as u64), None),
+};
+
+const PASS: Argument = Argument {
+    name: "pass",
+    help: "The edge of the passband, in Hz",
+    more: "The last frequency that passes, in Hz; of a high-pass the first one",
+    syntax: Syntax::Choice("HZ", Values::Unsigned(0, u32::MAX as u64), None),
+};
+
+const STOP: Argument = Argument {
+    name: "stop",
+    help: "The edge of the stopband, in Hz",
+    more: "The first frequency that is stopped, in Hz; of a high-pass the last one",
+    syntax: Syntax::Choice("HZ", Values::Unsigned(0, u32::MAX as u64), None),
+};
+
+const LOW_STOP: Argument = Argument {
+    name: "low-stop",
+    help: "The edge of a band-pass's lower stopband, in Hz",
+    more: "Of a band-pass, the last frequency that is stopped below what passes, in Hz.
+It has no effect on other shapes",
+    syntax: Syntax::Choice("HZ", Values::Unsigned(0, u32::MAX as u64), Some("0")),
+};
+
+const LOW_PASS: Argument = Argument {
+    name: "low-pass",
+    help: "The lower edge of a band-pass's passband, in Hz",
+    more: "Of a band-pass, the first frequency that passes, in Hz.
+It has no effect on other shapes",
+    syntax: Syntax::Choice("HZ", Values::Unsigned(0, u32::MAX as u64), Some("0")),
+};
+
+const ATTENUATION: Argument = Argument {
+    name: "attenuation",
+    help: "Attenuation of the stopband, in dB, at most 200",
+    more: "The attenuation of the stopband, in dB, at most 200. Taps of 16 bits limit it: a line on standard error
+says what a filter reaches",
+    syntax: Syntax::Choice(
+        "DB",
+        Values::Unsigned(0, MOST_ATTENUATION as u64),
+        Some("96"),
+    ),
+};
+
+const UP: Argument = Argument {
+    name: "up",
+    help: "The actor's key `up`, 1 to 64",
+    more: "The actor's key `up`, 1 to 64: the number of phases of the taps. The taps of each phase of a low-pass sum
+to 2^shift, so a constant stays what it is; those of a high-pass and a band-pass sum to 0. The `up` of a
+high-pass is 1",
+    syntax: Syntax::Choice("U", Values::Unsigned(1, MOST_FACTOR as u64), Some("1")),
+};
+
+const SHIFT: Argument = Argument {
+    name: "shift",
+    help: "The actor's key `shift`, at most 15",
+    more: "The actor's key `shift`, at most 15",
+    syntax: Syntax::Choice("S", Values::Unsigned(0, MOST_SHIFT as u64), Some("15")),
+};
+
+const FROM: Argument = Argument {
+    name: "FROM",
+    help: "The rate of the input, in Hz",
+    more: "The rate of the input, in Hz",
+    syntax: Syntax::Place(Values::Unsigned(1, u32::MAX as u64)),
+};
+
+const TO: Argument = Argument {
+    name: "TO",
+    help: "The rate of the output, in Hz",
+    more: "The rate of the output, in Hz",
+    syntax: Syntax::Place(Values::Unsigned(1, u32::MAX as u64)),
+};
+
+const FOLDER: Argument = Argument {
+    name: "FOLDER",
+    help: "The folder to write the design into",
+    more: "The folder to write the design into: graph.toml, and a coefficient file for each stage. It is made if it is
+missing, in a folder that exists. It must not have any of these files yet",
+    syntax: Syntax::Place(Values::Text),
+};
+
+const CHANNELS: Argument = Argument {
+    name: "channels",
+    help: "Channels, 1 to 8",
+    more: "Channels, 1 to 8: each has the same stages",
+    syntax: Syntax::Choice("N", Values::Unsigned(1, MOST_CHANNEL as u64 + 1), Some("1")),
+};
+
+pub(super) const ROWS: &[CommandRow] = &[
+    CommandRow {
+        name: "fir",
+        help: "Prints a coefficient file for an actor of kind fir",
+        more: "Prints a coefficient file for an actor of kind fir: at most 1024 taps of 16 bits, a sinc under Kaiser's
+window. A line on standard error has the number of taps, the ripple of the passband and the attenuation of the
+stopband. No frequency may be over half the rate.",
+        schedules: false,
+        arguments: &[
+            SHAPE,
+            RATE,
+            PASS,
+            STOP,
+            LOW_STOP,
+            LOW_PASS,
+            ATTENUATION,
+            UP,
+            SHIFT,
+        ],
+        examples: "Examples:
+  sdfw fir lowpass --rate 44100 --pass 2000 --stop 2900 > taps.toml
+  sdfw fir lowpass --rate 336000 --pass 20000 --stop 24000 --up 7 > a.toml",
+    },
+    CommandRow {
+        name: "resample",
+        help: "Writes a design that converts between two rates",
+        more: "Writes a design that converts between two rates: its graph file and a coefficient file for each stage.
+It has the cheapest stages by products a second: at most three, unless the ratio needs more. A ratio with a
+prime factor over 64 is refused. Frequencies up to ten elevenths of half the lower rate pass, and what would be
+folded onto them is stopped. A line on standard error says what the taps of each stage do.",
+        schedules: false,
+        arguments: &[FROM, TO, FOLDER, CHANNELS, ATTENUATION],
+        examples: "Examples:
+  sdfw resample 48000 44100 converter
+  sdfw resample 44100 96000 converter --channels 2 --attenuation 80",
+    },
+];

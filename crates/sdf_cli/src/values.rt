@@ -1,0 +1,125 @@
+//! The values of arguments.
+
+ghost use Rattle.std.specs.Prelude.{◌≡◌, ◌≤◌, IfSome, option_and_then, position, slice_get};
+ghost use Rattle.std.specs.Str.{bytes_eq};
+ghost use Rattle.sdf_options.specs.Limits.{AreWithinLimits};
+ghost use Rattle.sdf_cli.specs.Limits.{IsCrew};
+
+use crate::asked::{ParallelWorkers, Format, Picture, Why};
+use clap::ArgMatches;
+use sdf_filters::Band;
+use sdf_limits::{MOST_BLOCKING, MOST_PATIENCE, MOST_WORKERS};
+use sdf_options::{
+    Options, PLACEMENT_WORDS, PLACEMENTS, POLICIES, POLICY_WORDS, RUNNER_WORDS, RUNNERS,
+};
+
+/// Returns the number of the argument `id`. The parser of the option already enforces the limits, so none is lost here.
+pub(crate) fn number_of(matches: &ArgMatches<'_>, id: &str, least: u32, most: u32) -> Option<u32>
+    ensures { IfSome result (λ n. (least ≤ n) × (n ≤ most)) }
+{
+    match matches.get_one::<u32>(id) {
+        Some(number) if least <= number && number <= most => Some(number),
+        _ => None,
+    }
+}
+
+/// Returns the index of `word` in `words`.
+fn place_of(words: &[&str], word: &str) -> Option<usize>
+    ensures { result ≡ position (λ known. bytes_eq known.now word.now) words.now }
+{
+    words.iter().position(|known| *known == word)
+}
+
+/// Returns the value at the index in `values` that `word` has in `words`.
+fn meant<T: Copy>(words: &[&str], values: &[T], word: &str) -> Option<T>
+    ensures { result ≡ option_and_then (slice_get values.now)
+        (position (λ known. bytes_eq known.now word.now) words.now) }
+{
+    values.get(place_of(words, word)?).copied()
+}
+
+/// Reads the options of a schedule; the others have their defaults.
+pub(crate) fn plan_options_of(matches: &ArgMatches<'_>) -> Option<Options>
+    ensures { IfSome result AreWithinLimits }
+{
+    Some(Options {
+        blocking: number_of(matches, "blocking", 1, MOST_BLOCKING)?,
+        workers: number_of(matches, "workers", 1, MOST_WORKERS as u32)? as usize,
+        policy: meant(POLICY_WORDS, &POLICIES, matches.get_str("policy")?)?,
+        placement: meant(PLACEMENT_WORDS, &PLACEMENTS, matches.get_str("placement")?)?,
+        ..Options::DEFAULT
+    })
+}
+
+/// Reads the options of a run.
+pub(crate) fn options_of(matches: &ArgMatches<'_>) -> Option<Options>
+    ensures { IfSome result AreWithinLimits }
+{
+    Some(Options {
+        runner: meant(RUNNER_WORDS, &RUNNERS, matches.get_str("runner")?)?,
+        patience: number_of(matches, "patience", 0, MOST_PATIENCE)?,
+        ..plan_options_of(matches)?
+    })
+}
+
+/// Reads when a diagnostic is printed.
+pub(crate) fn why_of(matches: &ArgMatches<'_>) -> Why {
+    if matches.get_flag("why") {
+        Why::Always
+    } else if matches.get_flag("no-why") {
+        Why::Never
+    } else {
+        Why::AtTerminal
+    }
+}
+
+/// Reads the format of what is printed.
+pub(crate) fn format_of(matches: &ArgMatches<'_>) -> Format {
+    if matches.get_flag("json") {
+        Format::Json
+    } else {
+        Format::Text
+    }
+}
+
+/// Reads what is drawn.
+pub(crate) fn picture_of(matches: &ArgMatches<'_>) -> Picture {
+    if matches.get_flag("dot") {
+        Picture::Dot
+    } else {
+        Picture::Svg
+    }
+}
+
+/// Reads `--parallel`: its number of workers, or one per processor if it has no value.
+pub(crate) fn crew_of(matches: &ArgMatches<'_>) -> Option<ParallelWorkers>
+    ensures { IfSome result IsCrew }
+{
+    match number_of(matches, "parallel", 1, MOST_WORKERS as u32) {
+        Some(workers) => Some(ParallelWorkers::Workers(workers as usize)),
+        None if matches.contains_id("parallel") => Some(ParallelWorkers::Processors),
+        None => None,
+    }
+}
+
+/// Returns the 32-bit number of the argument `id`.
+pub(crate) fn any_number_of(matches: &ArgMatches<'_>, id: &str) -> Option<u32> {
+    number_of(matches, id, 0, u32::MAX)
+}
+
+/// Reads the band of a filter, with its edges in Hz.
+pub(crate) fn band_of(matches: &ArgMatches<'_>) -> Option<Band> {
+    let pass = any_number_of(matches, "pass")?;
+    let stop = any_number_of(matches, "stop")?;
+    match matches.get_str("SHAPE")? {
+        "lowpass" => Some(Band::Low { pass, stop }),
+        "highpass" => Some(Band::High { stop, pass }),
+        "bandpass" => Some(Band::Middle {
+            low_stop: any_number_of(matches, "low-stop")?,
+            low_pass: any_number_of(matches, "low-pass")?,
+            pass,
+            stop,
+        }),
+        _ => None,
+    }
+}

@@ -1,0 +1,84 @@
+//! A writer of a sound that counts what it writes and shows its progress.
+
+use crate::levels::SoundLevels;
+use crate::progress::{GONE, Progress};
+use std::alloc::Global;
+use std::io::{self, ErrorKind, Write};
+use std::time::Clock;
+
+/// The progress line of a sound that is written, on standard error and timed by a clock.
+#[derive(Drop)]
+pub struct Shown<'a, E, C> {
+    pub alloc: Global,
+    pub err: &'a mut E,
+    pub clock: &'a C,
+    /// The progress of the run, if it is shown.
+    pub progress: Option<Progress>,
+}
+
+impl<E: Write, C: Clock> Shown<'_, E, C> {
+    /// Shows the progress line, if it is due.
+    fn show(&mut self, levels: &SoundLevels) {
+        let (Some(progress), Some(passed)) = (&mut self.progress, levels.passed()) else {
+            return;
+        };
+        if let Ok(line) = progress.line(self.alloc, self.clock, passed) {
+            let _ = self.err.write_all(line.as_bytes());
+        }
+    }
+
+    /// Removes the progress line, if there is one.
+    pub fn hide(&mut self) {
+        if let Some(progress) = &self.progress {
+            if progress.is_shown() {
+                let _ = self.err.write_all(GONE);
+            }
+        }
+    }
+}
+
+/// A writer that passes on to `to` what it is given. If there are levels, it counts them and shows the progress.
+#[derive(Drop)]
+pub struct Output<'a, W, E, C> {
+    to: &'a mut W,
+    pub shown: Shown<'a, E, C>,
+    pub levels: Option<SoundLevels>,
+    /// The kind of the error with which the system last refused to write.
+    pub refused: Option<ErrorKind>,
+}
+
+impl<'a, W: Write, E: Write, C: Clock> Output<'a, W, E, C> {
+    /// Returns a writer at the start of a sound. `counts` is whether its levels are counted.
+    pub fn new(to: &'a mut W, shown: Shown<'a, E, C>, counts: bool) -> Output<'a, W, E, C> {
+        Output {
+            to,
+            shown,
+            levels: if counts { Some(SoundLevels::new()) } else { None },
+            refused: None,
+        }
+    }
+}
+
+impl<W: Write, E: Write, C: Clock> Write for Output<'_, W, E, C> {
+    ghost contents = { λ output. W.contents output.to.now };
+
+    fn write(&mut self, bytes: &[u8]) -> io::Result<usize> {
+        match self.to.write(bytes) {
+            Ok(count) => {
+                if let Some(levels) = &mut self.levels {
+                    levels.note(&bytes[..count]);
+                    self.shown.show(levels);
+                }
+                Ok(count)
+            }
+            Err(error) => {
+                self.refused = Some(error.kind());
+                Err(error)
+            }
+        }
+    }
+
+    fn flush(&mut self) -> io::Result<()> {
+        self.to.flush()
+    }
+}

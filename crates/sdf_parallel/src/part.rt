@@ -1,0 +1,247 @@
+//! One part of a run that is split in time.
+
+ghost use Rattle.std.specs.Prelude.{◌≡◌, ◌-◌, ◌≤◌, ◌<◌, ℕ, List, MatchResult};
+ghost use Rattle.sdf_actor.specs.Wires.{lists};
+ghost use Rattle.sdf_actor.specs.Rests.{IsRest};
+ghost use Rattle.sdf_queues.specs.Answer.{periods_of};
+ghost use Rattle.sdf_queues.specs.Feeds.{GoesOnBy};
+ghost use Rattle.sdf_queues.specs.declared.fault.RunFault.TheVariants.{OutOfMemory};
+ghost use Rattle.sdf_warm_up.specs.Laws.{WasLeft};
+ghost use Rattle.sdf_parallel.specs.Parts.{AreStretches, IsSplit, IsWarmedUp, IsFinished, IsPart, end_of, part_count};
+ghost use Rattle.sdf_parallel.specs.Parts.{read_by};
+
+use crate::ends::PartIo;
+use sdf_actor::{Actor, Net, NetState};
+use sdf_queues::RunFault;
+use sdf_one::{RunInputs, SpareMemory, resume_one_in};
+use sdf_sched::Period;
+use std::alloc::Global;
+use std::mem;
+
+/// A run of `periods` periods of a net, in parts of `size` periods on up to `workers` workers. Each part except the
+/// first is run after `warm` periods of warm-up. A part is run in stretches of up to `stretch` periods, which limits
+/// the length of its lists.
+#[derive_where(Clone, Copy)]
+pub struct Split<'a, A: Actor> {
+    pub net: &'a Net<A>,
+    pub period: &'a Period,
+    pub periods: u32,
+    pub warm: u32,
+    pub size: u32,
+    pub stretch: u32,
+    pub workers: u32,
+}
+
+impl<'a, A: Actor> Split<'a, A> {
+    /// Returns the number of parts, which is 1 if `periods` is 0.
+    pub(crate) fn count(self) -> usize
+        requires { 0 < self.size }
+        ensures { result ≡ part_count self.entry }
+    {
+        self.periods.div_ceil(self.size).max(1) as usize
+    }
+}
+
+/// The periods from number `from` up to number `to`, which is not included.
+#[derive(Clone, Copy)]
+struct Stretch {
+    from: u32,
+    to: u32,
+}
+
+/// What the outputs of a part's stretches became, and the state in which the part leaves the net.
+#[derive(Drop)]
+pub(crate) struct PartResult<M, T, S> {
+    pub(crate) made: Vec<M>,
+    pub(crate) rest: NetState<T, S>,
+}
+
+/// The memory of runs of one length.
+#[derive(Drop)]
+struct RunMemory<T> {
+    inputs: Vec<Vec<T>>,
+    spares: SpareMemory<T>,
+}
+
+impl<T: Copy> RunMemory<T> {
+    /// Begins with no memory, and takes none.
+    fn none(alloc: Global) -> RunMemory<T> {
+        RunMemory {
+            inputs: Vec::new(alloc),
+            spares: SpareMemory::none(alloc),
+        }
+    }
+}
+
+/// The memory of a part, which later parts reuse. A warm-up and a stretch can differ in length, so each of the two has
+/// memory of its own.
+#[derive(Drop)]
+pub(crate) struct Memory<M, T> {
+    warming: RunMemory<T>,
+    own: RunMemory<T>,
+    /// What the outputs of earlier stretches became, given back for reuse.
+    pub(crate) spares: Vec<M>,
+}
+
+impl<M: Drop, T: Copy> Memory<M, T> {
+    /// Begins with no memory, and takes none.
+    pub(crate) fn none(alloc: Global) -> Memory<M, T> {
+        Memory {
+            warming: RunMemory::none(alloc),
+            own: RunMemory::none(alloc),
+            spares: Vec::new(alloc),
+        }
+    }
+}
+
+/// Runs the periods of `stretch` from the state `begin`. Returns their output lists and the state after them.
+fn go_on<A: Actor, E: PartIo<A::Token>>(
+    alloc: Global,
+    ends: &E,
+    split: Split<'_, A>,
+    begin: &NetState<A::Token, A::State>,
+    stretch: Stretch,
+    memory: &mut RunMemory<A::Token>,
+) -> Result<(Vec<Vec<A::Token>>, NetState<A::Token, A::State>), RunFault>
+    requires split { IsSplit A.steps (E.inputs ends.now) split }
+    requires begin { (first : List (List A.Token)) × (few : ℕ)
+        × IsRest A.steps split.net.now first (periods_of split.period.now.repetitions few) begin.now }
+    requires order { stretch.from ≤ stretch.to }
+    requires within { stretch.to ≤ split.periods }
+    ensures { let n = split.entry.net.now in let q = split.entry.period.now.repetitions in MatchResult result
+        (λ r. GoesOnBy A.steps n q begin.now (stretch.to - stretch.from)
+        (read_by n q (E.inputs ends.now) stretch.from stretch.to) (lists r.0.items) r.1)
+        (λ fault. fault ≡ OutOfMemory) }
+{
+    let samples = split.net.samples_in();
+    let spares = mem::replace(&mut memory.inputs, Vec::new(alloc));
+    let inputs = ends.read(
+        alloc,
+        stretch.from as usize * samples,
+        stretch.to as usize * samples,
+        spares,
+    )?;
+    let passage = RunInputs {
+        net: split.net,
+        period: split.period,
+        periods: stretch.to - stretch.from,
+        inputs: &inputs,
+    };
+    let (ran, rest) = resume_one_in(alloc, passage, begin, &mut memory.spares)?;
+    memory.inputs = inputs;
+    Ok((ran.outputs, rest))
+}
+
+/// Runs the warm-up before the period `from`, and returns the state in which it leaves the net.
+fn warmed_up<A: Actor, E: PartIo<A::Token>>(
+    alloc: Global,
+    ends: &E,
+    split: Split<'_, A>,
+    from: u32,
+    memory: &mut RunMemory<A::Token>,
+) -> Result<NetState<A::Token, A::State>, RunFault>
+    requires split { IsSplit A.steps (E.inputs ends.now) split }
+    requires warm { split.warm ≤ from }
+    requires within { from ≤ split.periods }
+    ensures { MatchResult result
+        (IsWarmedUp A.steps split.entry.net.now split.entry.period.now.repetitions (E.inputs ends.now)
+        split.entry.warm from)
+        (λ fault. fault ≡ OutOfMemory) }
+{
+    let first = split.net.first_rest(alloc)?;
+    let stretch = Stretch {
+        from: from - split.warm,
+        to: from,
+    };
+    let (outputs, rest) = go_on(alloc, ends, split, &first, stretch, memory)?;
+    memory.spares.give_back(outputs);
+    Ok(rest)
+}
+
+/// Runs a stretch of a part from the state `begin`, and returns what its outputs became and the state after it.
+fn finished<A: Actor, E: PartIo<A::Token>>(
+    alloc: Global,
+    ends: &E,
+    split: Split<'_, A>,
+    begin: &NetState<A::Token, A::State>,
+    stretch: Stretch,
+    memory: &mut Memory<E::PartResult, A::Token>,
+) -> Result<(E::PartResult, NetState<A::Token, A::State>), RunFault>
+    requires split { IsSplit A.steps (E.inputs ends.now) split }
+    requires begin { WasLeft A.steps split.net.now split.period.now.repetitions begin.now }
+    requires order { stretch.from ≤ stretch.to }
+    requires within { stretch.to ≤ split.periods }
+    ensures { let n = split.entry.net.now in let q = split.entry.period.now.repetitions in MatchResult result
+        (λ r. IsFinished A.steps n q (E.inputs ends.now) (E.makes ends.now) begin.now stretch.from stretch.to r.0 r.1
+        × WasLeft A.steps n q r.1)
+        (λ fault. fault ≡ OutOfMemory) }
+{
+    let (outputs, rest) = go_on(alloc, ends, split, begin, stretch, &mut memory.own)?;
+    let periods = stretch.to - stretch.from;
+    let made = ends.finish(alloc, periods, &outputs, memory.spares.pop())?;
+    memory.own.spares.give_back(outputs);
+    Ok((made, rest))
+}
+
+/// Runs the part at the period `from` from the state `begin`, one stretch after another.
+fn stretches<A: Actor, E: PartIo<A::Token>>(
+    alloc: Global,
+    ends: &E,
+    split: Split<'_, A>,
+    begin: &NetState<A::Token, A::State>,
+    from: u32,
+    memory: &mut Memory<E::PartResult, A::Token>,
+) -> Result<PartResult<E::PartResult, A::Token, A::State>, RunFault>
+    requires split { IsSplit A.steps (E.inputs ends.now) split }
+    requires begin { WasLeft A.steps split.net.now split.period.now.repetitions begin.now }
+    requires within { from ≤ split.periods }
+    ensures { let n = split.entry.net.now in let q = split.entry.period.now.repetitions in MatchResult result
+        (λ m. AreStretches A.steps n q (E.inputs ends.now) (E.makes ends.now) begin.now from
+        (end_of split.entry.size split.entry.periods from) m.made.items m.rest)
+        (λ fault. fault ≡ OutOfMemory) }
+{
+    let to = from + split.size.min(split.periods - from);
+    let mut at = from + split.stretch.min(to - from);
+    let first = Stretch { from, to: at };
+    let (made, mut rest) = finished(alloc, ends, split, begin, first, memory)?;
+    let many = (to - from).div_ceil(split.stretch).max(1);
+    let mut all = Vec::with_capacity(alloc, many as usize)?;
+    all.push_reserved(made);
+    while at < to {
+        let next = Stretch {
+            from: at,
+            to: at + split.stretch.min(to - at),
+        };
+        let (made, last) = finished(alloc, ends, split, &rest, next, memory)?;
+        all.reserve(1)?;
+        all.push_reserved(made);
+        rest = last;
+        at = next.to;
+    }
+    Ok(PartResult { made: all, rest })
+}
+
+/// Runs the part that begins at the period `from`, after its warm-up unless it is the first part.
+pub(crate) fn part<A: Actor, E: PartIo<A::Token>>(
+    alloc: Global,
+    ends: &E,
+    split: Split<'_, A>,
+    rest: &NetState<A::Token, A::State>,
+    from: u32,
+    memory: &mut Memory<E::PartResult, A::Token>,
+) -> Result<PartResult<E::PartResult, A::Token, A::State>, RunFault>
+    requires split { IsSplit A.steps (E.inputs ends.now) split }
+    requires rest { WasLeft A.steps split.net.now split.period.now.repetitions rest.now }
+    requires within { from ≤ split.periods }
+    requires warm { 0 < from → split.warm ≤ from }
+    ensures { let n = split.entry.net.now in let q = split.entry.period.now.repetitions in MatchResult result
+        (λ m. IsPart A.steps n q (E.inputs ends.now) (E.makes ends.now) rest.now split.entry.warm from
+        (end_of split.entry.size split.entry.periods from) m.made.items m.rest)
+        (λ fault. fault ≡ OutOfMemory) }
+{
+    if from == 0 {
+        return stretches(alloc, ends, split, rest, from, memory);
+    }
+    let begin = warmed_up(alloc, ends, split, from, &mut memory.warming)?;
+    stretches(alloc, ends, split, &begin, from, memory)
+}

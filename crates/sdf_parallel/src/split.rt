@@ -1,0 +1,205 @@
+//! Runs that are split in time.
+
+ghost use Rattle.std.specs.Prelude.{◌≡◌, ◌<◌, ℕ, List, length, slice_index_or, MatchResult, IfOk};
+ghost use Rattle.sdf_actor.specs.Rests.{IsRest};
+ghost use Rattle.sdf_queues.specs.Answer.{periods_of};
+ghost use Rattle.sdf_queues.specs.declared.fault.RunFault.TheVariants.{OutOfMemory};
+ghost use Rattle.sdf_warm_up.specs.Laws.{WasLeft};
+ghost use Rattle.sdf_parallel.specs.Parts.{AllAreDone, AreDone, AreMade, IsSplit, part_count, GoesOnInParts};
+
+use crate::beside::for_each_beside;
+use crate::ends::PartIo;
+use crate::part::{PartResult, Split};
+use crate::workers::{FinishedPart, PartQueue, PartWorkers, Worker, work};
+use sdf_actor::{Actor, NetState};
+use sdf_queues::RunFault;
+use sdf_queues::laws::nets_have_periods;
+use std::alloc::{AllocError, Global};
+use std::mem;
+use std::thread::Threads;
+
+/// Returns a place for the result of each part. Each holds `OutOfMemory` until a worker's result is put there.
+fn empty_places<A: Actor, E: PartIo<A::Token>>(
+    alloc: Global,
+    ends: &E,
+    split: Split<'_, A>,
+    rest: &NetState<A::Token, A::State>,
+) -> Result<Vec<Result<PartResult<E::PartResult, A::Token, A::State>, RunFault>>, AllocError>
+    requires { IsSplit A.steps (E.inputs ends.now) split }
+    ensures made { IfOk result (λ v. AreMade A.steps (E.inputs ends.now) (E.makes ends.now) split.entry rest.now
+        v.items) }
+    ensures all { IfOk result (λ v. length v.items ≡ part_count split.entry) }
+{
+    let mut places = Vec::new(alloc);
+    for _ in 0..split.count() {
+        places.push(Err(RunFault::OutOfMemory))?;
+    }
+    Ok(places)
+}
+
+/// Moves the results in `done`, of one worker, to the places of their parts.
+fn place<A: Actor, E: PartIo<A::Token>>(
+    ends: &E,
+    split: Split<'_, A>,
+    rest: &NetState<A::Token, A::State>,
+    done: &mut Vec<FinishedPart<E::PartResult, A::Token, A::State>>,
+    places: &mut [Result<PartResult<E::PartResult, A::Token, A::State>, RunFault>],
+)
+    requires done { AreDone A.steps (E.inputs ends.now) (E.makes ends.now) split rest.now done.old.items }
+    requires made { AreMade A.steps (E.inputs ends.now) (E.makes ends.now) split rest.now places.old }
+    requires all { length places.old ≡ part_count split }
+    ensures made { AreMade A.steps (E.inputs ends.now) (E.makes ends.now) split.entry rest.now places.new }
+    ensures count { length places.new ≡ length places.old }
+{
+    for _ in 0..done.len() {
+        if let Some(FinishedPart { number, made }) = done.pop() {
+            places[number] = made;
+        }
+    }
+}
+
+/// Moves the results of all workers to the places of their parts.
+fn place_all<A: Actor, E: PartIo<A::Token>>(
+    ends: &E,
+    split: Split<'_, A>,
+    rest: &NetState<A::Token, A::State>,
+    workers: &mut [Worker<E::PartResult, A::Token, A::State>],
+    places: &mut [Result<PartResult<E::PartResult, A::Token, A::State>, RunFault>],
+)
+    requires done { AllAreDone A.steps (E.inputs ends.now) (E.makes ends.now) split rest.now workers.old }
+    requires made { AreMade A.steps (E.inputs ends.now) (E.makes ends.now) split rest.now places.old }
+    requires all { length places.old ≡ part_count split }
+    ensures made { AreMade A.steps (E.inputs ends.now) (E.makes ends.now) split.entry rest.now places.new }
+    ensures count { length places.new ≡ length places.old }
+{
+    for i in 0..workers.len() {
+        place(ends, split, rest, &mut workers[i].done, places);
+    }
+}
+
+/// Takes out what the outputs of all stretches became, in order, and the state in which the last part leaves the net.
+fn taken<A: Actor, E: PartIo<A::Token>>(
+    alloc: Global,
+    ends: &E,
+    split: Split<'_, A>,
+    rest: &NetState<A::Token, A::State>,
+    places: &mut [Result<PartResult<E::PartResult, A::Token, A::State>, RunFault>],
+) -> Result<(Vec<E::PartResult>, NetState<A::Token, A::State>), RunFault>
+    requires split { IsSplit A.steps (E.inputs ends.now) split }
+    requires made { AreMade A.steps (E.inputs ends.now) (E.makes ends.now) split rest.now places.old }
+    requires all { length places.old ≡ part_count split }
+    ensures { MatchResult result
+        (λ r. GoesOnInParts A.steps split.entry.net.now split.entry.period.now.repetitions (E.inputs ends.now)
+        (E.makes ends.now) rest.now split.entry.periods r.0.items r.1)
+        (λ fault. fault ≡ OutOfMemory) }
+{
+    nets_have_periods(split.net);
+    let mut all = Vec::new(alloc);
+    let mut last = None;
+    for i in 0..places.len() {
+        let part = mem::replace(&mut places[i], Err(RunFault::OutOfMemory));
+        let PartResult { mut made, rest } = part?;
+        all.append(&mut made)?;
+        last = Some(rest);
+    }
+    Ok((all, last.unwrap()))
+}
+
+/// Collects what the outputs of all stretches became, in order, and the state in which the last part leaves the net.
+fn gather<A: Actor, E: PartIo<A::Token>>(
+    alloc: Global,
+    ends: &E,
+    split: Split<'_, A>,
+    rest: &NetState<A::Token, A::State>,
+    workers: &mut [Worker<E::PartResult, A::Token, A::State>],
+) -> Result<(Vec<E::PartResult>, NetState<A::Token, A::State>), RunFault>
+    requires split { IsSplit A.steps (E.inputs ends.now) split }
+    requires done { AllAreDone A.steps (E.inputs ends.now) (E.makes ends.now) split rest.now workers.old }
+    ensures { MatchResult result
+        (λ r. GoesOnInParts A.steps split.entry.net.now split.entry.period.now.repetitions (E.inputs ends.now)
+        (E.makes ends.now) rest.now split.entry.periods r.0.items r.1)
+        (λ fault. fault ≡ OutOfMemory) }
+{
+    let mut places = empty_places(alloc, ends, split, rest)?;
+    place_all(ends, split, rest, workers, &mut places);
+    taken(alloc, ends, split, rest, &mut places)
+}
+
+/// Runs all parts on `workers` in parallel, and `meanwhile` beside them. Returns the results of both.
+fn run_parts<R: Threads + Sync, A: Actor, E: PartIo<A::Token>, G: FnMut() -> B, B>(
+    rt: &R,
+    alloc: Global,
+    ends: &E,
+    split: Split<'_, A>,
+    rest: &NetState<A::Token, A::State>,
+    workers: &mut [Worker<E::PartResult, A::Token, A::State>],
+    meanwhile: &mut G,
+) -> (
+    Result<(Vec<E::PartResult>, NetState<A::Token, A::State>), RunFault>,
+    B,
+)
+    requires split { IsSplit A.steps (E.inputs ends.now) split }
+    requires rest { WasLeft A.steps split.net.now split.period.now.repetitions rest.now }
+    requires meanwhile { G.pre meanwhile.old }
+    ensures ran { MatchResult result.0
+        (λ r. GoesOnInParts A.steps split.entry.net.now split.entry.period.now.repetitions (E.inputs ends.now)
+        (E.makes ends.now) rest.now split.entry.periods r.0.items r.1)
+        (λ fault. fault ≡ OutOfMemory) }
+    ensures meanwhile { G.step meanwhile.old result.1 meanwhile.new }
+{
+    let line = PartQueue::new();
+    let done = for_each_beside(
+        rt,
+        workers,
+        &|_: usize, worker: &mut Worker<E::PartResult, A::Token, A::State>|
+            requires { IsSplit A.steps (E.inputs ends.now) split
+                × WasLeft A.steps split.net.now split.period.now.repetitions rest.now }
+            ensures { AreDone A.steps (E.inputs ends.entry.now) (E.makes ends.entry.now) split.entry rest.entry.now
+                worker.exit.now.done.items }
+        { work(alloc, ends, split, rest, &line, worker) },
+        meanwhile,
+    );
+    (gather(alloc, ends, split, rest, workers), done)
+}
+
+/// Resumes a net from its state `rest` as `resume_one` does, in parts that up to `split.workers` workers run in
+/// parallel. Each part is run in stretches, and each except the first after a warm-up on the periods before it. Returns
+/// what the outputs of the stretches became, in order, and the state that the run leaves. Reuses the memory of
+/// `workers`.
+///
+/// Each worker has a thread of its own if one can be made. It takes one part after another, so a worker on a slow
+/// processor runs fewer. `meanwhile` is run once in this thread, even if memory is refused.
+pub fn resume_split<R: Threads + Sync, A: Actor, E: PartIo<A::Token>, G: FnMut() -> B, B>(
+    rt: &R,
+    ends: &E,
+    split: Split<'_, A>,
+    rest: &NetState<A::Token, A::State>,
+    workers: &mut PartWorkers<E::PartResult, A::Token, A::State>,
+    meanwhile: &mut G,
+) -> (
+    Result<(Vec<E::PartResult>, NetState<A::Token, A::State>), RunFault>,
+    B,
+)
+    requires split { IsSplit A.steps (E.inputs ends.now) split }
+    requires rest { (first : List (List A.Token)) × (few : ℕ)
+        × IsRest A.steps split.net.now first (periods_of split.period.now.repetitions few) rest.now }
+    requires meanwhile { G.pre meanwhile.old }
+    ensures ran { MatchResult result.0
+        (λ r. GoesOnInParts A.steps split.entry.net.now split.entry.period.now.repetitions (E.inputs ends.now)
+        (E.makes ends.now) rest.now split.entry.periods r.0.items r.1)
+        (λ fault. fault ≡ OutOfMemory) }
+    ensures meanwhile { G.step meanwhile.old result.1 meanwhile.new }
+{
+    nets_have_periods(split.net);
+    let alloc = workers.alloc;
+    let parts = split.count();
+    let threads = parts.min(split.workers.max(1) as usize);
+    let stretches = split.size.div_ceil(split.stretch) as usize;
+    match workers.take_on(threads, parts.div_ceil(threads).saturating_mul(stretches)) {
+        Ok(()) => {
+            let all = &mut workers.all[..threads];
+            run_parts(rt, alloc, ends, split, rest, all, meanwhile)
+        }
+        Err(refused) => (Err(refused.into()), meanwhile()),
+    }
+}

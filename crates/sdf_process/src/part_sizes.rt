@@ -1,0 +1,98 @@
+//! The cut of a sound in time, into pieces and parts.
+
+ghost use Rattle.std.specs.Prelude.{◌≡◌, ◌<◌, ◌≤◌, ℕ, List, max};
+ghost use Rattle.sdf_graph.specs.Periods.{IsLeastPeriod};
+ghost use Rattle.sdf_graph.specs.Rates.{rates};
+ghost use Rattle.sdf_actor.specs.Graphs.{graph_of};
+ghost use Rattle.sdf_kit.specs.Kit.{kit_steps};
+ghost use Rattle.sdf_process.specs.Cuts.{AreAtOnce, IsPartOf, IsPieceSize, periods_in};
+ghost use Rattle.sdf_process.specs.Output.{IsExchange, exchange_of};
+
+use crate::io_rates::IoRates;
+use sdf_file::Design;
+use sdf_parallel::part_size;
+
+/// The most frames that a piece on one thread, or a stretch of a part, reads or makes, unless a period has more.
+pub(crate) const PIECE: usize = 32_768;
+
+/// The most frames that each worker reads or makes of a piece, unless a period or eight warm-ups have more. The longer
+/// a piece, the fewer threads are started.
+pub(crate) const SHARE: usize = 131_072;
+
+/// The most frames that each worker reads or makes of the first piece, unless a period or eight warm-ups have more. No
+/// part runs while it is read.
+pub(crate) const FIRST_SHARE: usize = 65_536;
+
+/// The least frames that a part reads or makes if a piece has several parts for each worker. A worker on a slow
+/// processor then runs fewer parts.
+const PART: usize = 16_384;
+
+/// The least length of a part, in warm-ups, if a piece has several parts for each worker. At most one in 32 of its
+/// periods is then run twice.
+const WARM_UPS: u32 = 32;
+
+/// The cut of a piece in time: the most parts that are run in parallel, and the periods of warm-up before a part.
+#[derive(Clone, Copy)]
+pub(crate) struct PartSizes {
+    pub(crate) parts: u32,
+    pub(crate) warm: u32,
+}
+
+/// Returns the number of periods that fit into `frames` frames, or 1 if none does.
+pub(crate) fn periods_in(frames: usize, exchange: IoRates) -> u32
+    requires limits { IsExchange exchange }
+    requires few { frames < 4294967296 }
+    ensures { result ≡ periods_in frames exchange }
+{
+    (frames / exchange.taken.max(exchange.made)).max(1) as u32
+}
+
+impl PartSizes {
+    /// Returns the number of periods of a part, if `periods` periods are run in parallel parts.
+    pub(crate) fn part_of(self, exchange: IoRates, periods: u32) -> u32
+        requires { IsExchange exchange }
+        ensures part { IsPartOf exchange self periods result }
+        ensures long { self.warm ≤ result }
+    {
+        let share = periods.div_ceil(self.parts.max(1));
+        let least = periods_in(PART, exchange).max(self.warm.saturating_mul(WARM_UPS));
+        part_size(share, (share / least).max(1), self.warm)
+    }
+}
+
+/// Returns the number of periods of a piece, if each worker has up to `share` frames of it, or eight warm-ups. A piece
+/// that is not cut has up to `PIECE` frames.
+pub(crate) fn piece_periods(exchange: IoRates, cut: Option<PartSizes>, share: usize) -> u32
+    requires limits { IsExchange exchange }
+    requires few { share < 4294967296 }
+    ensures some { 0 < result }
+    ensures piece { IsPieceSize share exchange cut result }
+{
+    match cut {
+        Some(PartSizes { parts, warm }) => part_size(periods_in(share, exchange), 1, warm)
+            .saturating_mul(parts)
+            .max(1),
+        None => periods_in(PIECE, exchange),
+    }
+}
+
+/// Returns the most parts of a sound that `workers` workers run in parallel, if `design` makes `frames` frames and a
+/// part needs `warm` periods of warm-up. If the last period is not whole, it is run alone.
+pub fn parts_at_once(design: &Design, workers: u32, warm: u32, frames: u64) -> u32
+    ensures some { 0 < frames → 0 < result }
+    ensures few { result ≤ max 1 workers }
+    ensures parts { (q : List ℕ) → IsLeastPeriod (rates (graph_of kit_steps design.now.net)) q →
+        AreAtOnce (exchange_of design.now.net q) (record { parts = workers; warm = warm }) frames result }
+{
+    let exchange = IoRates::of_net(design.net());
+    let cut = PartSizes {
+        parts: workers,
+        warm,
+    };
+    let periods = frames
+        .div_ceil(exchange.made as u64)
+        .min(u64::from(u32::MAX)) as u32;
+    let piece = piece_periods(exchange, Some(cut), FIRST_SHARE).min(periods);
+    let part = cut.part_of(exchange, piece);
+    piece.div_ceil(part).min(workers.max(1))
+}

@@ -1,5 +1,0 @@
-use Rattle.std.proofs.Common.{refl, arith}
-use Rattle.sdf_split.proofs.beside.for_each_beside.Goals as goal
-
-pub returns-clause-each : goal.returns-clause-each
-returns-clause-each g c = λ i d l. (refl, c.from_place.ensures.each.each i i d (omega arith) l)

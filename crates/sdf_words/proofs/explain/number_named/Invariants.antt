@@ -1,7 +1,0 @@
-use Rattle.std.proofs.Common.{ℕ, ◌<◌}
-use Rattle.sdf_words.specs.Names.{IsNamed}
-use Rattle.sdf_words.proofs.explain.number_named.Given as goal
-
--- no number so far has the name
-abbrev pub invariant-loop-number : goal.invariant-loop-number
-invariant-loop-number l = (number : ℕ) → number < l.number → IsNamed number l.name → ⊥
