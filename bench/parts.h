@@ -3,7 +3,7 @@
  * A period reads READS frames and makes MAKES frames, of CHANNELS channels, or of as many as are read if that is 0. */
 #include <pthread.h>
 
-enum { MOST_THREADS = 16 };
+enum { MAX_THREADS = 16 };
 
 typedef struct {
     Sound in, out;
@@ -38,14 +38,14 @@ static Part part_of(Sound in, Sound out, long from, long to) {
 int main(int count, char **words) {
     if (count != 3 && count != 4) return 2;
     Sound in = read_sound(words[count - 2]), out = in;
-    int threads = count == 4 ? least(atoi(words[1]), MOST_THREADS) : 1, many = 0;
+    int threads = count == 4 ? least(atoi(words[1]), MAX_THREADS) : 1, many = 0;
     long periods = (in.frames + READS - 1) / READS, size = (periods + threads - 1) / threads;
     out.channels = CHANNELS ? CHANNELS : in.channels;
     out.frames = periods * MAKES;
     out.rate = (uint64_t)in.rate * MAKES / READS;
     out.samples = zeros(2 * out.channels * out.frames);
-    Part parts[MOST_THREADS];
-    pthread_t started[MOST_THREADS];
+    Part parts[MAX_THREADS];
+    pthread_t started[MAX_THREADS];
     for (long from = 0; from < periods; from += size) {
         parts[many] = part_of(in, out, from, least(from + size, periods));
         if (from && pthread_create(&started[many], NULL, work, &parts[many])) fail("no thread");

@@ -8,7 +8,7 @@ use bench_inputs::long::{SAME_FILE, same_costs, same_taps};
 use bench_inputs::noise::Level;
 use bench_inputs::numbers::{Numbers, show};
 use sdf_file::{CoefficientFile, Design};
-use sdf_filters::{Band, ConverterTexts, StageFile, FilterSpec, converter_texts, filter_texts};
+use sdf_filters::{Band, ConverterTexts, FilterSpec, StageFile, converter_texts, filter_texts};
 use sdf_profile::costed_text;
 use sdf_texts::check_text;
 use std::alloc::Global;
@@ -100,13 +100,13 @@ fn damped_little(numbers: &mut Numbers) -> FilterSpec {
 /// Makes one filter.
 fn make_filter<R: AllocGlobal + Print>(rt: &R, name: &str, wanted: FilterSpec) -> Result<()> {
     let texts = filter_texts(rt.alloc(), wanted)?;
-    show_filter(rt, name, &texts.file, &texts.told)
+    show_filter(rt, name, &texts.file, &texts.summary)
 }
 
 /// Prints the digests of a filter and of what its taps do.
-fn show_filter(rt: &impl Print, name: &str, file: &str, told: &str) -> Result<()> {
+fn show_filter(rt: &impl Print, name: &str, file: &str, summary: &str) -> Result<()> {
     show(rt, name, file.as_bytes())?;
-    Ok(show(rt, "what its taps do", told.as_bytes())?)
+    Ok(show(rt, "what its taps do", summary.as_bytes())?)
 }
 
 /// Makes converters between pairs of rates.
@@ -141,7 +141,7 @@ fn show_converter<R: AllocGlobal + Print>(rt: &R, texts: &ConverterTexts) -> Res
 /// Prints the digests of the stages of a converter.
 fn show_stages(rt: &impl Print, files: &[StageFile]) -> Result<()> {
     for file in files {
-        show_filter(rt, "stage", &file.text, &file.told)?;
+        show_filter(rt, "stage", &file.text, &file.summary)?;
     }
     Ok(())
 }

@@ -21,7 +21,7 @@ use std::rt::Files;
 use std::thread::Threads;
 
 /// Output bytes for each input byte, at most.
-const MOST_OUTPUTS: usize = 8;
+const MAX_OUTPUTS: usize = 8;
 
 /// A design that a seed makes, that is shipped in a folder, or that is read from a text and coefficient files.
 #[derive(Clone, Copy)]
@@ -237,7 +237,7 @@ fn made_of<R: AllocGlobal + Sync + Threads>(
 ) -> Result<Vec<u8>>
     requires { Suits design.now.net plan.now }
 {
-    let room = file.len().saturating_mul(MOST_OUTPUTS);
+    let room = file.len().saturating_mul(MAX_OUTPUTS);
     let mut writer = ToWrite::new(Vec::with_capacity(rt.alloc(), room)?);
     write_made(rt, file, &mut writer, design, plan)?;
     Ok(writer.into_inner())

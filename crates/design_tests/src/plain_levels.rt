@@ -102,9 +102,9 @@ fn push_other(alloc: Global, text: &mut String, wanted: FilterSpec) -> Result<us
         return Ok(0);
     };
     let plain = plain_told(alloc, wanted, &taps)?;
-    let told = filter_texts(alloc, wanted)?.told;
-    if plain.as_str() != told.as_str() {
-        writeln!(text, "{wanted:?}: {told}in place of {plain}")?;
+    let summary = filter_texts(alloc, wanted)?.summary;
+    if plain.as_str() != summary.as_str() {
+        writeln!(text, "{wanted:?}: {summary}in place of {plain}")?;
     }
     Ok(taps.len())
 }

@@ -39,7 +39,7 @@ fn wanted(band: Band, up: u32) -> FilterSpec {
 /// Returns the coefficient file of a filter and the line with the measures of its taps, or the fault.
 fn printed(alloc: Global, wanted: FilterSpec) -> Result<String, Fail> {
     match filter_texts(alloc, wanted) {
-        Ok(texts) => Ok(format!(in alloc; "{}{}", texts.file, texts.told)?),
+        Ok(texts) => Ok(format!(in alloc; "{}{}", texts.file, texts.summary)?),
         Err(fault) => Ok(fault.to_string(alloc)?),
     }
 }
@@ -218,8 +218,8 @@ const TOLD: &[(FilterSpec, &str)] = &[
 /// and a window more than 96 dB.
 #[test]
 fn taps_are_told(rt: HostRuntime) -> Result<(), Fail> {
-    for (wanted, told) in TOLD {
-        says(Ok(filter_texts(rt.alloc(), *wanted)?.told), told)?;
+    for (wanted, summary) in TOLD {
+        says(Ok(filter_texts(rt.alloc(), *wanted)?.summary), summary)?;
     }
     Ok(())
 }

@@ -49,7 +49,7 @@ pub(crate) fn finish_twice<R: AllocGlobal + Print>(
 ) -> Result<()>
     requires fits { IsBlockTableOf (rates (graph_of kit_steps net.now)) table.now }
 {
-    let inputs = inputs_of(rt.alloc(), net, BLOCKS.saturating_mul(table.factor))?;
+    let inputs = inputs_of(rt.alloc(), net, BLOCKS.saturating_mul(table.blocking))?;
     for turn in TURNS {
         let rings = Rings::prepare(rt.alloc(), net, table, BLOCKS, &inputs)?;
         print_turn(rt, turn)?;

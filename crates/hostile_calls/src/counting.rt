@@ -11,7 +11,7 @@ use sdf_actor::Net;
 use sdf_file::{Design, read_design};
 use sdf_kit::Kit;
 use sdf_prec::hu::hu;
-use sdf_prec::{BlockTable, Costs, Columns};
+use sdf_prec::{BlockTable, Columns, Costs};
 use sdf_run::{NoGate, Ran, RunFault, Workers, run_one, run_rings, run_rows};
 use sdf_sched::class_s::class_s;
 use sdf_sched::{Lean, Pick, Round, Runs};
@@ -59,11 +59,11 @@ link = [
 ]
 "#;
 
-/// The size of a run: its workers, its periods in a block (`j`), and its blocks.
+/// The size of a run: its workers, its periods in a block, and its blocks.
 #[derive(Clone, Copy)]
 struct Sizes {
     workers: usize,
-    j: u32,
+    blocking: u32,
     blocks: u32,
 }
 
@@ -88,7 +88,7 @@ fn run_by<R: AllocGlobal + Sync + Threads>(
 {
     match runner {
         CountedRunner::One => {
-            let periods = table.factor.saturating_mul(blocks);
+            let periods = table.blocking.saturating_mul(blocks);
             run_one(rt.alloc(), net, &table.period, periods, inputs)
         }
         CountedRunner::Rows => run_rows(rt, net, table, blocks, inputs, &NoGate),
@@ -131,7 +131,7 @@ fn run_blocks<R: AllocGlobal + Print + Sync + Threads>(
     requires fits { IsBlockTableOf (rates (graph_of kit_steps net.now)) table.now }
 {
     let alloc = rt.alloc();
-    let periods = table.factor.saturating_mul(blocks);
+    let periods = table.blocking.saturating_mul(blocks);
     let samples = net.samples_in().saturating_mul(periods as usize);
     let inputs = vec![in alloc; vec![in alloc; 7; samples]?]?;
     run_counted(rt, runner, net, table, blocks, &inputs)
@@ -145,7 +145,11 @@ fn run<R: AllocGlobal + Print + Sync + Threads>(
     sizes: Sizes,
 ) -> Result<usize> {
     let alloc = rt.alloc();
-    let Sizes { workers, j, blocks } = sizes;
+    let Sizes {
+        workers,
+        blocking,
+        blocks,
+    } = sizes;
     let graph = net.graph();
     let period = class_s(alloc, graph, net.repetitions(), &mut Round::new())?;
     let costs = Costs::unit(alloc, graph)?;
@@ -153,10 +157,10 @@ fn run<R: AllocGlobal + Print + Sync + Threads>(
         workers,
         homed: true,
     };
-    let table = hu(alloc, graph, &period, j, team, &costs)?;
+    let table = hu(alloc, graph, &period, blocking, team, &costs)?;
     let table = BlockTable {
         period,
-        factor: j,
+        blocking,
         table,
     };
     // The answer in `proofs/counting/run` names `made`.
@@ -207,10 +211,10 @@ fn schedule<R: AllocGlobal + Print, P: Pick>(rt: &R, blocks: u32, pick: &mut P) 
 }
 
 /// Reads the numbers of workers, of periods in a block, and of blocks.
-fn sizes_of([workers, j, blocks]: [&str; 3]) -> Result<Sizes> {
+fn sizes_of([workers, blocking, blocks]: [&str; 3]) -> Result<Sizes> {
     Ok(Sizes {
         workers: workers.parse::<usize>().context("workers")?,
-        j: j.parse::<u32>().context("periods")?,
+        blocking: blocking.parse::<u32>().context("periods")?,
         blocks: blocks.parse::<u32>().context("blocks")?,
     })
 }

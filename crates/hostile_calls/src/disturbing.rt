@@ -168,7 +168,7 @@ fn disturb_table<R: AllocGlobal + Sync + Threads>(
 ) -> Result<Counts>
     requires fits { IsBlockTableOf (rates (graph_of kit_steps net.now)) table.now }
 {
-    let periods = BLOCKS.saturating_mul(table.factor);
+    let periods = BLOCKS.saturating_mul(table.blocking);
     let firings = (table.period.order().len() as u64).saturating_mul(u64::from(periods));
     let inputs = inputs_of(rt.alloc(), net, periods)?;
     let one = run_one(rt.alloc(), net, &table.period, periods, &inputs)?;

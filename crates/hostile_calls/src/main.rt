@@ -37,8 +37,8 @@ use calls::make;
 use counting::count;
 use disturbing::{disturb, hold_each};
 use files::load;
-use sdf_cli::arguments::arguments;
-use sdf_cli::{RunRequest, DesignCommand, Words, words};
+use sdf_cli::arguments::read_arguments;
+use sdf_cli::{DesignCommand, RunRequest, Words, words};
 use std::alloc::{AllocError, Global};
 use std::rt::Files;
 use std::thread::Threads;
@@ -76,7 +76,7 @@ fn make_by<R: AllocGlobal + Files + Print + Sync + Threads>(
     match words {
         Words::Design {
             graph,
-            task: DesignCommand::RunRequest(RunRequest { input, options, .. }),
+            task: DesignCommand::Run(RunRequest { input, options, .. }),
             ..
         } => make(rt, call, &load(rt, graph)?, input, options),
         _ => bail!("these are no words of a run"),
@@ -103,7 +103,11 @@ fn obey<R: AllocGlobal + Files + Print + Sync + Threads>(rt: &R, line: &[&str]) 
     match (*call, rest) {
         ("disturb", [runs, seed, graphs @ ..]) => obey_disturb(rt, runs, seed, graphs),
         ("hold", graphs) => hold_each(rt, graphs),
-        ("count", [what, workers, j, blocks]) => count(rt, what, [workers, j, blocks]),
+        ("count", [what, workers, blocking, blocks]) => count(
+            rt,
+            what,
+            [workers, blocking, blocks],
+        ),
         ("--help", []) => Ok(println!(rt; "{USAGE}")?),
         _ => obey_call(rt, call, line),
     }
@@ -119,7 +123,7 @@ fn line_of(alloc: Global, given: &[String]) -> Result<Vec<&str>, AllocError> {
 }
 
 fn main(rt: HostRuntime) -> Result<()> {
-    let given = arguments(&rt, rt.alloc())?;
+    let given = read_arguments(&rt, rt.alloc())?;
     if given.unread.is_some() {
         bail!("a word is not UTF-8");
     }

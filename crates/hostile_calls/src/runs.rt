@@ -10,7 +10,7 @@ use crate::{TURNS, print_turn};
 use anyhow::Result;
 use sdf_actor::Net;
 use sdf_kit::Kit;
-use sdf_plan::{Plan, Execution};
+use sdf_plan::{Execution, Plan};
 use sdf_prec::BlockTable;
 use sdf_run::{Gate, NoGate, Ran, RunFault, Workers, run_one, run_rings, run_rows};
 use std::alloc::{AllocError, Global};
@@ -81,7 +81,7 @@ pub(crate) fn run_by_workers<R: AllocGlobal + Sync + Threads, G: Gate>(
 fn blocking(plan: &Plan) -> u32 {
     match plan.way() {
         Execution::One { blocking, .. } | Execution::Parts { blocking, .. } => *blocking,
-        Execution::Rows(table) | Execution::Rings { table, .. } => table.factor,
+        Execution::Rows(table) | Execution::Rings { table, .. } => table.blocking,
     }
 }
 

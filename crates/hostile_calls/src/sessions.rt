@@ -88,7 +88,7 @@ pub(crate) fn feed_twice<R: AllocGlobal + Print + Sync + Threads>(
 ) -> Result<()>
     requires fits { IsBlockTableOf (rates (graph_of kit_steps net.now)) table.now }
 {
-    let inputs = inputs_of(rt.alloc(), net, BLOCKS.saturating_mul(table.factor))?;
+    let inputs = inputs_of(rt.alloc(), net, BLOCKS.saturating_mul(table.blocking))?;
     let none = inputs_of(rt.alloc(), net, 0)?;
     for turn in TURNS {
         let mut session = open(rt.alloc(), net, plan, table)?;

@@ -13,7 +13,7 @@ use std::io;
 use std::thread::Threads;
 
 /// The capacity for what is written, so that the writer does not request memory.
-const MOST_WRITTEN: usize = 65_536;
+const MAX_WRITTEN: usize = 65_536;
 
 fn print_end(rt: &impl Print, answer: &Result<(), Fault>, written: &[u8]) -> io::Result<()> {
     match answer {
@@ -34,7 +34,7 @@ pub(crate) fn process_twice<R: AllocGlobal + Print + Sync + Threads>(
 {
     for turn in TURNS {
         let mut reader = FromRead::new(sound);
-        let mut writer = ToWrite::new(Vec::with_capacity(rt.alloc(), MOST_WRITTEN)?);
+        let mut writer = ToWrite::new(Vec::with_capacity(rt.alloc(), MAX_WRITTEN)?);
         print_turn(rt, turn)?;
         let ended = process(rt, &mut reader, &mut writer, design, plan);
         print_end(rt, &ended, writer.into_inner().as_slice())?;

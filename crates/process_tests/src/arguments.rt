@@ -1,8 +1,8 @@
 //! Tests of the words that a program is started with.
 
 use crate::running::status_told;
+use sdf_cli::arguments::{Arguments, read_arguments};
 use sdf_faults::Fault;
-use sdf_cli::arguments::{Arguments, arguments};
 use std::alloc::Global;
 use std::env::{Env, FillError};
 use std::test::Fail;
@@ -47,7 +47,7 @@ fn read_told(alloc: Global, read: &Arguments, words: &[&[u8]]) -> Result<String,
 
 /// Reports on the words that are read of `words`, or returns the exit status.
 fn told<'a>(alloc: Global, words: &'a [&'a [u8]]) -> Result<String, Fail> {
-    match arguments(&Environment { words }, alloc) {
+    match read_arguments(&Environment { words }, alloc) {
         Ok(read) => read_told(alloc, &read, words),
         Err(fault) => status_told(alloc, Fault::from(fault)),
     }

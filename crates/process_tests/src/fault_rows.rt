@@ -1,7 +1,7 @@
 //! The faults that a run can end with, each with its exit status and its text.
 
 use sdf_actor::{NetFault, Side};
-use sdf_graph::{GraphFault, Balance};
+use sdf_graph::{Balance, GraphFault};
 use sdf_prec::{Firing, PrecFault};
 use sdf_run::RunFault;
 use sdf_wav::{FormatFault, WavFault};
@@ -100,7 +100,7 @@ pub(crate) const NETS: &[Row] = &[
     (
         Net(NetFault::Graph(GraphFault::Inconsistent {
             channel: 9,
-            meeting: Balance {
+            balance: Balance {
                 source: 1,
                 puts: 1,
                 target: 2,

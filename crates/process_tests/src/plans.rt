@@ -7,7 +7,7 @@ use sdf_file::{Design, read_design};
 use sdf_options::Options;
 use sdf_plan::parallel::{ParallelPlan, parallel_plan};
 use sdf_plan::planning::plan;
-use sdf_plan::{Plan, Execution};
+use sdf_plan::{Execution, Plan};
 use sdf_run::run_one;
 use std::alloc::Global;
 use std::test::Fail;

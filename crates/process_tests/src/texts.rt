@@ -2,11 +2,11 @@
 
 use crate::fault_rows::{At, DOCUMENTS, Given, NETS, OWN, RUNS, Row, SOUNDS, TABLES, Wrong};
 use crate::running::fault_told;
+use sdf_cli::explanation;
 use sdf_faults::{Fault, Progress, Stalled};
 use sdf_file::{DocumentFault, FileFault, Place};
 use sdf_options::WordFault;
 use sdf_options::printable::printable;
-use sdf_cli::explained;
 use std::alloc::{AllocError, Global};
 use std::test::Fail;
 use test_texts::{row_says, says};
@@ -32,7 +32,7 @@ fn agrees(text: &str, meaning: &str) -> bool {
 
 /// Checks that a text agrees with the explanation of its number.
 fn is_explained(alloc: Global, text: &str) -> Result<(), Fail> {
-    let meaning = explained(alloc, number_of(text))?;
+    let meaning = explanation(alloc, number_of(text))?;
     if agrees(text, meaning.as_str()) {
         return Ok(());
     }
@@ -176,7 +176,7 @@ fn each_fault_has_its_line(rt: HostRuntime) -> Result<(), Fail> {
 
 /// Reports the number that an explanation begins with, and whether it has its parts `means` and `remedy`.
 fn parts_of(alloc: Global, number: u32) -> Result<String, Fail> {
-    let text = explained(alloc, number)?;
+    let text = explanation(alloc, number)?;
     let first = text.split(' ').next();
     let means = text.contains("\nmeans: ");
     let remedy = text.contains("\nremedy: ");
@@ -191,7 +191,7 @@ fn each_fault_is_explained(rt: HostRuntime) -> Result<(), Fail> {
         says(parts_of(alloc, number), &wanted)?;
     }
     says(
-        explained(alloc, 11).map_err(Fail::from),
+        explanation(alloc, 11).map_err(Fail::from),
         "11 BlockingFactor\nmeans: The number of periods in a block is out of range. The program refuses it as a \
          mistake of usage.\nlimits: 1 to 64\nremedy: Change `--blocking`.\n",
     )

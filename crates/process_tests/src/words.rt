@@ -2,9 +2,9 @@
 //! after the last one of a command.
 
 use crate::running::status_told;
+use sdf_cli::{DesignCommand, ParallelWorkers, RunRequest, Why, Words, words};
 use sdf_faults::Fault;
 use sdf_options::Options;
-use sdf_cli::{ParallelWorkers, RunRequest, DesignCommand, Why, Words, words};
 use std::alloc::{AllocError, Global};
 use std::test::Fail;
 use test_texts::{row_says, says};
@@ -160,14 +160,14 @@ const COMMANDS: &[Row] = &[
     (
         "a run to the end",
         "run g i o --open-ended",
-        "Design { graph: \"g\", task: Run(Run { input: \"i\", output: \"o\", options: Options { blocking: 1, \
+        "Design { graph: \"g\", task: Run(RunRequest { input: \"i\", output: \"o\", options: Options { blocking: 1, \
          workers: 1, policy: Round, placement: Homed, runner: One, patience: 1000 }, parallel: None, open_ended: \
          true }), why: AtTerminal }",
     ),
     (
         "a band-pass from its defaults",
         "fir bandpass --rate 9 --pass 1 --stop 2",
-        "Fir { wanted: Wanted { rate: 9, band: Middle { low_stop: 0, low_pass: 0, pass: 1, stop: 2 }, \
+        "Fir { wanted: FilterSpec { rate: 9, band: Middle { low_stop: 0, low_pass: 0, pass: 1, stop: 2 }, \
          attenuation: 96, up: 1, shift: 15 } }",
     ),
     (
@@ -281,7 +281,7 @@ fn command_told(alloc: Global, read: &Words) -> Result<String, Fail> {
     let told = match read {
         Words::Design {
             graph: "g",
-            task: DesignCommand::RunRequest(
+            task: DesignCommand::Run(
                 RunRequest {
                     input: "i",
                     output: "o",

@@ -1,6 +1,6 @@
 //! Tests of what commands print, over files in memory.
 
-use crate::commands::{Row, are_told, told};
+use crate::commands::{Row, expect_rows, told};
 use std::fmt::Display;
 use std::test::Fail;
 use std::thread::Threads;
@@ -263,11 +263,11 @@ const RUNS: &[Row] = &[
 
 #[test]
 fn what_commands_answer(rt: HostRuntime) -> Result<(), Fail> {
-    are_told(&rt, ANSWERS)?;
-    are_told(&rt, HELP)?;
-    are_told(&rt, IN_JSON)?;
-    are_told(&rt, VIEWS)?;
-    are_told(&rt, RUNS)
+    expect_rows(&rt, ANSWERS)?;
+    expect_rows(&rt, HELP)?;
+    expect_rows(&rt, IN_JSON)?;
+    expect_rows(&rt, VIEWS)?;
+    expect_rows(&rt, RUNS)
 }
 
 /// A name, a line, a text, and how often the line's report has it. Counted are line ends (four are not of schedules),

@@ -1,9 +1,9 @@
 //! Tests of runs of several files into a folder.
 
 use crate::commands;
-use crate::commands::{MUTE, Row, TERMINAL, are_told_around};
+use crate::commands::{MUTE, Row, TERMINAL, expect_rows_around};
 use crate::files::{
-    HALVES, PLAIN, are_told, folder, has_bytes, is_gone, path_in, put, served, told, with_files,
+    HALVES, PLAIN, expect_rows, folder, has_bytes, is_gone, path_in, put, served, told, with_files,
 };
 use crate::shelf::{HEADER, SOUND};
 use sdf_io::storage::Disk;
@@ -164,9 +164,9 @@ const UNPRINTED: &[Row] = &[
 
 #[test]
 fn what_batches_tell(rt: HostRuntime) -> Result<(), Fail> {
-    commands::are_told(&rt, BATCHES)?;
-    are_told_around(&rt, TERMINAL, SAID)?;
-    are_told_around(&rt, MUTE, UNPRINTED)
+    commands::expect_rows(&rt, BATCHES)?;
+    expect_rows_around(&rt, TERMINAL, SAID)?;
+    expect_rows_around(&rt, MUTE, UNPRINTED)
 }
 
 /// Lines that would write over a file while it is read, and their reports.
@@ -209,7 +209,7 @@ fn leaves<T: Threads + AllocGlobal + Clock + Clone + Drop + Sync>(
     has_bytes(rt, into, "cut.wav", b"old", line)?;
     has_no_part(rt, into)?;
     put(rt, into, "in.wav.part", PLAIN.as_bytes())?;
-    are_told(&Disk { rt }, threads, above, ITSELF)?;
+    expect_rows(&Disk { rt }, threads, above, ITSELF)?;
     has_bytes(rt, into, "in.wav.part", PLAIN.as_bytes(), line)?;
     has_bytes(rt, above, "in.wav", SOUND, line)
 }

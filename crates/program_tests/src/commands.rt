@@ -1,12 +1,12 @@
 //! Commands over files in memory, and reports on them.
 
 use crate::shelf::{HEADER, NEW_SOUND, SOUND, Shelf, places};
-use sdf_io::files::MOST_BYTES;
+use sdf_cli::arguments::Arguments;
+use sdf_io::files::MAX_BYTES;
 use sdf_io::storage::Storage;
 use sdf_io::world::World;
 use sdf_options::WordFault;
 use sdf_program::program::serve;
-use sdf_cli::arguments::Arguments;
 use std::alloc::{AllocError, Global};
 use std::io::{self, Error, ErrorKind, Write};
 use std::sync::Mutex;
@@ -78,7 +78,7 @@ pub(crate) struct Around<'a> {
 /// Surroundings in which nothing is refused, for constants that differ from them.
 pub(crate) const OPEN_AROUND: Around<'static> = Around {
     stdin: b"",
-    most: MOST_BYTES,
+    most: MAX_BYTES,
     output: None,
     error: None,
     terminal: false,
@@ -251,7 +251,11 @@ fn has(text: &str, wanted: &str) -> bool {
 }
 
 /// Fails if the text `told` is not as `wanted`, with `…` in place of any text, or if there is none.
-pub(crate) fn is_told(name: &str, told: Result<String, Fail>, wanted: &str) -> Result<(), Fail> {
+pub(crate) fn expect_text(
+    name: &str,
+    told: Result<String, Fail>,
+    wanted: &str,
+) -> Result<(), Fail> {
     let text = told?;
     if has(&text, wanted) {
         return Ok(());
@@ -260,21 +264,21 @@ pub(crate) fn is_told(name: &str, told: Result<String, Fail>, wanted: &str) -> R
 }
 
 /// Compares what the words of each row print in these surroundings with the wanted text.
-pub(crate) fn are_told_around<T: Threads + AllocGlobal + Clock + Clone + Drop + Sync>(
+pub(crate) fn expect_rows_around<T: Threads + AllocGlobal + Clock + Clone + Drop + Sync>(
     rt: &T,
     around: &Around<'_>,
     rows: &[Row],
 ) -> Result<(), Fail> {
     for (name, line, wanted) in rows {
-        is_told(name, told_around(rt, around, line), wanted)?;
+        expect_text(name, told_around(rt, around, line), wanted)?;
     }
     Ok(())
 }
 
 /// Compares what the words of each row print with the wanted text.
-pub(crate) fn are_told<T: Threads + AllocGlobal + Clock + Clone + Drop + Sync>(
+pub(crate) fn expect_rows<T: Threads + AllocGlobal + Clock + Clone + Drop + Sync>(
     rt: &T,
     rows: &[Row],
 ) -> Result<(), Fail> {
-    are_told_around(rt, OPEN, rows)
+    expect_rows_around(rt, OPEN, rows)
 }

@@ -1,7 +1,7 @@
 //! Tests of graph files with measured costs: their texts, refusals, and what the program writes where.
 
 use crate::commands;
-use crate::commands::is_told;
+use crate::commands::expect_text;
 use sdf_profile::costed_text;
 use std::test::Fail;
 use std::thread::Threads;
@@ -214,7 +214,7 @@ fn is_written<T: Threads + AllocGlobal + Clock + Clone + Drop + Sync>(
     text: &str,
 ) -> Result<(), Fail> {
     let wanted = format!(in rt.alloc(); "0\nshare in …\n--\n--\n{text}")?;
-    is_told("a file", profiled(rt, "made/measured.toml"), &wanted)
+    expect_text("a file", profiled(rt, "made/measured.toml"), &wanted)
 }
 
 /// Checks that a profile writes `text` to standard output, and prints nothing else.
@@ -223,7 +223,7 @@ fn is_printed<T: Threads + AllocGlobal + Clock + Clone + Drop + Sync>(
     text: &str,
 ) -> Result<(), Fail> {
     let wanted = format!(in rt.alloc(); "0\n{text}--\n--\n")?;
-    is_told("standard output", profiled(rt, "-"), &wanted)
+    expect_text("standard output", profiled(rt, "-"), &wanted)
 }
 
 /// Tests profiles that are written. To a file, refuses another text and lines that are not printed. To standard output,

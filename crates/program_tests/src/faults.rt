@@ -1,6 +1,6 @@
 //! Tests of faults over files in memory: how they are printed, which of two is the first, and what `--why` adds.
 
-use crate::commands::{Row, are_told};
+use crate::commands::{Row, expect_rows};
 use std::test::Fail;
 
 /// Faults and mistakes. Refuses a program that checks without a plan, reports a mistake as a fault, or always ends with
@@ -265,8 +265,8 @@ const UNWRITTEN: &[Row] = &[
 
 #[test]
 fn what_is_told_of_faults(rt: HostRuntime) -> Result<(), Fail> {
-    are_told(&rt, FAULTS)?;
-    are_told(&rt, WHY)?;
-    are_told(&rt, BESIDE)?;
-    are_told(&rt, UNWRITTEN)
+    expect_rows(&rt, FAULTS)?;
+    expect_rows(&rt, WHY)?;
+    expect_rows(&rt, BESIDE)?;
+    expect_rows(&rt, UNWRITTEN)
 }

@@ -1,9 +1,9 @@
 //! Commands over real files.
 
-use crate::commands::{OPEN, Row, Served, given_of, is_told, serve_over};
+use crate::commands::{OPEN, Row, Served, expect_text, given_of, serve_over};
 use crate::shelf::SOUND;
 use sdf_faults::{Fault, fault_text};
-use sdf_io::files::{MOST_BYTES, Sources, bytes_of, load_into};
+use sdf_io::files::{MAX_BYTES, Sources, bytes_of, load_into};
 use sdf_io::storage::{Disk, Storage};
 use std::alloc::{AllocError, Global};
 use std::io::{self, Error, ErrorKind, Read};
@@ -132,14 +132,14 @@ pub(crate) fn told<S: Storage, T: Threads + AllocGlobal + Clock + Clone + Drop +
 }
 
 /// Compares what the line of each row prints in a folder with the wanted text.
-pub(crate) fn are_told<S: Storage, T: Threads + AllocGlobal + Clock + Clone + Drop + Sync>(
+pub(crate) fn expect_rows<S: Storage, T: Threads + AllocGlobal + Clock + Clone + Drop + Sync>(
     storage: &S,
     threads: &T,
     folder: &str,
     rows: &[Row],
 ) -> Result<(), Fail> {
     for (name, line, wanted) in rows {
-        is_told(name, told(storage, threads, folder, line), wanted)?;
+        expect_text(name, told(storage, threads, folder, line), wanted)?;
     }
     Ok(())
 }
@@ -208,7 +208,7 @@ fn are_lacking<T: Threads + AllocGlobal + Clock + Clone + Drop + Sync>(
 ) -> Result<(), Fail> {
     put_texts(rt, folder, WITHOUT_TAPS)?;
     put(rt, folder, "in.wav", SOUND)?;
-    are_told(&Disk { rt }, threads, folder, LACKING)?;
+    expect_rows(&Disk { rt }, threads, folder, LACKING)?;
     has_bytes(rt, folder, "old.wav", b"old", "all")
 }
 
@@ -231,10 +231,10 @@ fn is_made<T: Threads + AllocGlobal + Clock + Clone + Drop + Sync>(
     path: &str,
 ) -> Result<(), Fail> {
     let _ = fs::remove_dir_all(rt, path);
-    are_told(&Disk { rt }, threads, path, MADE)?;
+    expect_rows(&Disk { rt }, threads, path, MADE)?;
     fs::remove_dir_all(rt, path)?;
     fs::create_dir(rt, path)?;
-    are_told(&Disk { rt }, threads, path, MADE)
+    expect_rows(&Disk { rt }, threads, path, MADE)
 }
 
 /// Tests folders of designs. Refuses a folder that is not made or has no design, and one that is there and made again.
@@ -297,7 +297,7 @@ fn loaded(rt: &HostRuntime, path: &str, most: u32) -> Result<String, Fail> {
 /// Returns how many bytes are read of a file of a million.
 fn long_told(alloc: Global) -> Result<String, Fail> {
     let file = vec![in alloc; b'x'; 1_000_000]?;
-    let read = read_told(alloc, file.as_slice(), MOST_BYTES)?;
+    let read = read_told(alloc, file.as_slice(), MAX_BYTES)?;
     format!(in alloc; "{}", read.len()).map_err(Fail::from)
 }
 

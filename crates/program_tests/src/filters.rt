@@ -1,6 +1,6 @@
 //! Tests of the words for filters and converters, over files in memory: each word means what its name says.
 
-use crate::commands::{Row, are_told};
+use crate::commands::{Row, expect_rows};
 use std::test::Fail;
 
 /// Filters. Refuses a line about the taps on standard output, and a fault with another status.
@@ -105,6 +105,6 @@ const CONVERTERS: &[Row] = &[
 
 #[test]
 fn filters_and_converters_are_those_asked_for(rt: HostRuntime) -> Result<(), Fail> {
-    are_told(&rt, FILTERS)?;
-    are_told(&rt, CONVERTERS)
+    expect_rows(&rt, FILTERS)?;
+    expect_rows(&rt, CONVERTERS)
 }

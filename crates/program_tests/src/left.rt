@@ -1,6 +1,6 @@
 //! Tests of what `resample` leaves on a disk that is full: nothing, or files that it names.
 
-use crate::commands::{TERMINAL, given_of, is_told, serve_over};
+use crate::commands::{TERMINAL, expect_text, given_of, serve_over};
 use crate::files::{folder, has_bytes, is_gone, path_in, put, told};
 use sdf_io::storage::{Disk, Storage};
 use std::alloc::Global;
@@ -122,7 +122,7 @@ fn is_refused<T: Threads + AllocGlobal + Clock + Clone + Drop + Sync>(
     name: &str,
     path: &str,
 ) -> Result<(), Fail> {
-    is_told(name, told(full, threads, path, LINE), "5 …sdfw: 48 Write\n")
+    expect_text(name, told(full, threads, path, LINE), "5 …sdfw: 48 Write\n")
 }
 
 /// Writes a converter into `path` on the full disk, and then on one with room.
@@ -132,7 +132,7 @@ fn is_tried_again<T: Threads + AllocGlobal + Clock + Clone + Drop + Sync>(
     path: &str,
 ) -> Result<(), Fail> {
     is_refused(full, threads, full.ending, path)?;
-    is_told("again", told(&full.disk(), threads, path, LINE), "0 …")
+    expect_text("again", told(&full.disk(), threads, path, LINE), "0 …")
 }
 
 /// Checks that a refused converter leaves nothing: no folder that it made, an empty folder that was there before, and
@@ -177,7 +177,7 @@ fn names_what_is_left<T: Threads + AllocGlobal + Clock + Clone + Drop + Sync>(
         room: Some(40),
         keeps: true,
     };
-    is_told(
+    expect_text(
         "what is left",
         told_at_terminal(&full, threads, path),
         "5 …sdfw: 48 Write\n  \"…/graph.toml\": no storage space\n  \"…/graph.toml\": is left, since it can't be \

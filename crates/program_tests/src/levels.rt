@@ -1,6 +1,6 @@
 //! Tests of the levels of a sound that is written in pieces of different lengths.
 
-use sdf_io::output::{Output, Shown};
+use sdf_io::output::{Output, ProgressLine};
 use std::alloc::{AllocError, Global};
 use std::io::{self, Write};
 use std::test::Fail;
@@ -55,13 +55,13 @@ fn sound_of(alloc: Global, outputs: u8, samples: u32) -> Result<Vec<u8>, AllocEr
 fn levels_of(rt: &HostRuntime, sound: &[u8], most: usize) -> Result<String, Fail> {
     let mut to = Narrow { most };
     let mut err = Vec::new(rt.alloc());
-    let shown = Shown {
+    let progress_line = ProgressLine {
         alloc: rt.alloc(),
         err: &mut err,
         clock: rt,
         progress: None,
     };
-    let mut output = Output::new(&mut to, shown, true);
+    let mut output = Output::new(&mut to, progress_line, true);
     output.write_all(sound)?;
     match &output.levels {
         Some(levels) => levels.text(rt.alloc()).map_err(Fail::from),

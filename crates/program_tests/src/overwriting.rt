@@ -1,6 +1,6 @@
 //! Tests that a run leaves the files that it reads as they are, by whatever path OUT leads to them.
 
-use crate::commands::is_told;
+use crate::commands::expect_text;
 use crate::files::{HALVES, has_bytes, make_folder, path_in, put, stand, told, with_files};
 use sdf_io::storage::Disk;
 use std::fs;
@@ -93,7 +93,7 @@ fn are_kept<T: Threads + AllocGlobal + Clock + Clone + Drop + Sync>(
 ) -> Result<(), Fail> {
     put_links(rt, folder)?;
     for (line, wanted) in READ {
-        is_told(line, told(&Disk { rt }, threads, folder, line), wanted)?;
+        expect_text(line, told(&Disk { rt }, threads, folder, line), wanted)?;
         stand(rt, folder, line)?;
     }
     Ok(())
@@ -132,7 +132,7 @@ fn are_written<T: Threads + AllocGlobal + Clock + Clone + Drop + Sync>(
     put(rt, folder, "old.wav", b"old")?;
     put_link(rt, folder, "old.wav", "old-link.wav")?;
     for (line, file) in OTHERS {
-        is_told(line, told(&Disk { rt }, threads, folder, line), "0 ")?;
+        expect_text(line, told(&Disk { rt }, threads, folder, line), "0 ")?;
         has_bytes(rt, folder, file, HALVES, line)?;
         stand(rt, folder, line)?;
     }

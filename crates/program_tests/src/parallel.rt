@@ -1,6 +1,6 @@
 //! Tests of parallel runs, over files in memory.
 
-use crate::commands::{Row, are_told, told};
+use crate::commands::{Row, expect_rows, told};
 use std::test::Fail;
 use std::thread::{Threads, available_parallelism};
 use std::time::Clock;
@@ -162,8 +162,8 @@ fn by_number<T: Threads + AllocGlobal + Clock + Clone + Drop + Sync>(
 /// Tests parallel runs. If no number of workers is given, refuses one that is not the number of processors.
 #[test]
 fn runs_in_parallel(rt: HostRuntime) -> Result<(), Fail> {
-    are_told(&rt, PARALLEL)?;
-    are_told(&rt, REFUSED)?;
+    expect_rows(&rt, PARALLEL)?;
+    expect_rows(&rt, REFUSED)?;
     let wanted = by_number(&rt)?;
     says(
         told(&rt, "run steep.toml silence.wav out.wav --parallel --why"),

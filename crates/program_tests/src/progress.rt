@@ -1,6 +1,6 @@
 //! Tests of how far a run has come, at a terminal, by a clock of their own.
 
-use crate::commands::{Around, OPEN_AROUND, is_told, told_around};
+use crate::commands::{Around, OPEN_AROUND, expect_text, told_around};
 use std::alloc::Global;
 use std::io;
 use std::sync::atomic::{AtomicU64, Ordering};
@@ -107,9 +107,9 @@ const SHOWN: &[Row] = &[
 #[test]
 fn long_runs_are_shown(rt: HostRuntime) -> Result<(), Fail> {
     for (name, step, line, wanted) in SHOWN {
-        is_told(name, told_at(&rt, *step, SLOW_AT_TERMINAL, line), wanted)?;
+        expect_text(name, told_at(&rt, *step, SLOW_AT_TERMINAL, line), wanted)?;
     }
-    is_told(
+    expect_text(
         "a run that is no terminal's",
         told_at(&rt, 4_000, SLOW_PIPED, "run plain.toml - out.wav --why"),
         "0\n--\noutput 0: 6 frames, …",

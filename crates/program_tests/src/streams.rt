@@ -1,14 +1,14 @@
 //! Tests of standard input and output, of closed streams, and of the length limit of files, over files in memory.
 
 use crate::commands::{
-    Around, MUTE, OPEN, OPEN_AROUND, Row, Served, are_told, are_told_around, given_of, is_told,
-    serve_given, told_around,
+    Around, MUTE, OPEN, OPEN_AROUND, Row, Served, expect_rows, expect_rows_around, expect_text,
+    given_of, serve_given, told_around,
 };
 use crate::files::{FILTERED, TAPS};
 use crate::shelf::{PADDED, SOUND};
-use sdf_io::files::MOST_BYTES;
-use sdf_options::WordFault;
 use sdf_cli::arguments::Arguments;
+use sdf_io::files::MAX_BYTES;
+use sdf_options::WordFault;
 use std::alloc::Global;
 use std::io::ErrorKind;
 use std::test::Fail;
@@ -177,12 +177,12 @@ const NOT_TOLD: &[Row] = &[
 
 #[test]
 fn what_stands_on_which_stream(rt: HostRuntime) -> Result<(), Fail> {
-    are_told_around(&rt, SOUND_ON_INPUT, FROM_STREAM)?;
-    are_told(&rt, FROM_FILE)?;
-    are_told_around(&rt, CUT, FROM_CUT)?;
-    are_told_around(&rt, MUTE, NOT_PRINTED)?;
-    are_told_around(&rt, POOR, NOT_STORED)?;
-    are_told_around(&rt, UNTOLD, NOT_TOLD)
+    expect_rows_around(&rt, SOUND_ON_INPUT, FROM_STREAM)?;
+    expect_rows(&rt, FROM_FILE)?;
+    expect_rows_around(&rt, CUT, FROM_CUT)?;
+    expect_rows_around(&rt, MUTE, NOT_PRINTED)?;
+    expect_rows_around(&rt, POOR, NOT_STORED)?;
+    expect_rows_around(&rt, UNTOLD, NOT_TOLD)
 }
 
 /// The report on a check of a design with its coefficient file.
@@ -221,8 +221,8 @@ fn fits<T: Threads + AllocGlobal + Clock + Clone + Drop + Sync>(
     wanted: &str,
 ) -> Result<(), Fail> {
     let most = u32::try_from(longest.len()).unwrap_or(0);
-    is_told(line, told_within(rt, most, line), wanted)?;
-    is_told(
+    expect_text(line, told_within(rt, most, line), wanted)?;
+    expect_text(
         line,
         told_within(rt, most.saturating_sub(1), line),
         "5\n--\nsdfw: 47 Read\n--\n",
@@ -267,13 +267,13 @@ const UNREAD: &[Row] = &[
 
 /// Compares what is reported of words that are not read with the wanted text.
 fn are_unread<T: Threads + AllocGlobal + Clock + Clone + Drop + Sync>(rt: &T) -> Result<(), Fail> {
-    is_told(
+    expect_text(
         "words",
         unread_given(rt, Err(WordFault::OutOfMemory)),
         "6 0 sdfw: 1 OutOfMemory\n",
     )?;
     for (name, line, wanted) in UNREAD {
-        is_told(name, without_last(rt, line), wanted)?;
+        expect_text(name, without_last(rt, line), wanted)?;
     }
     Ok(())
 }
@@ -282,7 +282,7 @@ fn are_unread<T: Threads + AllocGlobal + Clock + Clone + Drop + Sync>(rt: &T) ->
 /// nothing if its words can't be read.
 #[test]
 fn files_and_words_that_are_not_read(rt: HostRuntime) -> Result<(), Fail> {
-    assert_eq!(rt; MOST_BYTES, 1_073_741_824);
+    assert_eq!(rt; MAX_BYTES, 1_073_741_824);
     assert!(rt; TAPS.len() < FILTERED.len() && FILTERED.len() < PADDED.len());
     are_unread(&rt)?;
     for (longest, line, wanted) in LIMITS {

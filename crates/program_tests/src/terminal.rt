@@ -1,7 +1,7 @@
 //! Tests of diagnostics at a terminal and by `--why`, over files in memory.
 
 use crate::commands::{
-    Around, OPEN, OPEN_AROUND, Row, TERMINAL, are_told_around, is_told, told_around,
+    Around, OPEN, OPEN_AROUND, Row, TERMINAL, expect_rows_around, expect_text, told_around,
 };
 use crate::shelf::SOUND;
 use std::alloc::{AllocError, Global};
@@ -154,10 +154,10 @@ const RUN_OF_INPUT_AT_TERMINAL: &[Row] = &[(
 
 #[test]
 fn what_is_told_at_a_terminal(rt: HostRuntime) -> Result<(), Fail> {
-    are_told_around(&rt, TERMINAL, AT_TERMINAL)?;
-    are_told_around(&rt, TERMINAL, FILES_AT_TERMINAL)?;
-    are_told_around(&rt, TERMINAL, RUNS_AT_TERMINAL)?;
-    are_told_around(&rt, SOUND_AT_TERMINAL, RUN_OF_INPUT_AT_TERMINAL)
+    expect_rows_around(&rt, TERMINAL, AT_TERMINAL)?;
+    expect_rows_around(&rt, TERMINAL, FILES_AT_TERMINAL)?;
+    expect_rows_around(&rt, TERMINAL, RUNS_AT_TERMINAL)?;
+    expect_rows_around(&rt, SOUND_AT_TERMINAL, RUN_OF_INPUT_AT_TERMINAL)
 }
 
 /// The bytes of a sound on standard input, and the report.
@@ -297,7 +297,7 @@ fn are_told_of<T: Threads + AllocGlobal + Clock + Clone + Drop + Sync>(
     sounds: &[Sound],
 ) -> Result<(), Fail> {
     for (stdin, wanted) in sounds {
-        is_told(wanted, told_of(rt, stdin, WHY), wanted)?;
+        expect_text(wanted, told_of(rt, stdin, WHY), wanted)?;
     }
     Ok(())
 }
@@ -307,7 +307,7 @@ fn what_is_told_of_sounds(rt: HostRuntime) -> Result<(), Fail> {
     are_told_of(&rt, FORMATS)?;
     are_told_of(&rt, SOUNDS)?;
     let parted = parted(rt.alloc())?;
-    is_told(
+    expect_text(
         "a sound of too many chunks",
         told_of(&rt, &parted, WHY),
         "4\n--\nsdfw: 45 TooLong\n  \"-\": has too many bytes of samples, or over 65,536 chunks before them\n--\n",
@@ -346,7 +346,7 @@ const OPEN_ENDED: &[(&[u8], &str, &str)] = &[
 #[test]
 fn sounds_to_the_end(rt: HostRuntime) -> Result<(), Fail> {
     for (stdin, line, wanted) in OPEN_ENDED {
-        is_told(line, told_of(&rt, stdin, line), wanted)?;
+        expect_text(line, told_of(&rt, stdin, line), wanted)?;
     }
     Ok(())
 }
@@ -359,7 +359,7 @@ const LOUD: &[u8] =
 /// Tests counts of samples at full scale. Refuses a program that counts none, all outputs together, or one sign alone.
 #[test]
 fn samples_at_full_scale(rt: HostRuntime) -> Result<(), Fail> {
-    is_told(
+    expect_text(
         "levels",
         told_of(&rt, LOUD, "run both.toml - out.wav --why"),
         "0\n--\noutput 0: 2 frames, peak 0.0 dB, 1 sample at full scale\n\

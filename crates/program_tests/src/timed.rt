@@ -1,6 +1,6 @@
 //! Tests of a profile by a clock of their own: which actor's firings the time is counted for, and in what figures.
 
-use crate::commands::{is_told, told};
+use crate::commands::{expect_text, told};
 use crate::costs::MEASURED;
 use std::alloc::{AllocError, Global};
 use std::sync::atomic::{AtomicBool, AtomicU64, Ordering};
@@ -102,7 +102,7 @@ fn profiles_by_a_clock(rt: HostRuntime) -> Result<(), Fail> {
          cost in 3\ncost out 1\n--\n--\nfalse",
     )?;
     let wanted = text_by_clock(rt.alloc())?;
-    is_told(
+    expect_text(
         "costs that are written",
         told_by_clock(&rt, "profile commented.toml in.wav --write -"),
         &wanted,

@@ -15,13 +15,13 @@ use std::test::Fail;
 use std::thread::Threads;
 use test_actors::gates::Delay;
 
-/// A net and its runs: `blocks` blocks of `factor` periods, with each of `workers` and of `modes`. The input is the
+/// A net and its runs: `blocks` blocks of `blocking` periods, with each of `workers` and of `modes`. The input is the
 /// numbers of `samples.0..samples.1`, then zeros. Firings whose number is a multiple of `every` are held up for at most
 /// `turns` turns. This is longer than a firing takes.
 #[derive(Clone, Copy)]
 struct Row {
     net: Worked,
-    factor: u32,
+    blocking: u32,
     blocks: u32,
     samples: (i32, i32),
     workers: &'static [usize],
@@ -44,7 +44,7 @@ const CREWS: &[usize] = &[1, 2, 3, 16];
 /// Two periods of a small net, with short holds.
 const SMALL: Row = Row {
     net: BLOCKS,
-    factor: 1,
+    blocking: 1,
     blocks: 2,
     samples: (1, 13),
     workers: CREWS,
@@ -69,7 +69,7 @@ const NETS: &[Row] = &[
     },
     Row {
         net: Worked::Turned,
-        factor: 3,
+        blocking: 3,
         blocks: 3,
         samples: (1, 19),
         workers: &[2],
@@ -124,7 +124,7 @@ const CONVERTERS: &[Row] = &[
     },
     CONVERTER,
     Row {
-        factor: 2,
+        blocking: 2,
         blocks: 1,
         samples: (0, 148),
         workers: &[3],
@@ -224,7 +224,7 @@ fn by_each_crew<R: Threads + AllocGlobal + Sync, A: Actor<Token = i32>>(
     row: &Row,
 ) -> Result<(), Fail> {
     for workers in row.workers {
-        let table = planned(rt.alloc(), net, row.factor, *workers, true)?;
+        let table = planned(rt.alloc(), net, row.blocking, *workers, true)?;
         let held = if row.turns == 0 { 0 } else { *workers };
         by_one_crew(rt, net, &table, row, held)?;
     }

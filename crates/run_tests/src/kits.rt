@@ -40,7 +40,7 @@ fn kit(alloc: Global, part: Part) -> Result<Node<Kit>, Fail> {
         Add(ways) => inner(Kit::add(ways)),
         Deal(ways, run) => inner(Kit::deal(ways, run)),
         Fork(ways) => inner(Kit::fork(ways)),
-        Gain(factor, shift) => inner(Kit::gain(factor, shift)),
+        Gain(amount, shift) => inner(Kit::gain(amount, shift)),
         Gather(ways, run) => inner(Kit::gather(ways, run)),
         Ones(up, down) => ones(alloc, up, down),
     }

@@ -97,14 +97,14 @@ const IN_A_ROW: Hold<'static> = Hold {
     ..THREE
 };
 
-/// A net and its run: `blocks` blocks of `factor` periods, on the numbers of `samples.0..samples.1`. If `blocks` is
+/// A net and its run: `blocks` blocks of `blocking` periods, on the numbers of `samples.0..samples.1`. If `blocks` is
 /// `None`, a session is fed these samples twice. `in_vain` says whether `hold` is given up, and `pause` for how many
 /// turns the first firing of actor 1 is held, too. `told` gives the firings held in vain, and those out of turn.
 #[derive(Clone, Copy)]
 struct Row {
     name: &'static str,
     net: Worked,
-    factor: u32,
+    blocking: u32,
     workers: usize,
     mode: Mode,
     blocks: Option<u32>,
@@ -119,7 +119,7 @@ struct Row {
 const TWO_BLOCKS: Row = Row {
     name: "",
     net: Worked::Dealt,
-    factor: 1,
+    blocking: 1,
     workers: 2,
     mode: PATIENT,
     blocks: Some(2),
@@ -255,7 +255,7 @@ const ROWS: &[Row] = &[
         name: "firings in a row go at once, both before the first puts its block: for firings one by one, as by \
                an `in_one_run` that is 0",
         net: Worked::Pair(2, 1, &[]),
-        factor: 2,
+        blocking: 2,
         blocks: Some(1),
         samples: (1, 5),
         hold: IN_A_ROW,
@@ -336,7 +336,7 @@ fn run<R: Threads + AllocGlobal + Sync, A: Actor<Token = i32>>(
     row: &Row,
     gate: &Slow,
 ) -> Result<(), Fail> {
-    let table = planned(rt.alloc(), net, row.factor, row.workers, true)?;
+    let table = planned(rt.alloc(), net, row.blocking, row.workers, true)?;
     run_by_table(rt, net, &table, row, gate)
 }
 

@@ -9,7 +9,7 @@ ghost use Rattle.sdf_prec.specs.BlockTables.{IsBlockTableOf};
 use sdf_actor::{Actor, Link, Net, Node};
 use sdf_node::Gate;
 use sdf_prec::hu::hu;
-use sdf_prec::{BlockTable, Costs, Table, Columns};
+use sdf_prec::{BlockTable, Columns, Costs, Table};
 use sdf_run::{Mode, Ran, RunFault, Session, Workers, run_one, run_rings, run_rows};
 use sdf_sched::class_s::class_s;
 use sdf_sched::{Period, Round};
@@ -111,7 +111,7 @@ pub(crate) fn planned<A: Actor>(
     homed: bool,
 ) -> Result<BlockTable, Fail>
     ensures fits { IfOk result (IsBlockTableOf (rates (graph_of A.steps net.now))) }
-    ensures factor { IfOk result (λ table. table.factor ≡ j) }
+    ensures blocking { IfOk result (λ table. table.blocking ≡ j) }
 {
     let period = class_s(alloc, net.graph(), net.repetitions(), &mut Round::new())?;
     let costs = Costs::unit(alloc, net.graph())?;
@@ -119,7 +119,7 @@ pub(crate) fn planned<A: Actor>(
     let table = hu(alloc, net.graph(), &period, j, team, &costs)?;
     Ok(BlockTable {
         period,
-        factor: j,
+        blocking: j,
         table,
     })
 }
@@ -132,14 +132,14 @@ pub(crate) fn in_runs<A: Actor>(
     home: usize,
 ) -> Result<BlockTable, Fail>
     ensures fits { IfOk result (IsBlockTableOf (rates (graph_of A.steps net.now))) }
-    ensures factor { IfOk result (λ table. table.factor ≡ 2) }
+    ensures blocking { IfOk result (λ table. table.blocking ≡ 2) }
 {
     let period = class_s(alloc, net.graph(), net.repetitions(), &mut Round::new())?;
     let homes = vec![in alloc; Some(home); net.len()]?;
     let table = Table::by_homes_in_runs(alloc, net.graph(), &period, 2, 3, &homes)?;
     Ok(BlockTable {
         period,
-        factor: 2,
+        blocking: 2,
         table,
     })
 }
@@ -217,7 +217,7 @@ fn by_workers<R: Threads + AllocGlobal + Sync, A: Actor<Token = i32>, G: Gate>(
     requires fits { IsBlockTableOf (rates (graph_of A.steps net.now)) table.now }
 {
     let ran = run_by(rt, net, table, times, inputs, gate)?;
-    let periods = u64::from(table.factor).wrapping_mul(u64::from(times.blocks));
+    let periods = u64::from(table.blocking).wrapping_mul(u64::from(times.blocks));
     let firings = periods.wrapping_mul(table.period.order().len() as u64);
     let few = 1 <= ran.rounds && ran.rounds <= firings;
     if few || matches!(times.mode, Mode::Rows) {
@@ -237,7 +237,7 @@ pub(crate) fn make_as_one<R: Threads + AllocGlobal + Sync, A: Actor<Token = i32>
 ) -> Result<(), Fail>
     requires fits { IsBlockTableOf (rates (graph_of A.steps net.now)) table.now }
 {
-    let periods = table.factor.wrapping_mul(times.blocks);
+    let periods = table.blocking.wrapping_mul(times.blocks);
     let one = by_one(rt.alloc(), net, &table.period, periods, inputs)?;
     says(
         by_workers(rt, net, table, times, inputs, gate),

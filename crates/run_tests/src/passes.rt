@@ -95,7 +95,7 @@ type Row = (&'static str, Kind, Mode);
 
 fn table<A: Actor>(alloc: Global, net: &Net<A>, kind: Kind) -> Result<BlockTable, Fail>
     ensures fits { IfOk result (IsBlockTableOf (rates (graph_of A.steps net.now))) }
-    ensures factor { IfOk result (λ table. table.factor ≡ 2) }
+    ensures blocking { IfOk result (λ table. table.blocking ≡ 2) }
 {
     match kind {
         Kind::Free(workers) => planned(alloc, net, 2, workers, false),

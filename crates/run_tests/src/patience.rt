@@ -95,14 +95,14 @@ impl Gate for Held {
     }
 }
 
-/// A net and its run: `blocks` blocks of `factor` periods, on the numbers of `samples.0..samples.1` and `zeros` zeros.
-/// If `homed`, each actor has all its firings on one worker. The report gives the length of each output list and the
-/// start of the first, or the fault. It gives the rounds, too, if they are below `rounds.0` or above `rounds.1`.
+/// A net and its run: `blocks` blocks of `blocking` periods, on the numbers of `samples.0..samples.1` and `zeros`
+/// zeros. If `homed`, each actor has all its firings on one worker. The report gives the length of each output list and
+/// the start of the first, or the fault. It gives the rounds, too, if they are below `rounds.0` or above `rounds.1`.
 #[derive(Clone, Copy)]
 struct Row {
     name: &'static str,
     net: Worked,
-    factor: u32,
+    blocking: u32,
     workers: usize,
     homed: bool,
     mode: Mode,
@@ -133,7 +133,7 @@ const TOO_PATIENT: Mode = Mode::Rings {
 const TWO_SAMPLES: Row = Row {
     name: "",
     net: Worked::Pair(1, 1, &[7]),
-    factor: 1,
+    blocking: 1,
     workers: 2,
     homed: true,
     mode: PATIENT,
@@ -248,7 +248,7 @@ const ROWS: &[Row] = &[
     },
     Row {
         name: "a block of two periods",
-        factor: 2,
+        blocking: 2,
         blocks: 1,
         rounds: (7, 7),
         ..BY_ROWS
@@ -309,7 +309,7 @@ const ROWS: &[Row] = &[
     Row {
         name: "how long a block of two periods of the converter is",
         net: Worked::Converter,
-        factor: 2,
+        blocking: 2,
         workers: 3,
         mode: IMPATIENT,
         blocks: 1,
@@ -398,7 +398,7 @@ fn told<R: Threads + AllocGlobal + Sync, A: Actor<Token = i32>>(
     net: &Net<A>,
     row: &Row,
 ) -> Result<String, Fail> {
-    let table = planned(rt.alloc(), net, row.factor, row.workers, row.homed)?;
+    let table = planned(rt.alloc(), net, row.blocking, row.workers, row.homed)?;
     told_by(rt, net, &table, row)
 }
 

@@ -182,22 +182,22 @@ fn made_by<R: Threads + AllocGlobal + Sync, A: Actor<Token = i64>>(
 ) -> Result<String, Fail>
     requires fits { IsBlockTableOf (rates (graph_of A.steps net.now)) table.now }
 {
-    let many = net.samples_in().wrapping_mul(table.factor as usize);
+    let many = net.samples_in().wrapping_mul(table.blocking as usize);
     let inputs = ones(rt.alloc(), many)?;
     let mut session = Session::open(rt.alloc(), net, table, mode)?;
     let ran = session.feed(rt, &inputs, &NoGate)?;
     report(rt.alloc(), &ran.outputs, session.close()?.rounds)
 }
 
-/// Calls `made_by` for a block of `factor` periods and a session of `workers` workers.
+/// Calls `made_by` for a block of `blocking` periods and a session of `workers` workers.
 fn made_of_a_block<R: Threads + AllocGlobal + Sync, A: Actor<Token = i64>>(
     rt: &R,
     net: &Net<A>,
-    factor: u32,
+    blocking: u32,
     workers: usize,
     mode: Mode,
 ) -> Result<String, Fail> {
-    let table = planned(rt.alloc(), net, factor, workers, true)?;
+    let table = planned(rt.alloc(), net, blocking, workers, true)?;
     made_by(rt, net, &table, mode)
 }
 
@@ -226,19 +226,25 @@ const BEGUN: &[(&str, u32, u32, Mode, &str)] = &[
 fn made_of_begun<R: Threads + AllocGlobal + Sync>(
     rt: &R,
     block: u32,
-    factor: u32,
+    blocking: u32,
     mode: Mode,
 ) -> Result<String, Fail> {
     let many = vec![in rt.alloc(); 7i64; 65_536]?;
-    made_of_a_block(rt, &pair(rt.alloc(), block, block, &many)?, factor, 1, mode)
+    made_of_a_block(
+        rt,
+        &pair(rt.alloc(), block, block, &many)?,
+        blocking,
+        1,
+        mode,
+    )
 }
 
 /// Tests channels that begin with the maximum number of samples. Refuses an out-of-memory fault without an allocation,
 /// as from a `room_of` or a `make_queues` that errs above 66,000. Refuses also a number of rounds that is one too high.
 #[test]
 fn channels_of_many_samples(rt: HostRuntime) -> Result<(), Fail> {
-    for (name, block, factor, mode, wanted) in BEGUN {
-        row_says(name, made_of_begun(&rt, *block, *factor, *mode), wanted)?;
+    for (name, block, blocking, mode, wanted) in BEGUN {
+        row_says(name, made_of_begun(&rt, *block, *blocking, *mode), wanted)?;
     }
     Ok(())
 }

@@ -3,7 +3,7 @@
 use crate::kits::{BLOCKS, PLAIN, Worked};
 use crate::nets::ramp;
 use sdf_actor::{Actor, Net, NetState};
-use sdf_run::{Passage, Ran, RunFault, Spares, feed_one, resume_one, resume_one_in};
+use sdf_run::{Ran, RunFault, RunInputs, SpareMemory, feed_one, resume_one, resume_one_in};
 use sdf_sched::Round;
 use sdf_sched::class_s::class_s;
 use std::alloc::Global;
@@ -49,19 +49,19 @@ fn compare<A: Actor<Token = i32>>(
     alloc: Global,
     net: &Net<A>,
     periods: u32,
-    spares: &mut Spares<i32>,
+    spares: &mut SpareMemory<i32>,
 ) -> Result<String, Fail> {
     let period = class_s(alloc, net.graph(), net.repetitions(), &mut Round::new())?;
     let inputs = ramp(alloc, -10_000, 10_000, 0)?;
     let (_ran, rest) = feed_one(alloc, net, &period, 2, &inputs)?;
-    let passage = Passage {
+    let run_inputs = RunInputs {
         net,
         period: &period,
         periods,
         inputs: &inputs,
     };
     let apart = resume_one(alloc, net, &period, &rest, periods, &inputs);
-    let reused = resume_one_in(alloc, passage, &rest, spares);
+    let reused = resume_one_in(alloc, run_inputs, &rest, spares);
     let text = report(alloc, &reused, &apart);
     if let Ok((made, _left)) = reused {
         spares.give_back(made.outputs);
@@ -70,7 +70,7 @@ fn compare<A: Actor<Token = i32>>(
 }
 
 /// Compares the runs of a row twice, in the same memory.
-fn compare_twice(alloc: Global, row: &Row, spares: &mut Spares<i32>) -> Result<(), Fail> {
+fn compare_twice(alloc: Global, row: &Row, spares: &mut SpareMemory<i32>) -> Result<(), Fail> {
     let (name, worked, periods, wanted) = row;
     let net = worked.net(alloc)?;
     row_says(name, compare(alloc, &net, *periods, spares), wanted)?;
@@ -80,7 +80,7 @@ fn compare_twice(alloc: Global, row: &Row, spares: &mut Spares<i32>) -> Result<(
 #[test]
 fn runs_in_the_memory_of_others(rt: HostRuntime) -> Result<(), Fail> {
     let alloc = rt.alloc();
-    let mut spares = Spares::none(alloc);
+    let mut spares = SpareMemory::none(alloc);
     for row in ROWS {
         compare_twice(alloc, row, &mut spares)?;
     }

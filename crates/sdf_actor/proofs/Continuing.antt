@@ -8,17 +8,17 @@ use Rattle.sdf_graph.specs.Periods.{Divides}
 use Rattle.sdf_graph.specs.Rates.{sum_to}
 use Rattle.sdf_actor.specs.declared.node.Node.{Node}
 use Rattle.sdf_actor.specs.declared.node.Node.TheVariants.{Source, Sink, Inner}
-use Rattle.sdf_actor.specs.declared.rest.NetState.{NetState}
-use Rattle.sdf_actor.specs.Begun.{BeginsIn}
+use Rattle.sdf_actor.specs.declared.net_state.NetState.{NetState}
+use Rattle.sdf_actor.specs.Resumed.{BeginsIn}
 use Rattle.sdf_actor.specs.Histories.{AnswersAgree, taken_before}
 use Rattle.sdf_actor.specs.Nets.{Wire, Netlist, no_wire, wire, node, inputs_of, outputs_of, consumed_at, produced_at}
 use Rattle.sdf_actor.specs.Nets.{cycle_of, from_port, to_port, wiring, answers, answer_of, arrived, IsHistoryOf}
 use Rattle.sdf_actor.specs.Nets.{SourceReaches, InputsReach}
 use Rattle.sdf_actor.specs.Steps.{Steps, phase, state_from, state_after}
-use Rattle.sdf_actor.specs.Rests.{state_left, Leaves, IsNodeIn, AreJoined}
+use Rattle.sdf_actor.specs.NetStates.{state_left, Leaves, IsResumedNode, AreJoined}
 use Rattle.sdf_actor.specs.GoingOn.{GoesOn, in_all}
 use Rattle.sdf_actor.proofs.Agree.{length_taken_before}
-use Rattle.sdf_actor.proofs.BegunGraphs.{held_as_many}
+use Rattle.sdf_actor.proofs.ResumedGraphs.{held_as_many}
 use Rattle.sdf_actor.proofs.GoesOn.{Going, SameWiring, between_past, past_late, goes_on, left_on, arrived_on}
 use Rattle.sdf_actor.proofs.Netlists.{wired, agree, to_port_is}
 
@@ -68,24 +68,24 @@ module _ {A B S T : Type 0} {s : Steps A S T} {r : Steps B S T} {x : A} {now : S
 
 -- the ports and rates of a node that begins in a state
 module _ {A B S T : Type 0} (s : Steps A S T) (r : Steps B S T) (state : Option S) where
-  inputs_same : (x : Node A) (y : Node B) → IsNodeIn s r state x y → inputs_of r y ≡ inputs_of s x
+  inputs_same : (x : Node A) (y : Node B) → IsResumedNode s r state x y → inputs_of r y ≡ inputs_of s x
   inputs_same (Source ext block) y e = ap (inputs_of r) e
   inputs_same (Sink ext block) y e = ap (inputs_of r) e
   inputs_same (Inner x) y (b, now, e, _, same) = ap (inputs_of r) e ∙ same.inputs
 
-  outputs_same : (x : Node A) (y : Node B) → IsNodeIn s r state x y → outputs_of r y ≡ outputs_of s x
+  outputs_same : (x : Node A) (y : Node B) → IsResumedNode s r state x y → outputs_of r y ≡ outputs_of s x
   outputs_same (Source ext block) y e = ap (outputs_of r) e
   outputs_same (Sink ext block) y e = ap (outputs_of r) e
   outputs_same (Inner x) y (b, now, e, _, same) = ap (outputs_of r) e ∙ same.outputs
 
-  consumed_same : (x : Node A) (y : Node B) → IsNodeIn s r state x y → (p i : ℕ) →
+  consumed_same : (x : Node A) (y : Node B) → IsResumedNode s r state x y → (p i : ℕ) →
       consumed_at r y p i ≡ consumed_at s x p i
   consumed_same (Source ext block) y e p i = ap (λ t. consumed_at r t p i) e
   consumed_same (Sink ext block) y e p i = ap (λ t. consumed_at r t p i) e
   consumed_same (Inner x) y (b, now, e, _, same) p i =
       ap (λ t. consumed_at r t p i) e ∙ (λ κ. sum_to (λ j. same.take κ p (j % same.cycle κ)) i)
 
-  produced_same : (x : Node A) (y : Node B) → IsNodeIn s r state x y → (p i : ℕ) →
+  produced_same : (x : Node A) (y : Node B) → IsResumedNode s r state x y → (p i : ℕ) →
       produced_at r y p i ≡ produced_at s x p i
   produced_same (Source ext block) y e p i = ap (λ t. produced_at r t p i) e
   produced_same (Sink ext block) y e p i = ap (λ t. produced_at r t p i) e
@@ -212,7 +212,7 @@ module _ {A B S T : Type 0} {s : Steps A S T} {r : Steps B S T} {n : Netlist A T
         answers s n all a (before a ++ past) now ≡ answers r m later a past now
     late a past now l _ = go (node n a) (node m a) (λ _. node n a) (h.begins.each a l)
       where
-        go : (x : Node A) (y : Node B) → node n a ≡ x → IsNodeIn s r (get_or rest.states.items a None) x y →
+        go : (x : Node A) (y : Node B) → node n a ≡ x → IsResumedNode s r (get_or rest.states.items a None) x y →
             answer_of s all x (before a ++ past) now ≡ answer_of r later y past now
         go (Source ext block) y e is =
             let read : length (get_or first ext []) ≡ block * k a = h.read a ext block l e in
@@ -254,11 +254,11 @@ module _ {A B S T : Type 0} {s : Steps A S T} {r : Steps B S T} {n : Netlist A T
       at_end a l = left.states a (subst (λ j. a < j) (sym h.begins.nodes) l)
 
       at : (a : ℕ) → a < length n.nodes → (x : Node A) → node n a ≡ x →
-          IsNodeIn s r (get_or rest.states.items a None) (node n a) (node m a) →
+          IsResumedNode s r (get_or rest.states.items a None) (node n a) (node m a) →
           get_or last.states.items a None ≡ state_left s (node n a) (over a)
-      at a l x is each = go x is (subst (λ y. IsNodeIn s r (get_or rest.states.items a None) y (node m a)) is each)
+      at a l x is each = go x is (subst (λ y. IsResumedNode s r (get_or rest.states.items a None) y (node m a)) is each)
         where
-          go : (x : Node A) → node n a ≡ x → IsNodeIn s r (get_or rest.states.items a None) x (node m a) →
+          go : (x : Node A) → node n a ≡ x → IsResumedNode s r (get_or rest.states.items a None) x (node m a) →
               get_or last.states.items a None ≡ state_left s (node n a) (over a)
           go (Source ext block) is there =
               at_end a l ∙ (ap (λ y. state_left r y (taken_before (wiring r m) U a (i a))) there ∙

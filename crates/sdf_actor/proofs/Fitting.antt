@@ -7,11 +7,11 @@ use Rattle.std.proofs.lemmas.List.{get_or_append_left, get_or-append_right, leng
 use Rattle.sdf_graph.specs.Periods.{Divides}
 use Rattle.sdf_actor.specs.declared.node.Node.{Node}
 use Rattle.sdf_actor.specs.declared.node.Node.TheVariants.{Source, Sink, Inner}
-use Rattle.sdf_actor.specs.declared.rest.NetState.{NetState}
-use Rattle.sdf_actor.specs.Begun.{beginning, BeginsIn, MayBegin}
+use Rattle.sdf_actor.specs.declared.net_state.NetState.{NetState}
+use Rattle.sdf_actor.specs.Resumed.{steps_from, BeginsIn, MayBegin}
 use Rattle.sdf_actor.specs.Histories.{taken_before}
 use Rattle.sdf_actor.specs.Nets.{Netlist, node, wiring, inputs_of, consumed_at, cycle_of, IsNet}
-use Rattle.sdf_actor.specs.Rests.{AreWhole, state_left, IsRest}
+use Rattle.sdf_actor.specs.NetStates.{AreWhole, state_left, IsNetState}
 use Rattle.sdf_actor.specs.Steps.{Steps, phase, total_in, total_out, state_after, PutsFit}
 use Rattle.sdf_actor.proofs.Agree.{length_taken_before}
 use Rattle.sdf_actor.proofs.Continuing.{phases, state_on}
@@ -24,7 +24,7 @@ module _ {A S T : Type 0} (s : Steps A S T) (x : A) (fits : PutsFit s x) (before
   abbrev state : S
   state = state_after s x before
 
-  same : BeginsIn s (beginning s state) x state x
+  same : BeginsIn s (steps_from s state) x state x
   same = record {
     inputs = refl;
     outputs = refl;
@@ -53,11 +53,11 @@ module _ {A S T : Type 0} (s : Steps A S T) (x : A) (fits : PutsFit s x) (before
           (each (i - length before) (omega (arith, length-append before past)) ∙
           ap (total_in s x) (sym (turn (i - length before)) ∙ ap (phase s x) at))
 
-  pub fits_on : PutsFit (beginning s (state_after s x before)) x
+  pub fits_on : PutsFit (steps_from s (state_after s x before)) x
   fits_on past now each size =
       let at : phase s x (length (before ++ past)) ≡ phase s x (length past) =
       ap (phase s x) (length-append before past) ∙ turn (length past) in
-      let reached : state_after s x (before ++ past) ≡ state_after (beginning s state) x past =
+      let reached : state_after s x (before ++ past) ≡ state_after (steps_from s state) x past =
       state_on same (length before) whole before past refl refl in
       (λ κ. length (s.puts x (sym at κ) (sym reached κ) now)) ∙
       (fits (before ++ past) now (all_sized past each) (size ∙ ap (total_in s x) (sym at)) ∙
@@ -65,7 +65,7 @@ module _ {A S T : Type 0} (s : Steps A S T) (x : A) (fits : PutsFit s x) (before
 
 -- so it is in a net after whole periods
 module _ {A S T : Type 0} {s : Steps A S T} {n : Netlist A T} (good : IsNet s n) {inputs : List (List T)} {k : ℕ → ℕ}
-    (whole : AreWhole s n k) {rest : NetState T S} (is : IsRest s n inputs k rest) (fits : (x : A) → PutsFit s x)
+    (whole : AreWhole s n k) {rest : NetState T S} (is : IsNetState s n inputs k rest) (fits : (x : A) → PutsFit s x)
     (a : ℕ) (known : a < length n.nodes) where
   open is use {history, is as r, left}
 

@@ -15,6 +15,6 @@ mod Dealt
 mod GoesOn
 mod Continuing
 mod Fitting
-mod BegunGraphs
+mod ResumedGraphs
 mod WholePeriods
 pub mod Theorems

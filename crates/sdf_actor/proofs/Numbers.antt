@@ -7,7 +7,7 @@ use Rattle.std.proofs.lemmas.Bool.{lt-leb, lt-ltb, eq-eqb, ne_eqb}
 use Rattle.std.proofs.Math.Bool.{and-false, and-true}
 use Rattle.std.proofs.lemmas.List.FromFn.{length-map-range_with_len, get_or-map-range_with_len}
 use Rattle.std.proofs.lemmas.List.Sums.{get_or-le-sum_by, sum_by-cons}
-use Rattle.sdf_graph.specs.Rates.{Edge, channel, no_channel, cycle_among}
+use Rattle.sdf_graph.specs.Rates.{ChannelValue, channel, no_channel, cycle_length}
 use Rattle.sdf_graph.specs.Faults.{are_small, are_rates, is_within, is_cycle, has_rates, joins_actors, channel_fault}
 use Rattle.sdf_graph.specs.Faults.{channels_fault, numbers_fault, or_else, IsFirstFault}
 use Rattle.sdf_graph.specs.declared.fault.GraphFault.{GraphFault}
@@ -84,7 +84,7 @@ module _ {A S T : Type 0} (s : Steps A S T) (side : Side) (x : Node A) (p : ℕ)
 -- the cycle that the channels of a net give to a node that is an end of one of them
 among : {A S T : Type 0} (s : Steps A S T) (nodes : List (Node A)) (ws : List (Wire T)) (a c : ℕ) → c < length ws →
     ((get_or ws c no_wire).from.0 ≡ a) ⊎ ((get_or ws c no_wire).to.0 ≡ a) →
-    cycle_among (map (channel_of s nodes) ws) a ≡ cycle_of s (get_or nodes a (Sink 0 0))
+    cycle_length (map (channel_of s nodes) ws) a ≡ cycle_of s (get_or nodes a (Sink 0 0))
 among s nodes [] a c l end = absurd (omega arith)
 among {T = T} s nodes (w ∷ ws) a c l end =
     go (cases_eq w.from.0 a) (cases_eq w.to.0 a) c l end (λ d h e. among s nodes ws a d h e)
@@ -92,8 +92,8 @@ among {T = T} s nodes (w ∷ ws) a c l end =
     go : (w.from.0 ≡ a) ⊎ (w.from.0 ≡ a → ⊥) → (w.to.0 ≡ a) ⊎ (w.to.0 ≡ a → ⊥) → (c : ℕ) → c < length (w ∷ ws) →
         ((get_or (w ∷ ws) c no_wire).from.0 ≡ a) ⊎ ((get_or (w ∷ ws) c no_wire).to.0 ≡ a) →
         ((d : ℕ) → d < length ws → ((get_or ws d no_wire).from.0 ≡ a) ⊎ ((get_or ws d no_wire).to.0 ≡ a) →
-        cycle_among (map (channel_of s nodes) ws) a ≡ cycle_of s (get_or nodes a (Sink 0 0))) →
-        cycle_among (map (channel_of s nodes) (w ∷ ws)) a ≡ cycle_of s (get_or nodes a (Sink 0 0))
+        cycle_length (map (channel_of s nodes) ws) a ≡ cycle_of s (get_or nodes a (Sink 0 0))) →
+        cycle_length (map (channel_of s nodes) (w ∷ ws)) a ≡ cycle_of s (get_or nodes a (Sink 0 0))
     go (inl e) other c l end ih =
         cond-true (eqb w.from.0 a) _ _ (eq-eqb w.from.0 a e) ∙
         (length_rates s Output (get_or nodes w.from.0 (Sink 0 0)) w.from.1
@@ -115,7 +115,7 @@ own_length n xs e = ap (λ b. is_within 1 64 (length xs) && b) (eq-eqb (length x
     ∙ and-true (is_within 1 64 (length xs))
 
 -- the first fault of the numbers of a channel whose ends are nodes, and whose lists are as long as their cycles
-abbrev pub own_fault : ℕ → Edge → Option GraphFault
+abbrev pub own_fault : ℕ → ChannelValue → Option GraphFault
 own_fault c e =
     cond (are_rates e.put && are_rates e.take)
     (cond (is_within 1 64 (length e.put) && is_within 1 64 (length e.take))
@@ -128,24 +128,24 @@ module _ {A S T : Type 0} (s : Steps A S T) (n : Netlist A T) (links : HasLinks 
       channel_fault (length n.nodes) (graph_of s n).channels c (channel (graph_of s n) c) ≡
       own_fault c (channel_of s n.nodes (wire n c))
   fault_here c l =
-      let e : Edge = channel_of s n.nodes (wire n c) in
-      let all : List Edge = (graph_of s n).channels in
+      let e : ChannelValue = channel_of s n.nodes (wire n c) in
+      let all : List ChannelValue = (graph_of s n).channels in
       let joined : joins_actors (length n.nodes) e ≡ true =
       and_from _ _ (lt-ltb (wire n c).from.0 (length n.nodes) (links c l).0.from.0)
       (lt-ltb (wire n c).to.0 (length n.nodes) (links c l).0.to.0) in
-      let put : cycle_among all e.from ≡ length e.put =
+      let put : cycle_length all e.from ≡ length e.put =
       among s n.nodes n.wires e.from c l (inl refl)
       ∙ sym (length_rates s Output (node n e.from) (wire n c).from.1) in
-      let take : cycle_among all e.to ≡ length e.take =
+      let take : cycle_length all e.to ≡ length e.take =
       among s n.nodes n.wires e.to c l (inr refl) ∙ sym (length_rates s Input (node n e.to) (wire n c).to.1) in
       ap (channel_fault (length n.nodes) all c) (channel_here s n c l) ∙
       (cond-true (joins_actors (length n.nodes) e) _ _ joined ∙
       ap (λ b. cond (has_rates e) (cond b (cond (leb e.initial 65536) None (Some (InitialCount c)))
       (Some (CycleLength c))) (Some (BadRate c)))
-      (λ i. own_length (cycle_among all e.from) e.put put i && own_length (cycle_among all e.to) e.take take i))
+      (λ i. own_length (cycle_length all e.from) e.put put i && own_length (cycle_length all e.to) e.take take i))
 
 -- the first fault of a list of channels is that of the first channel that has one
-none_among : (actors : ℕ) (all : List Edge) (k : ℕ) (es : List Edge) →
+none_among : (actors : ℕ) (all : List ChannelValue) (k : ℕ) (es : List ChannelValue) →
     ((i : ℕ) → i < length es → channel_fault actors all (k + i) (get_or es i no_channel) ≡ None) →
     channels_fault actors all k es ≡ None
 none_among actors all k [] none = refl
@@ -156,7 +156,8 @@ none_among actors all k (e ∷ es) none =
     (λ i l. subst (λ j. channel_fault actors all j (get_or es i no_channel) ≡ None) (omega arith)
     (none (suc i) (omega arith)))
 
-first_among : (actors : ℕ) (all : List Edge) (k : ℕ) (es : List Edge) (c : ℕ) (f : GraphFault) → c < length es →
+first_among : (actors : ℕ) (all : List ChannelValue) (k : ℕ) (es : List ChannelValue) (c : ℕ) (f : GraphFault) →
+    c < length es →
     ((i : ℕ) → i < c → channel_fault actors all (k + i) (get_or es i no_channel) ≡ None) →
     channel_fault actors all (k + c) (get_or es c no_channel) ≡ Some f → channels_fault actors all k es ≡ Some f
 first_among actors all k [] c f l before here = absurd (omega arith)
@@ -176,7 +177,7 @@ abbrev is_unjoined : Option GraphFault → Bool
 is_unjoined (Some (NotConnected a)) = true
 is_unjoined o = false
 
-own_of_numbers : (c : ℕ) (e : Edge) → is_unjoined (own_fault c e) ≡ false
+own_of_numbers : (c : ℕ) (e : ChannelValue) → is_unjoined (own_fault c e) ≡ false
 own_of_numbers c e =
     cond_both (are_rates e.put && are_rates e.take) _ _ (λ o. is_unjoined o ≡ false)
     (λ _. cond_both (is_within 1 64 (length e.put) && is_within 1 64 (length e.take)) _ _ (λ o. is_unjoined o ≡ false)

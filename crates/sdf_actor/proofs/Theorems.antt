@@ -3,7 +3,7 @@
 use Rattle.std.proofs.Common.{ℕ, ◌+◌, arith}
 use Rattle.sdf_graph.specs.Rates.{Rates}
 use Rattle.sdf_graph.proofs.Theorems.{graphs_have_periods}
-use Rattle.sdf_actor.specs.GoingOn.{HistoriesGoOn, RestsGoOn, ArrivalsGoOn, PeriodsAreWhole}
+use Rattle.sdf_actor.specs.GoingOn.{HistoriesGoOn, StatesGoOn, ArrivalsGoOn, PeriodsAreWhole}
 use Rattle.sdf_actor.specs.Laws.{HistoryIsUnique, HistoriesGrow, NetsAreWired, PortsHaveChannels, TakenStays}
 use Rattle.sdf_actor.specs.Laws.{PutIsDealt, PutStays, AcceptedIsLawful, RatesBeginAnew, ListsAreBelow, PartsAgree}
 use Rattle.sdf_actor.specs.Laws.{PartsAreBehind, FrontsGoOn, PiecesJoin, PiecesPart, BlocksAreRates}
@@ -78,8 +78,8 @@ periods_are_whole s n q b good shape alike accepted =
 pub histories_go_on : {A B S T : Type 0} (s : Steps A S T) (r : Steps B S T) → HistoriesGoOn s r
 histories_go_on s r n m first later all k i V U rest h = history_goes_on h all
 
-pub rests_go_on : {A B S T : Type 0} (s : Steps A S T) (r : Steps B S T) → RestsGoOn s r
-rests_go_on s r n m first later k i V U rest last h = rest_goes_on h last
+pub states_go_on : {A B S T : Type 0} (s : Steps A S T) (r : Steps B S T) → StatesGoOn s r
+states_go_on s r n m first later k i V U rest last h = rest_goes_on h last
 
 pub arrivals_go_on : {A B S T : Type 0} (s : Steps A S T) (r : Steps B S T) → ArrivalsGoOn s r
 arrivals_go_on s r n m first later k i V U rest h = arrivals_on h

@@ -7,7 +7,8 @@ use Rattle.std.proofs.lemmas.List.{get_or-map, length-map}
 use Rattle.std.proofs.lemmas.List.FromFn.{length-map-range_with_len}
 use Rattle.sdf_graph.specs.Laws.{GraphsHavePeriods}
 use Rattle.sdf_graph.specs.Periods.{IsPeriodVector}
-use Rattle.sdf_graph.specs.Rates.{Shape, Edge, IsShape, IsSound, IsAlike, IsReached, start, along, back, rates, channel}
+use Rattle.sdf_graph.specs.Rates.{GraphValue, ChannelValue, IsShape, IsSound, IsAlike, IsReached, start, along, back}
+use Rattle.sdf_graph.specs.Rates.{rates, channel}
 use Rattle.sdf_graph.specs.Rates.{cycle, no_channel}
 use Rattle.sdf_graph.specs.Sequences.{IsPeriod}
 use Rattle.sdf_actor.specs.declared.node.Node.{Node}
@@ -18,7 +19,7 @@ use Rattle.sdf_actor.specs.Graphs.{graph_of, channel_of, rate_of}
 use Rattle.sdf_actor.specs.NetFaults.{IsAccepted, HasLists}
 use Rattle.sdf_actor.specs.Nets.{Netlist, node, wire, no_wire, wiring, cycle_of, inputs_of, outputs_of, from_port}
 use Rattle.sdf_actor.specs.Nets.{to_port, IsNet}
-use Rattle.sdf_actor.specs.Rests.{AreWhole}
+use Rattle.sdf_actor.specs.NetStates.{AreWhole}
 use Rattle.sdf_actor.specs.Sides.{list_of}
 use Rattle.sdf_actor.specs.Steps.{Steps}
 use Rattle.sdf_actor.proofs.Netlists.{from_port_is, to_port_is, wired}
@@ -52,23 +53,23 @@ as_much f g p q none nothing anew again same (suc b) =
     omega arith
 
 -- an actor at a channel has a cycle of its rates' length
-cycle_at : (g : Shape) → IsShape g → (a many : ℕ) →
+cycle_at : (g : GraphValue) → IsShape g → (a many : ℕ) →
     (c : ℕ) × (c < length g.channels) × ((((channel g c).from ≡ a) × (length (channel g c).put ≡ many))
     ⊎ (((channel g c).to ≡ a) × (length (channel g c).take ≡ many))) → cycle g a ≡ many
 cycle_at g shape a many (c, h, inl here) = ap (cycle g) (sym here.0) ∙ (sym (shape.put c h).all ∙ here.1)
 cycle_at g shape a many (c, h, inr here) = ap (cycle g) (sym here.0) ∙ (sym (shape.take c h).all ∙ here.1)
 
 -- a channel ends at the actor
-abbrev Touches : Shape → ℕ → Type 0
+abbrev Touches : GraphValue → ℕ → Type 0
 Touches g b = (c : ℕ) × (c < length g.channels) × (((channel g c).from ≡ b) ⊎ ((channel g c).to ≡ b))
 
-touched : (g : Shape) (b : ℕ) → IsReached g b → (0 ≡ b) ⊎ Touches g b
+touched : (g : GraphValue) (b : ℕ) → IsReached g b → (0 ≡ b) ⊎ Touches g b
 touched g _ start = inl refl
 touched g _ (along c h r) = inr (c, h, inr refl)
 touched g _ (back c h r) = inr (c, h, inl refl)
 
 -- one ends at actor 0, where that is not alone
-first_touched : (g : Shape) (b : ℕ) → IsReached g b → (0 ≡ b → ⊥) → Touches g 0
+first_touched : (g : GraphValue) (b : ℕ) → IsReached g b → (0 ≡ b → ⊥) → Touches g 0
 first_touched g _ start ne = absurd (ne refl)
 first_touched g _ (along c h r) ne = go (cases_eq 0 (channel g c).from) (first_touched g (channel g c).from r)
   where
@@ -92,18 +93,18 @@ module _ {A S T : Type 0} (s : Steps A S T) (n : Netlist A T) where
   put_long : (c a : ℕ) → c < length n.wires → (channel (graph_of s n) c).from ≡ a →
       length (channel (graph_of s n) c).put ≡ cycle_of s (node n a)
   put_long c a l e =
-      ap (λ (x : Edge). length x.put) (channel_is c l) ∙
+      ap (λ (x : ChannelValue). length x.put) (channel_is c l) ∙
       (length-map-range_with_len (rate_of s Output (node n (wire n c).from.0) (wire n c).from.1) 0
       (cycle_of s (node n (wire n c).from.0)) ∙
-      ap (λ b. cycle_of s (node n b)) (sym (ap (λ (x : Edge). x.from) (channel_is c l)) ∙ e))
+      ap (λ b. cycle_of s (node n b)) (sym (ap (λ (x : ChannelValue). x.from) (channel_is c l)) ∙ e))
 
   take_long : (c a : ℕ) → c < length n.wires → (channel (graph_of s n) c).to ≡ a →
       length (channel (graph_of s n) c).take ≡ cycle_of s (node n a)
   take_long c a l e =
-      ap (λ (x : Edge). length x.take) (channel_is c l) ∙
+      ap (λ (x : ChannelValue). length x.take) (channel_is c l) ∙
       (length-map-range_with_len (rate_of s Input (node n (wire n c).to.0) (wire n c).to.1) 0
       (cycle_of s (node n (wire n c).to.0)) ∙
-      ap (λ b. cycle_of s (node n b)) (sym (ap (λ (x : Edge). x.to) (channel_is c l)) ∙ e))
+      ap (λ b. cycle_of s (node n b)) (sym (ap (λ (x : ChannelValue). x.to) (channel_is c l)) ∙ e))
 
   cycle_here : IsShape (graph_of s n) → (a : ℕ) → Touches (graph_of s n) a →
       cycle (graph_of s n) a ≡ cycle_of s (node n a)
@@ -123,7 +124,7 @@ module _ {A S T : Type 0} (s : Steps A S T) (n : Netlist A T) where
           let low : from_port n a 0 < length n.wires = good.from_all a 0 known port in (
             from_port n a 0,
             omega (arith, wires_all, low),
-            inl (ap (λ (x : Edge). x.from) (channel_is (from_port n a 0) low)
+            inl (ap (λ (x : ChannelValue). x.from) (channel_is (from_port n a 0) low)
                 ∙ (from_port_is s n good a 0 known port).0),
           )
       go (Sink ext block) is =
@@ -131,7 +132,8 @@ module _ {A S T : Type 0} (s : Steps A S T) (n : Netlist A T) where
           let low : to_port n a 0 < length n.wires = good.to_all a 0 known port in (
             to_port n a 0,
             omega (arith, wires_all, low),
-            inr (ap (λ (x : Edge). x.to) (channel_is (to_port n a 0) low) ∙ (to_port_is s n good a 0 known port).0),
+            inr (ap (λ (x : ChannelValue). x.to) (channel_is (to_port n a 0) low)
+                ∙ (to_port_is s n good a 0 known port).0),
           )
       go (Inner x) is = at (touched (graph_of s n) a (shape.connected a known))
         where

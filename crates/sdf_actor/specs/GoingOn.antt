@@ -2,11 +2,11 @@
 use Rattle.std.specs.Prelude.{◌≡◌, ℕ, ◌+◌, ◌*◌, ◌<◌, List, ◌++◌, length, drop, slice_index}
 use Rattle.sdf_graph.specs.Rates.{rates, IsShape, IsAlike}
 use Rattle.sdf_actor.specs.declared.node.Node.TheVariants.{Sink}
-use Rattle.sdf_actor.specs.declared.rest.NetState.{NetState}
+use Rattle.sdf_actor.specs.declared.net_state.NetState.{NetState}
 use Rattle.sdf_actor.specs.Graphs.{graph_of}
 use Rattle.sdf_actor.specs.NetFaults.{IsAccepted}
 use Rattle.sdf_actor.specs.Nets.{Netlist, node, wiring, arrived, IsNet, IsHistoryOf}
-use Rattle.sdf_actor.specs.Rests.{AreWhole, Leaves, BeginsWith, AllRead, AreJoined}
+use Rattle.sdf_actor.specs.NetStates.{AreWhole, Leaves, IsResumedNet, AllRead, AreJoined}
 use Rattle.sdf_actor.specs.Steps.{Steps}
 
 -- V is the history of net n on the lists `first`, after k a firings of each node a. The counts k are whole periods, and
@@ -19,7 +19,7 @@ pub record GoesOn {A B S T : Type 0} (s : Steps A S T) (r : Steps B S T) (n : Ne
   pub before : IsHistoryOf s n first k V
   pub read : AllRead n first k
   pub left : Leaves s n k V rest
-  pub begins : BeginsWith s r n rest m
+  pub begins : IsResumedNet s r n rest m
   pub on : IsHistoryOf r m later i U
 
 -- the whole history of a channel: V, then U without the samples that V left
@@ -35,8 +35,8 @@ HistoriesGoOn {A} {B} {S} {T} s r =
     IsHistoryOf s n all (λ a. k a + i a) (in_all s n V U)
 
 -- in_all leaves what U leaves
-abbrev pub RestsGoOn : {A B S T : Type 0} → Steps A S T → Steps B S T → Type 0
-RestsGoOn {A} {B} {S} {T} s r =
+abbrev pub StatesGoOn : {A B S T : Type 0} → Steps A S T → Steps B S T → Type 0
+StatesGoOn {A} {B} {S} {T} s r =
     (n : Netlist A T) (m : Netlist B T) (first later : List (List T)) (k i : ℕ → ℕ) (V U : ℕ → List T)
     (rest last : NetState T S) →
     GoesOn s r n m first later k i V U rest → Leaves r m i U last → Leaves s n (λ a. k a + i a) (in_all s n V U) last

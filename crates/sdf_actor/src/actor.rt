@@ -3,7 +3,7 @@
 ghost use Rattle.std.specs.Prelude.{◌≡◌, ◌+◌, ◌%◌, ◌<◌, ◌≤◌, ℕ, cond, length, IfOk};
 ghost use Rattle.sdf_actor.specs.Steps.{Steps, total_in, total_out, sum_in, sum_out, state_at, puts_to, PutsFit};
 
-use sdf_limits::MOST_PORTS;
+use sdf_limits::MAX_PORTS;
 use std::alloc::{AllocError, Global};
 
 /// An actor with a cycle of phases. The phase of a firing sets how many samples it takes at each input port and puts on
@@ -21,12 +21,12 @@ pub trait Actor: Sync + Drop {
     /// Returns how many input ports it has. They are numbered from 0.
     fn inputs(&self) -> usize
         ensures value { result ≡ steps.inputs self.now }
-        ensures few { result ≤ MOST_PORTS };
+        ensures few { result ≤ MAX_PORTS };
 
     /// Returns how many output ports it has. They are numbered from 0.
     fn outputs(&self) -> usize
         ensures value { result ≡ steps.outputs self.now }
-        ensures few { result ≤ MOST_PORTS };
+        ensures few { result ≤ MAX_PORTS };
 
     /// Returns how many phases its cycle has: 1 to 64 in a net. Firing `i` is at phase `i` modulo this number.
     fn cycle(&self) -> u32

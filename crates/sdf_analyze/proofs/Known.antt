@@ -12,19 +12,19 @@ use Rattle.sdf_analyze.specs.declared.spans.BlockSpan.{BlockSpan}
 use Rattle.sdf_analyze.specs.Spans.{AreSpans}
 
 module _ (d : DesignValue) (known : List BlockSpan) (are : AreSpans d known) where
-  pub known_is : (periods span : ℕ) (s : Schedule) → IsPeriodOf (rates_of d) s →
-      Contains known (record { periods = periods; span = span }) →
-      IsSpan (rates_of d) (firings_of periods s) (slice_index d.costs) span
-  known_is periods span s is at =
-      subst (λ (b : BlockSpan). IsSpan (rates_of d) (firings_of b.periods s) (slice_index d.costs) b.span) at.2
-      (are at.0 (record { periods = periods; span = span }) at.1 s is)
+  pub known_is : (blocking span : ℕ) (s : Schedule) → IsPeriodOf (rates_of d) s →
+      Contains known (record { blocking = blocking; span = span }) →
+      IsSpan (rates_of d) (firings_of blocking s) (slice_index d.costs) span
+  known_is blocking span s is at =
+      subst (λ (b : BlockSpan). IsSpan (rates_of d) (firings_of b.blocking s) (slice_index d.costs) b.span) at.2
+      (are at.0 (record { blocking = blocking; span = span }) at.1 s is)
 
   -- one span more
-  pub known_more : (periods span : ℕ) (s : Schedule) → IsPeriodOf (rates_of d) s →
-      IsSpan (rates_of d) (firings_of periods s) (slice_index d.costs) span →
-      AreSpans d (known ++ record { periods = periods; span = span } ∷ [])
-  known_more periods span s is its = All-push (λ (b : BlockSpan). (s : Schedule) → IsPeriodOf (rates_of d) s →
-      IsSpan (rates_of d) (firings_of b.periods s) (slice_index d.costs) b.span) known
-      (record { periods = periods; span = span }) are
-      (λ t other. subst (λ reps. IsSpan (rates_of d) (slice_index (block periods reps)) (slice_index d.costs) span)
+  pub known_more : (blocking span : ℕ) (s : Schedule) → IsPeriodOf (rates_of d) s →
+      IsSpan (rates_of d) (firings_of blocking s) (slice_index d.costs) span →
+      AreSpans d (known ++ record { blocking = blocking; span = span } ∷ [])
+  known_more blocking span s is its = All-push (λ (b : BlockSpan). (s : Schedule) → IsPeriodOf (rates_of d) s →
+      IsSpan (rates_of d) (firings_of b.blocking s) (slice_index d.costs) b.span) known
+      (record { blocking = blocking; span = span }) are
+      (λ t other. subst (λ reps. IsSpan (rates_of d) (slice_index (block blocking reps)) (slice_index d.costs) span)
       (one_least_period (rates_of d) s.repetitions t.repetitions is.least other.least) its)

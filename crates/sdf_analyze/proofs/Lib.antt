@@ -1,5 +1,5 @@
 mod Works
-mod Crews
+mod WorkerCounts
 mod Refusals
 mod Sharing
 mod Known

@@ -7,7 +7,7 @@ use Rattle.sdf_actor.specs.Graphs.{graph_of}
 use Rattle.sdf_kit.specs.Kit.{kit_steps}
 use Rattle.sdf_sched.specs.Period.{Schedule}
 use Rattle.sdf_prec.specs.declared.fault.PrecFault.{PrecFault}
-use Rattle.sdf_prec.specs.Tables.{Tabled}
+use Rattle.sdf_prec.specs.Tables.{TableValue}
 use Rattle.sdf_file.specs.Designs.{DesignValue}
 use Rattle.sdf_options.specs.declared.options.Options.{Options}
 use Rattle.sdf_options.specs.declared.options.Placement.{Placement}
@@ -20,8 +20,8 @@ use Rattle.sdf_analyze.specs.declared.columns.Entry.{Entry}
 use Rattle.sdf_analyze.specs.declared.columns.Outcome.{Outcome}
 use Rattle.sdf_analyze.specs.declared.columns.Outcome.TheVariants.{Made, Refused}
 use Rattle.sdf_analyze.specs.declared.periods.Periods.{Periods}
-use Rattle.sdf_analyze.specs.Figures.{Figured, AreFigures}
-use Rattle.sdf_analyze.specs.Analyses.{IsFigured}
+use Rattle.sdf_analyze.specs.Figures.{FiguresValue, AreFigures}
+use Rattle.sdf_analyze.specs.Analyses.{IsAnalysisOf}
 use Rattle.sdf_analyze.specs.Comparisons.{IsOutcome}
 use Rattle.sdf_analyze.specs.Periods.{period_in, AreByPolicies}
 use Rattle.sdf_analyze.specs.Sharing.{ShareTable}
@@ -44,7 +44,7 @@ periods_stay File d asked s order j is = is
 periods_stay Spread d asked s order j is = is
 
 table_stays : (placement : Placement) (policy other : Policy) (d : DesignValue) (j m : ℕ) (s : Schedule)
-    (order : List ℕ) (t : Tabled) → placement ≢ File → IsPlaced placement policy d j m s t →
+    (order : List ℕ) (t : TableValue) → placement ≢ File → IsPlaced placement policy d j m s t →
     IsPlaced placement other d j m (reordered s order) t
 table_stays Hu policy other d j m s order t some is = is
 table_stays Homed policy other d j m s order t some is = is
@@ -58,7 +58,8 @@ fault_stays Homed d j m s order f is = is
 fault_stays File d j m s order f is = is
 fault_stays Spread d j m s order f is = is
 
-figures_stay : (r : Rates) (cost : ℕ → ℕ) (j m : ℕ) (s : Schedule) (order : List ℕ) (t : Tabled) (f : Figured) →
+figures_stay : (r : Rates) (cost : ℕ → ℕ) (j m : ℕ) (s : Schedule) (order : List ℕ) (t : TableValue)
+    (f : FiguresValue) →
     AreFigures r cost j m s t f → AreFigures r cost j m (reordered s order) t f
 figures_stay r cost j m s order t f are = record {
   starts = are.starts;
@@ -73,7 +74,7 @@ figures_stay r cost j m s order t f are = record {
 }
 
 module _ (d : DesignValue) (o : Options) (other : Policy) (s : Schedule)
-    (scheduled : IsScheduleBy other (graph_of kit_steps d.net) s) where
+    (design_schedule : IsScheduleBy other (graph_of kit_steps d.net) s) where
   abbrev by_other : Options
   by_other = record o { policy = other }
 
@@ -82,22 +83,22 @@ module _ (d : DesignValue) (o : Options) (other : Policy) (s : Schedule)
       IsScheduleBy other (graph_of kit_steps d.net) (reordered period s.order)
   as_often policy period is =
       subst (λ q. IsScheduleBy other (graph_of kit_steps d.net) (record { order = s.order; repetitions = q }))
-      (one_least_period (rates (graph_of kit_steps d.net)) s.repetitions period.repetitions scheduled.period.least
+      (one_least_period (rates (graph_of kit_steps d.net)) s.repetitions period.repetitions design_schedule.period.least
       is.period.least)
-      scheduled
+      design_schedule
 
-  figured : (periods : ℕ) (t : Tabled) (f : Figured) → o.placement ≢ File → IsFigured d o periods t f →
-      IsFigured d by_other periods t f
-  figured periods t f some is = record {
+  analysis_of : (periods : ℕ) (t : TableValue) (f : FiguresValue) → o.placement ≢ File → IsAnalysisOf d o periods t f →
+      IsAnalysisOf d by_other periods t f
+  analysis_of periods t f some is = record {
     period = reordered is.period s.order;
-    scheduled = record {
-      sizes = is.scheduled.sizes;
-      by_policy = as_often o.policy is.period is.scheduled.by_policy;
-      blocking = periods_stay o.placement d o.blocking is.period s.order periods is.scheduled.blocking;
+    design_schedule = record {
+      sizes = is.design_schedule.sizes;
+      by_policy = as_often o.policy is.period is.design_schedule.by_policy;
+      blocking = periods_stay o.placement d o.blocking is.period s.order periods is.design_schedule.blocking;
       by_placement = record {
-        size = is.scheduled.by_placement.size;
+        size = is.design_schedule.by_placement.size;
         placed = table_stays o.placement o.policy other d periods o.workers is.period s.order t some
-            is.scheduled.by_placement.placed;
+            is.design_schedule.by_placement.placed;
       };
     };
     are = figures_stay (rates (graph_of kit_steps d.net)) (slice_index d.costs) periods o.workers is.period s.order t f
@@ -120,7 +121,7 @@ module _ (d : DesignValue) (o : Options) (other : Policy) (s : Schedule)
     periods = is.periods;
     table = is.table;
     figures = is.figures;
-    figured = figured is.periods is.table is.figures some is.figured;
+    analysis_of = analysis_of is.periods is.table is.figures some is.analysis_of;
     is = is.is;
   }
   outcome_stays (Refused number) some is = record {
@@ -134,10 +135,10 @@ pub shared_outcome : (d : DesignValue) (entries : List Entry) (o : Options) (s :
     (w : Outcome) → All (λ (e : Entry). IsOutcome d e.options e.outcome) entries →
     IsScheduleBy o.policy (graph_of kit_steps d.net) s →
     (e : Entry) × Contains entries e × ShareTable e.options o × (w ≡ e.outcome) → IsOutcome d o w
-shared_outcome d entries o s w each scheduled found =
+shared_outcome d entries o s w each design_schedule found =
     let e : Entry = found.0 in
     let known : IsOutcome d e.options e.outcome =
     subst (λ (x : Entry). IsOutcome d x.options x.outcome) found.1.2 (each found.1.0 e found.1.1) in
     subst (λ x. IsOutcome d x w) (sym found.2.same)
     (subst (λ x. IsOutcome d (record (e.options) { policy = o.policy }) x) (sym found.3)
-    (outcome_stays d e.options o.policy s scheduled e.outcome found.2.placement known))
+    (outcome_stays d e.options o.policy s design_schedule e.outcome found.2.placement known))

@@ -17,10 +17,10 @@ spaces n = replicate n 32
 
 -- `left` pads a text with spaces behind it, and `right` before it; neither changes a longer text
 abbrev pub left : ℕ → List ℕ → List ℕ
-left places text = text ++ spaces (places - length text)
+left width text = text ++ spaces (width - length text)
 
 abbrev pub right : ℕ → List ℕ → List ℕ
-right places text = spaces (places - length text) ++ text
+right width text = spaces (width - length text) ++ text
 
 -- the value of a schedule in a column
 abbrev pub value_in : Column → Measures → ℕ
@@ -30,28 +30,28 @@ value_in Rows m = m.rows
 value_in Samples m = m.held
 
 -- a greater speedup is better; in other columns a smaller value is, if both blocks have equally many periods
-abbrev pub beats : Column → Measures → Measures → Bool
-beats Speedup a b = nat_lt b.speedup a.speedup
-beats column a b = (a.blocking == b.blocking) && nat_lt (value_in column a) (value_in column b)
+abbrev pub is_better : Column → Measures → Measures → Bool
+is_better Speedup a b = nat_lt b.speedup a.speedup
+is_better column a b = (a.blocking == b.blocking) && nat_lt (value_in column a) (value_in column b)
 
 -- the schedule of an outcome, if there is one, does not beat these measures
-abbrev pub lets : Column → Measures → Outcome → Bool
-lets column m (Made other) = not (beats column other m)
-lets column m (Refused number) = true
+abbrev pub is_unbeaten : Column → Measures → Outcome → Bool
+is_unbeaten column m (Made other) = not (is_better column other m)
+is_unbeaten column m (Refused number) = true
 
 -- no schedule beats these measures
 abbrev pub is_best : List Entry → Column → Measures → Bool
-is_best entries column m = list_all (λ (e : Entry). lets column m e.outcome) entries
+is_best entries column m = list_all (λ (e : Entry). is_unbeaten column m e.outcome) entries
 
 abbrev pub value_text : Column → Measures → List ℕ
 value_text Speedup m = with_point m.speedup
 value_text column m = decimal (value_in column m)
 
-abbrev pub places_of : Column → ℕ
-places_of Makespan = 13
-places_of Speedup = 9
-places_of Rows = 8
-places_of Samples = 15
+abbrev pub width_of : Column → ℕ
+width_of Makespan = 13
+width_of Speedup = 9
+width_of Rows = 8
+width_of Samples = 15
 
 abbrev pub heading : Column → List ℕ
 heading Makespan = codes "makespan"
@@ -62,7 +62,7 @@ heading Samples = codes "samples"
 -- the value, after a star if no schedule has a better one
 unfoldable pub cell : List Entry → Measures → Column → List ℕ
 cell entries m column =
-    right (places_of column) ((if is_best entries column m then codes "*" else []) ++ value_text column m)
+    right (width_of column) ((if is_best entries column m then codes "*" else []) ++ value_text column m)
 
 abbrev pub columns : List Column
 columns = Makespan ∷ Speedup ∷ Rows ∷ Samples ∷ []
@@ -77,7 +77,7 @@ unfoldable pub made_text : List Entry → Measures → List ℕ
 made_text entries m = blocking_text (decimal m.blocking) ++ cells_text entries m
 
 unfoldable pub refused_text : List ℕ → ℕ → List ℕ
-refused_text word number = blocking_text [] ++ right (places_of Makespan) word ++ codes " " ++ decimal number
+refused_text word number = blocking_text [] ++ right (width_of Makespan) word ++ codes " " ++ decimal number
 
 -- the periods of a block and the columns of its schedule, or the number of the fault if there is no schedule
 abbrev pub outcome_text : List Entry → Outcome → List ℕ
@@ -93,7 +93,7 @@ entry_line entries e =
     ++ outcome_text entries e.outcome ++ end
 
 abbrev pub headings_text : List ℕ
-headings_text = flat_map (λ column. right (places_of column) (heading column)) columns
+headings_text = flat_map (λ column. right (width_of column) (heading column)) columns
 
 abbrev pub head_line : List ℕ
 head_line =

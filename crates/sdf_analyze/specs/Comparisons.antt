@@ -1,7 +1,7 @@
 -- The text that the command `analyze --compare` prints.
 use Rattle.std.specs.Prelude.{◌≡◌, ℕ, List, length, map}
 use Rattle.std.specs.List.{All}
-use Rattle.sdf_prec.specs.Tables.{Tabled}
+use Rattle.sdf_prec.specs.Tables.{TableValue}
 use Rattle.sdf_prec.specs.declared.fault.PrecFault.{PrecFault}
 use Rattle.sdf_prec.specs.declared.fault.PrecFault.TheVariants as prec
 use Rattle.sdf_file.specs.Designs.{DesignValue}
@@ -11,14 +11,14 @@ use Rattle.sdf_analyze.specs.declared.columns.Measures.{Measures}
 use Rattle.sdf_analyze.specs.declared.columns.Outcome.{Outcome}
 use Rattle.sdf_analyze.specs.declared.columns.Outcome.TheVariants.{Made, Refused}
 use Rattle.sdf_analyze.specs.declared.columns.Entry.{Entry}
-use Rattle.sdf_analyze.specs.Figures.{Figured}
+use Rattle.sdf_analyze.specs.Figures.{FiguresValue}
 use Rattle.sdf_analyze.specs.Texts.{hundredths}
-use Rattle.sdf_analyze.specs.Analyses.{IsFigured}
+use Rattle.sdf_analyze.specs.Analyses.{IsAnalysisOf}
 use Rattle.sdf_analyze.specs.Ways.{ways}
 use Rattle.sdf_analyze.specs.Columns.{comparison_text}
 
 -- the compared values of a table and its figures, for a block of this many periods
-abbrev pub measures_of : ℕ → Tabled → Figured → Measures
+abbrev pub measures_of : ℕ → TableValue → FiguresValue → Measures
 measures_of periods t f = record {
   blocking = periods;
   makespan = f.makespan;
@@ -44,9 +44,9 @@ number_of (prec.BadCost actor) = 62
 -- the measures of the table that the options give
 pub record IsMade (d : DesignValue) (o : Options) (m : Measures) : Type 0 where
   pub periods : ℕ
-  pub table : Tabled
-  pub figures : Figured
-  pub figured : IsFigured d o periods table figures
+  pub table : TableValue
+  pub figures : FiguresValue
+  pub analysis_of : IsAnalysisOf d o periods table figures
   pub is : m ≡ measures_of periods table figures
 
 -- the options give no table, but a fault with this number
@@ -67,5 +67,5 @@ pub record AreCompared (d : DesignValue) (o : Options) (entries : List Entry) : 
 -- the text is a table with a line for each compared schedule
 pub record IsComparison (d : DesignValue) (o : Options) (text : List ℕ) : Type 0 where
   pub entries : List Entry
-  pub compared : AreCompared d o entries
+  pub comparison_entries : AreCompared d o entries
   pub is : text ≡ comparison_text entries

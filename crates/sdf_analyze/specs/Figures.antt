@@ -3,7 +3,7 @@ use Rattle.std.specs.Prelude.{◌≡◌, ℕ, ◌<◌, List, length, slice_index
 use Rattle.sdf_graph.specs.Rates.{Rates}
 use Rattle.sdf_sched.specs.Period.{Schedule}
 use Rattle.sdf_prec.specs.declared.firing.Firing.{Firing}
-use Rattle.sdf_prec.specs.Tables.{Tabled}
+use Rattle.sdf_prec.specs.Tables.{TableValue}
 use Rattle.sdf_times.specs.Times.{IsInTable, AreStarts, HasStart, start_in, IsMakespan, load_of, work_of, IsSpan}
 use Rattle.sdf_times.specs.Times.{IsBound}
 use Rattle.sdf_file.specs.Designs.{DesignValue}
@@ -11,7 +11,7 @@ use Rattle.sdf_plan.specs.Placements.{rates_of, firings_of}
 
 -- for each actor the times at which its firings start; the time at which the last firing ends; the work, the span and
 -- the bound of the table's block; the load of each column; and the sum of the channels' capacities
-pub record Figured : Type 0 where
+pub record FiguresValue : Type 0 where
   pub starts : List (List ℕ)
   pub makespan : ℕ
   pub work : ℕ
@@ -21,7 +21,8 @@ pub record Figured : Type 0 where
   pub held : ℕ
 
 -- the figures of a table in m columns, for a block of j periods, if each firing of actor a costs: cost a
-pub record AreFigures (r : Rates) (cost : ℕ → ℕ) (j m : ℕ) (s : Schedule) (t : Tabled) (f : Figured) : Type 0 where
+pub record AreFigures (r : Rates) (cost : ℕ → ℕ) (j m : ℕ) (s : Schedule) (t : TableValue)
+    (f : FiguresValue) : Type 0 where
   pub starts : AreStarts r cost t.rows (start_in f.starts)
   pub has : (g : Firing) → IsInTable t.rows g → HasStart f.starts g
   pub makespan : IsMakespan cost t.rows (start_in f.starts) f.makespan
@@ -33,5 +34,5 @@ pub record AreFigures (r : Rates) (cost : ℕ → ℕ) (j m : ℕ) (s : Schedule
   pub held : f.held ≡ sum t.caps
 
 -- the figures of a table of design d
-abbrev pub AreFiguresOf : DesignValue → ℕ → ℕ → Schedule → Tabled → Figured → Type 0
+abbrev pub AreFiguresOf : DesignValue → ℕ → ℕ → Schedule → TableValue → FiguresValue → Type 0
 AreFiguresOf d j m s t f = AreFigures (rates_of d) (slice_index d.costs) j m s t f

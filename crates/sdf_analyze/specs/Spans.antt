@@ -10,4 +10,4 @@ use Rattle.sdf_analyze.specs.declared.spans.BlockSpan.{BlockSpan}
 -- each entry's span is the span of a block of its periods
 abbrev pub AreSpans : DesignValue → List BlockSpan → Type 0
 AreSpans d = All (λ (b : BlockSpan). (s : Schedule) → IsPeriodOf (rates_of d) s →
-    IsSpan (rates_of d) (firings_of b.periods s) (slice_index d.costs) b.span)
+    IsSpan (rates_of d) (firings_of b.blocking s) (slice_index d.costs) b.span)

@@ -5,7 +5,7 @@ use Rattle.sdf_file.specs.Designs.{DesignValue}
 use Rattle.sdf_texts.specs.Texts.{end}
 use Rattle.sdf_texts.specs.Schedules.{link_text}
 use Rattle.sdf_analyze.specs.declared.lines.TheConstants.{SAMPLE_BYTES}
-use Rattle.sdf_analyze.specs.Figures.{Figured}
+use Rattle.sdf_analyze.specs.Figures.{FiguresValue}
 
 -- the first n lines
 abbrev pub lines_to : (ℕ → List ℕ) → ℕ → List ℕ
@@ -23,18 +23,18 @@ with_point n = decimal (n / 100) ++ codes "." ++ decimal (n / 10 % 10) ++ decima
 abbrev pub number_line : List ℕ → ℕ → List ℕ
 number_line word n = word ++ codes " " ++ decimal n ++ end
 
-unfoldable pub time_lines : Figured → List ℕ
+unfoldable pub time_lines : FiguresValue → List ℕ
 time_lines f =
     number_line (codes "makespan") f.makespan ++ number_line (codes "work") f.work
     ++ number_line (codes "span") f.span ++ number_line (codes "bound") f.bound
 
 -- the work over the makespan, and the number of workers
-unfoldable pub speedup_line : Figured → List ℕ
+unfoldable pub speedup_line : FiguresValue → List ℕ
 speedup_line f =
     codes "speedup " ++ with_point (hundredths f.work f.makespan) ++ codes " of " ++ decimal (length f.loads) ++ end
 
 -- the part of the makespan in which worker k fires
-abbrev pub worker_line : Figured → ℕ → List ℕ
+abbrev pub worker_line : FiguresValue → ℕ → List ℕ
 worker_line f k =
     codes "worker " ++ decimal k ++ codes " " ++ decimal (hundredths (slice_index f.loads k) f.makespan)
     ++ codes " %" ++ end
@@ -47,11 +47,11 @@ samples_text n = decimal n ++ codes ", " ++ decimal (n * SAMPLE_BYTES) ++ codes 
 unfoldable pub link_held_line : DesignValue → List ℕ → ℕ → List ℕ
 link_held_line d caps c = codes "capacity " ++ link_text d c ++ codes " " ++ samples_text (slice_index caps c)
 
-unfoldable pub held_line : Figured → List ℕ
+unfoldable pub held_line : FiguresValue → List ℕ
 held_line f = codes "samples held " ++ samples_text f.held
 
 -- the text that `analyze` prints for figures and capacities: times, workers, samples, and the links in file order
-abbrev pub analysis_text : DesignValue → Figured → List ℕ → List ℕ
+abbrev pub analysis_text : DesignValue → FiguresValue → List ℕ → List ℕ
 analysis_text d f caps =
     time_lines f ++ speedup_line f ++ lines_to (worker_line f) (length f.loads) ++ held_line f
     ++ lines_to (link_held_line d caps) (length d.net.wires)

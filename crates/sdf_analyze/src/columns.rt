@@ -2,8 +2,8 @@
 
 ghost use Rattle.std.specs.Prelude.{◌≡◌, ◌++◌, ◌-◌, IfOk, OnOk, length, string_bytes, codes};
 ghost use Rattle.std.specs.List.{flat_map};
-ghost use Rattle.sdf_analyze.specs.Columns.{spaces, left, right, value_in, beats, lets};
-ghost use Rattle.sdf_analyze.specs.Columns.{is_best, value_text, places_of, heading, cell, outcome_text, way_text};
+ghost use Rattle.sdf_analyze.specs.Columns.{spaces, left, right, value_in, is_better, is_unbeaten};
+ghost use Rattle.sdf_analyze.specs.Columns.{is_best, value_text, width_of, heading, cell, outcome_text, way_text};
 ghost use Rattle.sdf_analyze.specs.Columns.{cells_text, blocking_text, made_text, refused_text, entry_line, head_line};
 ghost use Rattle.sdf_analyze.specs.Columns.{headings_text, comparison_text};
 
@@ -59,8 +59,8 @@ impl Column {
 
     /// Checks whether schedule `one` is better in this column than schedule `other`. Except for speedups, blocks are
     /// compared only if they have equal numbers of periods.
-    fn beats(self, one: Measures, other: Measures) -> bool
-        ensures { result ≡ beats self one other }
+    fn is_better(self, one: Measures, other: Measures) -> bool
+        ensures { result ≡ is_better self one other }
     {
         match self {
             Column::Speedup => other.speedup < one.speedup,
@@ -69,11 +69,11 @@ impl Column {
     }
 
     /// Checks whether an entry's schedule, if it has one, is not better in this column than `measures`.
-    fn lets(self, measures: Measures, outcome: Outcome) -> bool
-        ensures { result ≡ lets self measures outcome }
+    fn is_unbeaten(self, measures: Measures, outcome: Outcome) -> bool
+        ensures { result ≡ is_unbeaten self measures outcome }
     {
         match outcome {
-            Outcome::Made(other) => !self.beats(other, measures),
+            Outcome::Made(other) => !self.is_better(other, measures),
             Outcome::Refused(_) => true,
         }
     }
@@ -84,11 +84,11 @@ impl Column {
     {
         entries
             .iter()
-            .all(|entry| self.lets(measures, entry.outcome))
+            .all(|entry| self.is_unbeaten(measures, entry.outcome))
     }
 
-    fn places(self) -> usize
-        ensures { result ≡ places_of self }
+    fn width(self) -> usize
+        ensures { result ≡ width_of self }
     {
         match self {
             Column::Makespan => 13,
@@ -127,19 +127,19 @@ fn push_spaces(text: &mut String, count: usize) -> Result<(), AllocError>
     Ok(())
 }
 
-/// Adds `word`, padded with spaces on its right to `places` bytes.
-fn push_left(text: &mut String, places: usize, word: &str) -> Result<(), AllocError>
-    ensures { OnOk result (string_bytes text.new ≡ string_bytes text.old ++ left places word.now) }
+/// Adds `word`, padded with spaces on its right to `width` bytes.
+fn push_left(text: &mut String, width: usize, word: &str) -> Result<(), AllocError>
+    ensures { OnOk result (string_bytes text.new ≡ string_bytes text.old ++ left width word.now) }
 {
     text.push_str(word)?;
-    push_spaces(text, places.saturating_sub(word.len()))
+    push_spaces(text, width.saturating_sub(word.len()))
 }
 
-/// Adds `word`, padded with spaces on its left to `places` bytes.
-fn push_right(text: &mut String, places: usize, word: &str) -> Result<(), AllocError>
-    ensures { OnOk result (string_bytes text.new ≡ string_bytes text.old ++ right places word.now) }
+/// Adds `word`, padded with spaces on its left to `width` bytes.
+fn push_right(text: &mut String, width: usize, word: &str) -> Result<(), AllocError>
+    ensures { OnOk result (string_bytes text.new ≡ string_bytes text.old ++ right width word.now) }
 {
-    push_spaces(text, places.saturating_sub(word.len()))?;
+    push_spaces(text, width.saturating_sub(word.len()))?;
     text.push_str(word)
 }
 
@@ -173,7 +173,7 @@ fn push_cell(
         word.push_str("*")?;
     }
     push_value(&mut word, measures, column)?;
-    push_right(text, column.places(), word.as_str())
+    push_right(text, column.width(), word.as_str())
 }
 
 /// Adds the cells of all columns for `measures`.
@@ -220,7 +220,7 @@ fn push_refused(text: &mut String, word: &str, number: u32) -> Result<(), AllocE
     ensures { OnOk result (string_bytes text.new ≡ string_bytes text.old ++ refused_text word.now number) }
 {
     push_blocking(text, "")?;
-    push_right(text, Column::Makespan.places(), word)?;
+    push_right(text, Column::Makespan.width(), word)?;
     write!(text, " {number}")?;
     Ok(())
 }
@@ -283,7 +283,7 @@ fn push_headings(text: &mut String) -> Result<(), AllocError>
     ensures { OnOk result (string_bytes text.new ≡ string_bytes text.old ++ headings_text) }
 {
     for column in COLUMNS {
-        push_right(text, column.places(), column.heading())?;
+        push_right(text, column.width(), column.heading())?;
     }
     Ok(())
 }

@@ -7,7 +7,7 @@ ghost use Rattle.sdf_kit.specs.Kit.{kit_steps};
 ghost use Rattle.sdf_prec.specs.declared.fault.PrecFault.{PrecFault};
 ghost use Rattle.sdf_faults.specs.declared.fault.Fault.TheVariants as faults;
 ghost use Rattle.sdf_plan.specs.Plans.{AreSizes, IsScheduleBy, IsScheduleFault};
-ghost use Rattle.sdf_plan.specs.Schedules.{IsShowFault};
+ghost use Rattle.sdf_plan.specs.Schedules.{IsDesignScheduleFault};
 ghost use Rattle.sdf_analyze.specs.declared.columns.Entry.{Entry};
 ghost use Rattle.sdf_analyze.specs.declared.columns.Outcome.TheVariants.{Refused};
 ghost use Rattle.sdf_analyze.specs.Comparisons.{measures_of, number_of, IsMade, IsOutcome, AreCompared, IsComparison};
@@ -30,10 +30,10 @@ use std::alloc::Global;
 
 /// Returns the compared values of `block` and the `figures` of its table.
 fn measures_of(block: &Block, figures: &Figures) -> Measures
-    ensures { result ≡ measures_of block.now.periods block.now.table figures.now }
+    ensures { result ≡ measures_of block.now.blocking block.now.table figures.now }
 {
     Measures {
-        blocking: block.periods,
+        blocking: block.blocking,
         makespan: figures.makespan(),
         speedup: figures.speedup(),
         rows: block.table.rows(),
@@ -75,7 +75,7 @@ fn refusal(fault: Fault) -> Result<Outcome, Fault>
 /// Returns the values of the table that `options` give `period`, which is by their policy. Adds the span of its block
 /// to `spans` if it is not there yet.
 #[tactic(auto, using(crate::proofs::Refusals::memory_shows))]
-fn made(
+fn measure(
     alloc: Global,
     design: &Design,
     options: &Options,
@@ -86,10 +86,11 @@ fn made(
     requires sizes { AreSizes options.now }
     requires by_policy { IsScheduleBy options.now.policy (graph_of kit_steps design.now.net) period.now }
     ensures spans { AreSpans design.now spans.new.items }
-    ensures made { MatchResult result (IsMade design.now options.now) (IsShowFault design.now options.now) }
+    ensures made { MatchResult result (IsMade design.now options.now)
+        (IsDesignScheduleFault design.now options.now) }
 {
     let block = tabled(alloc, design, options, period)?;
-    let blocking = block.periods;
+    let blocking = block.blocking;
     let placed = options.with_blocking(blocking);
     let span = span_once(alloc, design, spans, blocking, period)?;
     let figures = Figures::with_span(alloc, design, &placed, period, &block.table, span)?;
@@ -110,7 +111,7 @@ fn outcome_of(
     ensures spans { AreSpans design.now spans.new.items }
     ensures outcome { MatchResult result (IsOutcome design.now options.now) (IsScheduleFault design.now) }
 {
-    match made(alloc, design, options, period, spans) {
+    match measure(alloc, design, options, period, spans) {
         Ok(measures) => Ok(Outcome::Made(measures)),
         Err(fault) => refusal(fault),
     }
@@ -129,7 +130,7 @@ fn share_table(options: &Options, other: &Options) -> bool
 }
 
 /// Returns the outcome of the first entry that has the table of `options`, if one has. No clause says that it is found.
-fn shared(entries: &[Entry], options: &Options) -> Option<Outcome>
+fn known_outcome(entries: &[Entry], options: &Options) -> Option<Outcome>
     ensures { IfSome result (λ w. (e : Entry) × Contains entries.now e × ShareTable e.options options.now
         × (w ≡ e.outcome)) }
 {
@@ -142,7 +143,7 @@ fn shared(entries: &[Entry], options: &Options) -> Option<Outcome>
 }
 
 /// Returns the outcome of the schedule that `options` ask for, taken from `entries` if one of them has its table.
-fn outcome_beside(
+fn outcome_once(
     alloc: Global,
     design: &Design,
     periods: &Periods,
@@ -158,7 +159,7 @@ fn outcome_beside(
     ensures outcome { MatchResult result (IsOutcome design.now options.now) (IsScheduleFault design.now) }
 {
     let period = periods.by(options.policy);
-    match shared(entries, options) {
+    match known_outcome(entries, options) {
         Some(outcome) => Ok(outcome),
         None => outcome_of(alloc, design, options, period, spans),
     }
@@ -177,7 +178,7 @@ fn entries_of(alloc: Global, design: &Design, ways: &[Options]) -> Result<Vec<En
     let mut entries = Vec::new(alloc);
     let mut spans = Vec::new(alloc);
     for options in ways {
-        let outcome = outcome_beside(alloc, design, &periods, &entries, options, &mut spans)?;
+        let outcome = outcome_once(alloc, design, &periods, &entries, options, &mut spans)?;
         entries.push(Entry {
             options: *options,
             outcome,
@@ -190,8 +191,12 @@ fn entries_of(alloc: Global, design: &Design, ways: &[Options]) -> Result<Vec<En
 /// `options`. Each entry has the periods of its block, the makespan, the speedup, the rows and the samples held. An
 /// entry without a schedule has the number of the fault. A design without a schedule has none by any policy, so its
 /// fault is returned instead.
-#[tactic(auto, using(crate::proofs::Crews::sizes_of_ways))]
-pub fn compared(alloc: Global, design: &Design, options: &Options) -> Result<Vec<Entry>, Fault>
+#[tactic(auto, using(crate::proofs::WorkerCounts::sizes_of_ways))]
+pub fn comparison_entries(
+    alloc: Global,
+    design: &Design,
+    options: &Options,
+) -> Result<Vec<Entry>, Fault>
     requires { AreSizes options.now }
     ensures { MatchResult result (λ v. AreCompared design.now options.now v.items) (IsScheduleFault design.now) }
 {
@@ -207,6 +212,6 @@ pub fn compare(alloc: Global, design: &Design, options: &Options) -> Result<Stri
     ensures { MatchResult result (λ s. IsComparison design.now options.now (string_bytes s))
         (IsScheduleFault design.now) }
 {
-    let entries = compared(alloc, design, options)?;
+    let entries = comparison_entries(alloc, design, options)?;
     Ok(comparison_text(alloc, &entries)?)
 }

@@ -13,7 +13,7 @@ ghost use Rattle.sdf_analyze.specs.Texts.{hundredths};
 
 use crate::spans::block_span;
 use sdf_file::Design;
-use sdf_limits::{MOST_ACTORS, MOST_BLOCK, MOST_COST};
+use sdf_limits::{MAX_ACTORS, MAX_BLOCK, MAX_COST};
 use sdf_options::Options;
 use sdf_plan::costs::firing_costs;
 use sdf_prec::{Firing, PrecFault, Table};
@@ -23,7 +23,7 @@ use std::alloc::Global;
 use std::marker::Model;
 
 /// An upper bound on the work of a block, in units of cost.
-const MOST_WORK: u64 = MOST_ACTORS as u64 * MOST_BLOCK as u64 * MOST_COST as u64;
+const MAX_WORK: u64 = MAX_ACTORS as u64 * MAX_BLOCK as u64 * MAX_COST as u64;
 
 /// The start and end times of a table's firings, the work, span and bound of its block, and what its channels hold. No
 /// table of the block for these workers is shorter than the bound.
@@ -38,10 +38,10 @@ pub struct Figures {
 
 impl Model for Figures {
     ghost use Rattle.std.specs.Prelude.{◌≤◌};
-    ghost use Rattle.sdf_analyze.specs.Figures.{Figured};
-    ghost use Rattle.sdf_analyze.specs.declared.figures.TheConstants.{MOST_WORK};
+    ghost use Rattle.sdf_analyze.specs.Figures.{FiguresValue};
+    ghost use Rattle.sdf_analyze.specs.declared.figures.TheConstants.{MAX_WORK};
 
-    ghost Value = { Figured };
+    ghost Value = { FiguresValue };
 
     ghost view = { λ f. record {
       starts = f.times.starts;
@@ -53,7 +53,7 @@ impl Model for Figures {
       held = f.held;
     } };
 
-    ghost invariant = { λ f. f.work ≤ MOST_WORK };
+    ghost invariant = { λ f. f.work ≤ MAX_WORK };
 }
 
 impl Figures {

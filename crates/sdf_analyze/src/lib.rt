@@ -17,7 +17,7 @@ mod periods;
 mod spans;
 mod ways;
 
-pub use analysis::{Analysis, analyze, figured};
+pub use analysis::{Analysis, analysis_of, analyze};
 pub use columns::{Entry, Measures, Outcome, comparison_text};
-pub use comparison::{compare, compared};
+pub use comparison::{compare, comparison_entries};
 pub use figures::Figures;

@@ -19,34 +19,34 @@ use std::alloc::{AllocError, Global};
 /// The number of periods of a block, and its span.
 #[derive(Clone, Copy)]
 pub(crate) struct BlockSpan {
-    pub(crate) periods: u32,
+    pub(crate) blocking: u32,
     pub(crate) span: u64,
 }
 
-/// Returns the span of a design's block of `periods` periods. The only fault is that memory was refused.
+/// Returns the span of a design's block of `blocking` periods. The only fault is that memory was refused.
 pub(crate) fn block_span(
     alloc: Global,
     design: &Design,
-    periods: u32,
+    blocking: u32,
     period: &Period,
 ) -> Result<u64, PrecFault>
     requires period { IsPeriodOf (rates_of design.now) period.now }
-    requires short { IsShort periods period.now.repetitions }
+    requires short { IsShort blocking period.now.repetitions }
     ensures { MatchResult result
-        (IsSpan (rates_of design.now) (firings_of periods period.now) (slice_index design.now.costs))
+        (IsSpan (rates_of design.now) (firings_of blocking period.now) (slice_index design.now.costs))
         (λ fault. fault ≡ OutOfMemory) }
 {
     let graph = design.net().graph();
     let costs = firing_costs(alloc, design)?;
-    span(alloc, graph, period, periods, &costs)
+    span(alloc, graph, period, blocking, &costs)
 }
 
-/// Returns the span of a block of `periods` periods if it is known. No clause says that a known one is found.
-fn known_span(known: &[BlockSpan], periods: u32) -> Option<u64>
-    ensures { IfSome result (λ span. Contains known.now (record { periods = periods; span = span })) }
+/// Returns the span of a block of `blocking` periods if it is known. No clause says that a known one is found.
+fn known_span(known: &[BlockSpan], blocking: u32) -> Option<u64>
+    ensures { IfSome result (λ span. Contains known.now (record { blocking = blocking; span = span })) }
 {
     for block in known {
-        if block.periods == periods {
+        if block.blocking == blocking {
             return Some(block.span);
         }
     }
@@ -67,21 +67,21 @@ pub(crate) fn span_once(
     alloc: Global,
     design: &Design,
     known: &mut Vec<BlockSpan>,
-    periods: u32,
+    blocking: u32,
     period: &Period,
 ) -> Result<u64, PrecFault>
     requires period { IsPeriodOf (rates_of design.now) period.now }
-    requires short { IsShort periods period.now.repetitions }
+    requires short { IsShort blocking period.now.repetitions }
     requires known { AreSpans design.now known.old.items }
     ensures known { AreSpans design.now known.new.items }
     ensures span { MatchResult result
-        (IsSpan (rates_of design.now) (firings_of periods period.now) (slice_index design.now.costs))
+        (IsSpan (rates_of design.now) (firings_of blocking period.now) (slice_index design.now.costs))
         (λ fault. fault ≡ OutOfMemory) }
 {
-    if let Some(span) = known_span(known, periods) {
+    if let Some(span) = known_span(known, blocking) {
         return Ok(span);
     }
-    let span = block_span(alloc, design, periods, period)?;
-    keep(known, BlockSpan { periods, span })?;
+    let span = block_span(alloc, design, blocking, period)?;
+    keep(known, BlockSpan { blocking, span })?;
     Ok(span)
 }

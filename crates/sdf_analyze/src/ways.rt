@@ -30,7 +30,7 @@ fn push_placed(
 }
 
 /// Adds the options with `policy` and each placement.
-fn push_by(ways: &mut Vec<Options>, options: &Options, policy: Policy) -> Result<(), AllocError>
+fn push_policy(ways: &mut Vec<Options>, options: &Options, policy: Policy) -> Result<(), AllocError>
     ensures { IfOk result (λ _. ways.new.items ≡ ways.old.items ++ ways_by options.now policy) }
 {
     push_placed(ways, options, policy, Placement::Hu)?;
@@ -44,8 +44,8 @@ pub(crate) fn ways(alloc: Global, options: &Options) -> Result<Vec<Options>, All
     ensures { IfOk result (λ v. v.items ≡ ways options.now) }
 {
     let mut ways = Vec::new(alloc);
-    push_by(&mut ways, options, Policy::Round)?;
-    push_by(&mut ways, options, Policy::Lean)?;
-    push_by(&mut ways, options, Policy::Runs)?;
+    push_policy(&mut ways, options, Policy::Round)?;
+    push_policy(&mut ways, options, Policy::Lean)?;
+    push_policy(&mut ways, options, Policy::Runs)?;
     Ok(ways)
 }

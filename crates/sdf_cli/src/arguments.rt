@@ -5,9 +5,9 @@ ghost use Rattle.std.specs.Result.{IsErr};
 ghost use Rattle.sdf_options.specs.Limits.{IsUsage};
 ghost use Rattle.sdf_cli.specs.Limits.{IsWithinLimits};
 
-use crate::asked::Words;
-use crate::command_line::{mistake, words};
-use sdf_options::WordFault;
+use crate::command_line::words;
+use crate::requests::Words;
+use sdf_options::{WordFault, usage_error};
 use std::alloc::Global;
 use std::env::{Env, FillError};
 
@@ -21,11 +21,11 @@ pub struct Arguments {
 }
 
 /// Returns the usage error for the word `number`, which is not UTF-8.
-fn no_text(alloc: Global, number: usize) -> WordFault
+fn utf8_fault(alloc: Global, number: usize) -> WordFault
     ensures { IsUsage result }
 {
     match format!(in alloc; "argument {number} is not UTF-8") {
-        Ok(text) => mistake(alloc, text.as_str()),
+        Ok(text) => usage_error(alloc, text.as_str()),
         Err(_) => WordFault::OutOfMemory,
     }
 }
@@ -38,7 +38,7 @@ impl Arguments {
         ensures usage { IfErr result IsUsage }
     {
         match self.unread {
-            Some(number) => Err(no_text(alloc, number)),
+            Some(number) => Err(utf8_fault(alloc, number)),
             None => words(alloc, line),
         }
     }
@@ -63,8 +63,8 @@ fn argument(env: &impl Env, alloc: Global, number: usize) -> Result<Option<Vec<u
 }
 
 /// Returns the words that the program was started with, its own name first.
-pub fn arguments(env: &impl Env, alloc: Global) -> Result<Arguments, WordFault> {
-    let mut given = Arguments {
+pub fn read_arguments(env: &impl Env, alloc: Global) -> Result<Arguments, WordFault> {
+    let mut arguments = Arguments {
         words: Vec::new(alloc),
         unread: None,
     };
@@ -73,10 +73,10 @@ pub fn arguments(env: &impl Env, alloc: Global) -> Result<Arguments, WordFault> 
             break;
         };
         match String::from_utf8(bytes) {
-            Ok(word) => given.words.push(word)?,
-            Err(_) if given.unread.is_none() => given.unread = Some(number),
+            Ok(word) => arguments.words.push(word)?,
+            Err(_) if arguments.unread.is_none() => arguments.unread = Some(number),
             Err(_) => {}
         }
     }
-    Ok(given)
+    Ok(arguments)
 }

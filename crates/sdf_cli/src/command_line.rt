@@ -2,27 +2,27 @@
 
 ghost use Rattle.std.specs.Prelude.{IfOk, IfErr, IfSome};
 ghost use Rattle.sdf_options.specs.Limits.{IsUsage};
-ghost use Rattle.sdf_cli.specs.Limits.{IsTaskWithinLimits, IsWithinLimits};
-ghost use Rattle.sdf_cli.specs.declared.asked.TheConstants.{MOST_FAULT};
+ghost use Rattle.sdf_cli.specs.Limits.{IsCommandWithinLimits, IsWithinLimits};
+ghost use Rattle.sdf_cli.specs.declared.requests.TheConstants.{MAX_FAULT};
 
-use crate::asked::{Batch, Conversion, MOST_FAULT, RunRequest, DesignCommand, Words};
 use crate::commands::{batch_command, sdfw_command};
 use crate::explain::{NAMES, number_named};
+use crate::requests::{BatchRequest, Conversion, DesignCommand, MAX_FAULT, RunRequest, Words};
 use crate::values::{
-    any_number_of, band_of, crew_of, format_of, number_of, options_of, picture_of, plan_options_of,
-    why_of,
+    any_number_of, band_of, format_of, number_of, options_of, parallel_of, picture_of,
+    plan_options_of, why_of,
 };
 use clap::error::ErrorKind;
 use clap::{ArgMatches, Command};
 use sdf_filters::FilterSpec;
-use sdf_options::WordFault;
 use sdf_options::printable::printable;
+use sdf_options::{WordFault, usage_error};
 use sdf_similar::nearest;
 use std::alloc::{AllocError, Global};
 
 /// Reads the task of the command `schedule`.
 fn schedule_of<'a>(matches: &ArgMatches<'a>) -> Option<DesignCommand<'a>>
-    ensures { IfSome result IsTaskWithinLimits }
+    ensures { IfSome result IsCommandWithinLimits }
 {
     Some(DesignCommand::Schedule {
         options: plan_options_of(matches)?,
@@ -32,7 +32,7 @@ fn schedule_of<'a>(matches: &ArgMatches<'a>) -> Option<DesignCommand<'a>>
 
 /// Reads the task of the command `analyze`.
 fn analyze_of<'a>(matches: &ArgMatches<'a>) -> Option<DesignCommand<'a>>
-    ensures { IfSome result IsTaskWithinLimits }
+    ensures { IfSome result IsCommandWithinLimits }
 {
     let options = plan_options_of(matches)?;
     let format = format_of(matches);
@@ -45,7 +45,7 @@ fn analyze_of<'a>(matches: &ArgMatches<'a>) -> Option<DesignCommand<'a>>
 
 /// Reads the task of the command `draw`.
 fn draw_of<'a>(matches: &ArgMatches<'a>) -> Option<DesignCommand<'a>>
-    ensures { IfSome result IsTaskWithinLimits }
+    ensures { IfSome result IsCommandWithinLimits }
 {
     Some(DesignCommand::Draw {
         options: plan_options_of(matches)?,
@@ -55,7 +55,7 @@ fn draw_of<'a>(matches: &ArgMatches<'a>) -> Option<DesignCommand<'a>>
 
 /// Reads the task of the command `profile`.
 fn profile_of<'a>(matches: &ArgMatches<'a>) -> Option<DesignCommand<'a>>
-    ensures { IfSome result IsTaskWithinLimits }
+    ensures { IfSome result IsCommandWithinLimits }
 {
     Some(DesignCommand::Profile {
         input: matches.get_str("IN")?,
@@ -65,20 +65,20 @@ fn profile_of<'a>(matches: &ArgMatches<'a>) -> Option<DesignCommand<'a>>
 
 /// Reads the task of the command `run` for one file.
 fn run_of<'a>(matches: &ArgMatches<'a>) -> Option<DesignCommand<'a>>
-    ensures { IfSome result IsTaskWithinLimits }
+    ensures { IfSome result IsCommandWithinLimits }
 {
-    Some(DesignCommand::RunRequest(RunRequest {
+    Some(DesignCommand::Run(RunRequest {
         input: matches.get_str("IN")?,
         output: matches.get_str("OUT")?,
         options: options_of(matches)?,
-        parallel: crew_of(matches),
+        parallel: parallel_of(matches),
         open_ended: matches.get_flag("open-ended"),
     }))
 }
 
 /// Reads the task of a design for the command `name`.
-fn task_of<'a>(name: &str, matches: &ArgMatches<'a>) -> Option<DesignCommand<'a>>
-    ensures { IfSome result IsTaskWithinLimits }
+fn design_command_of<'a>(name: &str, matches: &ArgMatches<'a>) -> Option<DesignCommand<'a>>
+    ensures { IfSome result IsCommandWithinLimits }
 {
     match name {
         "check" => Some(DesignCommand::Check {
@@ -99,7 +99,7 @@ fn design_of<'a>(name: &str, matches: &ArgMatches<'a>) -> Option<Words<'a>>
 {
     Some(Words::Design {
         graph: matches.get_str("GRAPH")?,
-        task: task_of(name, matches)?,
+        task: design_command_of(name, matches)?,
         why: why_of(matches),
     })
 }
@@ -143,7 +143,7 @@ fn words_for<'a>(name: &str, matches: &ArgMatches<'a>) -> Option<Words<'a>>
             format: format_of(matches),
         }),
         "explain" => Some(Words::Explain {
-            number: number_of(matches, "NUMBER", 1, MOST_FAULT)?,
+            number: number_of(matches, "NUMBER", 1, MAX_FAULT)?,
         }),
         _ => design_of(name, matches),
     }
@@ -217,11 +217,11 @@ fn batch_of<'a>(matches: &ArgMatches<'a>, inputs: Vec<&'a str>) -> Option<Words<
     let options = options_of(matches)?;
     Some(Words::Batch {
         graph,
-        batch: Batch {
+        batch: BatchRequest {
             inputs,
             folder,
             options,
-            parallel: crew_of(matches),
+            parallel: parallel_of(matches),
             open_ended: matches.get_flag("open-ended"),
         },
         why: why_of(matches),
@@ -264,28 +264,13 @@ fn read_batch<'a>(alloc: Global, words: &'a [&'a str]) -> Result<Words<'a>, Word
     read_batch_by(alloc, &mut command, words)
 }
 
-/// Returns the error of the parser with the message `text`.
-fn refuse(alloc: Global, text: &str) -> Result<clap::Error, AllocError> {
-    sdfw_command(alloc)?.error(ErrorKind::InvalidValue, text)
-}
-
-/// Returns the usage error with the message `text`.
-pub fn mistake(alloc: Global, text: &str) -> WordFault
-    ensures { IsUsage result }
-{
-    match refuse(alloc, text) {
-        Ok(error) => WordFault::from(error),
-        Err(_) => WordFault::OutOfMemory,
-    }
-}
-
 /// Checks whether `word` begins with a letter, like the name of a fault.
 fn is_name(word: &str) -> bool {
     matches!(word.as_bytes(), [b'A'..=b'Z' | b'a'..=b'z', ..])
 }
 
 /// Returns the message for a `name` that no fault has, with the most similar name if there is one.
-fn unnamed_text(alloc: Global, name: &str) -> Result<String, AllocError> {
+fn unknown_name_text(alloc: Global, name: &str) -> Result<String, AllocError> {
     let shown = printable(alloc, name)?;
     let shown = shown.as_str();
     match nearest(alloc, NAMES, name)? {
@@ -297,11 +282,11 @@ fn unnamed_text(alloc: Global, name: &str) -> Result<String, AllocError> {
 }
 
 /// Returns the usage error for a `name` that no fault has.
-fn unnamed(alloc: Global, name: &str) -> WordFault
+fn unknown_name(alloc: Global, name: &str) -> WordFault
     ensures { IsUsage result }
 {
-    match unnamed_text(alloc, name) {
-        Ok(text) => mistake(alloc, text.as_str()),
+    match unknown_name_text(alloc, name) {
+        Ok(text) => usage_error(alloc, text.as_str()),
         Err(_) => WordFault::OutOfMemory,
     }
 }
@@ -313,7 +298,7 @@ fn explain<'a>(alloc: Global, name: &str) -> Result<Words<'a>, WordFault>
 {
     match number_named(name) {
         Some(number) => Ok(Words::Explain { number }),
-        None => Err(unnamed(alloc, name)),
+        None => Err(unknown_name(alloc, name)),
     }
 }
 

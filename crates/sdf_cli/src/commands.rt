@@ -2,7 +2,7 @@
 
 mod designs;
 mod filters;
-mod told;
+pub(crate) mod reference;
 mod views;
 
 use clap::builder::ValueParser;
@@ -201,5 +201,5 @@ pub(crate) fn sdfw_command<'a>(alloc: Global) -> Result<Command<'a>, AllocError>
     let command = with_commands(alloc, program(alloc), designs::ROWS)?;
     let command = with_commands(alloc, command, views::ROWS)?;
     let command = with_commands(alloc, command, filters::ROWS)?;
-    with_commands(alloc, command, told::ROWS)
+    with_commands(alloc, command, reference::ROWS)
 }

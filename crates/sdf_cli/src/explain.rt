@@ -2,7 +2,7 @@
 
 ghost use Rattle.std.specs.Prelude.{◌≡◌, ◌≤◌, ◌<◌, ℕ, List, [], length, map, get_or, true, false, ◌++◌, IfOk, IfSome};
 ghost use Rattle.std.specs.Prelude.{IfNone, IsSome, OnOk, string_bytes};
-ghost use Rattle.sdf_cli.specs.declared.asked.TheConstants.{MOST_FAULT};
+ghost use Rattle.sdf_cli.specs.declared.requests.TheConstants.{MAX_FAULT};
 ghost use Rattle.sdf_cli.specs.Names.{heading, IsNamed, Explains};
 
 mod documents;
@@ -12,7 +12,7 @@ mod repairs;
 mod sounds;
 mod tables;
 
-use crate::asked::MOST_FAULT;
+use crate::requests::MAX_FAULT;
 pub(crate) use names::NAMES;
 use repairs::REPAIRS;
 use std::alloc::{AllocError, Global};
@@ -29,7 +29,7 @@ struct Meaning {
 
 /// Returns the meaning of the fault `number`.
 fn meaning_of(number: u32) -> Option<Meaning>
-    ensures { 1 ≤ number → number ≤ MOST_FAULT → IsSome result }
+    ensures { 1 ≤ number → number ≤ MAX_FAULT → IsSome result }
 {
     let number = number as usize;
     match number {
@@ -57,7 +57,7 @@ fn word_at<'a>(words: &[&'a str], place: usize) -> Option<&'a str>
 /// Returns the name of the fault `number`.
 pub fn fault_name(number: u32) -> Option<&'static str>
     ensures named { IfSome result (λ name. IsNamed number name.now) }
-    ensures some { 1 ≤ number → number ≤ MOST_FAULT → IsSome result }
+    ensures some { 1 ≤ number → number ≤ MAX_FAULT → IsSome result }
     ensures none { IfNone result ((name : List ℕ) → IsNamed number name → ⊥) }
 {
     if number == 0 {
@@ -79,11 +79,11 @@ fn is_named(number: u32, name: &str) -> bool
 
 /// Returns the number of the fault whose whole name is `name`.
 pub(crate) fn number_named(name: &str) -> Option<u32>
-    ensures within { IfSome result (λ number. (1 ≤ number) × (number ≤ MOST_FAULT)) }
+    ensures within { IfSome result (λ number. (1 ≤ number) × (number ≤ MAX_FAULT)) }
     ensures named { IfSome result (λ number. IsNamed number name.now) }
     ensures none { IfNone result ((number : ℕ) → IsNamed number name.now → ⊥) }
 {
-    for number in 1..=MOST_FAULT {
+    for number in 1..=MAX_FAULT {
         if is_named(number, name) {
             return Some(number);
         }
@@ -130,8 +130,8 @@ fn lines(alloc: Global, number: u32, meaning: Meaning) -> Result<String, AllocEr
 }
 
 /// Returns the explanation of the fault `number`, line by line; empty if no fault has it.
-pub fn explained(alloc: Global, number: u32) -> Result<String, AllocError>
-    ensures { 1 ≤ number → number ≤ MOST_FAULT → IfOk result (λ text. Explains number (string_bytes text)) }
+pub fn explanation(alloc: Global, number: u32) -> Result<String, AllocError>
+    ensures { 1 ≤ number → number ≤ MAX_FAULT → IfOk result (λ text. Explains number (string_bytes text)) }
 {
     let mut text = String::new(alloc);
     let (Some(name), Some(meaning)) = (fault_name(number), meaning_of(number)) else {

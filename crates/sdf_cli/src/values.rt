@@ -3,12 +3,12 @@
 ghost use Rattle.std.specs.Prelude.{◌≡◌, ◌≤◌, IfSome, option_and_then, position, slice_get};
 ghost use Rattle.std.specs.Str.{bytes_eq};
 ghost use Rattle.sdf_options.specs.Limits.{AreWithinLimits};
-ghost use Rattle.sdf_cli.specs.Limits.{IsCrew};
+ghost use Rattle.sdf_cli.specs.Limits.{IsParallelWorkers};
 
-use crate::asked::{ParallelWorkers, Format, Picture, Why};
+use crate::requests::{Format, ParallelWorkers, Picture, Why};
 use clap::ArgMatches;
 use sdf_filters::Band;
-use sdf_limits::{MOST_BLOCKING, MOST_PATIENCE, MOST_WORKERS};
+use sdf_limits::{MAX_BLOCKING, MAX_PATIENCE, MAX_WORKERS};
 use sdf_options::{
     Options, PLACEMENT_WORDS, PLACEMENTS, POLICIES, POLICY_WORDS, RUNNER_WORDS, RUNNERS,
 };
@@ -31,7 +31,7 @@ fn place_of(words: &[&str], word: &str) -> Option<usize>
 }
 
 /// Returns the value at the index in `values` that `word` has in `words`.
-fn meant<T: Copy>(words: &[&str], values: &[T], word: &str) -> Option<T>
+fn value_of<T: Copy>(words: &[&str], values: &[T], word: &str) -> Option<T>
     ensures { result ≡ option_and_then (slice_get values.now)
         (position (λ known. bytes_eq known.now word.now) words.now) }
 {
@@ -43,10 +43,10 @@ pub(crate) fn plan_options_of(matches: &ArgMatches<'_>) -> Option<Options>
     ensures { IfSome result AreWithinLimits }
 {
     Some(Options {
-        blocking: number_of(matches, "blocking", 1, MOST_BLOCKING)?,
-        workers: number_of(matches, "workers", 1, MOST_WORKERS as u32)? as usize,
-        policy: meant(POLICY_WORDS, &POLICIES, matches.get_str("policy")?)?,
-        placement: meant(PLACEMENT_WORDS, &PLACEMENTS, matches.get_str("placement")?)?,
+        blocking: number_of(matches, "blocking", 1, MAX_BLOCKING)?,
+        workers: number_of(matches, "workers", 1, MAX_WORKERS as u32)? as usize,
+        policy: value_of(POLICY_WORDS, &POLICIES, matches.get_str("policy")?)?,
+        placement: value_of(PLACEMENT_WORDS, &PLACEMENTS, matches.get_str("placement")?)?,
         ..Options::DEFAULT
     })
 }
@@ -56,8 +56,8 @@ pub(crate) fn options_of(matches: &ArgMatches<'_>) -> Option<Options>
     ensures { IfSome result AreWithinLimits }
 {
     Some(Options {
-        runner: meant(RUNNER_WORDS, &RUNNERS, matches.get_str("runner")?)?,
-        patience: number_of(matches, "patience", 0, MOST_PATIENCE)?,
+        runner: value_of(RUNNER_WORDS, &RUNNERS, matches.get_str("runner")?)?,
+        patience: number_of(matches, "patience", 0, MAX_PATIENCE)?,
         ..plan_options_of(matches)?
     })
 }
@@ -92,10 +92,10 @@ pub(crate) fn picture_of(matches: &ArgMatches<'_>) -> Picture {
 }
 
 /// Reads `--parallel`: its number of workers, or one per processor if it has no value.
-pub(crate) fn crew_of(matches: &ArgMatches<'_>) -> Option<ParallelWorkers>
-    ensures { IfSome result IsCrew }
+pub(crate) fn parallel_of(matches: &ArgMatches<'_>) -> Option<ParallelWorkers>
+    ensures { IfSome result IsParallelWorkers }
 {
-    match number_of(matches, "parallel", 1, MOST_WORKERS as u32) {
+    match number_of(matches, "parallel", 1, MAX_WORKERS as u32) {
         Some(workers) => Some(ParallelWorkers::Workers(workers as usize)),
         None if matches.contains_id("parallel") => Some(ParallelWorkers::Processors),
         None => None,

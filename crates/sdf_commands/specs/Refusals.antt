@@ -4,7 +4,7 @@ use Rattle.std.specs.Prelude.{decimal}
 use Rattle.std.specs.List.{flat_map, list_any, range_with_len}
 use Rattle.sdf_file.specs.Designs.{DesignValue}
 use Rattle.sdf_options.specs.declared.options.Options.{Options}
-use Rattle.sdf_cli.specs.declared.asked.TheConstants.{MOST_FAULT}
+use Rattle.sdf_cli.specs.declared.requests.TheConstants.{MAX_FAULT}
 use Rattle.sdf_cli.specs.Names.{names}
 use Rattle.sdf_analyze.specs.declared.columns.Outcome.{Outcome}
 use Rattle.sdf_analyze.specs.declared.columns.Outcome.TheVariants.{Made, Refused}
@@ -35,11 +35,11 @@ refusal_of entries number =
 
 -- a line for each fault that refuses a schedule, by its number
 abbrev pub refusals_text : List Entry → List ℕ
-refusals_text entries = flat_map (λ before. refusal_of entries (before + 1)) (range_with_len 0 MOST_FAULT)
+refusals_text entries = flat_map (λ before. refusal_of entries (before + 1)) (range_with_len 0 MAX_FAULT)
 
 -- the table of the compared schedules, and the lines that explain the fault numbers in it
 pub record IsExplainedComparison (d : DesignValue) (o : Options) (table refusals : List ℕ) : Type 0 where
   pub entries : List Entry
-  pub compared : AreCompared d o entries
+  pub comparison_entries : AreCompared d o entries
   pub table_is : table ≡ comparison_text entries
   pub refusals_are : refusals ≡ refusals_text entries

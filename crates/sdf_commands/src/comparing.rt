@@ -3,16 +3,16 @@
 ghost use Rattle.std.specs.Prelude.{◌≡◌, ◌++◌, ◌≤◌, IfOk, OnOk, MatchResult, string_bytes};
 ghost use Rattle.sdf_options.specs.Limits.{AreWithinLimits};
 ghost use Rattle.sdf_plan.specs.Plans.{IsScheduleFault};
-ghost use Rattle.sdf_cli.specs.declared.asked.TheConstants.{MOST_FAULT};
+ghost use Rattle.sdf_cli.specs.declared.requests.TheConstants.{MAX_FAULT};
 ghost use Rattle.sdf_commands.specs.Refusals.{is_by, is_refused, pointer, refusal_line, refusal_of};
 ghost use Rattle.sdf_commands.specs.Refusals.{refusals_text, IsExplainedComparison};
 
 use crate::printing::show;
-use sdf_analyze::{Entry, Outcome, compared, comparison_text};
+use sdf_analyze::{Entry, Outcome, comparison_entries, comparison_text};
+use sdf_cli::{MAX_FAULT, fault_name};
 use sdf_faults::Fault;
 use sdf_file::Design;
 use sdf_options::Options;
-use sdf_cli::{MOST_FAULT, fault_name};
 use std::alloc::{AllocError, Global};
 use std::io::Write;
 
@@ -54,7 +54,7 @@ fn push_line(text: &mut String, number: u32, name: &str) -> Result<(), AllocErro
 #[tactic(auto, unfolding(crate::specs::Refusals::refusal_of))]
 fn push_refusal(text: &mut String, entries: &[Entry], number: u32) -> Result<(), AllocError>
     requires some { 1 ≤ number }
-    requires known { number ≤ MOST_FAULT }
+    requires known { number ≤ MAX_FAULT }
     ensures { OnOk result (string_bytes text.new ≡ string_bytes text.old ++ refusal_of entries.now number) }
 {
     match fault_name(number) {
@@ -68,7 +68,7 @@ fn refusals_text(alloc: Global, entries: &[Entry]) -> Result<String, AllocError>
     ensures { IfOk result (λ s. string_bytes s ≡ refusals_text entries.now) }
 {
     let mut text = String::new(alloc);
-    for number in 0..MOST_FAULT {
+    for number in 0..MAX_FAULT {
         push_refusal(&mut text, entries, number + 1)?;
     }
     Ok(text)
@@ -87,28 +87,28 @@ fn compared_texts(alloc: Global, design: &Design, options: &Options) -> Result<C
     ensures { MatchResult result (λ c. IsExplainedComparison design.now options.now
         (string_bytes c.table) (string_bytes c.refusals)) (IsScheduleFault design.now) }
 {
-    let entries = compared(alloc, design, options)?;
+    let entries = comparison_entries(alloc, design, options)?;
     Ok(ComparedTexts {
         table: comparison_text(alloc, &entries)?,
         refusals: refusals_text(alloc, &entries)?,
     })
 }
 
-/// Prints the comparison of the schedules of `design` to `out`. If `is_said` is set, prints the lines that explain its
-/// fault numbers to `err`.
+/// Prints the comparison of the schedules of `design` to `out`. If `is_verbose` is set, prints the lines that explain
+/// its fault numbers to `err`.
 pub fn print_comparison<O: Write, E: Write>(
     alloc: Global,
     out: &mut O,
     err: &mut E,
     design: &Design,
     options: &Options,
-    is_said: bool,
+    is_verbose: bool,
 ) -> Result<(), Fault>
     requires { AreWithinLimits options.now }
 {
     let ComparedTexts { table, refusals } = compared_texts(alloc, design, options)?;
     show(out, table.as_str())?;
-    if is_said {
+    if is_verbose {
         let _ = err.write_all(refusals.as_bytes());
     }
     Ok(())

@@ -1,14 +1,15 @@
 //! The commands that make filters and converters.
 
 use crate::printing::{show, test_plan};
+use sdf_cli::Conversion;
 use sdf_faults::Fault;
 use sdf_file::{CoefficientFile, Design, read_design};
+use sdf_filters::{ConverterTexts, FilterFault, FilterSpec, converter_texts, filter_texts};
 use sdf_io::files::{Refused, Sources, make_at, note_left, refuse};
 use sdf_io::overwriting::{canonical_path, keep_file};
 use sdf_io::storage::Storage;
 use sdf_io::world::World;
-use sdf_filters::{ConverterTexts, FilterFault, FilterSpec, converter_texts, filter_texts};
-use sdf_cli::{Conversion, mistake};
+use sdf_options::usage_error;
 use std::alloc::Global;
 use std::io::{ErrorKind, Write};
 
@@ -18,7 +19,10 @@ const GRAPH: &str = "graph.toml";
 /// Returns `fault` as a usage error, or `OutOfMemory` if memory was refused.
 fn filter_fault(alloc: Global, fault: FilterFault) -> Fault {
     match fault.to_string(alloc) {
-        Ok(text) if fault != FilterFault::OutOfMemory => Fault::from(mistake(alloc, text.as_str())),
+        Ok(text) if fault != FilterFault::OutOfMemory => Fault::from(usage_error(
+            alloc,
+            text.as_str(),
+        )),
         _ => Fault::OutOfMemory,
     }
 }
@@ -32,7 +36,7 @@ pub fn fir<O: Write, E: Write>(
 ) -> Result<(), Fault> {
     match filter_texts(alloc, wanted) {
         Ok(texts) => {
-            show(err, texts.told.as_str())?;
+            show(err, texts.summary.as_str())?;
             show(out, texts.file.as_str())
         }
         Err(fault) => Err(filter_fault(alloc, fault)),
@@ -124,7 +128,7 @@ fn write_all<S: Storage, T: AllocGlobal, E: Write>(
             made,
             refused,
         )?;
-        show(err, file.told.as_str())?;
+        show(err, file.summary.as_str())?;
     }
     write_into(world, folder, GRAPH, texts.graph.as_str(), made, refused)
 }

@@ -3,6 +3,7 @@
 ghost use Rattle.sdf_options.specs.Limits.{AreWithinLimits};
 
 use sdf_analyze::analyze;
+use sdf_cli::{Format, Picture, explanation};
 use sdf_draw::{dot, svg};
 use sdf_faults::Fault;
 use sdf_file::Design;
@@ -13,7 +14,6 @@ use sdf_options::Options;
 use sdf_plan::planning::plan;
 use sdf_texts::check_text;
 use sdf_texts::schedule::schedule;
-use sdf_cli::{Format, Picture, explained};
 use std::alloc::{AllocError, Global};
 use std::io::Write;
 
@@ -105,5 +105,5 @@ pub fn print_kinds<O: Write>(alloc: Global, out: &mut O, format: Format) -> Resu
 
 /// Prints the explanation of the fault of this `number`.
 pub fn print_meaning<O: Write>(alloc: Global, out: &mut O, number: u32) -> Result<(), Fault> {
-    show(out, explained(alloc, number)?.as_str())
+    show(out, explanation(alloc, number)?.as_str())
 }

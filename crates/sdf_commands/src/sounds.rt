@@ -3,7 +3,7 @@
 use byteorder::{ByteOrder, LittleEndian};
 use sdf_io::input::InputTrace;
 use sdf_options::plural::plural;
-use sdf_wav::{EXTENSIBLE_TAG, FormatFault, MOST_DATA_BYTES, UNKNOWN_SIZE};
+use sdf_wav::{EXTENSIBLE_TAG, FormatFault, MAX_DATA_BYTES, UNKNOWN_SIZE};
 use sdf_why::{Header, device_text};
 use std::alloc::{AllocError, Global};
 
@@ -22,13 +22,13 @@ struct Chunk {
 
 impl<'a> Front<'a> {
     /// Returns the 16-bit little-endian number at `at`.
-    fn short(self, at: usize) -> Option<u32> {
+    fn u16_at(self, at: usize) -> Option<u32> {
         let bytes = self.bytes.get(at..at.checked_add(2)?)?;
         Some(u32::from(LittleEndian::read_u16(bytes)))
     }
 
     /// Returns the 32-bit little-endian number at `at`.
-    fn long(self, at: usize) -> Option<u32> {
+    fn u32_at(self, at: usize) -> Option<u32> {
         let bytes = self.bytes.get(at..at.checked_add(4)?)?;
         Some(LittleEndian::read_u32(bytes))
     }
@@ -42,7 +42,7 @@ impl<'a> Front<'a> {
     fn chunk(self, id: &[u8]) -> Option<Chunk> {
         let mut at = 12usize;
         for _ in 0..self.bytes.len() {
-            let size = self.long(at.checked_add(4)?)?;
+            let size = self.u32_at(at.checked_add(4)?)?;
             let content = at.checked_add(8)?;
             if self.id(at)? == id {
                 return Some(Chunk { at: content, size });
@@ -65,24 +65,24 @@ impl<'a> Front<'a> {
     }
 
     /// Returns the 16-bit number at `at` in the chunk of the format.
-    fn in_format(self, at: usize) -> Option<u32> {
-        self.short(self.format()?.at.checked_add(at)?)
+    fn format_field(self, at: usize) -> Option<u32> {
+        self.u16_at(self.format()?.at.checked_add(at)?)
     }
 
     /// Returns the channels and the rate.
     fn header(self) -> Option<Header> {
         let format = self.format()?;
         Some(Header {
-            channels: self.short(format.at.checked_add(2)?)?,
-            rate: self.long(format.at.checked_add(4)?)?,
+            channels: self.u16_at(format.at.checked_add(2)?)?,
+            rate: self.u32_at(format.at.checked_add(4)?)?,
         })
     }
 
     /// Returns the format tag of the samples. An extensible format has it later in its chunk.
     fn tag(self) -> Option<u32> {
-        let tag = self.in_format(0)?;
+        let tag = self.format_field(0)?;
         if tag == u32::from(EXTENSIBLE_TAG) {
-            self.in_format(24)
+            self.format_field(24)
         } else {
             Some(tag)
         }
@@ -156,7 +156,7 @@ fn format_name(tag: u32) -> &'static str {
 
 /// Returns the text for samples that are not 16-bit PCM.
 fn samples_text(alloc: Global, front: Front<'_>) -> Result<String, AllocError> {
-    let (Some(tag), Some(bits)) = (front.tag(), front.in_format(14)) else {
+    let (Some(tag), Some(bits)) = (front.tag(), front.format_field(14)) else {
         return Ok(String::new(alloc));
     };
     if tag == 1 && bits == 16 {
@@ -196,7 +196,7 @@ fn wanted_text(alloc: Global, front: Front<'_>, wanted: &str) -> Result<String, 
 
 /// Returns the text for a size of frames that does not match the channels.
 fn align_text(alloc: Global, front: Front<'_>) -> Result<String, AllocError> {
-    let (Some(align), Some(channels)) = (front.in_format(12), front.in_format(2)) else {
+    let (Some(align), Some(channels)) = (front.format_field(12), front.format_field(2)) else {
         return Ok(String::new(alloc));
     };
     let wanted = channels.saturating_mul(2);
@@ -228,7 +228,7 @@ fn end_text(alloc: Global, front: Front<'_>, bytes: u64) -> Result<String, Alloc
 
 /// Returns the text for samples that are not whole frames.
 fn frames_text(alloc: Global, front: Front<'_>, bytes: u64) -> Result<String, AllocError> {
-    let (Some(data), Some(channels)) = (front.data(), front.in_format(2)) else {
+    let (Some(data), Some(channels)) = (front.data(), front.format_field(2)) else {
         return Ok(String::new(alloc));
     };
     let samples = match data.size {
@@ -247,7 +247,7 @@ fn length_text(alloc: Global, front: Front<'_>, bytes: u64) -> Result<String, Al
     match front.data() {
         Some(Chunk { size, .. }) if size != UNKNOWN_SIZE => {
             format!(in alloc;
-                "has {size} bytes of samples, and an output has at most {MOST_DATA_BYTES}"
+                "has {size} bytes of samples, and an output has at most {MAX_DATA_BYTES}"
             )
         }
         Some(_) => format!(in alloc; "has at least {bytes} bytes"),
@@ -259,7 +259,7 @@ fn length_text(alloc: Global, front: Front<'_>, bytes: u64) -> Result<String, Al
 }
 
 /// Returns the text about the contents of a WAV file with this `fault`, or no text if they are not known.
-fn said_of(
+fn content_text(
     alloc: Global,
     fault: FormatFault,
     front: Front<'_>,
@@ -302,7 +302,7 @@ pub(crate) fn format_text(
     fault: FormatFault,
     trace: &InputTrace,
 ) -> Result<String, AllocError> {
-    let said = said_of(alloc, fault, front_of(trace), trace.bytes)?;
+    let said = content_text(alloc, fault, front_of(trace), trace.bytes)?;
     line_of(alloc, trace.name.as_str(), said.as_str())
 }
 

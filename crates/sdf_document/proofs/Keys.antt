@@ -11,7 +11,7 @@ use Rattle.sdf_document.specs.Fault.{Fault, fault_view, Fails, ◌>>=◌}
 use Rattle.sdf_document.specs.Lists.{Lookup}
 use Rattle.sdf_kinds.specs.Keys.{key_name}
 use Rattle.sdf_kinds.specs.Rows.{keys_view}
-use Rattle.sdf_document.specs.Kinds.{formed_at, values_at, HasForm, HaveForms}
+use Rattle.sdf_document.specs.Kinds.{key_value_at, values_at, HasForm, HaveForms}
 
 -- values, and those that are read after them
 abbrev pub values_after : List KeyValue → Result (List KeyValue) Fault → Result (List KeyValue) Fault
@@ -26,12 +26,12 @@ regroup done v (Err f) = refl
 module _ (a : ℕ) (files : Lookup) (ms : Members) where
   pub value_more : (done : List KeyValue) (ks : List KeyForm) (i : ℕ) (k : KeyForm) (v : KeyValue)
       (name : List ℕ) (total : Result (List KeyValue) Fault) → i < length ks → name ≡ key_name (get_or ks i k).0
-      → formed_at a files name (get_or ks i k).1 ms ≡ Ok v →
+      → key_value_at a files name (get_or ks i k).1 ms ≡ Ok v →
       values_after done (values_at a files (keys_view (drop i ks)) ms) ≡ total
       → values_after (done ++ v ∷ []) (values_at a files (keys_view (drop (i + 1) ks)) ms) ≡ total
   unfolding values_at
   value_more done ks i k v name total lt named given so_far =
-      let h = ap (λ n. formed_at a files n (get_or ks i k).1 ms) (sym named) ∙ given in
+      let h = ap (λ n. key_value_at a files n (get_or ks i k).1 ms) (sym named) ∙ given in
       let step : values_at a files (keys_view (drop i ks)) ms ≡
       (values_at a files (keys_view (drop (i + 1) ks)) ms >>= λ vs. Ok (v ∷ vs)) =
       rw (drop_more ks i k lt, h) refl in
@@ -39,12 +39,12 @@ module _ (a : ℕ) (files : Lookup) (ms : Members) where
 
   pub value_fail : (x : ReadFault) (done : List KeyValue) (ks : List KeyForm) (i : ℕ) (k : KeyForm) (name : List ℕ)
       (total : Result (List KeyValue) Fault) → i < length ks → name ≡ key_name (get_or ks i k).0
-      → Fails x (formed_at a files name (get_or ks i k).1 ms) →
+      → Fails x (key_value_at a files name (get_or ks i k).1 ms) →
       values_after done (values_at a files (keys_view (drop i ks)) ms) ≡ total → Fails x total
   unfolding values_at
   value_fail errors.OutOfMemory done ks i k name total lt named given so_far = tt
   value_fail (errors.Document f) done ks i k name total lt named given so_far =
-      let h = ap (λ n. formed_at a files n (get_or ks i k).1 ms) (sym named) ∙ given in
+      let h = ap (λ n. key_value_at a files n (get_or ks i k).1 ms) (sym named) ∙ given in
       let step : values_at a files (keys_view (drop i ks)) ms ≡ Err (fault_view f) = rw (drop_more ks i k lt, h) refl in
       sym so_far ∙ ap (values_after done) step
 

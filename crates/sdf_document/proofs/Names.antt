@@ -5,7 +5,7 @@ use Rattle.toml.specs.View.{members_view}
 use Rattle.toml.specs.declared.value.Value.{Value}
 use Rattle.std.specs.List.{list_any, position, position_or_len}
 use Rattle.std.specs.Prelude.{◌||◌, bytes_eq, string_eq}
-use Rattle.sdf_document.specs.Tables.{stranger, texts_of}
+use Rattle.sdf_document.specs.Tables.{first_unknown, texts_of}
 use Rattle.indexmap.specs.IndexSet.{insert_key}
 use Rattle.sdf_document.specs.Names.{names_of, with_name}
 use Rattle.std.proofs.lemmas.List.{map_push}
@@ -38,7 +38,7 @@ list_any_texts s ts = any_map (λ t. t.now) s ts
 -- a known key in front
 pub stranger_known : (ts : List (Bor (List ℕ))) (s t : List Entry) (k : String Global) (v : Value) → s ≡ (k, v) ∷ t
     → list_any (λ x. bytes_eq (string_bytes k) x.now) ts ≡ true →
-    stranger (texts_of ts) (members_view s) ≡ stranger (texts_of ts) (members_view t)
+    first_unknown (texts_of ts) (members_view s) ≡ first_unknown (texts_of ts) (members_view t)
 stranger_known ts s t k v e h =
     let found : list_any (bytes_eq (string_bytes k)) (texts_of ts) ≡ true = list_any_texts (string_bytes k) ts ∙ h in
     rw (e, found) refl
@@ -46,7 +46,7 @@ stranger_known ts s t k v e h =
 -- an unknown key in front
 pub stranger_found : (ts : List (Bor (List ℕ))) (s t : List Entry) (k : String Global) (v : Value) → s ≡ (k, v) ∷ t
     → list_any (λ x. bytes_eq (string_bytes k) x.now) ts ≡ false →
-    stranger (texts_of ts) (members_view s) ≡ Some (string_bytes k)
+    first_unknown (texts_of ts) (members_view s) ≡ Some (string_bytes k)
 stranger_found ts s t k v e h =
     let found : list_any (bytes_eq (string_bytes k)) (texts_of ts) ≡ false = list_any_texts (string_bytes k) ts ∙ h in
     rw (e, found) refl

@@ -13,7 +13,7 @@ use Rattle.sdf_document.specs.Fault.{top, Fault, actor_count, channel_count, not
 use Rattle.sdf_document.specs.Fault.{or_fault}
 use Rattle.sdf_document.specs.Tables.{table_in, format_at, known_keys}
 use Rattle.sdf_document.specs.Lists.{Files, Lookup, unread, read}
-use Rattle.sdf_limits.specs.declared.TheConstants.{MOST_ACTORS, MOST_LINKS}
+use Rattle.sdf_limits.specs.declared.TheConstants.{MAX_ACTORS, MAX_LINKS}
 use Rattle.sdf_document.specs.declared.entry.KindEntry.{KindEntry}
 use Rattle.sdf_document.specs.declared.entry.KindEntry.TheVariants.{Fir, Table}
 use Rattle.sdf_document.specs.Actors.{ActorValue, actor_view, names_in, actor_at}
@@ -51,29 +51,29 @@ item_count no_items = 0
 item_count (item d ds) = suc (item_count ds)
 
 -- the count n is from least to most, otherwise fault f
-abbrev pub counted : Fault → ℕ → ℕ → ℕ → Result (Unit {0}) Fault
-counted f least most n = if nat_le least n && nat_le n most then Ok tt else Err f
+abbrev pub count_within : Fault → ℕ → ℕ → ℕ → Result (Unit {0}) Fault
+count_within f least most n = if nat_le least n && nat_le n most then Ok tt else Err f
 
 abbrev pub top_keys : List (List ℕ)
 top_keys = codes "format" ∷ codes "actor" ∷ codes "link" ∷ []
 
 -- the format, and the items of `actor` and of `link`
-pub record PartsValue : Type 0 where
+pub record FilePartsValue : Type 0 where
   pub format : ℕ
   pub actors : Items
   pub links : Items
 
-abbrev pub parts_view : FileParts → PartsValue
+abbrev pub parts_view : FileParts → FilePartsValue
 parts_view p = record { format = p.format; actors = items_view p.actors.now; links = items_view p.links.now }
 
-unfoldable pub parts_at : Members → Result PartsValue Fault
+unfoldable pub parts_at : Members → Result FilePartsValue Fault
 parts_at ms = do
   format ← format_at top 2 ms
   known ← known_keys top top_keys ms
   actors ← array_at (codes "actor") ms
   links ← array_at (codes "link") ms
-  some_actors ← counted actor_count 1 MOST_ACTORS (item_count actors)
-  few_links ← counted channel_count 0 MOST_LINKS (item_count links)
+  some_actors ← count_within actor_count 1 MAX_ACTORS (item_count actors)
+  few_links ← count_within channel_count 0 MAX_LINKS (item_count links)
   Ok (record { format = format; actors = actors; links = links })
 
 pub record DocumentValue : Type 0 where
@@ -84,7 +84,7 @@ abbrev pub document_view : Document → DocumentValue
 document_view d = record { actors = map actor_view d.actors.items; links = map link_view d.links.items }
 
 -- the actors, and the links between them
-abbrev pub entries_at : Files → PartsValue → Result DocumentValue Fault
+abbrev pub entries_at : Files → FilePartsValue → Result DocumentValue Fault
 entries_at files parts = do
   actors ← actors_in parts.format (read files) parts.actors
   links ← links_in (names_in actors) parts.links

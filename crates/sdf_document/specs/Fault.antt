@@ -3,7 +3,7 @@ use Rattle.std.specs.Prelude.{◌≡◌, ℕ, List, ◌++◌, codes, decimal, Op
 use Rattle.sdf_document.specs.declared.fault.Place.{Place as PlaceOf}
 use Rattle.sdf_document.specs.declared.fault.Place.TheVariants as places
 use Rattle.sdf_document.specs.declared.fault.BorrowedPlace.{BorrowedPlace}
-use Rattle.sdf_document.specs.declared.fault.BorrowedPlace.TheVariants as spots
+use Rattle.sdf_document.specs.declared.fault.BorrowedPlace.TheVariants as borrowed_places
 use Rattle.sdf_document.specs.declared.fault.DocumentFault.{DocumentFault}
 use Rattle.sdf_document.specs.declared.fault.DocumentFault.TheVariants as faults
 use Rattle.sdf_document.specs.declared.fault.ReadFault.{ReadFault}
@@ -38,11 +38,11 @@ place_view (places.Actor n) = actor n
 place_view (places.Link n) = link n
 place_view (places.File name) = file (string_bytes name)
 
-abbrev pub spot_view : BorrowedPlace → Place
-spot_view spots.Top = top
-spot_view (spots.Actor n) = actor n
-spot_view (spots.Link n) = link n
-spot_view (spots.File name) = file name.now
+abbrev pub borrowed_view : BorrowedPlace → Place
+borrowed_view borrowed_places.Top = top
+borrowed_view (borrowed_places.Actor n) = actor n
+borrowed_view (borrowed_places.Link n) = link n
+borrowed_view (borrowed_places.File name) = file name.now
 
 -- what a place prints
 abbrev pub place_text : PlaceOf → List ℕ

@@ -14,7 +14,7 @@ use Rattle.sdf_document.specs.declared.entry.KindEntry.TheVariants.{Input, Outpu
 use Rattle.sdf_document.specs.declared.entry.KindEntry.TheVariants.{Fork, Gain, Delay, Table, Deal, Gather, Clip}
 use Rattle.sdf_document.specs.declared.entry.KindEntry.TheVariants.{Offset}
 use Rattle.sdf_document.specs.Fault.{actor, Fault, kit_value, missing_key, unknown_kind, ◌>>=◌, or_fault}
-use Rattle.sdf_kinds.specs.Rows.{KeyRow, row_of, kinds, shared_keys}
+use Rattle.sdf_kinds.specs.Rows.{KeyFormValue, row_of, kinds, shared_keys}
 use Rattle.sdf_document.specs.Values.{text_at, within_natural, natural_in, within_integer, integer_in}
 use Rattle.sdf_document.specs.Lists.{Lookup, ListValue, no_list, list_at, IsListed}
 
@@ -35,18 +35,18 @@ word_at a format ms = do
 -- ---- its keys
 
 -- the key that a table uses for a key of a row: `file` for a list that is not at its own key
-abbrev pub written_at : Members → List ℕ → Form → List ℕ
-written_at ms name (forms.List most width) = if is_some (get_member name ms) then name else codes "file"
-written_at ms name (forms.Natural least most absent) = name
-written_at ms name (forms.Optional least most) = name
-written_at ms name (forms.Integer least most absent) = name
-written_at ms name (forms.FromLeast least most absent) = name
+abbrev pub used_key : Members → List ℕ → Form → List ℕ
+used_key ms name (forms.List most width) = if is_some (get_member name ms) then name else codes "file"
+used_key ms name (forms.Natural least most absent) = name
+used_key ms name (forms.Optional least most) = name
+used_key ms name (forms.Integer least most absent) = name
+used_key ms name (forms.FromLeast least most absent) = name
 
-abbrev pub names_of_keys : Members → List KeyRow → List (List ℕ)
-names_of_keys ms ks = map (λ (k : KeyRow). written_at ms k.name k.form) ks
+abbrev pub names_of_keys : Members → List KeyFormValue → List (List ℕ)
+names_of_keys ms ks = map (λ (k : KeyFormValue). used_key ms k.name k.form) ks
 
 -- the keys that an actor's table may have, given the keys of its kind
-abbrev pub actor_keys : List KeyRow → Members → List (List ℕ)
+abbrev pub actor_keys : List KeyFormValue → Members → List (List ℕ)
 actor_keys ks ms = (codes "name" ∷ codes "kind" ∷ names_of_keys ms ks) ++ names_of_keys ms shared_keys
 
 -- ---- the values of keys, in their order
@@ -73,22 +73,22 @@ abbrev pub integer_at : ℕ → List ℕ → ℤ → ℤ → Option ℤ → Opti
 integer_at a key least most absent None = absent_integer a key least most absent
 integer_at a key least most absent (Some d) = integer_in a key least most d
 
-abbrev pub formed_at : ℕ → Lookup → List ℕ → Form → Members → Result KeyValue Fault
-formed_at a files key (forms.Natural least most absent) ms =
+abbrev pub key_value_at : ℕ → Lookup → List ℕ → Form → Members → Result KeyValue Fault
+key_value_at a files key (forms.Natural least most absent) ms =
     natural_at a key least most absent (get_member key ms) >>= λ n. Ok (Natural n)
-formed_at a files key (forms.Optional least most) ms =
+key_value_at a files key (forms.Optional least most) ms =
     optional_at a key least most (get_member key ms) >>= λ n. Ok (Optional n)
-formed_at a files key (forms.Integer least most absent) ms =
+key_value_at a files key (forms.Integer least most absent) ms =
     integer_at a key least most absent (get_member key ms) >>= λ z. Ok (Integer z)
-formed_at a files key (forms.FromLeast least most absent) ms =
+key_value_at a files key (forms.FromLeast least most absent) ms =
     integer_at a key least most absent (get_member key ms) >>= λ z. Ok (Integer z)
-formed_at a files key (forms.List most width) ms = list_at a key most width files ms >>= λ l. Ok (Listed l)
+key_value_at a files key (forms.List most width) ms = list_at a key most width files ms >>= λ l. Ok (Listed l)
 
 -- the values at the keys of a row
-unfoldable pub values_at : ℕ → Lookup → List KeyRow → Members → Result (List KeyValue) Fault
+unfoldable pub values_at : ℕ → Lookup → List KeyFormValue → Members → Result (List KeyValue) Fault
 values_at a files [] ms = Ok []
 values_at a files (k ∷ ks) ms =
-    formed_at a files k.name k.form ms >>= λ v. values_at a files ks ms >>= λ vs. Ok (v ∷ vs)
+    key_value_at a files k.name k.form ms >>= λ v. values_at a files ks ms >>= λ vs. Ok (v ∷ vs)
 
 -- ---- the typed values
 
@@ -174,7 +174,7 @@ HasForm looked (forms.Integer least most absent) v = (least ≤ℤ integer v) ×
 HasForm looked (forms.FromLeast least most absent) v = (least ≤ℤ integer v) × (integer v ≤ℤ most)
 HasForm looked (forms.List most width) v = IsListed looked most width (list v).values
 
-abbrev pub HaveForms : Bool → List KeyRow → List KeyValue → Type 0
+abbrev pub HaveForms : Bool → List KeyFormValue → List KeyValue → Type 0
 HaveForms looked [] vs = Unit {0}
 HaveForms looked (k ∷ ks) vs = HasForm looked k.form (first vs) × HaveForms looked ks (rest vs)
 

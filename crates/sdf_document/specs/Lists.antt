@@ -78,8 +78,8 @@ abbrev pub is_list : ℕ → Width → List ℤ → Bool
 is_list most w zs = (nat_le 1 (length zs) && nat_le (length zs) most) && list_all (fits w) zs
 
 -- the numbers, if they are a list within its limits; otherwise the key of actor a is at fault
-abbrev pub listed : ℕ → List ℕ → ℕ → Width → List ℤ → Result (List ℤ) Fault
-listed a key most w zs = if is_list most w zs then Ok zs else Err (kit_value (actor a) key)
+abbrev pub list_within : ℕ → List ℕ → ℕ → Width → List ℤ → Result (List ℤ) Fault
+list_within a key most w zs = if is_list most w zs then Ok zs else Err (kit_value (actor a) key)
 
 -- the name in the key `file`
 unfoldable pub name_in : ℕ → Data → Result (List ℕ) Fault
@@ -88,28 +88,28 @@ name_in a d = do
   if is_file_name name then Ok name else Err (bad_name (actor a) (codes "file"))
 
 -- the values of the file that has the name; no values if files are not looked into
-unfoldable pub filed_values : ℕ → ℕ → Width → Lookup → List ℕ → Result (List ℤ) Fault
-filed_values a most w unread name = Ok []
-filed_values a most w (read files) name = do
+unfoldable pub file_values : ℕ → ℕ → Width → Lookup → List ℕ → Result (List ℤ) Fault
+file_values a most w unread name = Ok []
+file_values a most w (read files) name = do
   bytes ← or_fault (no_file name) (file_named name files)
   zs ← coefficients name bytes
-  listed a (codes "file") most w zs
+  list_within a (codes "file") most w zs
 
-unfoldable pub filed_at : ℕ → ℕ → Width → Lookup → Data → Result ListValue Fault
-filed_at a most w files d = do
+unfoldable pub list_in_file : ℕ → ℕ → Width → Lookup → Data → Result ListValue Fault
+list_in_file a most w files d = do
   name ← name_in a d
-  zs ← filed_values a most w files name
+  zs ← file_values a most w files name
   Ok (record { file = Some name; values = zs })
 
 unfoldable pub array_in : ℕ → List ℕ → ℕ → Width → Data → Result ListValue Fault
 array_in a key most w d = do
   zs ← integers_at (actor a) key d
-  own ← listed a key most w zs
+  own ← list_within a key most w zs
   Ok (record { file = None; values = own })
 
 abbrev pub list_in : ℕ → List ℕ → ℕ → Width → Lookup → Option Data → Option Data → Result ListValue Fault
 list_in a key most w files (Some d) other = array_in a key most w d
-list_in a key most w files None (Some d) = filed_at a most w files d
+list_in a key most w files None (Some d) = list_in_file a most w files d
 list_in a key most w files None None = Err (missing_key (actor a) key)
 
 -- the list of actor a: at its own key, otherwise in the file that the key `file` names

@@ -29,9 +29,9 @@ format_at p last ms = do
   format_in p last z
 
 -- the first key that is not among those known. The members of a table are in the byte order of their keys
-abbrev pub stranger : List (List ℕ) → Members → Option (List ℕ)
-stranger known no_members = None
-stranger known (member k d ms) = if list_any (bytes_eq k) known then stranger known ms else Some k
+abbrev pub first_unknown : List (List ℕ) → Members → Option (List ℕ)
+first_unknown known no_members = None
+first_unknown known (member k d ms) = if list_any (bytes_eq k) known then first_unknown known ms else Some k
 
 -- a fault at what was found, if something was
 abbrev pub none_of : {A : Type 0} → (A → Fault) → Option A → Result (Unit {0}) Fault
@@ -40,4 +40,4 @@ none_of f (Some x) = Err (f x)
 
 -- no keys except those known
 unfoldable pub known_keys : Place → List (List ℕ) → Members → Result (Unit {0}) Fault
-known_keys p known ms = none_of (unknown_key p) (stranger known ms)
+known_keys p known ms = none_of (unknown_key p) (first_unknown known ms)

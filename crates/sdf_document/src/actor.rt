@@ -11,7 +11,7 @@ ghost use Rattle.sdf_document.specs.Actors.{name_at, keys_at, shared_at, actor_a
 ghost use Rattle.sdf_kinds.specs.Rows.{shared_keys};
 
 use crate::entry::ActorEntry;
-use crate::fault::{DocumentFault, Place, ReadFault, BorrowedPlace};
+use crate::fault::{BorrowedPlace, DocumentFault, Place, ReadFault};
 use crate::file::Files;
 use crate::key::{KeyValue, actor_keys, values_at};
 use crate::kind::{kind_at, natural, optional, word_at};

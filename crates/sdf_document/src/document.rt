@@ -16,14 +16,14 @@ ghost use Rattle.sdf_document.specs.Document.{graph_table, document_in, file_nam
 
 use crate::actor::actor_at;
 use crate::entry::{ActorEntry, Document, KindEntry, LinkEntry};
-use crate::fault::{DocumentFault, Place, ReadFault, BorrowedPlace};
+use crate::fault::{BorrowedPlace, DocumentFault, Place, ReadFault};
 use crate::file::{CoefficientFile, Files};
 use crate::link::link_at;
 use crate::name::put_name;
 use crate::table::{format_at, table_in, test_keys};
 use crate::value::at;
 use indexmap::IndexSet;
-use sdf_limits::{MOST_ACTORS, MOST_LINKS};
+use sdf_limits::{MAX_ACTORS, MAX_LINKS};
 use std::alloc::{AllocError, Global};
 use std::marker::Model;
 use toml::{Table, Value};
@@ -104,10 +104,10 @@ fn parts_at(alloc: Global, table: &Table) -> Result<FileParts<'_>, ReadFault>
     test_keys(alloc, BorrowedPlace::Top, top_keys(), table)?;
     let actors = array_at("actor", table)?;
     let links = array_at("link", table)?;
-    if actors.is_empty() || actors.len() > MOST_ACTORS {
+    if actors.is_empty() || actors.len() > MAX_ACTORS {
         return Err(DocumentFault::ActorCount.into());
     }
-    if links.len() > MOST_LINKS {
+    if links.len() > MAX_LINKS {
         return Err(DocumentFault::ChannelCount.into());
     }
     Ok(FileParts {
@@ -180,7 +180,7 @@ fn names_wanted(alloc: Global, actors: &[ActorEntry]) -> Result<Vec<String>, All
 }
 
 /// Reads the actors of a graph file, without a look into coefficient files.
-fn actors_alone(alloc: Global, parts: FileParts<'_>) -> Result<Vec<ActorEntry>, ReadFault>
+fn actors_without_files(alloc: Global, parts: FileParts<'_>) -> Result<Vec<ActorEntry>, ReadFault>
     ensures { Gives (λ v. map actor_view v.items) result
         (actors_in parts.entry.format unread (items_view parts.entry.actors.now)) }
 {
@@ -227,7 +227,7 @@ impl GraphFile {
         ensures { Gives (λ v. names_of v.items) result (file_names_in (table_view self.now)) }
     {
         let parts = parts_at(alloc, &self.table)?;
-        let actors = actors_alone(alloc, parts)?;
+        let actors = actors_without_files(alloc, parts)?;
         Ok(names_wanted(alloc, actors.as_slice())?)
     }
 

@@ -1,6 +1,6 @@
 //! Faults of reading a graph file.
 ghost use Rattle.std.specs.Prelude.{◌≡◌, Some, ◌++◌, codes, decimal, IfOk};
-ghost use Rattle.sdf_document.specs.Fault.{place_view, spot_view};
+ghost use Rattle.sdf_document.specs.Fault.{place_view, borrowed_view};
 ghost use Rattle.sdf_document.specs.declared.fault.ReadFault.TheVariants.{Document, OutOfMemory};
 
 use std::alloc::{AllocError, AllocFailed, Global};
@@ -42,7 +42,7 @@ pub(crate) enum BorrowedPlace<'a> {
 
 impl BorrowedPlace<'_> {
     pub(crate) fn place(self, alloc: Global) -> Result<Place, AllocError>
-        ensures { IfOk result (λ p. place_view p ≡ spot_view self.entry) }
+        ensures { IfOk result (λ p. place_view p ≡ borrowed_view self.entry) }
     {
         match self {
             BorrowedPlace::Top => Ok(Place::Top),

@@ -5,7 +5,7 @@ ghost use Rattle.sdf_document.specs.Fault.{Gives};
 ghost use Rattle.sdf_document.specs.Tables.{texts_of};
 ghost use Rattle.sdf_document.specs.Lists.{file_named, files_view, file_keys, coefficients};
 
-use crate::fault::{DocumentFault, ReadFault, BorrowedPlace};
+use crate::fault::{BorrowedPlace, DocumentFault, ReadFault};
 use crate::table::{format_at, table_in, test_keys};
 use crate::value::{at, integers_at};
 use std::alloc::Global;
@@ -50,13 +50,13 @@ pub fn file_keys() -> &'static [&'static str]
 pub(crate) fn coefficients(alloc: Global, name: &str, bytes: &[u8]) -> Result<Vec<i64>, ReadFault>
     ensures { Gives (λ v. v.items) result (coefficients name.now bytes.now) }
 {
-    let spot = BorrowedPlace::File(name);
-    let table = table_in(alloc, spot, bytes)?;
-    format_at(alloc, spot, 1, &table)?;
-    test_keys(alloc, spot, file_keys(), &table)?;
+    let borrowed = BorrowedPlace::File(name);
+    let table = table_in(alloc, borrowed, bytes)?;
+    format_at(alloc, borrowed, 1, &table)?;
+    test_keys(alloc, borrowed, file_keys(), &table)?;
     let Some(values) = at(&table, "values") else {
-        let place = spot.place(alloc)?;
+        let place = borrowed.place(alloc)?;
         return Err(DocumentFault::MissingKey(place, "values").into());
     };
-    integers_at(alloc, spot, "values", values)
+    integers_at(alloc, borrowed, "values", values)
 }

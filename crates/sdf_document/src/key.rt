@@ -7,8 +7,8 @@ ghost use Rattle.sdf_document.specs.Fault.{Gives};
 ghost use Rattle.sdf_document.specs.Tables.{texts_of};
 ghost use Rattle.sdf_document.specs.Lists.{lookup_of, are_read};
 ghost use Rattle.sdf_kinds.specs.Rows.{keys_view};
-ghost use Rattle.sdf_document.specs.Kinds.{written_at, names_of_keys, actor_keys, natural_at, optional_at, integer_at};
-ghost use Rattle.sdf_document.specs.Kinds.{formed_at, values_at, HasForm, HaveForms};
+ghost use Rattle.sdf_document.specs.Kinds.{used_key, names_of_keys, actor_keys, natural_at, optional_at, integer_at};
+ghost use Rattle.sdf_document.specs.Kinds.{key_value_at, values_at, HasForm, HaveForms};
 
 use crate::entry::ListEntry;
 use crate::fault::{DocumentFault, Place, ReadFault};
@@ -29,8 +29,8 @@ pub enum KeyValue {
 }
 
 /// Returns the key that `table` uses for `name`: `file` for a list that is not at `name`, otherwise `name`.
-fn written_at(table: &Table, name: &'static str, form: Form) -> &'static str
-    ensures { result.now ≡ written_at (table_view table.now) name.now form }
+fn used_key(table: &Table, name: &'static str, form: Form) -> &'static str
+    ensures { result.now ≡ used_key (table_view table.now) name.now form }
 {
     match form {
         Form::List(_, _) if at(table, name).is_none() => "file",
@@ -48,7 +48,7 @@ fn push_names(
         texts_of names.old.items ++ names_of_keys (table_view table.now) (keys_view keys.now)) }
 {
     for key in keys {
-        names.push(written_at(table, key.0.name(), key.1))?;
+        names.push(used_key(table, key.0.name(), key.1))?;
     }
     Ok(())
 }
@@ -131,7 +131,7 @@ fn integer_at(
 }
 
 /// Reads the value at `key` of an actor, in the given `form`.
-fn formed_at(
+fn key_value_at(
     alloc: Global,
     actor: usize,
     files: Files<'_>,
@@ -139,7 +139,7 @@ fn formed_at(
     form: Form,
     table: &Table,
 ) -> Result<KeyValue, ReadFault>
-    ensures given { Gives (λ v. v) result (formed_at actor (lookup_of files.entry) key.now form
+    ensures given { Gives (λ v. v) result (key_value_at actor (lookup_of files.entry) key.now form
         (table_view table.now)) }
     ensures within { IfOk result (λ v. HasForm (are_read files.entry) form v) }
 {
@@ -182,7 +182,7 @@ pub(crate) fn values_at(
 {
     let mut values = Vec::new(alloc);
     for key in keys {
-        let value = formed_at(alloc, actor, files, key.0.name(), key.1, table)?;
+        let value = key_value_at(alloc, actor, files, key.0.name(), key.1, table)?;
         values.push(value)?;
     }
     Ok(values)

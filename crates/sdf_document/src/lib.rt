@@ -26,4 +26,4 @@ pub use fault::{DocumentFault, Place, ReadFault};
 pub use file::{CoefficientFile, file_keys, file_named};
 pub use kind::kind_named;
 pub use link::link_keys;
-pub use list::{Limits, fitting};
+pub use list::{Limits, fit_width};

@@ -9,7 +9,7 @@ ghost use Rattle.sdf_document.specs.Links.{named, port_of, port_texts, end_of, e
 ghost use Rattle.sdf_document.specs.Links.{link_keys};
 
 use crate::entry::LinkEntry;
-use crate::fault::{DocumentFault, Place, ReadFault, BorrowedPlace};
+use crate::fault::{BorrowedPlace, DocumentFault, Place, ReadFault};
 use crate::list::all_of;
 use crate::table::test_keys;
 use crate::value::{at, integers_at, text_at};

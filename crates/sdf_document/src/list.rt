@@ -4,11 +4,12 @@ ghost use Rattle.std.specs.Prelude.{if◌then◌else◌};
 ghost use Rattle.std.specs.List.{list_all};
 ghost use Rattle.toml.specs.View.{table_view, view};
 ghost use Rattle.sdf_document.specs.Fault.{Gives};
-ghost use Rattle.sdf_document.specs.Lists.{lookup_of, are_read, fits, all_of, is_list, listed, name_in, filed_values};
-ghost use Rattle.sdf_document.specs.Lists.{filed_at, array_in, list_at, IsListed};
+ghost use Rattle.sdf_document.specs.Lists.{lookup_of, are_read, fits, all_of, is_list, list_within, name_in};
+ghost use Rattle.sdf_document.specs.Lists.{file_values};
+ghost use Rattle.sdf_document.specs.Lists.{list_in_file, array_in, list_at, IsListed};
 
 use crate::entry::ListEntry;
-use crate::fault::{DocumentFault, Place, ReadFault, BorrowedPlace};
+use crate::fault::{BorrowedPlace, DocumentFault, Place, ReadFault};
 use crate::file::{Files, coefficients, file_named};
 use crate::name::is_file_name;
 use crate::value::{at, integers_at};
@@ -24,7 +25,7 @@ pub struct Limits {
 }
 
 /// Returns `number` if it fits `width`.
-pub fn fitting(width: Width, number: i64) -> Option<i32>
+pub fn fit_width(width: Width, number: i64) -> Option<i32>
     ensures { result ≡ (if fits width number then Some number else None) }
 {
     match width {
@@ -44,7 +45,7 @@ pub(crate) fn all_of(
 {
     let mut values = Vec::new(alloc);
     for number in numbers {
-        match fitting(width, *number) {
+        match fit_width(width, *number) {
             Some(value) => values.push(value)?,
             None => return Ok(None),
         }
@@ -63,14 +64,14 @@ fn list_of(alloc: Global, limits: Limits, numbers: &[i64]) -> Result<Option<Vec<
 }
 
 /// Returns `numbers` as a list within `limits`, or a fault at `key` of the actor.
-fn listed(
+fn list_within(
     alloc: Global,
     actor: usize,
     key: &'static str,
     limits: Limits,
     numbers: &[i64],
 ) -> Result<Vec<i32>, ReadFault>
-    ensures given { Gives (λ v. v.items) result (listed actor key.now limits.most limits.width numbers.now) }
+    ensures given { Gives (λ v. v.items) result (list_within actor key.now limits.most limits.width numbers.now) }
     ensures within { IfOk result (λ v. IsTrue (is_list limits.most limits.width v.items)) }
 {
     match list_of(alloc, limits, numbers)? {
@@ -94,15 +95,15 @@ fn name_in(actor: usize, value: &Value) -> Result<&str, ReadFault>
 }
 
 /// Returns the values of the coefficient file `name`, or no values if `files` are not looked into.
-#[tactic(auto, unfolding(crate::specs::Lists::filed_values))]
-fn filed_values(
+#[tactic(auto, unfolding(crate::specs::Lists::file_values))]
+fn file_values(
     alloc: Global,
     actor: usize,
     limits: Limits,
     files: Files<'_>,
     name: &str,
 ) -> Result<Vec<i32>, ReadFault>
-    ensures given { Gives (λ v. v.items) result (filed_values actor limits.most limits.width
+    ensures given { Gives (λ v. v.items) result (file_values actor limits.most limits.width
         (lookup_of files.entry) name.now) }
     ensures within { IfOk result (λ v. IsListed (are_read files.entry) limits.most limits.width v.items) }
 {
@@ -113,23 +114,23 @@ fn filed_values(
         return Err(DocumentFault::NoFile(String::from_str(alloc, name)?).into());
     };
     let numbers = coefficients(alloc, name, bytes)?;
-    listed(alloc, actor, "file", limits, numbers.as_slice())
+    list_within(alloc, actor, "file", limits, numbers.as_slice())
 }
 
-#[tactic(auto, unfolding(crate::specs::Lists::filed_at))]
-fn filed_at(
+#[tactic(auto, unfolding(crate::specs::Lists::list_in_file))]
+fn list_in_file(
     alloc: Global,
     actor: usize,
     limits: Limits,
     files: Files<'_>,
     value: &Value,
 ) -> Result<ListEntry, ReadFault>
-    ensures given { Gives (λ l. l) result (filed_at actor limits.most limits.width (lookup_of files.entry)
+    ensures given { Gives (λ l. l) result (list_in_file actor limits.most limits.width (lookup_of files.entry)
         (view value.now)) }
     ensures within { IfOk result (λ l. IsListed (are_read files.entry) limits.most limits.width l.values) }
 {
     let name = name_in(actor, value)?;
-    let values = filed_values(alloc, actor, limits, files, name)?;
+    let values = file_values(alloc, actor, limits, files, name)?;
     Ok(ListEntry {
         file: Some(String::from_str(alloc, name)?),
         values,
@@ -148,7 +149,7 @@ fn array_in(
     ensures within { IfOk result (λ l. IsTrue (is_list limits.most limits.width l.values)) }
 {
     let numbers = integers_at(alloc, BorrowedPlace::Actor(actor), key, value)?;
-    let values = listed(alloc, actor, key, limits, numbers.as_slice())?;
+    let values = list_within(alloc, actor, key, limits, numbers.as_slice())?;
     Ok(ListEntry { file: None, values })
 }
 
@@ -170,7 +171,7 @@ pub(crate) fn list_at(
         return array_in(alloc, actor, key, limits, value);
     }
     match at(table, "file") {
-        Some(value) => filed_at(alloc, actor, limits, files, value),
+        Some(value) => list_in_file(alloc, actor, limits, files, value),
         None => Err(DocumentFault::MissingKey(Place::Actor(actor), key).into()),
     }
 }

@@ -2,10 +2,10 @@
 ghost use Rattle.std.specs.Prelude.{◌≡◌, ◌≤◌, ◌≤ℤ◌, option_map, IfOk};
 ghost use Rattle.toml.specs.Data.{get_member};
 ghost use Rattle.toml.specs.View.{table_view, view, items_view};
-ghost use Rattle.sdf_document.specs.Fault.{Gives, place_view, spot_view};
+ghost use Rattle.sdf_document.specs.Fault.{Gives, place_view, borrowed_view};
 ghost use Rattle.sdf_document.specs.Values.{text_at, natural_in, integer_in, integers_in, integers_at};
 
-use crate::fault::{DocumentFault, Place, ReadFault, BorrowedPlace};
+use crate::fault::{BorrowedPlace, DocumentFault, Place, ReadFault};
 use std::alloc::{AllocError, Global};
 use toml::{Table, Value};
 
@@ -96,20 +96,20 @@ fn integers_in(alloc: Global, items: &[Value]) -> Result<Option<Vec<i64>>, Alloc
 #[tactic(auto, unfolding(crate::specs::Values::integers_at))]
 pub(crate) fn integers_at(
     alloc: Global,
-    spot: BorrowedPlace<'_>,
+    borrowed: BorrowedPlace<'_>,
     key: &'static str,
     value: &Value,
 ) -> Result<Vec<i64>, ReadFault>
-    ensures { Gives (λ v. v.items) result (integers_at (spot_view spot.entry) key.now (view value.now)) }
+    ensures { Gives (λ v. v.items) result (integers_at (borrowed_view borrowed.entry) key.now (view value.now)) }
 {
     let Some(array) = value.as_array() else {
-        let place = spot.place(alloc)?;
+        let place = borrowed.place(alloc)?;
         return Err(DocumentFault::WrongType(place, key).into());
     };
     match integers_in(alloc, array.as_slice())? {
         Some(numbers) => Ok(numbers),
         None => {
-            let place = spot.place(alloc)?;
+            let place = borrowed.place(alloc)?;
             Err(DocumentFault::WrongType(place, key).into())
         }
     }

@@ -8,7 +8,7 @@ use Rattle.std.proofs.lemmas.List.{take-take, get_or-take, length-take-le}
 use Rattle.std.proofs.lemmas.List.Sums.{sum_by_more_le}
 use Rattle.sdf_file.specs.Designs.{DesignValue}
 use Rattle.sdf_draw.specs.declared.layout.BoxPlace.{BoxPlace}
-use Rattle.sdf_draw.specs.Layouts.{place, no_place, room_in, stacked, ArePlaces, IsClear, AreApart}
+use Rattle.sdf_draw.specs.Layouts.{place, no_place, room_in, stack_height, ArePlaces, IsClear, AreApart}
 
 -- the room of a box in its own column
 room_here : (k : ℕ) (p : BoxPlace) → p.depth ≡ k → room_in k p ≡ p.height + 26
@@ -16,7 +16,7 @@ room_here k p e = ap (λ b. if b then p.height + 26 else 0) (eq-eqb p.depth k e)
 
 -- the boxes before a later one take the room of the earlier one too
 stacked_more : (ps : List BoxPlace) (k a b : ℕ) → a < b → b ≤ length ps → (place ps a).depth ≡ k →
-    stacked (take a ps) k + ((place ps a).height + 26) ≤ stacked (take b ps) k
+    stack_height (take a ps) k + ((place ps a).height + 26) ≤ stack_height (take b ps) k
 stacked_more ps k a b low within here =
     let more : sum_by (room_in k) (take a (take b ps)) + room_in k (get_or (take b ps) a no_place)
     ≤ sum_by (room_in k) (take b ps) =
@@ -44,8 +44,8 @@ apart d depths top ps are a b low within =
         let eb : (place ps b).depth ≡ get_or depths b 0 = pb.depth in
         let here : (place ps a).depth ≡ get_or depths b 0 = omega (arith, eb) in
         let same : get_or depths a 0 ≡ get_or depths b 0 = omega (arith, ea, here) in
-        let ya : (place ps a).y ≡ top + stacked (take a ps) (get_or depths b 0) =
-        subst (λ k. (place ps a).y ≡ top + stacked (take a ps) k) same pa.y in
-        let yb : (place ps b).y ≡ top + stacked (take b ps) (get_or depths b 0) = pb.y in
+        let ya : (place ps a).y ≡ top + stack_height (take a ps) (get_or depths b 0) =
+        subst (λ k. (place ps a).y ≡ top + stack_height (take a ps) k) same pa.y in
+        let yb : (place ps b).y ≡ top + stack_height (take b ps) (get_or depths b 0) = pb.y in
         let more = stacked_more ps (get_or depths b 0) a b low (omega arith) here in
         inl (inr (omega (arith, ya, yb, more)))

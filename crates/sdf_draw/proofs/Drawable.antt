@@ -3,17 +3,17 @@ use Rattle.std.proofs.Common.{◌≡◌, ℕ, ◌<◌, ◌^◌, length, subst, s
 use Rattle.sdf_sched.specs.Period.{Schedule}
 use Rattle.sdf_prec.specs.declared.fault.PrecFault.{PrecFault}
 use Rattle.sdf_prec.specs.declared.fault.PrecFault.TheVariants.{OutOfMemory}
-use Rattle.sdf_prec.specs.Tables.{Tabled, IsTable}
+use Rattle.sdf_prec.specs.Tables.{TableValue, IsTable}
 use Rattle.sdf_file.specs.Designs.{DesignValue, IsDesign}
 use Rattle.sdf_options.specs.declared.options.Options.{Options}
 use Rattle.sdf_faults.specs.Faults.{of_prec}
 use Rattle.sdf_plan.specs.Placements.{rates_of, firings_of}
-use Rattle.sdf_plan.specs.Schedules.{IsShowFault}
-use Rattle.sdf_analyze.specs.Figures.{Figured, AreFiguresOf}
+use Rattle.sdf_plan.specs.Schedules.{IsDesignScheduleFault}
+use Rattle.sdf_analyze.specs.Figures.{FiguresValue, AreFiguresOf}
 use Rattle.sdf_draw.specs.Bars.{AreDrawable}
 use Rattle.sdf_draw.proofs.Known.{known_firing}
 
-pub drawable : (d : DesignValue) (j m : ℕ) (s : Schedule) (t : Tabled) (v : Figured) → IsDesign d →
+pub drawable : (d : DesignValue) (j m : ℕ) (s : Schedule) (t : TableValue) (v : FiguresValue) → IsDesign d →
     IsTable (rates_of d) (firings_of j s) m t → AreFiguresOf d j m s t v → v.makespan < 2 ^ 64 →
     AreDrawable d m t v.starts
 drawable d j m s t v whole table figures fits = record {
@@ -27,5 +27,6 @@ drawable d j m s t v whole table figures fits = record {
 }
 
 -- that memory was refused is a fault of any schedule
-pub memory_shows : (d : DesignValue) (o : Options) (e : PrecFault) → e ≡ OutOfMemory → IsShowFault d o (of_prec e)
-memory_shows d o e is = subst (λ e. IsShowFault d o (of_prec e)) (sym is) tt
+pub memory_shows : (d : DesignValue) (o : Options) (e : PrecFault) → e ≡ OutOfMemory →
+    IsDesignScheduleFault d o (of_prec e)
+memory_shows d o e is = subst (λ e. IsDesignScheduleFault d o (of_prec e)) (sym is) tt

@@ -1,7 +1,7 @@
 -- The text of arrows.
 use Rattle.std.specs.Prelude.{ℕ, ◌+◌, ◌-◌, ◌*◌, ◌/◌, ◌%◌, ◌==◌, List, [], ◌++◌, if◌then◌else◌, codes, length}
 use Rattle.std.specs.Prelude.{slice_index}
-use Rattle.sdf_graph.specs.Rates.{Edge}
+use Rattle.sdf_graph.specs.Rates.{ChannelValue}
 use Rattle.sdf_file.specs.Designs.{DesignValue}
 use Rattle.sdf_analyze.specs.Texts.{lines_to}
 use Rattle.sdf_draw.specs.declared.arrows.TheConstants.{STUB, TAIL, SHIFTS, SHIFT, DOT}
@@ -45,10 +45,10 @@ abbrev pub shift_of : ℕ → ℕ
 shift_of c = c % SHIFTS * SHIFT
 
 -- the part of an arrow between its straight parts
-abbrev pub way_text : List BoxPlace → Route → ℕ → Point → Point → List ℕ
-way_text ps Across shift start end = curve_text start end
-way_text ps (Above lane) shift start end = turns_text start end (lane_above lane) shift
-way_text ps (Below lane) shift start end = turns_text start end (lane_below ps lane) shift
+abbrev pub route_text : List BoxPlace → Route → ℕ → Point → Point → List ℕ
+route_text ps Across shift start end = curve_text start end
+route_text ps (Above lane) shift start end = turns_text start end (lane_above lane) shift
+route_text ps (Below lane) shift start end = turns_text start end (lane_below ps lane) shift
 
 -- the straight part at the beginning of a line, in a colour
 unfoldable pub stub_text : ℕ → Point → List ℕ
@@ -58,7 +58,7 @@ stub_text colour start =
 
 unfoldable pub line_text : List BoxPlace → Route → ℕ → ℕ → Point → Point → List ℕ
 line_text ps r c colour start end =
-    stub_text colour start ++ way_text ps r (shift_of c) start end
+    stub_text colour start ++ route_text ps r (shift_of c) start end
     ++ number_text (codes " H") (end.x - 2) ++ codes "'/>"
 
 -- the beginning of a text, and its position
@@ -92,11 +92,11 @@ abbrev pub initial_text : ℕ → Point → List ℕ
 initial_text initial end = if initial == 0 then [] else dot_text initial end
 
 -- the numbers at both ends of an arrow
-unfoldable pub ends_text : Edge → Point → Point → List ℕ
+unfoldable pub ends_text : ChannelValue → Point → Point → List ℕ
 ends_text e start end = put_text e.put start ++ initial_text e.initial end ++ take_text e.take end
 
 -- the arrow of a link of this capacity, between two points
-abbrev pub between_text : Edge → ℕ → List BoxPlace → Route → ℕ → Point → Point → List ℕ
+abbrev pub between_text : ChannelValue → ℕ → List BoxPlace → Route → ℕ → Point → Point → List ℕ
 between_text e capacity ps r c start end =
     line_text ps r c (e.from % COLOURS) start end ++ ends_text e start end ++ capacity_text capacity end
     ++ codes "\n"

@@ -3,7 +3,7 @@ use Rattle.std.specs.Prelude.{◌≡◌, ℕ, zero, suc, ◌+◌, ◌*◌, ◌/�
 use Rattle.std.specs.Prelude.{Some, None}
 use Rattle.std.specs.Prelude.{slice_index, length, ◌<◌, ◌^◌}
 use Rattle.sdf_prec.specs.declared.firing.Firing.{Firing}
-use Rattle.sdf_prec.specs.Tables.{Tabled, cell, row}
+use Rattle.sdf_prec.specs.Tables.{TableValue, cell, row}
 use Rattle.sdf_times.specs.Times.{IsInTable, HasStart, start_in}
 use Rattle.sdf_file.specs.Designs.{DesignValue}
 use Rattle.sdf_draw.specs.declared.bars.Bar.{Bar}
@@ -14,13 +14,13 @@ abbrev pub bar_of : (ℕ → ℕ) → (Firing → ℕ) → Firing → Bar
 bar_of cost start f = record { actor = f.actor; start = start f; end = start f + cost f.actor }
 
 -- bar b goes on with bar a: it is of the same actor, and begins when bar a ends
-abbrev pub goes_on : Bar → Bar → Bool
-goes_on a b = (a.actor == b.actor) && (a.end == b.start)
+abbrev pub is_continued_by : Bar → Bar → Bool
+is_continued_by a b = (a.actor == b.actor) && (a.end == b.start)
 
 -- two bars, as one if bars are joined and the second goes on with the first
 abbrev pub two_bars : Bool → Bar → Bar → List Bar
 two_bars joined a b =
-    if joined && goes_on a b then record { actor = a.actor; start = a.start; end = b.end } ∷ [] else a ∷ b ∷ []
+    if joined && is_continued_by a b then record { actor = a.actor; start = a.start; end = b.end } ∷ [] else a ∷ b ∷ []
 
 -- bars with one more, which lengthens the last one if bars are joined and it goes on with that
 abbrev pub with_bar : Bool → List Bar → Bar → List Bar
@@ -44,7 +44,7 @@ pub record IsDrawable (costs : List ℕ) (starts : List (List ℕ)) (f : Firing)
   pub small : start_in starts f + slice_index costs f.actor < 2 ^ 64
 
 -- a table that can be drawn: its rows have m columns, and its firings can be drawn
-pub record AreDrawable (d : DesignValue) (m : ℕ) (t : Tabled) (starts : List (List ℕ)) : Type 0 where
+pub record AreDrawable (d : DesignValue) (m : ℕ) (t : TableValue) (starts : List (List ℕ)) : Type 0 where
   pub wide : (i : ℕ) → i < length t.rows → length (row t.rows i) ≡ m
   pub each : (f : Firing) → IsInTable t.rows f → IsDrawable d.costs starts f
 

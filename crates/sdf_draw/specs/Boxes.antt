@@ -63,15 +63,15 @@ line_text word p y =
     word ++ number_text (codes " x='") (left_of p + WIDTH / 2) ++ number_text (codes "' y='") y
 
 -- a name of more characters than fit is compressed
-abbrev pub pressed_text : ℕ → List ℕ
-pressed_text characters =
+abbrev pub compression_text : ℕ → List ℕ
+compression_text characters =
     if nat_lt FITTING characters then number_text (codes "' lengthAdjust='spacingAndGlyphs' textLength='") (WIDTH - 36)
     else []
 
 -- a name in the middle of its box
 unfoldable pub label_text : DesignValue → ℕ → BoxPlace → List ℕ
 label_text d a p =
-    line_text (codes "<text class='mid'") p (middle_of p - 2) ++ pressed_text (length (slice_index_or d.names a []))
+    line_text (codes "<text class='mid'") p (middle_of p - 2) ++ compression_text (length (slice_index_or d.names a []))
     ++ codes "'>" ++ name_text d a ++ codes "</text>"
 
 -- how often an actor fires in a period, below its name

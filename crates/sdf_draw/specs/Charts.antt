@@ -1,13 +1,13 @@
 -- The text of a table against time.
 use Rattle.std.specs.Prelude.{ℕ, ◌+◌, ◌-◌, ◌*◌, ◌%◌, List, ◌++◌, codes, length, nat_lt, slice_index}
 use Rattle.std.specs.List.{flat_map}
-use Rattle.sdf_prec.specs.Tables.{Tabled}
+use Rattle.sdf_prec.specs.Tables.{TableValue}
 use Rattle.sdf_times.specs.Times.{start_in}
 use Rattle.sdf_file.specs.Designs.{DesignValue}
-use Rattle.sdf_analyze.specs.Figures.{Figured}
+use Rattle.sdf_analyze.specs.Figures.{FiguresValue}
 use Rattle.sdf_analyze.specs.Texts.{lines_to}
 use Rattle.sdf_draw.specs.declared.bars.Bar.{Bar}
-use Rattle.sdf_draw.specs.declared.chart.TheConstants.{CHART, ROW, MOST_BARS}
+use Rattle.sdf_draw.specs.declared.chart.TheConstants.{CHART, ROW, MAX_BARS}
 use Rattle.sdf_draw.specs.declared.texts.TheConstants.{COLOURS}
 use Rattle.sdf_draw.specs.Bars.{bar_of, bars_to, scaled}
 use Rattle.sdf_draw.specs.Texts.{number_text, pair_text, name_text}
@@ -29,12 +29,12 @@ bar_text d k b =
     rect_text (b.actor % COLOURS) b.start (b.end - b.start) (ROW * k + 4) ++ title_text d b.actor b.start b.end
 
 -- the bars of worker k: of its firings in row order, joined if the table has many firings
-abbrev pub bars_of : DesignValue → Tabled → List (List ℕ) → ℕ → List Bar
+abbrev pub bars_of : DesignValue → TableValue → List (List ℕ) → ℕ → List Bar
 bars_of d t starts k =
-    bars_to (nat_lt MOST_BARS (length t.order)) (bar_of (slice_index d.costs) (start_in starts)) t.rows k
+    bars_to (nat_lt MAX_BARS (length t.order)) (bar_of (slice_index d.costs) (start_in starts)) t.rows k
     (length t.rows)
 
-unfoldable pub lane_text : DesignValue → Tabled → List (List ℕ) → ℕ → List ℕ
+unfoldable pub lane_text : DesignValue → TableValue → List (List ℕ) → ℕ → List ℕ
 lane_text d t starts k = flat_map (bar_text d k) (bars_of d t starts k)
 
 -- the beginning of the bars' frame: the makespan, in units of time, is as wide as the chart
@@ -44,11 +44,11 @@ frame_text makespan end =
     ++ number_text (codes "' viewBox='0 0 ") makespan ++ number_text (codes " ") end ++ codes "'>\n"
 
 -- the bars of each of m workers
-abbrev pub rows_text : DesignValue → Tabled → List (List ℕ) → ℕ → List ℕ
+abbrev pub rows_text : DesignValue → TableValue → List (List ℕ) → ℕ → List ℕ
 rows_text d t starts m = lines_to (lane_text d t starts) m
 
 -- the bars of m workers in their frame, in units of time
-abbrev pub lanes_text : DesignValue → Tabled → Figured → ℕ → List ℕ
+abbrev pub lanes_text : DesignValue → TableValue → FiguresValue → ℕ → List ℕ
 lanes_text d t f m =
     frame_text f.makespan (ROW * m) ++ rows_text d t f.starts m ++ codes "</svg>\n"
 
@@ -74,7 +74,7 @@ label_text place bound =
     ++ codes "</text>\n"
 
 -- the line of the bound, with its number
-abbrev pub bound_text : Figured → ℕ → List ℕ
+abbrev pub bound_text : FiguresValue → ℕ → List ℕ
 bound_text f end =
     mark_text (scaled f.bound f.makespan) end ++ label_text (scaled f.bound f.makespan) f.bound
 
@@ -96,6 +96,6 @@ axis_text makespan end =
     ++ makespan_text makespan (end + 16)
 
 -- the chart of a table in m columns, with its figures, against time
-abbrev pub chart_text : DesignValue → Tabled → Figured → ℕ → List ℕ
+abbrev pub chart_text : DesignValue → TableValue → FiguresValue → ℕ → List ℕ
 chart_text d t f m =
     workers_text m ++ lanes_text d t f m ++ axis_text f.makespan (ROW * m) ++ bound_text f (ROW * m)

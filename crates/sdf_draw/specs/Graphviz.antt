@@ -1,6 +1,6 @@
 -- The text of a graph for Graphviz.
 use Rattle.std.specs.Prelude.{ℕ, ◌==◌, List, [], ◌++◌, if◌then◌else◌, codes, length, slice_index_or}
-use Rattle.sdf_graph.specs.Rates.{Edge}
+use Rattle.sdf_graph.specs.Rates.{ChannelValue}
 use Rattle.sdf_actor.specs.Nets.{node}
 use Rattle.sdf_file.specs.Designs.{DesignValue}
 use Rattle.sdf_analyze.specs.Texts.{lines_to}
@@ -37,7 +37,7 @@ unfoldable pub label_text : List ℕ → List ℕ → List ℕ
 label_text word rates = word ++ rate_text rates
 
 -- what firings put on a link and take from it, and the samples that it begins with
-unfoldable pub labels_text : Edge → List ℕ
+unfoldable pub labels_text : ChannelValue → List ℕ
 labels_text e =
     label_text (codes " [taillabel=\"") e.put ++ label_text (codes "\" headlabel=\"") e.take
     ++ initial_label e.initial ++ codes "\"];\n"

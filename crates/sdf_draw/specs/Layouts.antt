@@ -59,8 +59,8 @@ abbrev pub room_in : ℕ → BoxPlace → ℕ
 room_in depth p = if p.depth == depth then p.height + GAP else 0
 
 -- the height that all boxes of this depth take
-abbrev pub stacked : List BoxPlace → ℕ → ℕ
-stacked ps depth = sum_by (room_in depth) ps
+abbrev pub stack_height : List BoxPlace → ℕ → ℕ
+stack_height ps depth = sum_by (room_in depth) ps
 
 -- the height of an actor's box, given by the side with more ports
 abbrev pub height_of : DesignValue → ℕ → ℕ
@@ -70,7 +70,7 @@ height_of d a =
 -- the box of actor a: in the column of its depth, below the boxes of earlier actors there
 pub record IsPlaced (d : DesignValue) (depths : List ℕ) (top : ℕ) (ps : List BoxPlace) (a : ℕ) : Type 0 where
   pub depth : (place ps a).depth ≡ slice_index depths a
-  pub y : (place ps a).y ≡ top + stacked (take a ps) (slice_index depths a)
+  pub y : (place ps a).y ≡ top + stack_height (take a ps) (slice_index depths a)
   pub height : (place ps a).height ≡ height_of d a
 
 -- a box for each actor, in order

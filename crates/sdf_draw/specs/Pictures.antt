@@ -7,7 +7,7 @@ use Rattle.sdf_draw.specs.declared.chart.TheConstants.{CHART, ROW}
 use Rattle.sdf_draw.specs.declared.layout.BoxPlace.{BoxPlace}
 use Rattle.sdf_draw.specs.Layouts.{rightmost, lane_below}
 use Rattle.sdf_draw.specs.Texts.{number_text}
-use Rattle.sdf_draw.specs.Drawings.{Drawn, IsDrawing}
+use Rattle.sdf_draw.specs.Drawings.{DrawingValue, IsDrawing}
 use Rattle.sdf_draw.specs.Arrows.{arrows_text}
 use Rattle.sdf_draw.specs.Boxes.{boxes_text}
 use Rattle.sdf_draw.specs.Charts.{chart_text}
@@ -54,7 +54,7 @@ height_of ps below m = chart_top ps below + ROW * m + 40
 
 -- the text of a drawing for m workers, part after part: an arrow for each link, a box for each actor, and the bars of
 -- each worker
-abbrev pub picture_text : DesignValue → ℕ → Drawn → List ℕ
+abbrev pub picture_text : DesignValue → ℕ → DrawingValue → List ℕ
 picture_text d m w =
     head_text (width_of w.places) (height_of w.places w.below m)
     ++ arrows_text d w.table.caps w.places w.routes
@@ -64,6 +64,6 @@ picture_text d m w =
 
 -- the text of a drawing of the design by the options
 pub record IsPicture (d : DesignValue) (o : Options) (text : List ℕ) : Type 0 where
-  pub what : Drawn
+  pub what : DrawingValue
   pub drawing : IsDrawing d o what
   pub is : text ≡ picture_text d o.workers what

@@ -1,15 +1,15 @@
 //! The text of arrows.
 
 ghost use Rattle.std.specs.Prelude.{◌≡◌, ◌<◌, ◌≤◌, ◌++◌, OnOk, length, slice_index, string_bytes, codes};
-ghost use Rattle.sdf_limits.specs.declared.TheConstants.{MOST_CYCLE, MOST_PORTS};
+ghost use Rattle.sdf_limits.specs.declared.TheConstants.{MAX_CYCLE, MAX_PORTS};
 ghost use Rattle.sdf_draw.specs.Layouts.{IsNear, route};
 ghost use Rattle.sdf_draw.specs.Edges.{edge};
-ghost use Rattle.sdf_draw.specs.Arrows.{port_height, start_of, end_of, shift_of, curve_text, turns_text, way_text};
+ghost use Rattle.sdf_draw.specs.Arrows.{port_height, start_of, end_of, shift_of, curve_text, turns_text, route_text};
 ghost use Rattle.sdf_draw.specs.Arrows.{stub_text, line_text, at_text, put_text, take_text, capacity_text};
 ghost use Rattle.sdf_draw.specs.Arrows.{dot_text, initial_text, ends_text};
 ghost use Rattle.sdf_draw.specs.Arrows.{arrow_text, arrows_text};
 
-use crate::layout::{Layout, PORT, BoxPlace, Route, lane_above};
+use crate::layout::{BoxPlace, Layout, PORT, Route, lane_above};
 use crate::ports::{End, LinkEnds, channel_of, ends_of};
 use crate::texts::{COLOURS, push_number, push_pair, push_rate};
 use sdf_file::Design;
@@ -40,7 +40,7 @@ pub(crate) struct Point {
 
 /// Returns the y of `port` at the box in `place`. The `ports` of a side are centred on it.
 fn port_height(place: BoxPlace, ports: usize, port: usize) -> u64
-    requires { (ports ≤ MOST_PORTS) × (port < MOST_PORTS) }
+    requires { (ports ≤ MAX_PORTS) × (port < MAX_PORTS) }
     ensures is { result ≡ port_height place ports port }
     ensures small { result < 10000000000 }
 {
@@ -51,7 +51,7 @@ fn port_height(place: BoxPlace, ports: usize, port: usize) -> u64
 /// Returns the point at which an arrow from `from` begins.
 fn start_of(layout: &Layout, from: End) -> Point
     requires actor { from.actor < length layout.now.places.items }
-    requires port { (from.ports ≤ MOST_PORTS) × (from.port < MOST_PORTS) }
+    requires port { (from.ports ≤ MAX_PORTS) × (from.port < MAX_PORTS) }
     ensures is { result ≡ start_of layout.now.places.items from }
     ensures near { IsNear result }
 {
@@ -65,7 +65,7 @@ fn start_of(layout: &Layout, from: End) -> Point
 /// Returns the point at which an arrow to `to` ends.
 fn end_of(layout: &Layout, to: End) -> Point
     requires actor { to.actor < length layout.now.places.items }
-    requires port { (to.ports ≤ MOST_PORTS) × (to.port < MOST_PORTS) }
+    requires port { (to.ports ≤ MAX_PORTS) × (to.port < MAX_PORTS) }
     ensures is { result ≡ end_of layout.now.places.items to }
     ensures near { IsNear result }
 {
@@ -110,7 +110,7 @@ fn push_turns(
 }
 
 /// Adds the part of an arrow between its straight parts.
-fn push_way(
+fn push_route(
     text: &mut String,
     layout: &Layout,
     link: usize,
@@ -120,7 +120,7 @@ fn push_way(
     requires link { link < length layout.now.routes.items }
     requires start { IsNear start }
     ensures { OnOk result (string_bytes text.new ≡ string_bytes text.old
-        ++ way_text layout.now.places.items (route layout.now.routes.items link) (shift_of link) start end) }
+        ++ route_text layout.now.places.items (route layout.now.routes.items link) (shift_of link) start end) }
 {
     let shift = (link % SHIFTS) as u64 * SHIFT;
     match layout.routes[link] {
@@ -158,7 +158,7 @@ fn push_line(
         ++ line_text layout.now.places.items (route layout.now.routes.items link) link colour start end) }
 {
     push_stub(text, colour, start)?;
-    push_way(text, layout, link, start, end)?;
+    push_route(text, layout, link, start, end)?;
     push_number(text, " H", end.x.saturating_sub(2))?;
     text.push_str("'/>")
 }
@@ -174,7 +174,7 @@ fn push_at(text: &mut String, word: &str, x: u64, y: u64) -> Result<(), AllocErr
 #[tactic(auto, unfolding(crate::specs::Arrows::put_text))]
 fn push_put(text: &mut String, channel: &Channel, start: Point) -> Result<(), AllocError>
     requires start { IsNear start }
-    requires rates { length channel.now.put ≤ MOST_CYCLE }
+    requires rates { length channel.now.put ≤ MAX_CYCLE }
     ensures { OnOk result (string_bytes text.new ≡ string_bytes text.old ++ put_text channel.now.put start) }
 {
     push_at(text, "<text x='", start.x + 5, start.y.saturating_sub(4))?;
@@ -186,7 +186,7 @@ fn push_put(text: &mut String, channel: &Channel, start: Point) -> Result<(), Al
 /// Adds the samples that firings take from a link, at the end of its arrow.
 #[tactic(auto, unfolding(crate::specs::Arrows::take_text))]
 fn push_take(text: &mut String, channel: &Channel, end: Point) -> Result<(), AllocError>
-    requires { length channel.now.take ≤ MOST_CYCLE }
+    requires { length channel.now.take ≤ MAX_CYCLE }
     ensures { OnOk result (string_bytes text.new ≡ string_bytes text.old ++ take_text channel.now.take end) }
 {
     let (x, y) = (end.x.saturating_sub(9), end.y.saturating_sub(4));
@@ -233,10 +233,15 @@ fn push_initial(text: &mut String, initial: usize, end: Point) -> Result<(), All
 
 /// Adds the numbers at both ends of an arrow.
 #[tactic(auto, unfolding(crate::specs::Arrows::ends_text))]
-fn push_ends(text: &mut String, channel: &Channel, start: Point, end: Point) -> Result<(), AllocError>
+fn push_ends(
+    text: &mut String,
+    channel: &Channel,
+    start: Point,
+    end: Point,
+) -> Result<(), AllocError>
     requires start { IsNear start }
-    requires put { length channel.now.put ≤ MOST_CYCLE }
-    requires take { length channel.now.take ≤ MOST_CYCLE }
+    requires put { length channel.now.put ≤ MAX_CYCLE }
+    requires take { length channel.now.take ≤ MAX_CYCLE }
     ensures { OnOk result (string_bytes text.new ≡ string_bytes text.old ++ ends_text channel.now start end) }
 {
     push_put(text, channel, start)?;

@@ -4,7 +4,7 @@ ghost use Rattle.std.specs.Prelude.{◌≡◌, ℕ, ◌++◌, ◌<◌, length, s
 ghost use Rattle.sdf_prec.specs.declared.firing.Firing.{Firing};
 ghost use Rattle.sdf_prec.specs.Tables.{row, cell};
 ghost use Rattle.sdf_times.specs.Times.{start_in};
-ghost use Rattle.sdf_draw.specs.Bars.{IsDrawable, bar_of, goes_on, two_bars, with_bar, with_cell, bars_to};
+ghost use Rattle.sdf_draw.specs.Bars.{IsDrawable, bar_of, is_continued_by, two_bars, with_bar, with_cell, bars_to};
 
 use sdf_analyze::Figures;
 use sdf_prec::{Firing, Table};
@@ -20,8 +20,8 @@ pub(crate) struct Bar {
 
 impl Bar {
     /// Checks whether `other` is of the same actor and begins when this bar ends.
-    fn goes_on(self, other: Bar) -> bool
-        ensures { result ≡ goes_on self other }
+    fn is_continued_by(self, other: Bar) -> bool
+        ensures { result ≡ is_continued_by self other }
     {
         self.actor == other.actor && self.end == other.start
     }
@@ -44,7 +44,7 @@ fn bar_of(figures: &Figures, costs: &[u32], firing: Firing) -> Bar
 fn add_two(bars: &mut Vec<Bar>, joined: bool, last: Bar, bar: Bar) -> Result<(), AllocError>
     ensures { IfOk result (λ _. bars.new.items ≡ bars.old.items ++ two_bars joined last bar) }
 {
-    if joined && last.goes_on(bar) {
+    if joined && last.is_continued_by(bar) {
         let Bar { actor, start, .. } = last;
         bars.push(Bar {
             actor,

@@ -5,9 +5,9 @@ ghost use Rattle.sdf_actor.specs.Nets.{node};
 ghost use Rattle.sdf_draw.specs.Layouts.{place};
 ghost use Rattle.sdf_draw.specs.Boxes.{point_text, points_text, source_corners, sink_corners, upper_corners};
 ghost use Rattle.sdf_draw.specs.Boxes.{lower_corners, plain_corners, corners_text, outline_text, line_text};
-ghost use Rattle.sdf_draw.specs.Boxes.{pressed_text, label_text, firings_text, box_text, boxes_text};
+ghost use Rattle.sdf_draw.specs.Boxes.{compression_text, label_text, firings_text, box_text, boxes_text};
 
-use crate::layout::{Layout, BoxPlace, WIDTH};
+use crate::layout::{BoxPlace, Layout, WIDTH};
 use crate::ports::{Shape, shape_of};
 use crate::texts::{COLOURS, push_name, push_number};
 use sdf_file::Design;
@@ -122,8 +122,8 @@ fn push_line(text: &mut String, word: &str, place: BoxPlace, y: u64) -> Result<(
 }
 
 /// Adds the attributes that compress a name of `characters` characters, if it has more than fit.
-fn push_pressed(text: &mut String, characters: usize) -> Result<(), AllocError>
-    ensures { OnOk result (string_bytes text.new ≡ string_bytes text.old ++ pressed_text characters) }
+fn push_compression(text: &mut String, characters: usize) -> Result<(), AllocError>
+    ensures { OnOk result (string_bytes text.new ≡ string_bytes text.old ++ compression_text characters) }
 {
     if characters > FITTING {
         push_number(
@@ -151,7 +151,7 @@ fn push_label(
         place,
         place.middle().saturating_sub(2),
     )?;
-    push_pressed(text, design.name(actor).len())?;
+    push_compression(text, design.name(actor).len())?;
     text.push_str("'>")?;
     push_name(text, design, actor)?;
     text.push_str("</text>")

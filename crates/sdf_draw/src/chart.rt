@@ -2,7 +2,7 @@
 
 ghost use Rattle.std.specs.Prelude.{◌≡◌, ℕ, ◌<◌, ◌≤◌, ◌*◌, ◌++◌, OnOk, length, string_bytes, codes};
 ghost use Rattle.std.specs.List.{flat_map};
-ghost use Rattle.sdf_limits.specs.declared.TheConstants.{MOST_WORKERS};
+ghost use Rattle.sdf_limits.specs.declared.TheConstants.{MAX_WORKERS};
 ghost use Rattle.sdf_prec.specs.declared.firing.Firing.{Firing};
 ghost use Rattle.sdf_prec.specs.Tables.{row};
 ghost use Rattle.sdf_times.specs.Times.{IsInTable};
@@ -25,7 +25,7 @@ pub(crate) const CHART: u64 = 1100;
 pub(crate) const ROW: u64 = 30;
 
 /// The most firings of a table that are drawn as separate bars. If it has more, adjacent bars of an actor are joined.
-const MOST_BARS: usize = 400;
+const MAX_BARS: usize = 400;
 
 /// Returns the distance of `time` from the left, when the makespan is as wide as the chart.
 fn scaled(time: u64, makespan: u64) -> u128
@@ -72,7 +72,7 @@ fn push_title(
 
 /// Adds a bar of `worker`. Its position and its width are times.
 fn push_bar(text: &mut String, design: &Design, worker: usize, bar: Bar) -> Result<(), AllocError>
-    requires { worker < MOST_WORKERS }
+    requires { worker < MAX_WORKERS }
     ensures { OnOk result (string_bytes text.new ≡ string_bytes text.old ++ bar_text design.now worker bar) }
 {
     let Bar { actor, start, end } = bar;
@@ -88,7 +88,7 @@ fn push_bars(
     worker: usize,
     bars: &[Bar],
 ) -> Result<(), AllocError>
-    requires { worker < MOST_WORKERS }
+    requires { worker < MAX_WORKERS }
     ensures { OnOk result (string_bytes text.new ≡
         string_bytes text.old ++ flat_map (bar_text design.now worker) bars.now) }
 {
@@ -108,14 +108,14 @@ fn push_lane(
     figures: &Figures,
     worker: usize,
 ) -> Result<(), AllocError>
-    requires few { worker < MOST_WORKERS }
+    requires few { worker < MAX_WORKERS }
     requires wide { (i : ℕ) → i < length table.now.rows → worker < length (row table.now.rows i) }
     requires each { (f : Firing) → IsInTable table.now.rows f →
         IsDrawable design.now.costs figures.now.starts f }
     ensures { OnOk result (string_bytes text.new ≡
         string_bytes text.old ++ lane_text design.now table.now figures.now.starts worker) }
 {
-    let joined = table.order().len() > MOST_BARS;
+    let joined = table.order().len() > MAX_BARS;
     let bars = bars_in(alloc, table, figures, design.costs(), worker, joined)?;
     push_bars(text, design, worker, bars.as_slice())
 }
@@ -141,7 +141,7 @@ fn push_rows(
     figures: &Figures,
     workers: usize,
 ) -> Result<(), AllocError>
-    requires few { workers ≤ MOST_WORKERS }
+    requires few { workers ≤ MAX_WORKERS }
     requires bars { AreDrawable design.now workers table.now figures.now.starts }
     ensures { OnOk result (string_bytes text.new ≡
         string_bytes text.old ++ rows_text design.now table.now figures.now.starts workers) }
@@ -161,7 +161,7 @@ fn push_lanes(
     figures: &Figures,
     workers: usize,
 ) -> Result<(), AllocError>
-    requires few { workers ≤ MOST_WORKERS }
+    requires few { workers ≤ MAX_WORKERS }
     requires bars { AreDrawable design.now workers table.now figures.now.starts }
     ensures { OnOk result (string_bytes text.new ≡
         string_bytes text.old ++ lanes_text design.now table.now figures.now workers) }
@@ -174,7 +174,7 @@ fn push_lanes(
 /// Adds the name of the lane of `worker`, and a line under it.
 #[tactic(auto, unfolding(crate::specs::Charts::worker_text))]
 fn push_worker(text: &mut String, worker: usize) -> Result<(), AllocError>
-    requires { worker < MOST_WORKERS }
+    requires { worker < MAX_WORKERS }
     ensures { OnOk result (string_bytes text.new ≡ string_bytes text.old ++ worker_text worker) }
 {
     let below = ROW * worker as u64 + ROW;
@@ -187,7 +187,7 @@ fn push_worker(text: &mut String, worker: usize) -> Result<(), AllocError>
 
 /// Adds the names of all lanes.
 fn push_workers(text: &mut String, workers: usize) -> Result<(), AllocError>
-    requires { workers ≤ MOST_WORKERS }
+    requires { workers ≤ MAX_WORKERS }
     ensures { OnOk result (string_bytes text.new ≡ string_bytes text.old ++ workers_text workers) }
 {
     for worker in 0..workers {
@@ -265,7 +265,7 @@ pub(crate) fn push_chart(
     figures: &Figures,
     workers: usize,
 ) -> Result<(), AllocError>
-    requires few { workers ≤ MOST_WORKERS }
+    requires few { workers ≤ MAX_WORKERS }
     requires bars { AreDrawable design.now workers table.now figures.now.starts }
     ensures { OnOk result (string_bytes text.new ≡
         string_bytes text.old ++ chart_text design.now table.now figures.now workers) }

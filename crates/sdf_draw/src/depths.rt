@@ -1,7 +1,7 @@
 //! The depth of each actor in a graph.
 
 ghost use Rattle.std.specs.Prelude.{◌≡◌, ◌≢◌, ℕ, ◌+◌, ◌<◌, ◌≤◌, length, slice_index, IfOk};
-ghost use Rattle.sdf_limits.specs.declared.TheConstants.{MOST_PERIOD};
+ghost use Rattle.sdf_limits.specs.declared.TheConstants.{MAX_PERIOD};
 ghost use Rattle.sdf_graph.specs.Rates.{rates};
 ghost use Rattle.sdf_times.specs.Times.{IsGreatest};
 ghost use Rattle.sdf_draw.specs.Depths.{AreDepths};
@@ -30,7 +30,7 @@ fn deepest(graph: &Graph, depths: &[u32], actor: usize) -> u32
 fn depth_of(graph: &Graph, depths: &[u32], actor: usize) -> u32
     requires known { actor < graph.now.actors }
     requires all { length depths.now ≡ graph.now.actors }
-    requires small { (a : ℕ) → slice_index depths.now a ≤ MOST_PERIOD }
+    requires small { (a : ℕ) → slice_index depths.now a ≤ MAX_PERIOD }
     ensures some { 0 < result }
     ensures kept { 0 < slice_index depths.now actor → result ≡ slice_index depths.now actor }
     ensures first { slice_index depths.now actor ≡ 0 → (w : ℕ) → result ≡ w + 1 →
@@ -46,7 +46,7 @@ fn depth_of(graph: &Graph, depths: &[u32], actor: usize) -> u32
 fn fire(graph: &Graph, depths: &mut Vec<u32>, actor: usize)
     requires known { actor < graph.now.actors }
     requires all { length depths.old.items ≡ graph.now.actors }
-    requires small { (a : ℕ) → slice_index depths.old.items a ≤ MOST_PERIOD }
+    requires small { (a : ℕ) → slice_index depths.old.items a ≤ MAX_PERIOD }
     ensures all { length depths.new.items ≡ length depths.old.items }
     ensures others { (b : ℕ) → b ≢ actor → slice_index depths.new.items b ≡ slice_index depths.old.items b }
     ensures some { 0 < slice_index depths.new.items actor }
@@ -63,7 +63,7 @@ fn fire(graph: &Graph, depths: &mut Vec<u32>, actor: usize)
 /// `order`.
 pub(crate) fn depths(alloc: Global, graph: &Graph, order: &[usize]) -> Result<Vec<u32>, AllocError>
     requires known { (i : ℕ) → i < length order.now → slice_index order.now i < graph.now.actors }
-    requires short { length order.now ≤ MOST_PERIOD }
+    requires short { length order.now ≤ MAX_PERIOD }
     ensures { IfOk result (λ v. AreDepths (rates graph.now) order.now v.items) }
 {
     let mut depths = vec![in alloc; 0u32; graph.actors()]?;

@@ -1,7 +1,7 @@
 //! A design's graph as a text for Graphviz.
 
 ghost use Rattle.std.specs.Prelude.{◌≡◌, ◌<◌, ◌≤◌, ◌++◌, IfOk, OnOk, length, string_bytes, codes};
-ghost use Rattle.sdf_limits.specs.declared.TheConstants.{MOST_CYCLE};
+ghost use Rattle.sdf_limits.specs.declared.TheConstants.{MAX_CYCLE};
 ghost use Rattle.sdf_actor.specs.Nets.{node};
 ghost use Rattle.sdf_draw.specs.Graphviz.{quoted, shape_word, node_line, initial_label};
 ghost use Rattle.sdf_draw.specs.Graphviz.{label_text, labels_text, edge_line, nodes_text, edges_text, dot_text};
@@ -48,7 +48,7 @@ fn push_node(text: &mut String, design: &Design, actor: usize) -> Result<(), All
 /// Adds `word`, and what firings with these `rates` move.
 #[tactic(auto, unfolding(crate::specs::Graphviz::label_text))]
 fn push_label(text: &mut String, word: &str, rates: &[u32]) -> Result<(), AllocError>
-    requires { length rates.now ≤ MOST_CYCLE }
+    requires { length rates.now ≤ MAX_CYCLE }
     ensures { OnOk result (string_bytes text.new ≡ string_bytes text.old ++ label_text word.now rates.now) }
 {
     text.push_str(word)?;
@@ -68,8 +68,8 @@ fn push_initial(text: &mut String, initial: usize) -> Result<(), AllocError>
 /// Adds the rates of `channel`, and the samples that it begins with.
 #[tactic(auto, unfolding(crate::specs::Graphviz::labels_text))]
 fn push_labels(text: &mut String, channel: &Channel) -> Result<(), AllocError>
-    requires put { length channel.now.put ≤ MOST_CYCLE }
-    requires take { length channel.now.take ≤ MOST_CYCLE }
+    requires put { length channel.now.put ≤ MAX_CYCLE }
+    requires take { length channel.now.take ≤ MAX_CYCLE }
     ensures { OnOk result (string_bytes text.new ≡ string_bytes text.old ++ labels_text channel.now) }
 {
     push_label(text, " [taillabel=\"", channel.put.as_slice())?;

@@ -1,9 +1,10 @@
 //! The places of the actors' boxes, and the routes of the links' arrows. All lengths are pixels.
 
 ghost use Rattle.std.specs.Prelude.{◌≡◌, ℕ, ◌+◌, ◌*◌, ◌<◌, ◌≤◌, ◌^◌, length, slice_index, max, IfOk};
-ghost use Rattle.sdf_limits.specs.declared.TheConstants.{MOST_ACTORS, MOST_LINKS, MOST_PERIOD, MOST_PORTS};
+ghost use Rattle.sdf_limits.specs.declared.TheConstants.{MAX_ACTORS, MAX_LINKS, MAX_PERIOD, MAX_PORTS};
 ghost use Rattle.sdf_plan.specs.Placements.{rates_of};
-ghost use Rattle.sdf_draw.specs.Layouts.{left_of, right_of, bottom_of, middle_of, stacked, place, lowest, rightmost};
+ghost use Rattle.sdf_draw.specs.Layouts.{left_of, right_of, bottom_of, middle_of, stack_height, place, lowest};
+ghost use Rattle.sdf_draw.specs.Layouts.{rightmost};
 ghost use Rattle.sdf_draw.specs.Layouts.{lane_above, lane_below, ArePlaces, IsRoute, IsWithin, AreRoutes, IsLayout};
 
 use crate::depths::depths;
@@ -99,16 +100,16 @@ impl BoxPlace {
 
 /// Returns the height of a box with these `ports`.
 fn height_of(ports: PortCounts) -> u16
-    requires { (ports.inputs ≤ MOST_PORTS) × (ports.outputs ≤ MOST_PORTS) }
+    requires { (ports.inputs ≤ MAX_PORTS) × (ports.outputs ≤ MAX_PORTS) }
     ensures { result ≡ PORT * max (max ports.inputs ports.outputs) 1 + MARGIN }
 {
     (PORT * ports.inputs.max(ports.outputs).max(1) as u64 + MARGIN) as u16
 }
 
 /// Returns the height that all boxes of `depth` take, each with the gap below it.
-fn stacked(places: &[BoxPlace], depth: u32) -> u64
-    requires { length places.now ≤ MOST_ACTORS }
-    ensures is { result ≡ stacked places.now depth }
+fn stack_height(places: &[BoxPlace], depth: u32) -> u64
+    requires { length places.now ≤ MAX_ACTORS }
+    ensures is { result ≡ stack_height places.now depth }
     ensures small { result ≤ 100000 * length places.now }
 {
     let mut room = 0;
@@ -128,14 +129,14 @@ fn places_of(
     top: u64,
 ) -> Result<Vec<BoxPlace>, AllocError>
     requires all { length depths.now ≡ length design.now.net.nodes }
-    requires few { length design.now.net.nodes ≤ MOST_ACTORS }
+    requires few { length design.now.net.nodes ≤ MAX_ACTORS }
     requires top { top ≤ 100000 }
     ensures { IfOk result (λ v. ArePlaces design.now depths.now top v.items) }
 {
     let mut places = Vec::new(alloc);
     for actor in 0..design.net().len() {
         let depth = depths[actor];
-        let y = top + stacked(places.as_slice(), depth);
+        let y = top + stack_height(places.as_slice(), depth);
         let height = height_of(ports_of(design, actor));
         places.push(BoxPlace {
             depth,
@@ -155,7 +156,7 @@ struct Lanes {
 
 /// Returns the route from depth `from` to depth `to` when `lanes` are taken, and the lanes that are taken after it.
 fn route_between(from: u32, to: u32, lanes: Lanes) -> (Route, Lanes)
-    requires { (lanes.above < MOST_LINKS) × (lanes.below < MOST_LINKS) }
+    requires { (lanes.above < MAX_LINKS) × (lanes.below < MAX_LINKS) }
     ensures is { IsRoute from to result.0 }
     ensures within { IsWithin result.1.above result.1.below result.0 }
     ensures above { (lanes.above ≤ result.1.above) × (result.1.above ≤ lanes.above + 1) }
@@ -179,9 +180,9 @@ fn routes_of(
     depths: &[u32],
 ) -> Result<(Vec<Route>, Lanes), AllocError>
     requires all { length depths.now ≡ length design.now.net.nodes }
-    requires few { length design.now.net.wires ≤ MOST_LINKS }
+    requires few { length design.now.net.wires ≤ MAX_LINKS }
     ensures is { IfOk result (λ r. AreRoutes design.now depths.now r.1.above r.1.below r.0.items) }
-    ensures few { IfOk result (λ r. (r.1.above ≤ MOST_LINKS) × (r.1.below ≤ MOST_LINKS)) }
+    ensures few { IfOk result (λ r. (r.1.above ≤ MAX_LINKS) × (r.1.below ≤ MAX_LINKS)) }
 {
     let mut routes = Vec::new(alloc);
     let mut lanes = Lanes { above: 0, below: 0 };
@@ -196,15 +197,15 @@ fn routes_of(
 }
 
 /// Returns the layout of `design`, whose period fires its actors in `order`.
-pub(crate) fn laid_out(
+pub(crate) fn layout_of(
     alloc: Global,
     design: &Design,
     order: &[usize],
 ) -> Result<Layout, AllocError>
     requires known { (i : ℕ) → i < length order.now → slice_index order.now i < (rates_of design.now).actors }
-    requires short { length order.now ≤ MOST_PERIOD }
+    requires short { length order.now ≤ MAX_PERIOD }
     ensures is { IfOk result (λ l. IsLayout design.now order.now l.places.items l.above l.below l.routes.items) }
-    ensures few { IfOk result (λ l. (l.above ≤ MOST_LINKS) × (l.below ≤ MOST_LINKS)) }
+    ensures few { IfOk result (λ l. (l.above ≤ MAX_LINKS) × (l.below ≤ MAX_LINKS)) }
 {
     let graph = design.net().graph();
     let depths = depths(alloc, graph, order)?;

@@ -1,23 +1,23 @@
 //! A design and its schedule as one picture.
 
 ghost use Rattle.std.specs.Prelude.{◌≡◌, ◌<◌, ◌≤◌, ◌++◌, IfOk, MatchResult, OnOk, length, string_bytes, codes};
-ghost use Rattle.sdf_limits.specs.declared.TheConstants.{MOST_WORKERS};
-ghost use Rattle.sdf_plan.specs.Schedules.{IsShowFault};
+ghost use Rattle.sdf_limits.specs.declared.TheConstants.{MAX_WORKERS};
+ghost use Rattle.sdf_plan.specs.Schedules.{IsDesignScheduleFault};
 ghost use Rattle.sdf_draw.specs.Bars.{AreDrawable};
-ghost use Rattle.sdf_draw.specs.Drawings.{drawn_of, IsDrawing};
+ghost use Rattle.sdf_draw.specs.Drawings.{drawing_value, IsDrawing};
 ghost use Rattle.sdf_draw.specs.Pictures.{size_text, view_text, page_text, legend_text, head_text, chart_top};
 ghost use Rattle.sdf_draw.specs.Pictures.{width_of, origin_text, picture_text, IsPicture};
 
 use crate::arrows::push_arrows;
 use crate::boxes::push_boxes;
 use crate::chart::{CHART, ROW, push_chart};
-use crate::layout::{Layout, laid_out};
+use crate::layout::{Layout, layout_of};
 use crate::texts::push_number;
 use sdf_analyze::Figures;
 use sdf_faults::Fault;
 use sdf_file::Design;
 use sdf_options::Options;
-use sdf_plan::schedule::{DesignSchedule, scheduled};
+use sdf_plan::schedule::{DesignSchedule, design_schedule};
 use sdf_prec::Table;
 use sdf_sched::Period;
 use std::alloc::{AllocError, Global};
@@ -146,13 +146,13 @@ fn picture(
     drawing: &Drawing,
     workers: usize,
 ) -> Result<String, AllocError>
-    requires few { workers ≤ MOST_WORKERS }
+    requires few { workers ≤ MAX_WORKERS }
     requires fire { length drawing.now.period.repetitions ≡ length design.now.net.nodes }
     requires boxes { length drawing.now.layout.places.items ≡ length design.now.net.nodes }
     requires routes { length drawing.now.layout.routes.items ≡ length design.now.net.wires }
     requires capacities { length drawing.now.table.caps ≡ length design.now.net.wires }
     requires bars { AreDrawable design.now workers drawing.now.table drawing.now.figures.starts }
-    ensures { IfOk result (λ s. string_bytes s ≡ picture_text design.now workers (drawn_of drawing.now)) }
+    ensures { IfOk result (λ s. string_bytes s ≡ picture_text design.now workers (drawing_value drawing.now)) }
 {
     let layout = &drawing.layout;
     let top = chart_top(layout);
@@ -175,18 +175,18 @@ fn picture(
 
 /// Returns the drawing of `design` by `options`.
 #[tactic(auto, using(crate::proofs::Drawable::memory_shows))]
-fn drawn(alloc: Global, design: &Design, options: &Options) -> Result<Drawing, Fault>
-    ensures { MatchResult result (λ w. IsDrawing design.now options.now (drawn_of w))
-        (IsShowFault design.now options.now) }
+fn drawing_of(alloc: Global, design: &Design, options: &Options) -> Result<Drawing, Fault>
+    ensures { MatchResult result (λ w. IsDrawing design.now options.now (drawing_value w))
+        (IsDesignScheduleFault design.now options.now) }
 {
     // Its contract says that the design is whole (`IsDesign`).
     let _ = design.net();
-    let DesignSchedule { period, block } = scheduled(alloc, design, options)?;
-    let placed = options.with_blocking(block.periods);
+    let DesignSchedule { period, block } = design_schedule(alloc, design, options)?;
+    let placed = options.with_blocking(block.blocking);
     let figures = Figures::of(alloc, design, &placed, &period, &block.table)?;
     // Its contract says that the work of `figures` is bounded.
     let _ = figures.makespan();
-    let layout = laid_out(alloc, design, period.order())?;
+    let layout = layout_of(alloc, design, period.order())?;
     Ok(Drawing {
         period,
         table: block.table,
@@ -196,11 +196,11 @@ fn drawn(alloc: Global, design: &Design, options: &Options) -> Result<Drawing, F
 }
 
 /// Returns the SVG that the command `draw` prints. It shows the actors of `design` as boxes, its links as arrows, and
-/// below them the firings of its schedule against time. The tests are listed at `sdf_plan::schedule::scheduled`.
+/// below them the firings of its schedule against time. The tests are listed at `sdf_plan::schedule::design_schedule`.
 pub fn svg(alloc: Global, design: &Design, options: &Options) -> Result<String, Fault>
     ensures { MatchResult result (λ s. IsPicture design.now options.now (string_bytes s))
-        (IsShowFault design.now options.now) }
+        (IsDesignScheduleFault design.now options.now) }
 {
-    let drawing = drawn(alloc, design, options)?;
+    let drawing = drawing_of(alloc, design, options)?;
     Ok(picture(alloc, design, &drawing, options.workers)?)
 }

@@ -1,7 +1,7 @@
 //! The shapes of actors, their ports, and the links between the ports.
 
 ghost use Rattle.std.specs.Prelude.{◌≡◌, ◌<◌, ◌≤◌, length};
-ghost use Rattle.sdf_limits.specs.declared.TheConstants.{MOST_CYCLE, MOST_PORTS};
+ghost use Rattle.sdf_limits.specs.declared.TheConstants.{MAX_CYCLE, MAX_PORTS};
 ghost use Rattle.sdf_actor.specs.Nets.{node, inputs_of, outputs_of};
 ghost use Rattle.sdf_kit.specs.Kit.{kit_steps};
 ghost use Rattle.sdf_draw.specs.Edges.{edge, from_end, to_end};
@@ -52,7 +52,7 @@ pub(crate) fn shape_of(design: &Design, actor: usize) -> Shape
 fn kit_ports(kit: &Kit) -> PortCounts
     ensures inputs { result.inputs ≡ kit_steps.inputs kit.now }
     ensures outputs { result.outputs ≡ kit_steps.outputs kit.now }
-    ensures few { (result.inputs ≤ MOST_PORTS) × (result.outputs ≤ MOST_PORTS) }
+    ensures few { (result.inputs ≤ MAX_PORTS) × (result.outputs ≤ MAX_PORTS) }
 {
     let ports = kit.ports();
     PortCounts {
@@ -65,7 +65,7 @@ pub(crate) fn ports_of(design: &Design, actor: usize) -> PortCounts
     requires { actor < length design.now.net.nodes }
     ensures inputs { result.inputs ≡ inputs_of kit_steps (node design.now.net actor) }
     ensures outputs { result.outputs ≡ outputs_of kit_steps (node design.now.net actor) }
-    ensures few { (result.inputs ≤ MOST_PORTS) × (result.outputs ≤ MOST_PORTS) }
+    ensures few { (result.inputs ≤ MAX_PORTS) × (result.outputs ≤ MAX_PORTS) }
 {
     match design.net().node(actor) {
         Node::Source { .. } => PortCounts {
@@ -102,8 +102,8 @@ pub(crate) fn ends_of(design: &Design, link: usize) -> LinkEnds
     ensures to { result.to ≡ to_end design.now link }
     ensures actors { (result.from.actor < length design.now.net.nodes)
         × (result.to.actor < length design.now.net.nodes) }
-    ensures ports { (result.from.port < MOST_PORTS) × (result.to.port < MOST_PORTS) }
-    ensures few { (result.from.ports ≤ MOST_PORTS) × (result.to.ports ≤ MOST_PORTS) }
+    ensures ports { (result.from.port < MAX_PORTS) × (result.to.port < MAX_PORTS) }
+    ensures few { (result.from.ports ≤ MAX_PORTS) × (result.to.ports ≤ MAX_PORTS) }
 {
     let link = design.net().link(link);
     let (from, to) = (link.from, link.to);
@@ -126,7 +126,7 @@ pub(crate) fn channel_of(design: &Design, link: usize) -> &Channel
     requires { link < length design.now.net.wires }
     ensures is { result.now ≡ edge design.now link }
     ensures known { (result.now.from < length design.now.net.nodes) × (result.now.to < length design.now.net.nodes) }
-    ensures short { (length result.now.put ≤ MOST_CYCLE) × (length result.now.take ≤ MOST_CYCLE) }
+    ensures short { (length result.now.put ≤ MAX_CYCLE) × (length result.now.take ≤ MAX_CYCLE) }
 {
     &design.net().graph().channels()[link]
 }

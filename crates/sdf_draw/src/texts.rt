@@ -1,7 +1,7 @@
 //! Parts of the texts.
 
 ghost use Rattle.std.specs.Prelude.{◌≡◌, ◌++◌, ◌≤◌, length, string_bytes, sum, OnOk};
-ghost use Rattle.sdf_limits.specs.declared.TheConstants.{MOST_CYCLE};
+ghost use Rattle.sdf_limits.specs.declared.TheConstants.{MAX_CYCLE};
 ghost use Rattle.sdf_draw.specs.Texts.{number_text, pair_text, escaped_char, escaped, name_text, rate_text};
 
 use sdf_file::Design;
@@ -76,7 +76,7 @@ pub(crate) fn push_name(text: &mut String, design: &Design, actor: usize) -> Res
 
 /// Returns the sum of the `rates` of a cycle.
 fn total(rates: &[u32]) -> u64
-    requires { length rates.now ≤ MOST_CYCLE }
+    requires { length rates.now ≤ MAX_CYCLE }
     ensures { result ≡ sum rates.now }
 {
     let mut total = 0;
@@ -89,7 +89,7 @@ fn total(rates: &[u32]) -> u64
 /// Adds the samples that a cycle with these `rates` moves, and its number of firings if it has several.
 #[tactic(auto, unfolding(crate::specs::Texts::rate_text))]
 pub(crate) fn push_rate(text: &mut String, rates: &[u32]) -> Result<(), AllocError>
-    requires { length rates.now ≤ MOST_CYCLE }
+    requires { length rates.now ≤ MAX_CYCLE }
     ensures { OnOk result (string_bytes text.new ≡ string_bytes text.old ++ rate_text rates.now) }
 {
     push_number(text, "", total(rates))?;

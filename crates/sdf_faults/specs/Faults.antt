@@ -44,5 +44,5 @@ of_wav wav.Write = fault.Write
 -- usage has lines without any other control character
 abbrev pub IsFaultText : Fault → List ℕ → Type 0
 IsFaultText (fault.Deadlock s) text = Unit {0}
-IsFaultText (fault.Words (words.Usage e)) text = (said : List ℕ) × (text ≡ printable_lines said)
-IsFaultText f text = (said : List ℕ) × (text ≡ codes "sdfw: " ++ printable_text said ++ 10 ∷ [])
+IsFaultText (fault.Words (words.Usage e)) text = (message : List ℕ) × (text ≡ printable_lines message)
+IsFaultText f text = (message : List ℕ) × (text ≡ codes "sdfw: " ++ printable_text message ++ 10 ∷ [])

@@ -6,11 +6,11 @@ ghost use Rattle.sdf_faults.specs.Faults.{IsFaultText};
 ghost use Rattle.sdf_faults.specs.Statuses.{status_of};
 
 use clap::error::ErrorKind;
-use sdf_queues::RunFault;
 use sdf_file::FileFault;
 use sdf_options::WordFault;
 use sdf_options::printable::{printable, printable_lines};
 use sdf_prec::PrecFault;
+use sdf_queues::RunFault;
 use sdf_wav::{FormatFault, WavFault};
 use std::alloc::{AllocError, AllocFailed, Global};
 use std::fmt;
@@ -269,14 +269,14 @@ pub fn fault_text(alloc: Global, fault: &Fault) -> Result<String, AllocError>
 {
     match fault {
         Fault::Words(WordFault::Usage(mistake)) => {
-            let said = mistake_text(alloc, mistake)?;
-            printable_lines(alloc, said.as_str())
+            let message = mistake_text(alloc, mistake)?;
+            printable_lines(alloc, message.as_str())
         }
         // Names of actors have no control characters, and the ends of the lines between them must stay.
         Fault::Deadlock(_) => format!(in alloc; "sdfw: {fault}\n"),
         _ => {
-            let said = format!(in alloc; "{fault}")?;
-            let line = printable(alloc, said.as_str())?;
+            let message = format!(in alloc; "{fault}")?;
+            let line = printable(alloc, message.as_str())?;
             format!(in alloc; "sdfw: {line}\n")
         }
     }

@@ -1,5 +1,5 @@
 -- What holds of every design holds of the design of a document.
-use Rattle.sdf_limits.specs.declared.TheConstants.{MOST_CHANNEL, MOST_COST}
+use Rattle.sdf_limits.specs.declared.TheConstants.{MAX_CHANNEL, MAX_COST}
 use Rattle.std.proofs.Common.{◌≡◌, ◌≤◌, ◌<◌, ◌+◌, ℕ, zero, suc, ℤ, List, [], ◌∷◌, map, max, length, true, refl, ap}
 use Rattle.std.proofs.Common.{arith}
 use Rattle.std.specs.Prelude.{slice_index}
@@ -25,13 +25,13 @@ use Rattle.sdf_actor.specs.NetFaults.{IsNetFault}
 use Rattle.sdf_actor.specs.declared.fault.NetFault.{NetFault}
 use Rattle.sdf_actor.specs.declared.fault.NetFault.TheVariants as nets
 use Rattle.sdf_file.specs.Faults.{of_net}
-use Rattle.sdf_file.specs.Designs.{node_of, ArePriced, IsMadeFault}
+use Rattle.sdf_file.specs.Designs.{node_of, HaveCosts, IsMadeFault}
 
 -- one more than the number of a node's list, or 0
 abbrev pub list_room : Lists → Node Kit → ℕ
 list_room lists x = option_map_or (λ e. e + 1) (list_of lists x) 0
 
-small_list : (lists : Lists) (k : KindEntry) → IsWithin true k → list_room lists (node_of k) ≤ MOST_CHANNEL + 1
+small_list : (lists : Lists) (k : KindEntry) → IsWithin true k → list_room lists (node_of k) ≤ MAX_CHANNEL + 1
 small_list Inputs (InputEntry channel block) h = omega (arith, h.0.0.1)
 small_list Inputs (OutputEntry channel block) h = omega arith
 small_list Inputs (Fir up down shift taps) h = omega arith
@@ -61,9 +61,9 @@ small_list Outputs (Gather ways run) h = omega arith
 small_list Outputs (Clip least greatest) h = omega arith
 small_list Outputs (Offset value) h = omega arith
 
-small_lists : (lists : Lists) (es : List ActorEntry) (m : ℕ) → m ≤ MOST_CHANNEL + 1 → All (IsActorWithin true) es
+small_lists : (lists : Lists) (es : List ActorEntry) (m : ℕ) → m ≤ MAX_CHANNEL + 1 → All (IsActorWithin true) es
     → fold (λ n x. max n (list_room lists x)) m (map (λ (a : ActorValue). node_of a.kind) (map actor_view es)) ≤
-    MOST_CHANNEL + 1
+    MAX_CHANNEL + 1
 small_lists lists [] m h all = h
 small_lists lists (e ∷ es) m h all =
     small_lists lists es (max m (list_room lists (node_of e.kind)))
@@ -71,14 +71,14 @@ small_lists lists (e ∷ es) m h all =
     (All-tail (IsActorWithin true) e es all)
 
 pub few_lists : (lists : Lists) (es : List ActorEntry) → All (IsActorWithin true) es
-    → list_count lists (map (λ (a : ActorValue). node_of a.kind) (map actor_view es)) ≤ MOST_CHANNEL + 1
+    → list_count lists (map (λ (a : ActorValue). node_of a.kind) (map actor_view es)) ≤ MAX_CHANNEL + 1
 few_lists lists es all = small_lists lists es 0 (omega arith) all
 
 abbrev pub costs_of : List ActorEntry → List ℕ
 costs_of es = map (λ (a : ActorValue). a.cost) (map actor_view es)
 
 each_costs : (es : List ActorEntry) → All (IsActorWithin true) es → (a : ℕ) → a < length es →
-    (1 ≤ slice_index (costs_of es) a) × (slice_index (costs_of es) a ≤ MOST_COST)
+    (1 ≤ slice_index (costs_of es) a) × (slice_index (costs_of es) a ≤ MAX_COST)
 each_costs [] all a h = absurd (omega arith)
 each_costs (e ∷ es) all zero h = (All-head (IsActorWithin true) e es all).1.1.0
 each_costs (e ∷ es) all (suc a) h = each_costs es (All-tail (IsActorWithin true) e es all) a (omega arith)
@@ -88,7 +88,7 @@ as_many [] = refl
 as_many (e ∷ es) = ap suc (as_many es)
 
 -- actors within their limits have lawful costs
-pub have_costs : (es : List ActorEntry) → All (IsActorWithin true) es → ArePriced (length es) (costs_of es)
+pub have_costs : (es : List ActorEntry) → All (IsActorWithin true) es → HaveCosts (length es) (costs_of es)
 have_costs es all = record { all = as_many es; each = each_costs es all }
 
 -- a fault of the net as one of the file

@@ -1,6 +1,6 @@
 -- The design of a graph file and its coefficient files.
 use Rattle.std.specs.Prelude.{◌≡◌, ◌≤◌, ◌<◌, ◌+◌, ℕ, ℤ, List, length, map, slice_index, Option, Result, Ok, Err}
-use Rattle.sdf_limits.specs.declared.TheConstants.{MOST_CHANNEL, MOST_COST}
+use Rattle.sdf_limits.specs.declared.TheConstants.{MAX_CHANNEL, MAX_COST}
 use Rattle.sdf_document.specs.Fault.{Fault, fault_view}
 use Rattle.sdf_document.specs.Lists.{Files}
 use Rattle.sdf_document.specs.declared.entry.KindEntry.{KindEntry}
@@ -111,9 +111,9 @@ IsNamesFault graph = IsReadFault (file_names_of graph)
 -- ---- what is true of every design
 
 -- each of n actors has a cost, within its limits
-pub record ArePriced (n : ℕ) (costs : List ℕ) : Type 0 where
+pub record HaveCosts (n : ℕ) (costs : List ℕ) : Type 0 where
   pub all : length costs ≡ n
-  pub each : (a : ℕ) → a < n → (1 ≤ slice_index costs a) × (slice_index costs a ≤ MOST_COST)
+  pub each : (a : ℕ) → a < n → (1 ≤ slice_index costs a) × (slice_index costs a ≤ MAX_COST)
 
 -- each node has a name of its own, a home or none, and a cost; a WAV file can have a channel for each input, and one
 -- for each output
@@ -121,6 +121,6 @@ pub record IsDesign (d : DesignValue) : Type 0 where
   pub named : length d.names ≡ length d.net.nodes
   pub distinct : AreDistinct d.names
   pub housed : length d.homes ≡ length d.net.nodes
-  pub priced : ArePriced (length d.net.nodes) d.costs
-  pub inputs : list_count Inputs d.net.nodes ≤ MOST_CHANNEL + 1
-  pub outputs : list_count Outputs d.net.nodes ≤ MOST_CHANNEL + 1
+  pub priced : HaveCosts (length d.net.nodes) d.costs
+  pub inputs : list_count Inputs d.net.nodes ≤ MAX_CHANNEL + 1
+  pub outputs : list_count Outputs d.net.nodes ≤ MAX_CHANNEL + 1

@@ -5,7 +5,7 @@ ghost use Rattle.std.specs.List.{All};
 ghost use Rattle.std.specs.Result.{result_map_both};
 ghost use Rattle.sdf_actor.specs.declared.node.Node.TheVariants.{Inner};
 ghost use Rattle.sdf_kinds.specs.declared.row.Width.TheVariants as width;
-ghost use Rattle.sdf_limits.specs.declared.TheConstants.{MOST_CHANNEL, MOST_FACTOR, MOST_SHIFT, MOST_TAPS};
+ghost use Rattle.sdf_limits.specs.declared.TheConstants.{MAX_CHANNEL, MAX_FACTOR, MAX_SHIFT, MAX_TAPS};
 ghost use Rattle.sdf_document.specs.Lists.{is_list};
 ghost use Rattle.sdf_kit.specs.declared.kit.Kit.TheVariants as kits;
 ghost use Rattle.sdf_document.specs.Kinds.{IsWithin};
@@ -15,7 +15,7 @@ ghost use Rattle.sdf_document.specs.Links.{link_view};
 ghost use Rattle.sdf_actor.specs.Sides.{list_count};
 ghost use Rattle.sdf_actor.specs.declared.sides.Lists.TheVariants.{Inputs, Outputs};
 ghost use Rattle.sdf_actor.specs.Wires.{wires, wire_of as wire_of_link};
-ghost use Rattle.sdf_file.specs.Designs.{node_of, wire_of, ArePriced};
+ghost use Rattle.sdf_file.specs.Designs.{node_of, wire_of, HaveCosts};
 
 use sdf_actor::{Link, Node};
 use sdf_document::{ActorEntry, KindEntry, LinkEntry, ListEntry};
@@ -23,7 +23,7 @@ use sdf_kit::{Kit, KitFault};
 use std::alloc::{AllocError, Global};
 
 /// Moves the values out of `list`.
-fn moved(list: ListEntry) -> Vec<i32>
+fn list_values(list: ListEntry) -> Vec<i32>
     ensures { result.items ≡ list.values }
 {
     list.values
@@ -31,17 +31,17 @@ fn moved(list: ListEntry) -> Vec<i32>
 
 /// Makes a FIR filter. Its values are within their limits, so no test of the kit fails.
 fn filter_of(up: u32, down: u32, shift: u32, taps: Vec<i32>) -> Result<Kit, KitFault>
-    requires up { (1 ≤ up) × (up ≤ MOST_FACTOR) }
-    requires down { (1 ≤ down) × (down ≤ MOST_FACTOR) }
-    requires shift { shift ≤ MOST_SHIFT }
-    requires taps { IsTrue (is_list MOST_TAPS width.Bits16 taps.items) }
+    requires up { (1 ≤ up) × (up ≤ MAX_FACTOR) }
+    requires down { (1 ≤ down) × (down ≤ MAX_FACTOR) }
+    requires shift { shift ≤ MAX_SHIFT }
+    requires taps { IsTrue (is_list MAX_TAPS width.Bits16 taps.items) }
     ensures { result ≡ Ok (kits.Fir (record { up = up; down = down; taps = taps.items; shift = shift })) }
 {
     Kit::fir(up, down, taps, shift)
 }
 
 /// Wraps `kit` as an inner node.
-fn inner(kit: Result<Kit, KitFault>) -> Result<Node<Kit>, KitFault>
+fn inner_node(kit: Result<Kit, KitFault>) -> Result<Node<Kit>, KitFault>
     ensures { result ≡ result_map_both Inner (λ e. e) kit }
 {
     match kit {
@@ -69,18 +69,18 @@ fn tested_node(kind: KindEntry) -> Result<Node<Kit>, KitFault>
             down,
             shift,
             taps,
-        } => inner(filter_of(up, down, shift, moved(taps))),
-        KindEntry::Decimate { factor } => inner(Kit::decimate(factor)),
-        KindEntry::Interpolate { factor } => inner(Kit::interpolate(factor)),
-        KindEntry::Add { ways } => inner(Kit::add(ways as usize)),
-        KindEntry::Fork { ways } => inner(Kit::fork(ways as usize)),
-        KindEntry::Gain { gain, shift } => inner(Kit::gain(gain, shift)),
-        KindEntry::Delay { length } => inner(Kit::delay(length as usize)),
-        KindEntry::Table { offset, values } => inner(Kit::table(offset, moved(values))),
-        KindEntry::Deal { ways, run } => inner(Kit::deal(ways as usize, run)),
-        KindEntry::Gather { ways, run } => inner(Kit::gather(ways as usize, run)),
-        KindEntry::Clip { least, greatest } => inner(Kit::clip(least, greatest)),
-        KindEntry::Offset { value } => inner(Kit::offset(value)),
+        } => inner_node(filter_of(up, down, shift, list_values(taps))),
+        KindEntry::Decimate { factor } => inner_node(Kit::decimate(factor)),
+        KindEntry::Interpolate { factor } => inner_node(Kit::interpolate(factor)),
+        KindEntry::Add { ways } => inner_node(Kit::add(ways as usize)),
+        KindEntry::Fork { ways } => inner_node(Kit::fork(ways as usize)),
+        KindEntry::Gain { gain, shift } => inner_node(Kit::gain(gain, shift)),
+        KindEntry::Delay { length } => inner_node(Kit::delay(length as usize)),
+        KindEntry::Table { offset, values } => inner_node(Kit::table(offset, list_values(values))),
+        KindEntry::Deal { ways, run } => inner_node(Kit::deal(ways as usize, run)),
+        KindEntry::Gather { ways, run } => inner_node(Kit::gather(ways as usize, run)),
+        KindEntry::Clip { least, greatest } => inner_node(Kit::clip(least, greatest)),
+        KindEntry::Offset { value } => inner_node(Kit::offset(value)),
     }
 }
 
@@ -96,14 +96,14 @@ fn node_of(kind: KindEntry) -> Node<Kit>
 
 /// The nodes of actors, with their names, home processors and costs.
 #[derive(Drop)]
-pub(crate) struct Parts {
+pub(crate) struct DesignParts {
     pub(crate) nodes: Vec<Node<Kit>>,
     pub(crate) names: Vec<String>,
     pub(crate) homes: Vec<Option<usize>>,
     pub(crate) costs: Vec<u32>,
 }
 
-impl Parts {
+impl DesignParts {
     #[tactic(auto, using(std::proofs::lemmas::List::map_push))]
     fn push(&mut self, actor: ActorEntry) -> Result<(), AllocError>
         requires { IsActorWithin true actor }
@@ -121,7 +121,7 @@ impl Parts {
 }
 
 /// Makes the parts of `actors`, in their order.
-pub(crate) fn parts_of(alloc: Global, actors: Vec<ActorEntry>) -> Result<Parts, AllocError>
+pub(crate) fn parts_of(alloc: Global, actors: Vec<ActorEntry>) -> Result<DesignParts, AllocError>
     requires within { All (IsActorWithin true) actors.items }
     ensures nodes { IfOk result (λ p. p.nodes.items ≡
         map (λ (a : ActorValue). node_of a.kind) (map actor_view actors.items)) }
@@ -129,11 +129,11 @@ pub(crate) fn parts_of(alloc: Global, actors: Vec<ActorEntry>) -> Result<Parts, 
     ensures homes { IfOk result (λ p. p.homes.items ≡
         map (λ (a : ActorValue). a.processor) (map actor_view actors.items)) }
     ensures costs { IfOk result (λ p. p.costs.items ≡ map (λ (a : ActorValue). a.cost) (map actor_view actors.items)) }
-    ensures priced { IfOk result (λ p. ArePriced (length actors.items) p.costs.items) }
-    ensures inputs { IfOk result (λ p. list_count Inputs p.nodes.items ≤ MOST_CHANNEL + 1) }
-    ensures outputs { IfOk result (λ p. list_count Outputs p.nodes.items ≤ MOST_CHANNEL + 1) }
+    ensures priced { IfOk result (λ p. HaveCosts (length actors.items) p.costs.items) }
+    ensures inputs { IfOk result (λ p. list_count Inputs p.nodes.items ≤ MAX_CHANNEL + 1) }
+    ensures outputs { IfOk result (λ p. list_count Outputs p.nodes.items ≤ MAX_CHANNEL + 1) }
 {
-    let mut parts = Parts {
+    let mut parts = DesignParts {
         nodes: Vec::new(alloc),
         names: Vec::new(alloc),
         homes: Vec::new(alloc),

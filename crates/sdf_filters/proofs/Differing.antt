@@ -10,13 +10,14 @@ use Rattle.std.proofs.lemmas.List.{length-set, length-replicate, get_or-set_othe
 use Rattle.std.proofs.lemmas.List.{get_or_append_left}
 use Rattle.std.proofs.lemmas.List.{length_push}
 use Rattle.std.proofs.Math.Nat.{mod-one}
-use Rattle.sdf_filters.specs.Phases.{tap, counted, sum_before, phase_sum, IsSymmetric}
-use Rattle.sdf_filters.specs.Asked.{Asked}
+use Rattle.sdf_filters.specs.Phases.{tap, in_phase, sum_before, phase_sum, IsSymmetric}
+use Rattle.sdf_filters.specs.LowpassValue.{LowpassValue}
 use Rattle.sdf_filters.specs.Lowpass.{AreLowpassTaps}
 use Rattle.sdf_filters.specs.Differences.{IsDifference, AreDifferences, AreHighpassTaps, AreBandpassTaps, impulse}
 use Rattle.sdf_filters.proofs.PhaseSums.{moved_here}
 
-counted_less : (up phase n : ℕ) (x y : ℤ) → counted up phase n (x -ℤ y) ≡ counted up phase n x -ℤ counted up phase n y
+counted_less : (up phase n : ℕ) (x y : ℤ) → in_phase up phase n (x -ℤ y) ≡
+    in_phase up phase n x -ℤ in_phase up phase n y
 counted_less up phase n x y = grind (arith, ints, nat_tests)
 
 before_less : (a b d : List ℤ) (up phase n : ℕ) → AreDifferences a b d → n ≤ length a →
@@ -26,8 +27,8 @@ before_less a b d up phase zero are within = omega (arith, ints)
 before_less a b d up phase (suc n) are within =
     let ih : sum_before d up phase n ≡ sum_before a up phase n -ℤ sum_before b up phase n =
     before_less a b d up phase n are (omega arith) in
-    let term : counted up phase n (tap d n) ≡ counted up phase n (tap a n) -ℤ counted up phase n (tap b n) =
-    ap (counted up phase n) (are.each n (omega arith)) ∙ counted_less up phase n (tap a n) (tap b n) in
+    let term : in_phase up phase n (tap d n) ≡ in_phase up phase n (tap a n) -ℤ in_phase up phase n (tap b n) =
+    ap (in_phase up phase n) (are.each n (omega arith)) ∙ counted_less up phase n (tap a n) (tap b n) in
     omega (arith, ints, ih, term)
 
 -- the sum of the differences is the difference of the sums
@@ -44,7 +45,7 @@ zeros count up phase zero within = refl
 zeros count up phase (suc n) within =
     let ih : sum_before (replicate count (pos 0)) up phase n ≡ pos 0 = zeros count up phase n (omega arith) in
     let none : tap (replicate count (pos 0)) n ≡ pos 0 = get_or-replicate count n (pos 0) (pos 0) (omega arith) in
-    let same : counted up phase n (pos 0) ≡ pos 0 = grind arith in
+    let same : in_phase up phase n (pos 0) ≡ pos 0 = grind arith in
     rw (ih, none, same) refl
 
 pub impulse_sum : (count : ℕ) (height : ℤ) → 0 < count → phase_sum (impulse count height) 1 0 ≡ height
@@ -150,7 +151,7 @@ differences_symmetric a b d same are first second n known =
     ∙ sym (are.each n below))))
 
 -- what the taps of a band-pass are, where a and b are the low-passes' as the code has them
-pub band_taps : (f g : Asked) (count : ℕ) (wide narrow a b h : List ℤ) → a ≡ wide → b ≡ narrow → g.up ≡ f.up →
+pub band_taps : (f g : LowpassValue) (count : ℕ) (wide narrow a b h : List ℤ) → a ≡ wide → b ≡ narrow → g.up ≡ f.up →
     g.shift ≡ f.shift → AreLowpassTaps f count wide → AreLowpassTaps g count narrow → AreDifferences a b h →
     AreBandpassTaps f g count h
 band_taps f g count wide narrow a b h is_wide is_narrow same_up same_shift first second are =
@@ -176,7 +177,7 @@ band_taps f g count wide narrow a b h is_wide is_narrow same_up same_shift first
     }
 
 -- and those of a high-pass
-pub high_taps : (f : Asked) (count : ℕ) (low top a b h : List ℤ) → a ≡ top → b ≡ low →
+pub high_taps : (f : LowpassValue) (count : ℕ) (low top a b h : List ℤ) → a ≡ top → b ≡ low →
     top ≡ impulse count (pos (2 ^ f.shift)) → f.up ≡ 1 → count % 2 ≡ 1 → AreLowpassTaps f count low →
     AreDifferences a b h → AreHighpassTaps f count h
 high_taps f count low top a b h is_top is_low is_impulse one odd first are =

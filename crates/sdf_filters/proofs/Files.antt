@@ -6,12 +6,12 @@ use Rattle.std.proofs.lemmas.Bool.{cases_eq}
 use Rattle.std.proofs.lemmas.List.{get_or_push, get_or_append_left, length_push}
 use Rattle.std.proofs.lemmas.Option.{slice_get_read, slice_get-get_or}
 use Rattle.sdf_filters.specs.declared.stage.Stage.{Stage}
-use Rattle.sdf_filters.specs.declared.wanted.FilterSpec.{FilterSpec}
+use Rattle.sdf_filters.specs.declared.filter_spec.FilterSpec.{FilterSpec}
 use Rattle.sdf_filters.specs.declared.converter.StageFile.{StageFile}
 use Rattle.sdf_filters.specs.declared.fault.FilterFault.{FilterFault}
 use Rattle.sdf_filters.specs.declared.fault.FilterFault.TheVariants.{OutOfMemory}
-use Rattle.sdf_filters.specs.Wanted.{IsFault}
-use Rattle.sdf_filters.specs.Converters.{put, rate_at, stage_wanted, IsStageFile, IsFileOf, AreFilesTo, IsStageFault}
+use Rattle.sdf_filters.specs.FilterSpecs.{IsFault}
+use Rattle.sdf_filters.specs.Converters.{put, rate_at, stage_spec, IsStageFile, IsFileOf, AreFilesTo, IsStageFault}
 use Rattle.sdf_filters.specs.Converters.{IsStagesFault}
 
 pub no_files : (from pass attenuation : ℕ) (stages : List Stage) (files : List StageFile) → length files ≡ 0 →
@@ -35,7 +35,7 @@ same_before xs f k below =
 pub file_added : (from pass attenuation : ℕ) (stages : List Stage) (xs ys : List StageFile) (n rate : ℕ) (s : Stage)
     (w : FilterSpec) (f : StageFile) → length xs ≡ n → rate ≡ rate_at from stages n →
     AreFilesTo from pass attenuation stages xs n → slice_get stages n ≡ Some s →
-    w ≡ stage_wanted rate pass attenuation s → IsStageFile w (n + 1) f → ys ≡ xs ++ f ∷ [] →
+    w ≡ stage_spec rate pass attenuation s → IsStageFile w (n + 1) f → ys ≡ xs ++ f ∷ [] →
     (length ys ≡ n + 1) × ((w.rate / s.down ≡ rate_at from stages (n + 1))
     × AreFilesTo from pass attenuation stages ys (n + 1))
 file_added from pass attenuation stages xs ys n rate s w f long is_rate before got is_wanted file added = (
@@ -61,7 +61,7 @@ file_added from pass attenuation stages xs ys n rate s w f long is_rate before g
         (sym added)
         (subst (λ o. IsFileOf (rate_at from stages n) pass attenuation (n + 1) (Some s) o) (sym last)
         (subst (λ (v : FilterSpec). IsStageFile v (n + 1) f)
-        (is_wanted ∙ ap (λ r. stage_wanted r pass attenuation s) is_rate) file)))
+        (is_wanted ∙ ap (λ r. stage_spec r pass attenuation s) is_rate) file)))
 
     go : (k : ℕ) → k < n + 1 → (k ≡ n) ⊎ (k ≡ n → ⊥) →
         IsFileOf (rate_at from stages k) pass attenuation (k + 1) (slice_get stages k) (slice_get ys k)
@@ -90,14 +90,14 @@ stage_fails from pass attenuation stages xs n rate s fault is_rate before got is
 
 -- a fault of the filter of a stage is one of the stage
 pub filter_fails : (rate pass attenuation : ℕ) (s : Stage) (w : FilterSpec) (fault : FilterFault) →
-    w ≡ stage_wanted rate pass attenuation s → w.rate < 2 ^ 32 → IsFault w fault →
+    w ≡ stage_spec rate pass attenuation s → w.rate < 2 ^ 32 → IsFault w fault →
     IsStageFault rate pass attenuation s fault
 filter_fails rate pass attenuation s w fault is small has =
     inr (subst (λ (v : FilterSpec). (v.rate < 2 ^ 32) × IsFault v fault) is (small, has))
 
 -- a stage with a file may be left without memory
 pub memory_fails : (rate pass attenuation number : ℕ) (s : Stage) (w : FilterSpec) (f : StageFile) →
-    w ≡ stage_wanted rate pass attenuation s → IsStageFile w number f →
+    w ≡ stage_spec rate pass attenuation s → IsStageFile w number f →
     IsStageFault rate pass attenuation s OutOfMemory
 memory_fails rate pass attenuation number s w f is file =
     filter_fails rate pass attenuation s w OutOfMemory is file.rate (inr (file.texts.are.passed, inr tt))

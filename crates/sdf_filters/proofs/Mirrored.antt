@@ -10,7 +10,7 @@ use Rattle.std.proofs.lemmas.Nat.{mod-mul-add}
 use Rattle.std.proofs.lemmas.Bool.{cases_eq, cases_lt}
 use Rattle.std.proofs.lemmas.Bool.Decides.{nat_tests}
 use Rattle.std.proofs.lemmas.List.{length-set, get_or-set_same, get_or-set_other}
-use Rattle.sdf_filters.specs.Phases.{tap, counted, sum_before, phase_sum, steps, weight, AreMoved, IsSymmetric, IsEven}
+use Rattle.sdf_filters.specs.Phases.{tap, in_phase, sum_before, phase_sum, steps, weight, AreMoved, IsSymmetric, IsEven}
 use Rattle.sdf_filters.proofs.PhaseSums.{counted_here, moved_here, moved_elsewhere}
 
 -- ---- the phase of a mirror image
@@ -201,12 +201,12 @@ back f (suc n) =
     ∙ (let e : f n +ℤ sum_of f n ≡ sum_of f n +ℤ f n = omega (arith, ints) in e)))
 
 sum_before_is : (h : List ℤ) (up phase n : ℕ) →
-    sum_before h up phase n ≡ sum_of (λ i. counted up phase i (tap h i)) n
+    sum_before h up phase n ≡ sum_of (λ i. in_phase up phase i (tap h i)) n
 unfolding sum_of sum_before
 sum_before_is h up phase zero = refl
-sum_before_is h up phase (suc n) = ap (λ z. z +ℤ counted up phase n (tap h n)) (sum_before_is h up phase n)
+sum_before_is h up phase (suc n) = ap (λ z. z +ℤ in_phase up phase n (tap h n)) (sum_before_is h up phase n)
 
-counted_none : (up phase n : ℕ) (x : ℤ) → (n % up ≡ phase → ⊥) → counted up phase n x ≡ pos 0
+counted_none : (up phase n : ℕ) (x : ℤ) → (n % up ≡ phase → ⊥) → in_phase up phase n x ≡ pos 0
 counted_none up phase n x other = grind (arith, nat_tests)
 
 -- a phase of symmetric taps comes to as much as its mirror image
@@ -214,13 +214,13 @@ pub mirror_sum : (h : List ℤ) (up phase many : ℕ) → length h ≡ many * up
     phase_sum h up (up - 1 - phase) ≡ phase_sum h up phase
 mirror_sum h up phase many long below s =
     sum_before_is h up (up - 1 - phase) (length h)
-    ∙ (sum_same (λ i. counted up (up - 1 - phase) i (tap h i))
-    (λ i. counted up phase (length h - 1 - i) (tap h (length h - 1 - i))) (length h)
+    ∙ (sum_same (λ i. in_phase up (up - 1 - phase) i (tap h i))
+    (λ i. in_phase up phase (length h - 1 - i) (tap h (length h - 1 - i))) (length h)
     (λ i l. each i l (cases_eq (i % up) (up - 1 - phase)))
-    ∙ (back (λ i. counted up phase i (tap h i)) (length h) ∙ sym (sum_before_is h up phase (length h))))
+    ∙ (back (λ i. in_phase up phase i (tap h i)) (length h) ∙ sym (sum_before_is h up phase (length h))))
   where
     each : (i : ℕ) → i < length h → (i % up ≡ up - 1 - phase) ⊎ (i % up ≡ up - 1 - phase → ⊥) →
-        counted up (up - 1 - phase) i (tap h i) ≡ counted up phase (length h - 1 - i) (tap h (length h - 1 - i))
+        in_phase up (up - 1 - phase) i (tap h i) ≡ in_phase up phase (length h - 1 - i) (tap h (length h - 1 - i))
     each i l (inl e) =
         let other : (length h - 1 - i) % up ≡ up - 1 - (up - 1 - phase) =
         mirror_phase up many (length h) i (up - 1 - phase) long l (omega arith) e in
@@ -294,7 +294,7 @@ outer_exact h up many total long s before q below outer = go (cases_lt q (up / 2
   where
     go : (q < up / 2) ⊎ (up / 2 ≤ q) → phase_sum h up q ≡ total
     go (inl l) = before q l
-    go (inr behind) =
+    go (inr end_after) =
         let e : q ≡ up - 1 - (up - 1 - q) = omega arith in
         ap (phase_sum h up) e ∙ (mirror_sum h up (up - 1 - q) many long (omega arith) s
         ∙ before (up - 1 - q) (omega arith))
@@ -344,7 +344,7 @@ even_sum h up phase many long middle even s = (
     j = length h / 2
 
     f : ℕ → ℤ
-    f i = counted up phase i (tap h i)
+    f i = in_phase up phase i (tap h i)
 
     two : length h ≡ length h / 2 + length h / 2
     two = omega (arith, even_product up many (length h) even long)

@@ -8,7 +8,7 @@ use Rattle.std.proofs.lemmas.Int.{ints}
 use Rattle.std.proofs.lemmas.Bool.{cases_eq}
 use Rattle.std.proofs.lemmas.Bool.Decides.{nat_tests}
 use Rattle.std.proofs.lemmas.List.{length-set, get_or-set_same, get_or-set_other}
-use Rattle.sdf_filters.specs.Phases.{tap, counted, sum_before, phase_sum, steps, has_16_bits, AreMoved}
+use Rattle.sdf_filters.specs.Phases.{tap, in_phase, sum_before, phase_sum, steps, has_16_bits, AreMoved}
 use Rattle.sdf_filters.specs.Phases.{IsSumMoved}
 
 -- a loop's start and step
@@ -17,14 +17,14 @@ unfolding sum_before
 sum_before-zero h up phase = refl
 
 pub sum_before_more : (h : List ℤ) (up phase n : ℕ) →
-    sum_before h up phase (n + 1) ≡ sum_before h up phase n +ℤ counted up phase n (tap h n)
+    sum_before h up phase (n + 1) ≡ sum_before h up phase n +ℤ in_phase up phase n (tap h n)
 unfolding sum_before
 sum_before_more h up phase n = let e : n + 1 ≡ suc n = omega arith in rw e refl
 
-pub counted_other : (up phase n : ℕ) (x y : ℤ) → (n % up ≡ phase → ⊥) → counted up phase n x ≡ counted up phase n y
+pub counted_other : (up phase n : ℕ) (x y : ℤ) → (n % up ≡ phase → ⊥) → in_phase up phase n x ≡ in_phase up phase n y
 counted_other up phase n x y other = grind (arith, nat_tests)
 
-pub counted_here : (up phase n : ℕ) (x : ℤ) → n % up ≡ phase → counted up phase n x ≡ x
+pub counted_here : (up phase n : ℕ) (x : ℤ) → n % up ≡ phase → in_phase up phase n x ≡ x
 counted_here up phase n x here = grind (arith, nat_tests)
 
 -- a tap at a later place
@@ -44,12 +44,12 @@ unfolding sum_before
 elsewhere h up phase k x zero other = refl
 elsewhere h up phase k x (suc n) other =
     let ih : sum_before (set h k x) up phase n ≡ sum_before h up phase n = elsewhere h up phase k x n other in
-    let term : counted up phase n (tap (set h k x) n) ≡ counted up phase n (tap h n) = go n (cases_eq n k) in
+    let term : in_phase up phase n (tap (set h k x) n) ≡ in_phase up phase n (tap h n) = go n (cases_eq n k) in
     rw (ih, term) refl
   where
-    go : (n : ℕ) → (n ≡ k) ⊎ (n ≡ k → ⊥) → counted up phase n (tap (set h k x) n) ≡ counted up phase n (tap h n)
+    go : (n : ℕ) → (n ≡ k) ⊎ (n ≡ k → ⊥) → in_phase up phase n (tap (set h k x) n) ≡ in_phase up phase n (tap h n)
     go n (inl e) = counted_other up phase n (tap (set h k x) n) (tap h n) (λ is. other (ap (λ m. m % up) (sym e) ∙ is))
-    go n (inr ne) = ap (counted up phase n) (get_or-set_other h k n x (pos 0) ne)
+    go n (inr ne) = ap (in_phase up phase n) (get_or-set_other h k n x (pos 0) ne)
 
 -- a tap of the phase, before place n
 here : (h : List ℤ) (up phase k : ℕ) (d : ℤ) (n : ℕ) → k < length h → k % up ≡ phase → k < n →
@@ -65,8 +65,8 @@ here h up phase k d (suc n) within is past = go (cases_eq n k) (λ l. here h up 
         let first : sum_before (set h k (tap h k +ℤ d)) up phase n ≡ sum_before h up phase n =
         before h up phase k (tap h k +ℤ d) n (omega arith) in
         let place : n % up ≡ phase = ap (λ m. m % up) e ∙ is in
-        let old : counted up phase n (tap h n) ≡ tap h n = counted_here up phase n (tap h n) place in
-        let new : counted up phase n (tap (set h k (tap h k +ℤ d)) n) ≡ tap (set h k (tap h k +ℤ d)) n =
+        let old : in_phase up phase n (tap h n) ≡ tap h n = counted_here up phase n (tap h n) place in
+        let new : in_phase up phase n (tap (set h k (tap h k +ℤ d)) n) ≡ tap (set h k (tap h k +ℤ d)) n =
         counted_here up phase n (tap (set h k (tap h k +ℤ d)) n) place in
         let moved : tap (set h k (tap h k +ℤ d)) n ≡ tap h n +ℤ d =
         ap (tap (set h k (tap h k +ℤ d))) e ∙ (get_or-set_same h k (tap h k +ℤ d) (pos 0) within

@@ -1,16 +1,16 @@
 -- The design that converts between two rates.
 use Rattle.std.specs.Prelude.{◌≡◌, ℕ, zero, suc, ◌+◌, ◌-◌, ◌*◌, ◌/◌, ◌≤◌, ◌<◌, ◌^◌, ◌⊎◌, ◌&&◌, min, nat_le, List, ◌++◌}
 use Rattle.std.specs.Prelude.{length, codes, string_bytes, slice_get, Option, Some, None, Result, Ok, Err}
-use Rattle.sdf_limits.specs.declared.TheConstants.{MOST_CHANNEL}
+use Rattle.sdf_limits.specs.declared.TheConstants.{MAX_CHANNEL}
 use Rattle.sdf_filters.specs.declared.graph.TheConstants.{STAGE_SHIFT}
 use Rattle.sdf_filters.specs.declared.fault.FilterFault.{FilterFault}
 use Rattle.sdf_filters.specs.declared.fault.FilterFault.TheVariants.{OutOfMemory, RateTooLarge, Channels}
 use Rattle.sdf_filters.specs.declared.stage.Stage.{Stage}
-use Rattle.sdf_filters.specs.declared.wanted.Band.TheVariants.{Low}
-use Rattle.sdf_filters.specs.declared.wanted.FilterSpec.{FilterSpec}
+use Rattle.sdf_filters.specs.declared.filter_spec.Band.TheVariants.{Low}
+use Rattle.sdf_filters.specs.declared.filter_spec.FilterSpec.{FilterSpec}
 use Rattle.sdf_filters.specs.declared.converter.StageFile.{StageFile}
 use Rattle.sdf_filters.specs.Lowpass.{tested}
-use Rattle.sdf_filters.specs.Wanted.{IsFault}
+use Rattle.sdf_filters.specs.FilterSpecs.{IsFault}
 use Rattle.sdf_filters.specs.Filters.{AreFilterTexts}
 use Rattle.sdf_filters.specs.Stages.{IsSplit, IsSplitFault}
 use Rattle.sdf_filters.specs.Graphs.{stage_name, graph_text}
@@ -30,8 +30,8 @@ rate_at from stages zero = from
 rate_at from stages (suc n) = put (rate_at from stages n) (slice_get stages n)
 
 -- the filter of a stage that takes this rate: it stops the images of what passes, and all that would alias onto it
-abbrev pub stage_wanted : ℕ → ℕ → ℕ → Stage → FilterSpec
-stage_wanted rate pass attenuation s = record {
+abbrev pub stage_spec : ℕ → ℕ → ℕ → Stage → FilterSpec
+stage_spec rate pass attenuation s = record {
   rate = rate * s.up;
   band = Low pass (min rate (rate * s.up / s.down) - pass);
   attenuation = attenuation;
@@ -43,11 +43,11 @@ stage_wanted rate pass attenuation s = record {
 pub record IsStageFile (w : FilterSpec) (number : ℕ) (f : StageFile) : Type 0 where
   pub rate : w.rate < 2 ^ 32
   pub name : string_bytes f.name ≡ stage_name number ++ codes ".toml"
-  pub texts : AreFilterTexts w (string_bytes f.text) (string_bytes f.told)
+  pub texts : AreFilterTexts w (string_bytes f.text) (string_bytes f.summary)
 
 -- a file belongs to the stage with this number, which takes this rate
 abbrev pub IsFileOf : ℕ → ℕ → ℕ → ℕ → Option Stage → Option StageFile → Type 0
-IsFileOf rate pass attenuation number (Some s) (Some f) = IsStageFile (stage_wanted rate pass attenuation s) number f
+IsFileOf rate pass attenuation number (Some s) (Some f) = IsStageFile (stage_spec rate pass attenuation s) number f
 IsFileOf rate pass attenuation number stage file = ⊥
 
 -- each of the first n files belongs to its stage
@@ -63,7 +63,7 @@ pub record AreStageFiles (from pass attenuation : ℕ) (stages : List Stage) (fi
 
 -- whether a converter may have this number of channels
 abbrev pub channels_test : ℕ → Result (Unit {0}) FilterFault
-channels_test channels = tested (nat_le 1 channels && nat_le channels (MOST_CHANNEL + 1)) (Channels channels) (Ok tt)
+channels_test channels = tested (nat_le 1 channels && nat_le channels (MAX_CHANNEL + 1)) (Channels channels) (Ok tt)
 
 -- The channels are 1 to 8. The graph file and the coefficient files are made for stages whose product is the ratio of
 -- the rates.
@@ -84,7 +84,7 @@ pub record IsRateFault (rate : ℕ) (fault : FilterFault) : Type 0 where
 abbrev pub IsStageFault : ℕ → ℕ → ℕ → Stage → FilterFault → Type 0
 IsStageFault rate pass attenuation s fault =
     IsRateFault (rate * s.up) fault
-    ⊎ ((rate * s.up < 2 ^ 32) × IsFault (stage_wanted rate pass attenuation s) fault)
+    ⊎ ((rate * s.up < 2 ^ 32) × IsFault (stage_spec rate pass attenuation s) fault)
 
 -- the stage at a place has no file, and all before it have theirs
 pub record IsStagesFault (from pass attenuation : ℕ) (stages : List Stage) (fault : FilterFault) : Type 0 where

@@ -1,7 +1,7 @@
 -- Filters that pass what one filter passes and another does not.
 use Rattle.std.specs.Prelude.{◌≡◌, ℕ, ◌<◌, ◌/◌, ◌^◌, ℤ, pos, ◌-ℤ◌, FitsSigned, List, length, replicate, slice_set}
 use Rattle.std.specs.Int.{w16}
-use Rattle.sdf_filters.specs.Asked.{Asked}
+use Rattle.sdf_filters.specs.LowpassValue.{LowpassValue}
 use Rattle.sdf_filters.specs.Phases.{tap, phase_sum, Have16Bits, IsSymmetric}
 use Rattle.sdf_filters.specs.Lowpass.{AreLowpassTaps, CanBeSymmetric}
 
@@ -20,7 +20,7 @@ abbrev pub impulse : ℕ → ℤ → List ℤ
 impulse count height = slice_set (replicate count (pos 0)) (count / 2) height
 
 -- a high-pass: 2^shift at the middle, minus the taps of the low-pass; its taps sum to 0
-pub record AreHighpassTaps (f : Asked) (count : ℕ) (h : List ℤ) : Type 0 where
+pub record AreHighpassTaps (f : LowpassValue) (count : ℕ) (h : List ℤ) : Type 0 where
   pub all : length h ≡ count
   pub low : List ℤ
   pub low_is : AreLowpassTaps f count low
@@ -29,7 +29,7 @@ pub record AreHighpassTaps (f : Asked) (count : ℕ) (h : List ℤ) : Type 0 whe
   pub symmetric : IsSymmetric h
 
 -- a band-pass: the taps of one low-pass minus the taps of another; the taps of each phase sum to 0
-pub record AreBandpassTaps (f g : Asked) (count : ℕ) (h : List ℤ) : Type 0 where
+pub record AreBandpassTaps (f g : LowpassValue) (count : ℕ) (h : List ℤ) : Type 0 where
   pub all : length h ≡ count
   pub wide : List ℤ
   pub narrow : List ℤ

@@ -1,11 +1,11 @@
 -- The texts that are printed of a filter.
 use Rattle.std.specs.Prelude.{◌≡◌, ◌==◌, ℕ, ◌/◌, ◌%◌, ℤ, List, [], ◌∷◌, ◌++◌, length, codes, decimal, if◌then◌else◌}
 use Rattle.sdf_filters.specs.declared.measure.Measured.{Measured}
-use Rattle.sdf_filters.specs.declared.wanted.Band.{Band}
-use Rattle.sdf_filters.specs.declared.wanted.Band.TheVariants.{Low, High, Middle}
-use Rattle.sdf_filters.specs.declared.wanted.FilterSpec.{FilterSpec}
+use Rattle.sdf_filters.specs.declared.filter_spec.Band.{Band}
+use Rattle.sdf_filters.specs.declared.filter_spec.Band.TheVariants.{Low, High, Middle}
+use Rattle.sdf_filters.specs.declared.filter_spec.FilterSpec.{FilterSpec}
 use Rattle.sdf_filters.specs.Coefficients.{coefficient_text}
-use Rattle.sdf_filters.specs.Wanted.{AreTaps}
+use Rattle.sdf_filters.specs.FilterSpecs.{AreTaps}
 
 -- a line feed
 abbrev pub end : List ℕ
@@ -40,15 +40,15 @@ abbrev pub counted_taps : ℕ → List ℕ
 counted_taps count = if count == 1 then codes "1 tap: " else decimal count ++ codes " taps: "
 
 -- the number of taps, and their measures
-unfoldable pub told_text : ℕ → Measured → List ℕ
-told_text count m =
+unfoldable pub summary_text : ℕ → Measured → List ℕ
+summary_text count m =
     counted_taps count ++ with_places m.ripple ++ codes " dB of ripple, what is stopped at least "
     ++ with_place m.attenuation ++ codes " dB down" ++ end
 
 -- the coefficient file of the filter's taps, and the line with their measures, which may be any numbers
-pub record AreFilterTexts (w : FilterSpec) (file told : List ℕ) : Type 0 where
+pub record AreFilterTexts (w : FilterSpec) (file summary : List ℕ) : Type 0 where
   pub taps : List ℤ
   pub are : AreTaps w taps
   pub file_is : file ≡ head_text w ++ coefficient_text taps
-  pub measured : Measured
-  pub told_is : told ≡ told_text (length taps) measured
+  pub measures : Measured
+  pub summary_is : summary ≡ summary_text (length taps) measures

@@ -98,18 +98,18 @@ joining_text channels channel =
     ++ link_text channels (Silence channel) (SumSecond channel)
 
 -- the end after n stages of a channel
-abbrev pub behind : ℕ → ℕ → ℕ → End
-behind channels channel n = if n == 0 then source channels channel else Filter n channel
+abbrev pub end_after : ℕ → ℕ → ℕ → End
+end_after channels channel n = if n == 0 then source channels channel else Filter n channel
 
 -- the link from the end after n stages into the next stage
 unfoldable pub step_text : ℕ → ℕ → ℕ → List ℕ
-step_text channels channel n = link_text channels (behind channels channel n) (Filter (n + 1) channel)
+step_text channels channel n = link_text channels (end_after channels channel n) (Filter (n + 1) channel)
 
 -- the links of a channel with this number of stages
 unfoldable pub channel_links : ℕ → ℕ → ℕ → List ℕ
 channel_links channels stages channel =
     joining_text channels channel ++ texts_to (step_text channels channel) stages
-    ++ link_text channels (behind channels channel stages) (Output channel)
+    ++ link_text channels (end_after channels channel stages) (Output channel)
 
 -- the fork of several channels
 unfoldable pub fork_text : ℕ → List ℕ

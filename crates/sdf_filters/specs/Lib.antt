@@ -1,10 +1,10 @@
 pub mod Phases
-pub mod Asked
+pub mod LowpassValue
 pub mod Lowpass
 pub mod Differences
 pub mod Stages
 pub mod Coefficients
-pub mod Wanted
+pub mod FilterSpecs
 pub mod Filters
 pub mod Graphs
 pub mod Converters

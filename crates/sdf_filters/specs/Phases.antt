@@ -11,13 +11,13 @@ abbrev pub tap : List ℤ → ℕ → ℤ
 tap h n = slice_index_or h n (pos 0)
 
 -- a tap x if its place n is one of the phase, otherwise 0
-abbrev pub counted : ℕ → ℕ → ℕ → ℤ → ℤ
-counted up phase n x = cond (n % up == phase) x (pos 0)
+abbrev pub in_phase : ℕ → ℕ → ℕ → ℤ → ℤ
+in_phase up phase n x = cond (n % up == phase) x (pos 0)
 
 -- the sum of the taps of a phase before place n
 unfoldable pub sum_before : List ℤ → ℕ → ℕ → ℕ → ℤ
 sum_before h up phase zero = pos 0
-sum_before h up phase (suc n) = sum_before h up phase n +ℤ counted up phase n (tap h n)
+sum_before h up phase (suc n) = sum_before h up phase n +ℤ in_phase up phase n (tap h n)
 
 -- the sum of the taps of a phase, which are at the places n with n % up = phase
 abbrev pub phase_sum : List ℤ → ℕ → ℕ → ℤ
@@ -52,11 +52,11 @@ pub record AreMoved (up phase : ℕ) (rise : Bool) (times : ℕ) (old new : List
   pub others : (q : ℕ) → (q ≡ phase → ⊥) → (q + phase + 1 ≡ up → ⊥) → phase_sum new up q ≡ phase_sum old up q
   pub symmetric : IsSymmetric old → IsSymmetric new
 
--- taps of a way's phase have moved by `times` steps, each with its mirror image
+-- taps of the phase of `way` have moved by `times` steps, each with its mirror image
 abbrev pub AreMovedBy : TapMove → ℕ → List ℤ → List ℤ → Type 0
 AreMovedBy way times old new = AreMoved way.up way.phase way.rise (weight way.up way.phase * times) old new
 
--- `count` taps are whole phases, and a way's turns are some taps of its phase; none is another's mirror image
+-- `count` taps are whole phases, and the turns of `way` are some taps of its phase; none is another's mirror image
 pub record AreTurns (way : TapMove) (count : ℕ) : Type 0 where
   pub phase : way.phase < way.up
   pub whole : count % way.up ≡ 0

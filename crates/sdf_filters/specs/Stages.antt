@@ -2,7 +2,7 @@
 use Rattle.std.specs.Prelude.{◌≡◌, ◌≢◌, ℕ, ◌+◌, ◌*◌, ◌%◌, ◌<◌, ◌≤◌, ◌⊎◌, List, [], ◌∷◌}
 use Rattle.std.specs.Int.{IsGcd}
 use Rattle.std.specs.List.{All}
-use Rattle.sdf_limits.specs.declared.TheConstants.{MOST_FACTOR}
+use Rattle.sdf_limits.specs.declared.TheConstants.{MAX_FACTOR}
 use Rattle.sdf_filters.specs.declared.stage.Stage.{Stage}
 use Rattle.sdf_filters.specs.declared.fault.FilterFault.{FilterFault}
 use Rattle.sdf_filters.specs.declared.fault.FilterFault.TheVariants.{OutOfMemory, NoRate, FactorTooLarge}
@@ -53,17 +53,17 @@ pub record IsPart (up down : ℕ) (s : Stage) : Type 0 where
 
 -- no number from 2 to 64 divides it
 abbrev pub HasNoFactor : ℕ → Type 0
-HasNoFactor n = (d : ℕ) → 1 < d → d ≤ MOST_FACTOR → n % d ≢ 0
+HasNoFactor n = (d : ℕ) → 1 < d → d ≤ MAX_FACTOR → n % d ≢ 0
 
 pub record IsLeastFactor (n d : ℕ) : Type 0 where
   pub more : 1 < d
-  pub within : d ≤ MOST_FACTOR
+  pub within : d ≤ MAX_FACTOR
   pub divides : n % d ≡ 0
   pub least : (e : ℕ) → 1 < e → e < d → n % e ≢ 0
 
 -- a factor of the ratio is over 64, and none of its own are from 2 to 64
 pub record IsTooLarge (up down factor : ℕ) : Type 0 where
-  pub large : MOST_FACTOR < factor
+  pub large : MAX_FACTOR < factor
   pub of : (up % factor ≡ 0) ⊎ (down % factor ≡ 0)
   pub none : HasNoFactor factor
 

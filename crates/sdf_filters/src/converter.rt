@@ -3,18 +3,18 @@
 ghost use Rattle.std.specs.Prelude.{◌≡◌, ◌+◌, ◌*◌, ◌/◌, ◌<◌, ◌++◌, IfOk, MatchResult, slice_get};
 ghost use Rattle.std.specs.Prelude.{string_bytes, codes, length};
 ghost use Rattle.sdf_filters.specs.Graphs.{stage_name};
-ghost use Rattle.sdf_filters.specs.Converters.{passed, stage_wanted, rate_at, IsStageFile, AreStageFiles};
+ghost use Rattle.sdf_filters.specs.Converters.{passed, stage_spec, rate_at, IsStageFile, AreStageFiles};
 ghost use Rattle.sdf_filters.specs.Converters.{channels_test, IsRateFault, IsStagesFault, IsConverter};
 ghost use Rattle.sdf_filters.specs.Converters.{IsConverterFault};
-ghost use Rattle.sdf_filters.specs.Wanted.{IsFault};
+ghost use Rattle.sdf_filters.specs.FilterSpecs.{IsFault};
 
 use crate::fault::{FilterFault, test};
+use crate::filter_spec::{Band, FilterSpec};
 use crate::graph::{STAGE_SHIFT, graph_text, push_stage_name};
 use crate::split::stages;
 use crate::stage::Stage;
 use crate::texts::filter_texts;
-use crate::wanted::{Band, FilterSpec};
-use sdf_limits::MOST_CHANNEL;
+use sdf_limits::MAX_CHANNEL;
 use std::alloc::{AllocError, Global};
 
 /// The coefficient file of a stage: its name, its text, and the line with the measures of its taps.
@@ -22,7 +22,7 @@ use std::alloc::{AllocError, Global};
 pub struct StageFile {
     pub name: String,
     pub text: String,
-    pub told: String,
+    pub summary: String,
 }
 
 /// A design that converts between two rates: its graph file, and the coefficient file of each stage, in order.
@@ -37,7 +37,7 @@ fn check_channels(channels: u32) -> Result<(), FilterFault>
     ensures { result ≡ channels_test channels }
 {
     test(
-        1 <= channels && channels <= MOST_CHANNEL + 1,
+        1 <= channels && channels <= MAX_CHANNEL + 1,
         FilterFault::Channels { channels },
     )
 }
@@ -61,8 +61,13 @@ fn rate_of(rate: u64) -> Result<u32, FilterFault>
 
 /// Returns the filter of a stage whose input has this `rate`. It stops the images of what passes, and all that would
 /// alias onto it.
-fn stage_wanted(rate: u32, pass: u32, attenuation: u32, stage: Stage) -> Result<FilterSpec, FilterFault>
-    ensures { MatchResult result (λ wanted. wanted ≡ stage_wanted rate pass attenuation stage)
+fn stage_spec(
+    rate: u32,
+    pass: u32,
+    attenuation: u32,
+    stage: Stage,
+) -> Result<FilterSpec, FilterFault>
+    ensures { MatchResult result (λ wanted. wanted ≡ stage_spec rate pass attenuation stage)
         (IsRateFault (rate * stage.up)) }
 {
     let at = rate_of(u64::from(rate) * u64::from(stage.up))?;
@@ -95,7 +100,7 @@ fn stage_file(alloc: Global, number: usize, wanted: FilterSpec) -> Result<StageF
     Ok(StageFile {
         name,
         text: texts.file,
-        told: texts.told,
+        summary: texts.summary,
     })
 }
 
@@ -114,7 +119,7 @@ fn stage_files(
     let mut rate = from;
     for place in 0..stages.len() {
         let stage = stages[place];
-        let wanted = stage_wanted(rate, pass, attenuation, stage)?;
+        let wanted = stage_spec(rate, pass, attenuation, stage)?;
         let file = stage_file(alloc, place + 1, wanted)?;
         files.push(file)?;
         rate = wanted.rate / stage.down;

@@ -11,12 +11,12 @@ ghost use Rattle.sdf_filters.specs.Stages.{IsPart};
 
 use crate::ratio::Ratio;
 use crate::stage::Stage;
-use sdf_limits::{MOST_FACTOR, MOST_TAPS};
+use sdf_limits::{MAX_FACTOR, MAX_TAPS};
 use std::f64::consts::TAU;
 use std::num::nearest_usize_to_f64;
 
 /// The greatest number of stages of the splits that are compared.
-const MOST_STAGES: u32 = 3;
+const MAX_STAGES: u32 = 3;
 
 /// The part of half the lower rate that passes.
 const PASSED: f64 = 10.0 / 11.0;
@@ -53,7 +53,7 @@ impl Weights {
         let width = rate.min(put) - self.lower * PASSED;
         let taps = self.taps * rate * up / width;
         // The number of taps is rounded up to a whole number, and then to whole phases.
-        let most = nearest_usize_to_f64(MOST_TAPS) - up - 1.0;
+        let most = nearest_usize_to_f64(MAX_TAPS) - up - 1.0;
         if put < self.lower || taps > most {
             f64::INFINITY
         } else {
@@ -63,13 +63,13 @@ impl Weights {
 
     /// Returns the ratio `left` as one stage, with its cost.
     fn whole(self, rate: f64, left: Ratio) -> Best {
-        if left.up > MOST_FACTOR || left.down > MOST_FACTOR {
+        if left.up > MAX_FACTOR || left.down > MAX_FACTOR {
             return Best {
                 cost: f64::INFINITY,
                 place: 0,
             };
         }
-        let place = left.up.saturating_sub(1) * MOST_FACTOR + left.down.saturating_sub(1);
+        let place = left.up.saturating_sub(1) * MAX_FACTOR + left.down.saturating_sub(1);
         let cost = if place == 0 {
             0.0
         } else {
@@ -96,12 +96,12 @@ impl Weights {
         if stages < 2 {
             return best;
         }
-        for row in 0..MOST_FACTOR {
+        for row in 0..MAX_FACTOR {
             if left.up % (row + 1) != 0 {
                 continue;
             }
-            let start = row * MOST_FACTOR;
-            for place in start..start + MOST_FACTOR {
+            let start = row * MAX_FACTOR;
+            for place in start..start + MAX_FACTOR {
                 if let Some((stage, own)) = self.cheaper(rate, left, place, best.cost) {
                     let put = rate * f64::from(stage.up) / f64::from(stage.down);
                     let rest = self.best(put, left.after(stage), stages - 1);
@@ -119,7 +119,7 @@ impl Weights {
     pub(crate) fn first(self, rate: f64, left: Ratio) -> Option<Stage>
         ensures { IfSome result (IsPart left.up left.down) }
     {
-        let best = self.best(rate, left, MOST_STAGES);
+        let best = self.best(rate, left, MAX_STAGES);
         if best.cost < f64::INFINITY {
             left.part(best.place)
         } else {

@@ -1,14 +1,14 @@
 //! The taps of a filter that is specified in plain numbers.
 
 ghost use Rattle.std.specs.Prelude.{◌≡◌, ◌%◌, ◌≤◌, ◌⊎◌, IfOk, MatchResult};
-ghost use Rattle.sdf_limits.specs.declared.TheConstants.{MOST_TAPS};
+ghost use Rattle.sdf_limits.specs.declared.TheConstants.{MAX_TAPS};
 ghost use Rattle.sdf_filters.specs.Lowpass.{lowpass_of, IsCountFault, IsTapFault};
-ghost use Rattle.sdf_filters.specs.Wanted.{low, high_tests, middle_tests, AreLowTaps, AreHighTaps, AreMiddleTaps};
-ghost use Rattle.sdf_filters.specs.Wanted.{AreTaps, IsFault};
+ghost use Rattle.sdf_filters.specs.FilterSpecs.{low, high_tests, middle_tests, AreLowTaps, AreHighTaps, AreMiddleTaps};
+ghost use Rattle.sdf_filters.specs.FilterSpecs.{AreTaps, IsFault};
 
 use crate::fault::{FilterFault, test};
-use crate::lowpass::{Lowpass, check_few, whole_phases};
-use crate::wanted::{Band, FilterSpec};
+use crate::filter_spec::{Band, FilterSpec};
+use crate::lowpass::{Lowpass, check_count, whole_phases};
 use std::alloc::Global;
 
 /// Tests what a high-pass needs in addition to its low-pass.
@@ -54,7 +54,7 @@ fn low(wanted: FilterSpec, pass: u32, stop: u32) -> Result<Lowpass, FilterFault>
 
 /// Returns the taps of a low-pass, with one more in each phase than `count` taps have.
 fn more_taps(alloc: Global, filter: &Lowpass, count: usize) -> Result<Vec<i32>, FilterFault>
-    requires { count ≤ MOST_TAPS }
+    requires { count ≤ MAX_TAPS }
     ensures { MatchResult result (λ taps. AreLowTaps filter.now taps.items)
         (λ fault. IsCountFault fault ⊎ IsTapFault fault) }
 {
@@ -79,14 +79,14 @@ fn low_taps(alloc: Global, filter: &Lowpass) -> Result<Vec<i32>, FilterFault>
 }
 
 /// Returns `count`, or one more if it is even.
-fn odd(count: usize) -> Result<usize, FilterFault>
-    requires { count ≤ MOST_TAPS }
-    ensures odd { IfOk result (λ n. n % 2 ≡ 1) }
-    ensures few { MatchResult result (λ n. n ≤ MOST_TAPS) IsCountFault }
+fn next_odd(count: usize) -> Result<usize, FilterFault>
+    requires { count ≤ MAX_TAPS }
+    ensures next_odd { IfOk result (λ n. n % 2 ≡ 1) }
+    ensures few { MatchResult result (λ n. n ≤ MAX_TAPS) IsCountFault }
 {
-    let odd = if count % 2 == 1 { count } else { count + 1 };
-    check_few(odd)?;
-    Ok(odd)
+    let next_odd = if count % 2 == 1 { count } else { count + 1 };
+    check_count(next_odd)?;
+    Ok(next_odd)
 }
 
 /// Returns the taps of the high-pass that passes what `filter` stops. Their number is the low-pass's, or one more if
@@ -96,7 +96,7 @@ fn high_taps(alloc: Global, filter: &Lowpass) -> Result<Vec<i32>, FilterFault>
     ensures { MatchResult result (λ taps. AreHighTaps filter.now taps.items)
         (λ fault. IsCountFault fault ⊎ IsTapFault fault) }
 {
-    let count = odd(filter.count()?)?;
+    let count = next_odd(filter.count()?)?;
     filter.highpass(alloc, count)
 }
 

@@ -4,7 +4,7 @@ ghost use Rattle.std.specs.Prelude.{◌≡◌, ◌++◌, ◌<◌, IfOk, OnOk, le
 ghost use Rattle.sdf_filters.specs.declared.graph.End.TheVariants.{SumSecond};
 ghost use Rattle.sdf_filters.specs.Graphs.{texts_to, mark, stage_name, end_text, key_text, link_text, actor_text};
 ghost use Rattle.sdf_filters.specs.Graphs.{channel_text, keys_text, stage_text, stages_text, silence_text, sum_text};
-ghost use Rattle.sdf_filters.specs.Graphs.{join_text, channel_actors, source, joining_text, behind, step_text};
+ghost use Rattle.sdf_filters.specs.Graphs.{join_text, channel_actors, source, joining_text, end_after, step_text};
 ghost use Rattle.sdf_filters.specs.Graphs.{channel_links, fork_text, note, rates_text, title, graph_text};
 
 use crate::stage::Stage;
@@ -269,8 +269,8 @@ fn push_joining(text: &mut String, channels: u32, channel: u32) -> Result<(), Al
 }
 
 /// Returns the end after `number` stages of a channel.
-fn behind(channels: u32, channel: u32, number: usize) -> End
-    ensures { result ≡ behind channels channel number }
+fn end_after(channels: u32, channel: u32, number: usize) -> End
+    ensures { result ≡ end_after channels channel number }
 {
     if number == 0 {
         source(channels, channel)
@@ -291,7 +291,7 @@ fn push_steps(
         string_bytes text.old ++ texts_to (step_text channels channel) stages) }
 {
     for place in 0..stages {
-        let from = behind(channels, channel, place);
+        let from = end_after(channels, channel, place);
         let number = place + 1;
         push_link(text, channels, from, End::Filter { number, channel })?;
     }
@@ -311,7 +311,7 @@ fn push_links(
 {
     push_joining(text, channels, channel)?;
     push_steps(text, channels, channel, stages)?;
-    let from = behind(channels, channel, stages);
+    let from = end_after(channels, channel, stages);
     push_link(text, channels, from, End::Output { channel })
 }
 

@@ -1,12 +1,12 @@
 //! Filters made by formula: the integer taps of a low-pass, high-pass or band-pass, and designs that convert between
 //! two rates.
 //!
-//! It depends on `sdf_limits` and `thiserror` alone. Begin at `wanted` (a filter in plain numbers), `filter` (its taps)
-//! and `texts` (the texts that `sdfw fir` prints). These use `lowpass`, `differences` (high-passes and band-passes),
+//! It depends on `sdf_limits` and `thiserror` alone. Begin at `filter_spec` (a filter in plain numbers), `filter` (its
+//! taps) and `texts` (what `sdfw fir` prints). These use `lowpass`, `differences` (high-passes and band-passes),
 //! `coefficients` (the text of taps) and `settling`. `settling` makes the sum of each phase exact by the steps of
 //! `phases`, in the `order` of taps. `split` splits a conversion into stages. `converter` makes their design for `sdfw
 //! resample`, with the graph file from `graph`. `sinc`, `cost` and `measure` compute with floats, and no clause says
-//! anything of their values. The definitions are in `specs/FilterSpec.antt`, `specs/Phases.antt` (the sums of phases),
+//! anything of their values. The definitions are in `specs/FilterSpecs.antt`, `specs/Phases.antt` (the sums of phases),
 //! `specs/Stages.antt` and `specs/Converters.antt`.
 #![tactic(auto)]
 
@@ -16,6 +16,7 @@ mod cost;
 mod differences;
 mod fault;
 mod filter;
+mod filter_spec;
 mod graph;
 mod lowpass;
 mod measure;
@@ -27,16 +28,15 @@ mod sinc;
 mod split;
 mod stage;
 mod texts;
-mod wanted;
 
 pub use coefficients::coefficient_text;
 pub use converter::{ConverterTexts, StageFile, converter_texts};
 pub use fault::FilterFault;
 pub use filter::taps_of;
-pub use lowpass::{Lowpass, MOST_ATTENUATION};
+pub use filter_spec::{Band, FilterSpec};
+pub use lowpass::{Lowpass, MAX_ATTENUATION};
 pub use measure::Measured;
 pub use settling::settle;
 pub use split::stages;
 pub use stage::Stage;
 pub use texts::{FilterTexts, filter_texts};
-pub use wanted::{Band, FilterSpec};

@@ -1,9 +1,9 @@
 //! Low-pass filters.
 
 ghost use Rattle.std.specs.Prelude.{◌≡◌, ◌<◌, ◌≤◌, ◌%◌, ◌^◌, pos, MatchResult};
-ghost use Rattle.sdf_limits.specs.declared.TheConstants.{MOST_FACTOR};
+ghost use Rattle.sdf_limits.specs.declared.TheConstants.{MAX_FACTOR};
 ghost use Rattle.sdf_filters.specs.Lowpass.{is_factor, lowpass_of, AreLowpassTaps, IsCount, IsTapFault, IsCountFault};
-ghost use Rattle.sdf_filters.specs.Asked.{asked};
+ghost use Rattle.sdf_filters.specs.LowpassValue.{lowpass_value};
 ghost use Rattle.sdf_filters.specs.Differences.{AreHighpassTaps, AreBandpassTaps};
 
 use crate::differences::{differences, impulse};
@@ -11,12 +11,12 @@ use crate::fault::{FilterFault, test};
 use crate::phases::check_16_bits;
 use crate::settling::settle;
 use crate::sinc::{Sinc, kaiser_length, real_taps, rounded_taps};
-use sdf_limits::{MOST_FACTOR, MOST_SHIFT, MOST_TAPS};
+use sdf_limits::{MAX_FACTOR, MAX_SHIFT, MAX_TAPS};
 use std::alloc::Global;
 use std::marker::Model;
 
 /// The greatest attenuation of stopped frequencies, in dB. Taps of 16 bits reach about half of it.
-pub const MOST_ATTENUATION: u32 = 200;
+pub const MAX_ATTENUATION: u32 = 200;
 
 /// A low-pass whose values are within their limits.
 ///
@@ -33,13 +33,13 @@ pub struct Lowpass {
 }
 
 impl Model for Lowpass {
-    ghost use Rattle.sdf_filters.specs.Asked.{Asked, asked, IsAsked};
+    ghost use Rattle.sdf_filters.specs.LowpassValue.{LowpassValue, lowpass_value, IsLowpassValue};
 
-    ghost Value = { Asked };
+    ghost Value = { LowpassValue };
 
-    ghost view = { λ f. asked f.rate f.pass f.stop f.attenuation f.up f.shift };
+    ghost view = { λ f. lowpass_value f.rate f.pass f.stop f.attenuation f.up f.shift };
 
-    ghost invariant = { λ f. IsAsked (asked f.rate f.pass f.stop f.attenuation f.up f.shift) };
+    ghost invariant = { λ f. IsLowpassValue (lowpass_value f.rate f.pass f.stop f.attenuation f.up f.shift) };
 }
 
 impl Lowpass {
@@ -55,12 +55,12 @@ impl Lowpass {
         up: u32,
         shift: u32,
     ) -> Result<Lowpass, FilterFault>
-        ensures { result ≡ lowpass_of (asked rate pass stop attenuation up shift) }
+        ensures { result ≡ lowpass_of (lowpass_value rate pass stop attenuation up shift) }
     {
         test(is_factor(up), FilterFault::Up { up })?;
-        test(shift <= MOST_SHIFT, FilterFault::Shift { shift })?;
+        test(shift <= MAX_SHIFT, FilterFault::Shift { shift })?;
         test(
-            attenuation <= MOST_ATTENUATION,
+            attenuation <= MAX_ATTENUATION,
             FilterFault::Attenuation { attenuation },
         )?;
         test(pass < stop, FilterFault::PassNotBelowStop { pass, stop })?;
@@ -82,7 +82,7 @@ impl Lowpass {
     pub(crate) fn up(&self) -> u32
         ensures value { result ≡ self.now.up }
         ensures some { 1 ≤ result }
-        ensures few { result ≤ MOST_FACTOR }
+        ensures few { result ≤ MAX_FACTOR }
     {
         self.up
     }
@@ -107,7 +107,7 @@ impl Lowpass {
     /// with `TapTooLarge` if a tap has over 16 bits.
     pub fn taps(&self, alloc: Global, count: usize) -> Result<Vec<i32>, FilterFault>
         requires some { 0 < count }
-        requires few { count ≤ MOST_TAPS }
+        requires few { count ≤ MAX_TAPS }
         requires whole { count % self.now.up ≡ 0 }
         ensures { MatchResult result (λ taps. AreLowpassTaps self.now count taps.items) IsTapFault }
     {
@@ -128,7 +128,7 @@ impl Lowpass {
     /// at the middle minus this one's taps, and sum to 0, so nothing is left of a constant. Errs with `TapTooLarge` if
     /// a tap has over 16 bits.
     pub fn highpass(&self, alloc: Global, count: usize) -> Result<Vec<i32>, FilterFault>
-        requires few { count ≤ MOST_TAPS }
+        requires few { count ≤ MAX_TAPS }
         requires odd { count % 2 ≡ 1 }
         requires up { self.now.up ≡ 1 }
         ensures { MatchResult result (λ taps. AreHighpassTaps self.now count taps.items) IsTapFault }
@@ -148,7 +148,7 @@ impl Lowpass {
         count: usize,
     ) -> Result<Vec<i32>, FilterFault>
         requires some { 0 < count }
-        requires few { count ≤ MOST_TAPS }
+        requires few { count ≤ MAX_TAPS }
         requires whole { count % self.now.up ≡ 0 }
         requires up { narrow.now.up ≡ self.now.up }
         requires shift { narrow.now.shift ≡ self.now.shift }
@@ -176,12 +176,12 @@ impl Lowpass {
 fn is_factor(up: u32) -> bool
     ensures { result ≡ is_factor up }
 {
-    1 <= up && up <= MOST_FACTOR
+    1 <= up && up <= MAX_FACTOR
 }
 
 /// Returns the sum of the taps of a phase.
 fn height(shift: u32) -> i32
-    requires { shift ≤ MOST_SHIFT }
+    requires { shift ≤ MAX_SHIFT }
     ensures { result ≡ pos (2 ^ shift) }
 {
     1i32 << shift
@@ -190,21 +190,21 @@ fn height(shift: u32) -> i32
 /// Rounds a number of taps, at least one, up to whole phases.
 pub(crate) fn whole_phases(count: usize, up: usize) -> Result<usize, FilterFault>
     requires some { 1 ≤ up }
-    requires few { up ≤ MOST_FACTOR }
+    requires few { up ≤ MAX_FACTOR }
     ensures { MatchResult result (IsCount up) IsCountFault }
 {
     let least = count.max(1);
-    check_few(least)?;
+    check_count(least)?;
     let whole = least.next_multiple_of(up);
-    check_few(whole)?;
+    check_count(whole)?;
     Ok(whole)
 }
 
 /// Tests whether a filter may have `taps` taps.
-pub(crate) fn check_few(taps: usize) -> Result<(), FilterFault>
-    ensures { MatchResult result (λ _. taps ≤ MOST_TAPS) IsCountFault }
+pub(crate) fn check_count(taps: usize) -> Result<(), FilterFault>
+    ensures { MatchResult result (λ _. taps ≤ MAX_TAPS) IsCountFault }
 {
-    if taps > MOST_TAPS {
+    if taps > MAX_TAPS {
         return Err(FilterFault::TooManyTaps { taps });
     }
     Ok(())

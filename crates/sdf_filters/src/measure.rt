@@ -158,21 +158,21 @@ impl<'a> Response<'a> {
     }
 
     /// Returns the greatest magnitude in all of `ranges`.
-    fn loudest(self, ranges: &[Range]) -> f64 {
-        let mut loudest = 0.0f64;
+    fn max_magnitude(self, ranges: &[Range]) -> f64 {
+        let mut max_magnitude = 0.0f64;
         for range in ranges {
-            loudest = loudest.max(self.magnitudes(*range).greatest);
+            max_magnitude = max_magnitude.max(self.magnitudes(*range).greatest);
         }
-        loudest
+        max_magnitude
     }
 
     /// Measures the range that passes and the ranges that are stopped.
-    pub(crate) fn measured(self, passed: Range, stopped: &[Range]) -> Measured {
+    pub(crate) fn measures(self, passed: Range, stopped: &[Range]) -> Measured {
         let passed = self.magnitudes(passed);
         let ripple = decibels(passed.greatest)
             .abs()
             .max(decibels(passed.least).abs());
-        let attenuation = -decibels(self.loudest(stopped));
+        let attenuation = -decibels(self.max_magnitude(stopped));
         Measured {
             ripple: saturating_f64_to_u64((ripple * 1e4).round()),
             attenuation: saturating_f64_to_u64((attenuation * 10.0).round()),

@@ -4,11 +4,11 @@ ghost use Rattle.std.specs.Prelude.{◌≡◌, ◌<◌, ◌≤◌, ◌+◌, ◌*
 ghost use Rattle.std.specs.List.{All};
 ghost use Rattle.sdf_filters.specs.declared.order.TheConstants.{NODES};
 
-use crate::sinc::beyond;
-use sdf_limits::MOST_TAPS;
+use crate::sinc::overshoot;
+use sdf_limits::MAX_TAPS;
 
 /// The greatest number of nodes in a tree of the taps of a phase, the taps included.
-const NODES: usize = 2 * MOST_TAPS;
+const NODES: usize = 2 * MAX_TAPS;
 
 /// A phase, the number of its first taps that can be moved, and whether they are moved up.
 #[derive(Clone, Copy)]
@@ -42,14 +42,14 @@ pub(crate) fn place_of(count: usize, way: TapMove, turn: usize) -> usize
 /// Returns the rank of the tap with this `turn`.
 fn rank_of(taps: &[i32], reals: &[f64], way: TapMove, turn: usize) -> Rank
     requires same { length reals.now ≡ length taps.now }
-    requires few { length taps.now ≤ MOST_TAPS }
+    requires few { length taps.now ≤ MAX_TAPS }
     requires phase { way.phase < way.up }
     requires turns { way.turns ≤ length taps.now / way.up }
     requires turn { turn < way.turns }
     ensures { result.turn ≡ turn }
 {
     let place = place_of(taps.len(), way, turn);
-    let late = beyond(f64::from(taps[place]), reals[place], way.rise);
+    let late = overshoot(f64::from(taps[place]), reals[place], way.rise);
     let away = (taps.len() - 1).abs_diff(2 * place);
     Rank { late, away, turn }
 }
@@ -70,7 +70,7 @@ fn sooner(one: Rank, other: Rank) -> Rank
 /// Returns the turn of the tap that is moved first.
 pub(crate) fn first_turn(taps: &[i32], reals: &[f64], way: TapMove) -> usize
     requires same { length reals.now ≡ length taps.now }
-    requires few { length taps.now ≤ MOST_TAPS }
+    requires few { length taps.now ≤ MAX_TAPS }
     requires phase { way.phase < way.up }
     requires turns { way.turns ≤ length taps.now / way.up }
     requires some { 0 < way.turns }
@@ -96,17 +96,17 @@ pub(crate) fn is_round(taps: &[i32], reals: &[f64], way: TapMove) -> bool
     for turn in 0..way.turns {
         let place = place_of(taps.len(), way, turn);
         let tap = f64::from(taps[place]);
-        latest = latest.max(beyond(tap, reals[place], way.rise));
-        soonest = soonest.min(beyond(tap + step, reals[place], way.rise));
+        latest = latest.max(overshoot(tap, reals[place], way.rise));
+        soonest = soonest.min(overshoot(tap + step, reals[place], way.rise));
     }
     latest < soonest
 }
 
 /// Compares the taps of the two branches of `node`, and puts the turn of the sooner one at the node.
-fn meet(tree: &mut [usize], taps: &[i32], reals: &[f64], way: TapMove, node: usize)
+fn update_node(tree: &mut [usize], taps: &[i32], reals: &[f64], way: TapMove, node: usize)
     requires room { length tree.old ≡ NODES }
     requires same { length reals.now ≡ length taps.now }
-    requires few { length taps.now ≤ MOST_TAPS }
+    requires few { length taps.now ≤ MAX_TAPS }
     requires phase { way.phase < way.up }
     requires turns { way.turns ≤ length taps.now / way.up }
     requires node { node < way.turns }
@@ -122,7 +122,7 @@ fn meet(tree: &mut [usize], taps: &[i32], reals: &[f64], way: TapMove, node: usi
 /// turn of the tap that is moved first.
 pub(crate) fn tree_of(taps: &[i32], reals: &[f64], way: TapMove) -> [usize; NODES]
     requires same { length reals.now ≡ length taps.now }
-    requires few { length taps.now ≤ MOST_TAPS }
+    requires few { length taps.now ≤ MAX_TAPS }
     requires phase { way.phase < way.up }
     requires turns { way.turns ≤ length taps.now / way.up }
     requires some { 0 < way.turns }
@@ -134,16 +134,22 @@ pub(crate) fn tree_of(taps: &[i32], reals: &[f64], way: TapMove) -> [usize; NODE
         tree[many + turn] = turn;
     }
     for back in 1..many {
-        meet(&mut tree, taps, reals, way, many - back);
+        update_node(&mut tree, taps, reals, way, many - back);
     }
     tree
 }
 
 /// Updates the tree after the tap with this `turn` was moved.
-pub(crate) fn renew(tree: &mut [usize], taps: &[i32], reals: &[f64], way: TapMove, turn: usize)
+pub(crate) fn update_tree(
+    tree: &mut [usize],
+    taps: &[i32],
+    reals: &[f64],
+    way: TapMove,
+    turn: usize,
+)
     requires room { length tree.old ≡ NODES }
     requires same { length reals.now ≡ length taps.now }
-    requires few { length taps.now ≤ MOST_TAPS }
+    requires few { length taps.now ≤ MAX_TAPS }
     requires phase { way.phase < way.up }
     requires turns { way.turns ≤ length taps.now / way.up }
     requires turn { turn < way.turns }
@@ -153,6 +159,6 @@ pub(crate) fn renew(tree: &mut [usize], taps: &[i32], reals: &[f64], way: TapMov
     let mut node = way.turns + turn;
     while node > 1 {
         node /= 2;
-        meet(tree, taps, reals, way, node);
+        update_node(tree, taps, reals, way, node);
     }
 }

@@ -2,13 +2,13 @@
 
 ghost use Rattle.std.specs.Prelude.{◌≡◌, ◌<◌, ◌≤◌, ◌+◌, ◌-◌, ◌*◌, ◌/◌, ◌%◌, ◌⊎◌, ◌+ℤ◌, ℕ, length, slice_set};
 ghost use Rattle.std.specs.Prelude.{unsigned_abs, OnOk, IfErr, MatchResult};
-ghost use Rattle.sdf_filters.specs.Phases.{tap, counted, phase_sum, steps, has_16_bits, Have16Bits, AreMoved};
+ghost use Rattle.sdf_filters.specs.Phases.{tap, in_phase, phase_sum, steps, has_16_bits, Have16Bits, AreMoved};
 ghost use Rattle.sdf_filters.specs.Phases.{AreTurns, AreMovedBy, weight};
 ghost use Rattle.sdf_filters.specs.Lowpass.{IsTapFault};
 
 use crate::fault::FilterFault;
-use crate::order::{TapMove, first_turn, is_round, place_of, renew, tree_of};
-use sdf_limits::MOST_TAPS;
+use crate::order::{TapMove, first_turn, is_round, place_of, tree_of, update_tree};
+use sdf_limits::MAX_TAPS;
 
 /// The greatest absolute value of a tap that can still be moved.
 const FARTHEST: u32 = 65_536;
@@ -19,9 +19,9 @@ const FEW_STEPS: u64 = 8;
 const FEW_TAPS: usize = 64;
 
 /// Returns `tap` if its place is one of the phase, otherwise 0.
-fn counted(up: usize, phase: usize, place: usize, tap: i32) -> i32
+fn in_phase(up: usize, phase: usize, place: usize, tap: i32) -> i32
     requires { 0 < up }
-    ensures { result ≡ counted up phase place tap }
+    ensures { result ≡ in_phase up phase place tap }
 {
     if place % up == phase { tap } else { 0 }
 }
@@ -29,12 +29,12 @@ fn counted(up: usize, phase: usize, place: usize, tap: i32) -> i32
 /// Returns the sum of the taps of `phase`.
 pub(crate) fn phase_sum(taps: &[i32], up: usize, phase: usize) -> i64
     requires up { 0 < up }
-    requires few { length taps.now ≤ MOST_TAPS }
+    requires few { length taps.now ≤ MAX_TAPS }
     ensures { result ≡ phase_sum taps.now up phase }
 {
     let mut sum = 0;
     for (place, tap) in taps.iter().enumerate() {
-        sum += i64::from(counted(up, phase, place, *tap));
+        sum += i64::from(in_phase(up, phase, place, *tap));
     }
     sum
 }
@@ -52,14 +52,14 @@ pub(crate) fn check_16_bits(taps: &[i32]) -> Result<(), FilterFault>
 {
     for &tap in taps {
         if !has_16_bits(tap) {
-            return Err(past_16_bits(tap));
+            return Err(tap_fault(tap));
         }
     }
     Ok(())
 }
 
 /// Returns the fault of a tap of over 16 bits.
-fn past_16_bits(tap: i32) -> FilterFault
+fn tap_fault(tap: i32) -> FilterFault
     requires { 32768 ≤ unsigned_abs tap }
     ensures { IsTapFault result }
 {
@@ -84,7 +84,7 @@ pub(crate) fn step_tap(taps: &mut [i32], place: usize, rise: bool) -> Result<(),
 {
     let tap = taps[place];
     if tap.unsigned_abs() > FARTHEST {
-        return Err(past_16_bits(tap));
+        return Err(tap_fault(tap));
     }
     taps[place] = stepped(tap, rise);
     Ok(())
@@ -103,7 +103,7 @@ fn step_turn(taps: &mut [i32], way: TapMove, turn: usize) -> Result<(), FilterFa
     Ok(())
 }
 
-/// Moves each tap of a way's turns, and its mirror image, by one step.
+/// Moves the tap of each turn of `way`, and its mirror image, by one step.
 fn move_each(taps: &mut [i32], way: TapMove) -> Result<(), FilterFault>
     requires turns { AreTurns way (length taps.old) }
     ensures moves { OnOk result (AreMovedBy way way.turns taps.old taps.new) }
@@ -115,10 +115,10 @@ fn move_each(taps: &mut [i32], way: TapMove) -> Result<(), FilterFault>
     Ok(())
 }
 
-/// Moves taps by `times` steps, each with its mirror image. Each step looks at all of the way's taps.
+/// Moves taps by `times` steps, each with its mirror image. Each step looks at the taps of all turns of `way`.
 fn move_few(taps: &mut [i32], reals: &[f64], way: TapMove, times: u64) -> Result<(), FilterFault>
     requires same { length reals.now ≡ length taps.old }
-    requires few { length taps.old ≤ MOST_TAPS }
+    requires few { length taps.old ≤ MAX_TAPS }
     requires turns { AreTurns way (length taps.old) }
     requires some { 0 < way.turns }
     ensures moves { OnOk result (AreMovedBy way times taps.old taps.new) }
@@ -134,7 +134,7 @@ fn move_few(taps: &mut [i32], reals: &[f64], way: TapMove, times: u64) -> Result
 /// Moves taps by `times` steps, each with its mirror image. A tree of the taps says which one is next.
 fn move_many(taps: &mut [i32], reals: &[f64], way: TapMove, times: u64) -> Result<(), FilterFault>
     requires same { length reals.now ≡ length taps.old }
-    requires few { length taps.old ≤ MOST_TAPS }
+    requires few { length taps.old ≤ MAX_TAPS }
     requires turns { AreTurns way (length taps.old) }
     requires some { 0 < way.turns }
     ensures moves { OnOk result (AreMovedBy way times taps.old taps.new) }
@@ -144,15 +144,20 @@ fn move_many(taps: &mut [i32], reals: &[f64], way: TapMove, times: u64) -> Resul
     for _ in 0..times {
         let turn = tree[1];
         step_turn(taps, way, turn)?;
-        renew(&mut tree, taps, reals, way, turn);
+        update_tree(&mut tree, taps, reals, way, turn);
     }
     Ok(())
 }
 
 /// Moves taps by `times` steps, one after another, each with its mirror image.
-fn move_soonest(taps: &mut [i32], reals: &[f64], way: TapMove, times: u64) -> Result<(), FilterFault>
+fn move_soonest(
+    taps: &mut [i32],
+    reals: &[f64],
+    way: TapMove,
+    times: u64,
+) -> Result<(), FilterFault>
     requires same { length reals.now ≡ length taps.old }
-    requires few { length taps.old ≤ MOST_TAPS }
+    requires few { length taps.old ≤ MAX_TAPS }
     requires turns { AreTurns way (length taps.old) }
     requires some { 0 < way.turns }
     ensures moves { OnOk result (AreMovedBy way times taps.old taps.new) }
@@ -168,7 +173,7 @@ fn move_soonest(taps: &mut [i32], reals: &[f64], way: TapMove, times: u64) -> Re
 /// Moves taps by one round: one step for each turn. Each tap moves once, if none is moved twice before all others were.
 fn move_round(taps: &mut [i32], reals: &[f64], way: TapMove) -> Result<(), FilterFault>
     requires same { length reals.now ≡ length taps.old }
-    requires few { length taps.old ≤ MOST_TAPS }
+    requires few { length taps.old ≤ MAX_TAPS }
     requires turns { AreTurns way (length taps.old) }
     requires some { 0 < way.turns }
     ensures moves { OnOk result (AreMovedBy way way.turns taps.old taps.new) }
@@ -189,7 +194,7 @@ pub(crate) fn move_rounds(
     times: u64,
 ) -> Result<(), FilterFault>
     requires same { length reals.now ≡ length taps.old }
-    requires few { length taps.old ≤ MOST_TAPS }
+    requires few { length taps.old ≤ MAX_TAPS }
     requires turns { AreTurns way (length taps.old) }
     requires some { 0 < way.turns }
     ensures moves { OnOk result (AreMovedBy way times taps.old taps.new) }

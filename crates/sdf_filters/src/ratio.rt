@@ -5,10 +5,10 @@ ghost use Rattle.std.specs.Int.{IsGcd};
 ghost use Rattle.sdf_filters.specs.Stages.{IsLowest, IsPart};
 
 use crate::stage::Stage;
-use sdf_limits::MOST_FACTOR;
+use sdf_limits::MAX_FACTOR;
 
 /// The number of places for stages: each `up` with each `down`.
-const PLACES: u32 = MOST_FACTOR * MOST_FACTOR;
+const PLACES: u32 = MAX_FACTOR * MAX_FACTOR;
 
 /// A ratio: `up` samples for `down`.
 #[derive(Clone, Copy)]
@@ -73,8 +73,8 @@ impl Ratio {
             return None;
         }
         let stage = Stage {
-            up: place / MOST_FACTOR + 1,
-            down: place % MOST_FACTOR + 1,
+            up: place / MAX_FACTOR + 1,
+            down: place % MAX_FACTOR + 1,
         };
         if self.up % stage.up == 0 && self.down % stage.down == 0 {
             Some(stage)

@@ -8,7 +8,7 @@ ghost use Rattle.sdf_filters.specs.Lowpass.{IsTapFault};
 use crate::fault::FilterFault;
 use crate::order::{TapMove, first_turn, place_of};
 use crate::phases::{move_rounds, phase_sum, step_tap};
-use sdf_limits::MOST_TAPS;
+use sdf_limits::MAX_TAPS;
 
 /// Moves taps of `phase` until they sum to `total`. Their mirror images, which are in another phase, move with them.
 fn settle_phase(
@@ -19,7 +19,7 @@ fn settle_phase(
     total: i64,
 ) -> Result<(), FilterFault>
     requires same { length reals.now ≡ length taps.old }
-    requires few { length taps.old ≤ MOST_TAPS }
+    requires few { length taps.old ≤ MAX_TAPS }
     requires phase { 2 * phase + 1 < up }
     requires whole { length taps.old % up ≡ 0 }
     requires some { 0 < length taps.old / up }
@@ -72,7 +72,7 @@ fn middle_times(times: u64, many: u64) -> u64
 /// Moves the sum of the phase around the middle by `times` steps, if its number of taps is odd. They stay symmetric.
 fn move_odd(taps: &mut [i32], reals: &[f64], way: TapMove, times: u64) -> Result<(), FilterFault>
     requires same { length reals.now ≡ length taps.old }
-    requires few { length taps.old ≤ MOST_TAPS }
+    requires few { length taps.old ≤ MAX_TAPS }
     requires up { way.up % 2 ≡ 1 }
     requires phase { way.phase ≡ way.up / 2 }
     requires whole { length taps.old % way.up ≡ 0 }
@@ -94,7 +94,7 @@ fn move_odd(taps: &mut [i32], reals: &[f64], way: TapMove, times: u64) -> Result
 /// last step moves one tap alone.
 fn move_even(taps: &mut [i32], reals: &[f64], way: TapMove, times: u64) -> Result<(), FilterFault>
     requires same { length reals.now ≡ length taps.old }
-    requires few { length taps.old ≤ MOST_TAPS }
+    requires few { length taps.old ≤ MAX_TAPS }
     requires up { way.up % 2 ≡ 1 }
     requires phase { way.phase ≡ way.up / 2 }
     requires whole { length taps.old % way.up ≡ 0 }
@@ -116,7 +116,7 @@ fn move_even(taps: &mut [i32], reals: &[f64], way: TapMove, times: u64) -> Resul
 /// Moves taps of the phase around the middle until they sum to `total`.
 fn settle_middle(taps: &mut [i32], reals: &[f64], up: usize, total: i64) -> Result<(), FilterFault>
     requires same { length reals.now ≡ length taps.old }
-    requires few { length taps.old ≤ MOST_TAPS }
+    requires few { length taps.old ≤ MAX_TAPS }
     requires up { up % 2 ≡ 1 }
     requires whole { length taps.old % up ≡ 0 }
     requires some { 0 < length taps.old / up }
@@ -158,7 +158,7 @@ fn mirror(taps: &mut [i32])
 /// Moves taps until each phase whose mirror image is another phase sums to `total`.
 fn settle_outer(taps: &mut [i32], reals: &[f64], up: usize, total: i64) -> Result<(), FilterFault>
     requires same { length reals.now ≡ length taps.old }
-    requires few { length taps.old ≤ MOST_TAPS }
+    requires few { length taps.old ≤ MAX_TAPS }
     requires up { 0 < up }
     requires whole { length taps.old % up ≡ 0 }
     requires some { 0 < length taps.old / up }
@@ -181,7 +181,7 @@ pub fn settle(taps: &mut [i32], reals: &[f64], up: usize, total: i64) -> Result<
     requires up { 0 < up }
     requires whole { length taps.old % up ≡ 0 }
     requires some { 0 < length taps.old }
-    requires few { length taps.old ≤ MOST_TAPS }
+    requires few { length taps.old ≤ MAX_TAPS }
     ensures exact { OnOk result ((phase : ℕ) → phase < up → phase_sum taps.new up phase ≡ total) }
     ensures symmetric { OnOk result ((up % 2 ≡ 0) ⊎ ((length taps.old % 2 ≡ 1) ⊎ IsEven total) →
         IsSymmetric taps.new) }

@@ -24,7 +24,7 @@ impl Sinc {
     /// Makes a sinc of `count` places, for a filter that has half its height at `edge` times the rate.
     pub(crate) fn new(edge: f64, attenuation: u32, up: f64, unit: f64, count: usize) -> Sinc {
         let last = count.saturating_sub(1);
-        let beta = shape(f64::from(attenuation));
+        let beta = kaiser_beta(f64::from(attenuation));
         Sinc {
             edge,
             beta,
@@ -59,7 +59,7 @@ fn sine_over(edge: f64, from_middle: f64) -> f64 {
 }
 
 /// Returns the window's parameter for an attenuation in dB, by Kaiser's formula.
-fn shape(attenuation: f64) -> f64 {
+fn kaiser_beta(attenuation: f64) -> f64 {
     if attenuation > 50.0 {
         0.1102 * (attenuation - 8.7)
     } else if attenuation > 21.0 {
@@ -122,7 +122,7 @@ pub(crate) fn rounded_taps(alloc: Global, reals: &[f64]) -> Result<Vec<i32>, All
 }
 
 /// Returns how far `tap` is beyond its real value in the direction of a step, up if `rise`.
-pub(crate) fn beyond(tap: f64, real: f64, rise: bool) -> f64 {
+pub(crate) fn overshoot(tap: f64, real: f64, rise: bool) -> f64 {
     let over = tap - real;
     if rise { over } else { -over }
 }

@@ -8,7 +8,7 @@ use crate::cost::Weights;
 use crate::fault::FilterFault;
 use crate::ratio::{Ratio, lowest};
 use crate::stage::Stage;
-use sdf_limits::MOST_FACTOR;
+use sdf_limits::MAX_FACTOR;
 use std::alloc::Global;
 
 /// Returns the stages of a conversion between two rates, in order. Their product is exactly the ratio of the rates.
@@ -93,7 +93,7 @@ fn least_part(left: Ratio) -> Result<Stage, FilterFault>
 fn least_factor(number: u32) -> Option<u32>
     ensures { MatchOption result (HasNoFactor number) (IsLeastFactor number) }
 {
-    for factor in 2..MOST_FACTOR + 1 {
+    for factor in 2..MAX_FACTOR + 1 {
         if number % factor == 0 {
             return Some(factor);
         }

@@ -1,22 +1,22 @@
 //! The texts that are printed of a filter.
 
 ghost use Rattle.std.specs.Prelude.{◌≡◌, ◌++◌, OnOk, MatchResult, string_bytes};
-ghost use Rattle.sdf_filters.specs.Wanted.{IsFault};
-ghost use Rattle.sdf_filters.specs.Filters.{band_text, head_text, with_places, with_place, told_text};
+ghost use Rattle.sdf_filters.specs.FilterSpecs.{IsFault};
+ghost use Rattle.sdf_filters.specs.Filters.{band_text, head_text, with_places, with_place, summary_text};
 ghost use Rattle.sdf_filters.specs.Filters.{counted_taps, AreFilterTexts};
 
 use crate::coefficients::push_coefficients;
 use crate::fault::FilterFault;
 use crate::filter::taps_of;
+use crate::filter_spec::{Band, FilterSpec};
 use crate::measure::Measured;
-use crate::wanted::{Band, FilterSpec};
 use std::alloc::{AllocError, Global};
 
 /// The texts that are printed of a filter: the coefficient file, and the line with the measures of its taps.
 #[derive(Drop)]
 pub struct FilterTexts {
     pub file: String,
-    pub told: String,
+    pub summary: String,
 }
 
 /// Adds the kind of a filter and the edges of its bands.
@@ -37,7 +37,7 @@ fn push_band(text: &mut String, band: Band) -> Result<(), AllocError>
 
 /// Adds the first line of a coefficient file.
 #[tactic(auto, unfolding(crate::specs::Filters::head_text))]
-fn push_wanted(text: &mut String, wanted: FilterSpec) -> Result<(), AllocError>
+fn push_spec(text: &mut String, wanted: FilterSpec) -> Result<(), AllocError>
     ensures { OnOk result (string_bytes text.new ≡ string_bytes text.old ++ head_text wanted) }
 {
     let up = wanted.up;
@@ -81,27 +81,27 @@ fn push_count(text: &mut String, count: usize) -> Result<(), AllocError>
 }
 
 /// Adds the line with the measures of `count` taps.
-#[tactic(auto, unfolding(crate::specs::Filters::told_text))]
-fn push_told(text: &mut String, count: usize, measured: Measured) -> Result<(), AllocError>
-    ensures { OnOk result (string_bytes text.new ≡ string_bytes text.old ++ told_text count measured) }
+#[tactic(auto, unfolding(crate::specs::Filters::summary_text))]
+fn push_summary(text: &mut String, count: usize, measures: Measured) -> Result<(), AllocError>
+    ensures { OnOk result (string_bytes text.new ≡ string_bytes text.old ++ summary_text count measures) }
 {
     push_count(text, count)?;
-    push_places(text, measured.ripple)?;
+    push_places(text, measures.ripple)?;
     text.push_str(" dB of ripple, what is stopped at least ")?;
-    push_place(text, measured.attenuation)?;
+    push_place(text, measures.attenuation)?;
     text.push_str(" dB down\n")
 }
 
 /// Returns the coefficient file of the taps of a filter, and the line with their measures.
 pub fn filter_texts(alloc: Global, wanted: FilterSpec) -> Result<FilterTexts, FilterFault>
     ensures { MatchResult result
-        (λ texts. AreFilterTexts wanted (string_bytes texts.file) (string_bytes texts.told)) (IsFault wanted) }
+        (λ texts. AreFilterTexts wanted (string_bytes texts.file) (string_bytes texts.summary)) (IsFault wanted) }
 {
     let taps = taps_of(alloc, wanted)?;
     let mut file = String::new(alloc);
-    push_wanted(&mut file, wanted)?;
+    push_spec(&mut file, wanted)?;
     push_coefficients(&mut file, &taps)?;
-    let mut told = String::new(alloc);
-    push_told(&mut told, taps.len(), wanted.measured(&taps))?;
-    Ok(FilterTexts { file, told })
+    let mut summary = String::new(alloc);
+    push_summary(&mut summary, taps.len(), wanted.measures(&taps))?;
+    Ok(FilterTexts { file, summary })
 }

@@ -3,11 +3,12 @@ use Rattle.std.proofs.Common.{◌≡◌, ℕ, zero, suc, ◌+◌, ◌<◌, ◌�
 use Rattle.std.proofs.Common.{ap, ◌∙◌, subst, inl, inr, ◌⊎◌, arith}
 use Rattle.std.proofs.lemmas.List.{get_or_append_left, get_or_push, length-replicate}
 use Rattle.std.proofs.lemmas.Bool.{cases_lt}
-use Rattle.sdf_graph.specs.Rates.{Shape, Edge, IsShape, channel, no_channel}
-use Rattle.sdf_graph.specs.Tally.{IsKept}
+use Rattle.sdf_graph.specs.Rates.{GraphValue, ChannelValue, IsShape, channel, no_channel}
+use Rattle.sdf_graph.specs.CountsValue.{IsKept}
 
 -- one channel more
-pub begins_more : (chs : List Edge) (held : List ℕ) (i : ℕ) (e : Edge) → length held ≡ i → e ≡ get_or chs i no_channel →
+pub begins_more : (chs : List ChannelValue) (held : List ℕ) (i : ℕ) (e : ChannelValue) → length held ≡ i →
+    e ≡ get_or chs i no_channel →
     ((c : ℕ) → c < i → get_or held c 0 ≡ (get_or chs c no_channel).initial) → (c : ℕ) → c < i + 1 →
     get_or (held ++ e.initial ∷ []) c 0 ≡ (get_or chs c no_channel).initial
 begins_more chs held i e all is before c l = go (cases_lt c i)
@@ -17,14 +18,14 @@ begins_more chs held i e all is before c l = go (cases_lt c i)
     go (inr last) =
         let same : i ≡ c = omega arith in
         subst (λ c. get_or (held ++ e.initial ∷ []) c 0 ≡ (get_or chs c no_channel).initial) same
-        (get_or_push held e.initial 0 i all ∙ ap (λ (e : Edge). e.initial) is)
+        (get_or_push held e.initial 0 i all ∙ ap (λ (e : ChannelValue). e.initial) is)
 
 none_fired : (n a : ℕ) → ◌≡◌ {A = ℕ} (get_or (replicate n 0) a 0) 0
 none_fired zero a = refl
 none_fired (suc n) zero = refl
 none_fired (suc n) (suc a) = none_fired n a
 
-pub begins : (g : Shape) → IsShape g → (fired held : List ℕ) → fired ≡ replicate g.actors 0 →
+pub begins : (g : GraphValue) → IsShape g → (fired held : List ℕ) → fired ≡ replicate g.actors 0 →
     length held ≡ length g.channels →
     ((c : ℕ) → c < length g.channels → get_or held c 0 ≡ (channel g c).initial) →
     IsKept (record { graph = g; fired = fired }) held

@@ -5,7 +5,7 @@ use Rattle.std.proofs.Math.Nat.{add-mul-mod_self_left, mod-eq_of_lt}
 use Rattle.std.proofs.lemmas.List.{take_all}
 use Rattle.std.proofs.lemmas.List.Sums.{sum_by_more, sum_by-cons}
 use Rattle.std.proofs.lemmas.Bool.{cases_lt}
-use Rattle.sdf_limits.specs.declared.TheConstants.{MOST_RATE}
+use Rattle.sdf_limits.specs.declared.TheConstants.{MAX_RATE}
 use Rattle.sdf_graph.specs.Rates.{sum_to, rate_at}
 use Rattle.sdf_graph.specs.Laws.{ListsSumWithin}
 
@@ -82,10 +82,10 @@ sum_to_anew xs k i =
 pub sum_to_parts : (xs : List ℕ) → 0 < length xs → (n : ℕ) →
     sum_to (rate_at xs) n ≡ n / length xs * sum_to (rate_at xs) (length xs) + sum_to (rate_at xs) (n % length xs)
 sum_to_parts xs some n =
-    let parts : n ≡ n % length xs + n / length xs * length xs = omega arith in
+    let ratios : n ≡ n % length xs + n / length xs * length xs = omega arith in
     let whole : n / length xs * sum_to (rate_at xs) (length xs) ≡ n / length xs * sum xs =
     ap (λ m. n / length xs * m) (sum_to_cycle xs) in
-    ap (sum_to (rate_at xs)) parts ∙ (sum_to_anew xs (n / length xs) (n % length xs) ∙ omega (arith, whole))
+    ap (sum_to (rate_at xs)) ratios ∙ (sum_to_anew xs (n / length xs) (n % length xs) ∙ omega (arith, whole))
 
 -- all firings move as much where the cycle has one rate
 pub sum_to_steady : (xs : List ℕ) → length xs ≡ 1 → (n : ℕ) → sum_to (rate_at xs) n ≡ n * get_or xs 0 0
@@ -97,9 +97,9 @@ sum_to_steady (x ∷ []) e n =
 sum_to_steady (x ∷ y ∷ xs) e n = absurd (omega arith)
 
 -- rates that are small move little
-pub few_moved : (xs : List ℕ) → ((i : ℕ) → get_or xs i 0 ≤ MOST_RATE) → (n : ℕ) →
-    sum_to (rate_at xs) n ≤ MOST_RATE * n
-few_moved xs small n = sum_to_small (rate_at xs) MOST_RATE (λ i. small _) n
+pub few_moved : (xs : List ℕ) → ((i : ℕ) → get_or xs i 0 ≤ MAX_RATE) → (n : ℕ) →
+    sum_to (rate_at xs) n ≤ MAX_RATE * n
+few_moved xs small n = sum_to_small (rate_at xs) MAX_RATE (λ i. small _) n
 
 -- sums follow their terms
 pub sum_within : ListsSumWithin

@@ -8,7 +8,7 @@ use Rattle.sdf_graph.proofs.Cycles.{sum_to_more}
 use Rattle.sdf_graph.proofs.Shapes.{moved_small, rate_small}
 use Rattle.sdf_graph.specs.Sequences.{IsEnabled}
 use Rattle.sdf_graph.specs.Moved.{moved}
-use Rattle.sdf_graph.specs.Tally.{Tally, IsKept, counts}
+use Rattle.sdf_graph.specs.CountsValue.{CountsValue, IsKept, counts}
 
 -- what the firings of x move once a has fired once more
 advance : (f : ℕ → ℕ) (k : ℕ → ℕ) (x a : ℕ) → sum_to f (k x + cond (eqb x a) 1 0) ≡
@@ -37,13 +37,13 @@ count_after fired a b l = go (cases_eq b a)
         omega arith
 
 -- what the next firing of a takes from channel c, and puts on it
-abbrev takes : Tally → ℕ → ℕ → ℕ
+abbrev takes : CountsValue → ℕ → ℕ → ℕ
 takes t a c = cond (eqb (channel t.graph c).to a) (rate_at (channel t.graph c).take (get_or t.fired a 0)) 0
 
-abbrev puts : Tally → ℕ → ℕ → ℕ
+abbrev puts : CountsValue → ℕ → ℕ → ℕ
 puts t a c = cond (eqb (channel t.graph c).from a) (rate_at (channel t.graph c).put (get_or t.fired a 0)) 0
 
-pub fire_keeps : (t : Tally) (kept new : List ℕ) (a : ℕ) → IsKept t kept → a < t.graph.actors →
+pub fire_keeps : (t : CountsValue) (kept new : List ℕ) (a : ℕ) → IsKept t kept → a < t.graph.actors →
     IsEnabled (rates t.graph) (counts t) a → counts t a + 1 < 2 ^ 32 →
     length new ≡ length kept → ((c : ℕ) → c < length kept →
     get_or new c 0 ≡ moved (channel t.graph c) a (counts t a) (get_or kept c 0)) →
@@ -107,7 +107,7 @@ fire_keeps t kept new a k known on room e all = record {
         go (inr other) = rw (ne_eqb (channel t.graph c).to a other) (omega (arith, k.enough c l))
 
 -- what a channel holds is small
-pub held_small : (t : Tally) (kept : List ℕ) (c i : ℕ) → IsKept t kept → c < length t.graph.channels →
+pub held_small : (t : CountsValue) (kept : List ℕ) (c i : ℕ) → IsKept t kept → c < length t.graph.channels →
     get_or kept c 0 + rate_at (channel t.graph c).put i < 2 ^ 64
 held_small t kept c i k l =
     let s : ℕ = counts t (channel t.graph c).from in

@@ -8,23 +8,24 @@ use Rattle.std.proofs.Math.Nat.{mul-div_cancel, mul-le-mul_left}
 use Rattle.std.proofs.lemmas.List.{get_or_past}
 use Rattle.std.proofs.lemmas.List.FromFn.{length-map-range_with_len, get_or-map-range_with_len}
 use Rattle.std.proofs.lemmas.Bool.{cases_lt}
-use Rattle.sdf_graph.specs.Rates.{Shape, IsShape, rates, channel, cycle}
+use Rattle.sdf_graph.specs.Rates.{GraphValue, IsShape, rates, channel, cycle}
 use Rattle.sdf_graph.specs.Periods.{IsPeriodVector, IsLeastPeriod, IsMultiple}
 use Rattle.sdf_graph.specs.Faults.{IsPeriodFault, IsTooLong}
 use Rattle.sdf_graph.specs.declared.fault.GraphFault.{GraphFault}
 use Rattle.sdf_graph.specs.declared.fault.GraphFault.TheVariants.{OutOfMemory, PeriodTooLong}
 use Rattle.sdf_graph.specs.declared.repetitions.Ratio.{Ratio}
-use Rattle.sdf_graph.specs.Shares.{IsCycleVector, AreShares, IsCommon, IsEven, IsScaleFault, ratio, firings, turns}
-use Rattle.sdf_graph.specs.Shares.{totals, IsShare, IsWalk, IsEvenAt}
+use Rattle.sdf_graph.specs.RelativeRates.{IsCycleVector, AreRatios, IsCommon, IsBalanced, IsScaleFault, ratio, firings}
+use Rattle.sdf_graph.specs.RelativeRates.{turns}
+use Rattle.sdf_graph.specs.RelativeRates.{totals, IsRatio, IsWalk, IsBalancedAt}
 use Rattle.sdf_graph.specs.Marks.{IsBorder}
-use Rattle.sdf_limits.specs.declared.TheConstants.{MOST_PERIOD}
+use Rattle.sdf_limits.specs.declared.TheConstants.{MAX_PERIOD}
 use Rattle.sdf_graph.proofs.Marks.{border_in}
 use Rattle.sdf_graph.proofs.Cycles.{sum_within}
 use Rattle.sdf_graph.proofs.Shapes.{whole_cycles}
 use Rattle.sdf_graph.proofs.Faultless.{cycle_some}
-use Rattle.sdf_graph.proofs.ShareLaws.{some_scale, some_product, no_greater, is_period, multiple, entry, too_long}
+use Rattle.sdf_graph.proofs.RatioLaws.{some_scale, some_product, no_greater, is_period, multiple, entry, too_long}
 
-module _ (g : Shape) (shape : IsShape g) where
+module _ (g : GraphValue) (shape : IsShape g) where
   -- how often each actor goes through its cycle, where it fires so often
   pub cycles_in : List ℕ → List ℕ
   cycles_in p = map (λ a. get_or p a 0 / cycle g a) (range_with_len 0 g.actors)
@@ -80,33 +81,33 @@ module _ (g : Shape) (shape : IsShape g) where
       65536 < sum p
   none_long long p period = omega (arith, long (cycles_in p) (in_cycles p period), sum_in p period)
 
-  module _ (cycles : List ℕ) (same : (a : ℕ) → a < g.actors → get_or cycles a 0 ≡ cycle g a) (parts : List Ratio)
-      (walk : AreShares g parts)
-      (m : ℕ) (common : IsCommon parts (length parts) m)
-      (evens : (c : ℕ) → c < length g.channels → IsEven parts (totals (channel g c))) where
+  module _ (cycles : List ℕ) (same : (a : ℕ) → a < g.actors → get_or cycles a 0 ≡ cycle g a) (ratios : List Ratio)
+      (walk : AreRatios g ratios)
+      (m : ℕ) (common_denominator : IsCommon ratios (length ratios) m)
+      (is_balanced : (c : ℕ) → c < length g.channels → IsBalanced ratios (totals (channel g c))) where
     fired : List ℕ
-    fired = map (firings cycles parts m) (range_with_len 0 (length parts))
+    fired = map (firings cycles ratios m) (range_with_len 0 (length ratios))
 
     turned : List ℕ
-    turned = map (turns m) parts
+    turned = map (turns m) ratios
 
     turned_are : IsCycleVector g turned
     unfolding turned
-    turned_are = is_period g parts walk m common shape evens
+    turned_are = is_period g ratios walk m common_denominator shape is_balanced
 
     fired_all : length fired ≡ g.actors
     unfolding fired
-    fired_all = length-map-range_with_len (firings cycles parts m) 0 (length parts) ∙ walk.all
+    fired_all = length-map-range_with_len (firings cycles ratios m) 0 (length ratios) ∙ walk.all
 
     fired_at : (a : ℕ) → a < g.actors → get_or fired a 0 ≡ get_or turned a 0 * cycle g a
     unfolding fired turned
     fired_at a l =
-        get_or-map-range_with_len (firings cycles parts m) 0 (length parts) a a 0
+        get_or-map-range_with_len (firings cycles ratios m) 0 (length ratios) a a 0
         (omega (arith, walk.all)) (zero-add a) ∙
         omega (
           arith,
-          ap (λ n. n * turns m (ratio parts a)) (same a l),
-          ap (λ n. n * cycle g a) (entry g parts walk m common a l),
+          ap (λ n. n * turns m (ratio ratios a)) (same a l),
+          ap (λ n. n * cycle g a) (entry g ratios walk m common_denominator a l),
         )
 
     are_period : IsPeriodVector (rates g) fired
@@ -132,7 +133,7 @@ module _ (g : Shape) (shape : IsShape g) where
     multiple_of p period = (k.0, λ a. go a (cases_lt a g.actors))
       where
         k : IsMultiple (cycles_in p) turned
-        k = multiple g parts walk m common (cycles_in p) (in_cycles p period) shape.some
+        k = multiple g ratios walk m common_denominator (cycles_in p) (in_cycles p period) shape.some
 
         go : (a : ℕ) → (a < g.actors) ⊎ (g.actors ≤ a) → get_or p a 0 ≡ k.0 * get_or fired a 0
         go a (inl l) = omega (
@@ -161,27 +162,27 @@ module _ (g : Shape) (shape : IsShape g) where
         no_less p period a (inr past) = let none : get_or fired a 0 ≡ 0 =
             get_or_past fired a 0 (omega (arith, fired_all)) in omega arith
 
-    pub least_period : IsLeastPeriod (rates g) (map (firings cycles parts m) (range_with_len 0 (length parts)))
+    pub least_period : IsLeastPeriod (rates g) (map (firings cycles ratios m) (range_with_len 0 (length ratios)))
     unfolding fired
     least_period = least
 
     -- no period where the least is over the limit
-    pub fault_of : (e : GraphFault) → IsScaleFault cycles parts m e → IsPeriodFault g e
+    pub fault_of : (e : GraphFault) → IsScaleFault cycles ratios m e → IsPeriodFault g e
     fault_of OutOfMemory f = tt
     fault_of PeriodTooLong f = record {
       long = λ p period. omega (arith, least_period.least p period, f);
-      why = inr (record { parts = parts; shares = walk; even = evens });
+      why = inr (record { ratios = ratios; shares = walk; even = is_balanced });
     }
     fault_of _ f = absurd f
 
--- no period where the share of the actor beyond a border is too great
-pub share_long : (g : Shape) → IsShape g → (parts : List Ratio) (marked : List Bool) → IsWalk g parts marked →
-    (c a : ℕ) → IsBorder g.channels marked c a → (f : Ratio) → IsShare g a f → IsEvenAt g (set parts a f) c →
-    (MOST_PERIOD < f.num) ⊎ (MOST_PERIOD < f.den) → IsTooLong g
-share_long g shape parts marked walk c a border f share even far = record {
+-- no period where the relative rate of the actor beyond a border is too great
+pub share_long : (g : GraphValue) → IsShape g → (ratios : List Ratio) (marked : List Bool) → IsWalk g ratios marked →
+    (c a : ℕ) → IsBorder g.channels marked c a → (f : Ratio) → IsRatio g a f → IsBalancedAt g (set ratios a f) c →
+    (MAX_PERIOD < f.num) ⊎ (MAX_PERIOD < f.den) → IsTooLong g
+share_long g shape ratios marked walk c a border f share even far = record {
   long = none_long g shape (too_long g a f (border_in g shape marked c a border) shape.some share far);
   why = inl (record {
-    parts = parts;
+    ratios = ratios;
     marked = marked;
     walk = walk;
     over = c;

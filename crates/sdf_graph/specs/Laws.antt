@@ -1,21 +1,21 @@
 -- Statements of the laws.
 use Rattle.std.specs.Prelude.{◌≡◌, ℕ, ◌+◌, ◌*◌, ◌≤◌, ◌<◌, List, length, take, slice_index, sum}
-use Rattle.sdf_graph.specs.Rates.{Rates, IsAlike, IsSound, Shape, IsShape, rates, rate_at, sum_to}
+use Rattle.sdf_graph.specs.Rates.{Rates, IsAlike, IsSound, GraphValue, IsShape, rates, rate_at, sum_to}
 use Rattle.sdf_graph.specs.Sequences.{times, IsAdmissible, IsPass, IsPeriod, repeated, FitsIn}
 use Rattle.sdf_graph.specs.Periods.{IsPeriodVector, IsLeastPeriod}
 use Rattle.sdf_graph.specs.Faults.{IsFaultless}
 
 -- a graph in which no fault holds is within the limits
 abbrev pub FaultlessGraphsHaveShapes : Type 0
-FaultlessGraphsHaveShapes = (g : Shape) → IsFaultless g → IsShape g
+FaultlessGraphsHaveShapes = (g : GraphValue) → IsFaultless g → IsShape g
 
 -- the rates of a graph are sound
 abbrev pub GraphsAreSound : Type 0
-GraphsAreSound = (g : Shape) → IsShape g → IsSound (rates g)
+GraphsAreSound = (g : GraphValue) → IsShape g → IsSound (rates g)
 
 -- the repetition vectors of a graph are periods
 abbrev pub GraphsHavePeriods : Type 0
-GraphsHavePeriods = (g : Shape) (q : List ℕ) → IsShape g → IsPeriodVector (rates g) q →
+GraphsHavePeriods = (g : GraphValue) (q : List ℕ) → IsShape g → IsPeriodVector (rates g) q →
     IsPeriod (rates g) (slice_index q)
 
 -- there is at most one least repetition vector

@@ -1,7 +1,7 @@
--- What the definitions and laws see of a graph: its shape, and how many samples firings move.
+-- What the definitions and laws see of a graph: its actors and channels, and how many samples firings move.
 use Rattle.std.specs.Prelude.{◌≡◌, ℕ, zero, suc, ◌+◌, ◌%◌, ◌≤◌, ◌<◌, ◌==◌, if◌then◌else◌, List, [], ◌∷◌, length}
 use Rattle.std.specs.Prelude.{slice_index, slice_index_or, sum}
-use Rattle.sdf_limits.specs.declared.TheConstants.{MOST_ACTORS, MOST_LINKS, MOST_RATE, MOST_CYCLE, MOST_INITIAL}
+use Rattle.sdf_limits.specs.declared.TheConstants.{MAX_ACTORS, MAX_LINKS, MAX_RATE, MAX_CYCLE, MAX_INITIAL}
 
 -- the sum of the first i values
 abbrev pub sum_to : (ℕ → ℕ) → ℕ → ℕ
@@ -38,35 +38,35 @@ pub record IsSound (r : Rates) : Type 0 where
 
 -- a channel: the actors at its ends, what each firing of their cycles puts and takes, and how many samples it begins
 -- with
-pub record Edge : Type 0 where
+pub record ChannelValue : Type 0 where
   pub from : ℕ
   pub put : List ℕ
   pub to : ℕ
   pub take : List ℕ
   pub initial : ℕ
 
-abbrev pub no_channel : Edge
+abbrev pub no_channel : ChannelValue
 no_channel = record { from = 0; put = []; to = 0; take = []; initial = 0 }
 
 -- a graph as its number of actors and its channels
-pub record Shape : Type 0 where
+pub record GraphValue : Type 0 where
   pub actors : ℕ
-  pub channels : List Edge
+  pub channels : List ChannelValue
 
-abbrev pub channel : Shape → ℕ → Edge
+abbrev pub channel : GraphValue → ℕ → ChannelValue
 channel g c = slice_index_or g.channels c no_channel
 
 -- the length of an actor's cycle: of its rate list at its first channel (of `put` if this goes from it to itself). It
 -- is 1 for an actor without channels
-abbrev pub cycle_among : List Edge → ℕ → ℕ
-cycle_among [] a = 1
-cycle_among (e ∷ es) a = if e.from == a then length e.put else (if e.to == a then length e.take else cycle_among es a)
+abbrev pub cycle_length : List ChannelValue → ℕ → ℕ
+cycle_length [] a = 1
+cycle_length (e ∷ es) a = if e.from == a then length e.put else (if e.to == a then length e.take else cycle_length es a)
 
-abbrev pub cycle : Shape → ℕ → ℕ
-cycle g a = cycle_among g.channels a
+abbrev pub cycle : GraphValue → ℕ → ℕ
+cycle g a = cycle_length g.channels a
 
 -- the rates of a graph
-abbrev pub rates : Shape → Rates
+abbrev pub rates : GraphValue → Rates
 rates g = record {
   actors = g.actors;
   channels = length g.channels;
@@ -79,7 +79,7 @@ rates g = record {
 }
 
 -- actors that channels, walked both ways, join to actor 0
-pub data IsReached (g : Shape) : ℕ → Type 0 where
+pub data IsReached (g : GraphValue) : ℕ → Type 0 where
   start : IsReached g 0
   along : (c : ℕ) → c < length g.channels → IsReached g (channel g c).from → IsReached g (channel g c).to
   back : (c : ℕ) → c < length g.channels → IsReached g (channel g c).to → IsReached g (channel g c).from
@@ -88,22 +88,22 @@ pub data IsReached (g : Shape) : ℕ → Type 0 where
 pub record IsCycle (n : ℕ) (rates : List ℕ) : Type 0 where
   pub all : length rates ≡ n
   pub some : 0 < n
-  pub short : n ≤ MOST_CYCLE
+  pub short : n ≤ MAX_CYCLE
   pub moves : 0 < sum rates
-  pub small : (i : ℕ) → slice_index rates i ≤ MOST_RATE
+  pub small : (i : ℕ) → slice_index rates i ≤ MAX_RATE
 
 -- each channel's ends are actors and have a rate for each firing of their cycles; the numbers are within the limits,
 -- and the graph is connected
-pub record IsShape (g : Shape) : Type 0 where
+pub record IsShape (g : GraphValue) : Type 0 where
   pub some : 0 < g.actors
-  pub few : g.actors ≤ MOST_ACTORS
-  pub narrow : length g.channels ≤ MOST_LINKS
+  pub few : g.actors ≤ MAX_ACTORS
+  pub narrow : length g.channels ≤ MAX_LINKS
   pub put : (c : ℕ) → c < length g.channels → IsCycle (cycle g (channel g c).from) (channel g c).put
   pub take : (c : ℕ) → c < length g.channels → IsCycle (cycle g (channel g c).to) (channel g c).take
   pub connected : (a : ℕ) → a < g.actors → IsReached g a
   pub from_in : (c : ℕ) → c < length g.channels → (channel g c).from < g.actors
   pub to_in : (c : ℕ) → c < length g.channels → (channel g c).to < g.actors
-  pub initial_small : (c : ℕ) → c < length g.channels → (channel g c).initial ≤ MOST_INITIAL
+  pub initial_small : (c : ℕ) → c < length g.channels → (channel g c).initial ≤ MAX_INITIAL
 
 -- two graphs with the same rates, for example a net and the graph made of it
 pub record IsAlike (r t : Rates) : Type 0 where

@@ -2,13 +2,13 @@
 
 ghost use Rattle.std.specs.Prelude.{◌≡◌, ℕ, ◌*◌, ◌^◌, ◌≤◌, ◌<◌, length, slice_index, sum, nat_lt, IfOk, map};
 ghost use Rattle.sdf_graph.specs.Faults.{channel_fault, channels_fault, are_small, are_rates, is_cycle};
-ghost use Rattle.sdf_graph.specs.Rates.{IsCycle, cycle_among, rate_at, sum_to};
-ghost use Rattle.sdf_graph.specs.Shares.{totals};
+ghost use Rattle.sdf_graph.specs.Rates.{IsCycle, cycle_length, rate_at, sum_to};
+ghost use Rattle.sdf_graph.specs.RelativeRates.{totals};
 ghost use Rattle.sdf_graph.specs.Adjacency.{actor_at};
 ghost use Rattle.sdf_graph.specs.Moved.{moves};
 
 use crate::fault::GraphFault;
-use sdf_limits::{MOST_CYCLE, MOST_INITIAL, MOST_RATE};
+use sdf_limits::{MAX_CYCLE, MAX_INITIAL, MAX_RATE};
 use std::marker::Model;
 
 /// A channel from one actor to another or to itself. Its rates are cyclic: firing `i` of `from` puts `put[i % n]`
@@ -24,9 +24,9 @@ pub struct Channel {
 }
 
 impl Model for Channel {
-    ghost use Rattle.sdf_graph.specs.Rates.{Edge};
+    ghost use Rattle.sdf_graph.specs.Rates.{ChannelValue};
 
-    ghost Value = { Edge };
+    ghost Value = { ChannelValue };
 
     ghost view = { λ c. record {
       from = c.from;
@@ -116,11 +116,11 @@ impl Channel {
             Some(GraphFault::BadEnd { channel: number })
         } else if !are_rates(&self.put) || !are_rates(&self.take) {
             Some(GraphFault::BadRate { channel: number })
-        } else if !is_cycle(cycle_among(channels, self.from), &self.put)
-            || !is_cycle(cycle_among(channels, self.to), &self.take)
+        } else if !is_cycle(cycle_length(channels, self.from), &self.put)
+            || !is_cycle(cycle_length(channels, self.to), &self.take)
         {
             Some(GraphFault::CycleLength { channel: number })
-        } else if self.initial > MOST_INITIAL {
+        } else if self.initial > MAX_INITIAL {
             Some(GraphFault::InitialCount { channel: number })
         } else {
             None
@@ -142,11 +142,11 @@ fn rate_at(rates: &[u32], i: u32) -> u32
 
 /// Returns how many samples the first `firings` firings of one cycle move.
 fn moved_in_cycle(rates: &[u32], firings: usize) -> u64
-    requires small { (i : ℕ) → slice_index rates.now i ≤ MOST_RATE }
+    requires small { (i : ℕ) → slice_index rates.now i ≤ MAX_RATE }
     requires within { firings ≤ length rates.now }
     requires few { firings < 2 ^ 33 }
     ensures value { result ≡ sum_to (rate_at rates.now) firings }
-    ensures small { result ≤ MOST_RATE * firings }
+    ensures small { result ≤ MAX_RATE * firings }
 {
     let mut moved = 0;
     for i in 0..firings {
@@ -158,10 +158,10 @@ fn moved_in_cycle(rates: &[u32], firings: usize) -> u64
 /// Returns how many samples the first `firings` firings of an actor move, given the rates of its cycle.
 pub fn moved_by(rates: &[u32], firings: u64) -> u64
     requires some { 0 < length rates.now }
-    requires small { (i : ℕ) → slice_index rates.now i ≤ MOST_RATE }
+    requires small { (i : ℕ) → slice_index rates.now i ≤ MAX_RATE }
     requires few { firings < 2 ^ 33 }
     ensures value { result ≡ sum_to (rate_at rates.now) firings }
-    ensures small { result ≤ MOST_RATE * firings }
+    ensures small { result ≤ MAX_RATE * firings }
 {
     // A constant rate needs no division.
     if rates.len() == 1 {
@@ -177,8 +177,8 @@ pub fn moved_by(rates: &[u32], firings: u64) -> u64
 
 /// Returns the sum of the rates of a cycle.
 fn total(rates: &[u32]) -> u32
-    requires short { length rates.now ≤ MOST_CYCLE }
-    requires small { (i : ℕ) → slice_index rates.now i ≤ MOST_RATE }
+    requires short { length rates.now ≤ MAX_CYCLE }
+    requires small { (i : ℕ) → slice_index rates.now i ≤ MAX_RATE }
     ensures { result ≡ sum rates.now }
 {
     let mut total = 0;
@@ -188,12 +188,12 @@ fn total(rates: &[u32]) -> u32
     total
 }
 
-/// Checks whether no rate is over `MOST_RATE`.
+/// Checks whether no rate is over `MAX_RATE`.
 fn are_small(rates: &[u32]) -> bool
     ensures { result ≡ are_small rates.now }
 {
     for rate in rates {
-        if *rate > MOST_RATE {
+        if *rate > MAX_RATE {
             return false;
         }
     }
@@ -201,7 +201,7 @@ fn are_small(rates: &[u32]) -> bool
 }
 
 /// Checks whether some rate is above 0.
-fn some_moves(rates: &[u32]) -> bool
+fn has_nonzero(rates: &[u32]) -> bool
     ensures { result ≡ nat_lt 0 (sum rates.now) }
 {
     for rate in rates {
@@ -212,24 +212,24 @@ fn some_moves(rates: &[u32]) -> bool
     false
 }
 
-/// Checks whether no rate is over `MOST_RATE`, and not all rates are 0. An empty list passes: its fault is its length.
+/// Checks whether no rate is over `MAX_RATE`, and not all rates are 0. An empty list passes: its fault is its length.
 fn are_rates(rates: &[u32]) -> bool
     ensures { result ≡ are_rates rates.now }
 {
-    are_small(rates) && (rates.is_empty() || some_moves(rates))
+    are_small(rates) && (rates.is_empty() || has_nonzero(rates))
 }
 
 /// Checks whether `rates` has one rate for each firing of a cycle of `firings`, within the limits of a cycle.
 fn is_cycle(firings: usize, rates: &[u32]) -> bool
     ensures { result ≡ is_cycle firings rates.now }
 {
-    1 <= rates.len() && rates.len() <= MOST_CYCLE as usize && rates.len() == firings
+    1 <= rates.len() && rates.len() <= MAX_CYCLE as usize && rates.len() == firings
 }
 
 /// Returns the firings in the cycle of `actor`: the length of its rate list at its first channel. At a channel from the
 /// actor to itself, that list is `put`. An actor without channels has a cycle of 1.
-pub(crate) fn cycle_among(channels: &[Channel], actor: usize) -> usize
-    ensures { result ≡ cycle_among channels.now actor }
+pub(crate) fn cycle_length(channels: &[Channel], actor: usize) -> usize
+    ensures { result ≡ cycle_length channels.now actor }
 {
     for channel in channels {
         if channel.from == actor {

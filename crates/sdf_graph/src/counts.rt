@@ -4,7 +4,7 @@ ghost use Rattle.std.specs.Prelude.{◌≡◌, ℕ, ◌+◌, ◌-◌, ◌^◌, �
 ghost use Rattle.std.specs.Prelude.{slice_index_or, slice_set, IfOk, MatchOption, IsTrue};
 ghost use Rattle.sdf_graph.specs.Rates.{rates, channel, no_channel, rate_at, IsCycle};
 ghost use Rattle.sdf_graph.specs.Sequences.{tokens, IsEnabled, IsShortChannel};
-ghost use Rattle.sdf_graph.specs.Tally.{counts};
+ghost use Rattle.sdf_graph.specs.CountsValue.{counts};
 ghost use Rattle.std.specs.List.Sorted.{IsStrictlyIncreasing};
 ghost use Rattle.sdf_graph.specs.Moved.{moved, moved_at, CanMove, AreMoved, HoldEnough, IsFirstShort};
 
@@ -24,9 +24,9 @@ pub struct Counts<'a> {
 }
 
 impl<'a> Model for Counts<'a> {
-    ghost use Rattle.sdf_graph.specs.Tally.{Tally, IsKept};
+    ghost use Rattle.sdf_graph.specs.CountsValue.{CountsValue, IsKept};
 
-    ghost Value = { Tally };
+    ghost Value = { CountsValue };
 
     ghost view = { λ s. record { graph = s.graph.now; fired = s.fired.items } };
 

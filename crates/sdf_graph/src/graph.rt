@@ -1,16 +1,16 @@
 //! Graphs, and the tests that refuse them.
 
 ghost use Rattle.std.specs.Prelude.{◌≡◌, ℕ, ◌^◌, ◌<◌, length, map, slice_index, slice_index_or, MatchResult, IfOk};
-ghost use Rattle.sdf_graph.specs.Rates.{Shape, IsShape, IsCycle, rates, channel, cycle, cycle_among, no_channel};
-ghost use Rattle.sdf_graph.specs.Shares.{totals, AreWithin};
+ghost use Rattle.sdf_graph.specs.Rates.{GraphValue, IsShape, IsCycle, rates, channel, cycle, cycle_length, no_channel};
+ghost use Rattle.sdf_graph.specs.RelativeRates.{totals, AreWithin};
 ghost use Rattle.sdf_graph.specs.Adjacency.{AreOutgoing, AreIncoming, ListsExactly, actor_at};
 ghost use Rattle.sdf_graph.specs.Faults.{IsFaultless, IsFirstFault, numbers_fault};
 
 use crate::adjacency::channels_by_actor;
-use crate::channel::{Channel, End, Totals, channels_fault, cycle_among};
+use crate::channel::{Channel, End, Totals, channels_fault, cycle_length};
 use crate::fault::GraphFault;
 use crate::reach::lowest_unreached;
-use sdf_limits::{MOST_ACTORS, MOST_LINKS};
+use sdf_limits::{MAX_ACTORS, MAX_LINKS};
 use std::alloc::{AllocError, Global};
 use std::marker::Model;
 
@@ -30,10 +30,10 @@ pub struct Graph {
 
 impl Model for Graph {
     ghost use Rattle.std.specs.Prelude.{map};
-    ghost use Rattle.sdf_graph.specs.Rates.{Shape};
+    ghost use Rattle.sdf_graph.specs.Rates.{GraphValue};
     ghost use Rattle.sdf_graph.specs.Adjacency.{IsGraph};
 
-    ghost Value = { Shape };
+    ghost Value = { GraphValue };
 
     ghost view = { λ g. record { actors = g.actors; channels = g.channels.items } };
 
@@ -64,7 +64,7 @@ impl Graph {
     ///    64, and the length of the first list of its actor) and its initial samples (at most 65,536);
     /// 3. the lowest actor that is not joined to actor 0.
     pub fn new(alloc: Global, actors: usize, channels: Vec<Channel>) -> Result<Graph, GraphFault>
-        ensures { let shape : Shape = record { actors = actors; channels = channels.items } in
+        ensures { let shape : GraphValue = record { actors = actors; channels = channels.items } in
             MatchResult result (λ graph. (graph ≡ shape) × IsFaultless shape) (IsFirstFault shape) }
     {
         if let Some(fault) = numbers_fault(actors, &channels) {
@@ -155,10 +155,10 @@ impl Graph {
 pub(crate) fn numbers_fault(actors: usize, channels: &[Channel]) -> Option<GraphFault>
     ensures { result ≡ numbers_fault (record { actors = actors; channels = channels.now }) }
 {
-    if actors < 1 || actors > MOST_ACTORS {
+    if actors < 1 || actors > MAX_ACTORS {
         return Some(GraphFault::ActorCount);
     }
-    if channels.len() > MOST_LINKS {
+    if channels.len() > MAX_LINKS {
         return Some(GraphFault::ChannelCount);
     }
     channels_fault(actors, channels)
@@ -167,10 +167,10 @@ pub(crate) fn numbers_fault(actors: usize, channels: &[Channel]) -> Option<Graph
 /// Returns the samples that each channel moves in a cycle of the actor at each end.
 fn totals_of(alloc: Global, channels: &[Channel]) -> Result<Vec<Totals>, AllocError>
     requires put { (c : ℕ) → c < length channels.now →
-        IsCycle (cycle_among channels.now (slice_index_or channels.now c no_channel).from)
+        IsCycle (cycle_length channels.now (slice_index_or channels.now c no_channel).from)
         (slice_index_or channels.now c no_channel).put }
     requires take { (c : ℕ) → c < length channels.now →
-        IsCycle (cycle_among channels.now (slice_index_or channels.now c no_channel).to)
+        IsCycle (cycle_length channels.now (slice_index_or channels.now c no_channel).to)
         (slice_index_or channels.now c no_channel).take }
     ensures { IfOk result (λ v. v.items ≡ map totals channels.now) }
 {
@@ -183,13 +183,13 @@ fn totals_of(alloc: Global, channels: &[Channel]) -> Result<Vec<Totals>, AllocEr
 
 /// Returns the firings in each actor's cycle.
 fn cycles_of(alloc: Global, actors: usize, channels: &[Channel]) -> Result<Vec<u32>, AllocError>
-    requires { (a : ℕ) → cycle_among channels.now a < 2 ^ 32 }
+    requires { (a : ℕ) → cycle_length channels.now a < 2 ^ 32 }
     ensures { IfOk result (λ v. (length v.items ≡ actors)
-        × ((a : ℕ) → a < actors → slice_index v.items a ≡ cycle_among channels.now a)) }
+        × ((a : ℕ) → a < actors → slice_index v.items a ≡ cycle_length channels.now a)) }
 {
     let mut cycles = Vec::new(alloc);
     for actor in 0..actors {
-        cycles.push(cycle_among(channels, actor) as u32)?;
+        cycles.push(cycle_length(channels, actor) as u32)?;
     }
     Ok(cycles)
 }

@@ -3,20 +3,21 @@
 ghost use Rattle.std.specs.Prelude.{◌≡◌, ℕ, ◌*◌, ◌≤◌, ◌<◌, ◌≢◌, ◌↔◌, List, length, map, sum, sum_by, slice_index};
 ghost use Rattle.std.specs.Prelude.{slice_index_or, set, IsTrue, MatchOption, MatchResult, IfOk};
 ghost use Rattle.std.specs.Int.{IsGcd};
-ghost use Rattle.sdf_graph.specs.Rates.{Shape, IsShape, rates};
+ghost use Rattle.sdf_graph.specs.Rates.{GraphValue, IsShape, rates};
 ghost use Rattle.sdf_graph.specs.Periods.{Divides, IsLeastPeriod};
 ghost use Rattle.sdf_graph.specs.Faults.{IsPeriodFault};
 ghost use Rattle.std.specs.List.{range_with_len};
 ghost use Rattle.sdf_graph.specs.Marks.{IsBorder};
-ghost use Rattle.sdf_graph.specs.Shares.{ratio, IsReduced, IsShare, IsSmall, IsWalk, AreShares, IsEven, IsCommon};
-ghost use Rattle.sdf_graph.specs.Shares.{firings, IsEvenAt, IsScaleFault, no_totals};
+ghost use Rattle.sdf_graph.specs.RelativeRates.{ratio, IsReduced, IsRatio, IsSmall, IsWalk, AreRatios, IsBalanced};
+ghost use Rattle.sdf_graph.specs.RelativeRates.{IsCommon};
+ghost use Rattle.sdf_graph.specs.RelativeRates.{firings, IsBalancedAt, IsScaleFault, no_totals};
 
+use crate::balance::balance_of;
 use crate::channel::Totals;
 use crate::fault::GraphFault;
 use crate::graph::Graph;
-use crate::meeting::meeting_at;
 use crate::reach::border;
-use sdf_limits::{MOST_ACTORS, MOST_CYCLE, MOST_PERIOD, MOST_RATE};
+use sdf_limits::{MAX_ACTORS, MAX_CYCLE, MAX_PERIOD, MAX_RATE};
 use std::alloc::Global;
 use std::marker::Model;
 
@@ -44,7 +45,7 @@ fn gcd(a: u64, b: u64) -> u64
 }
 
 /// Returns the fraction of `num` and `den` in lowest terms.
-pub(crate) fn reduced(num: u64, den: u64) -> Ratio
+pub(crate) fn lowest_terms(num: u64, den: u64) -> Ratio
     requires top { 0 < num }
     requires bottom { 0 < den }
     ensures { IsReduced num den result.num result.den }
@@ -56,26 +57,26 @@ pub(crate) fn reduced(num: u64, den: u64) -> Ratio
     }
 }
 
-/// Returns the lowest channel that the relative rates `parts` do not balance.
-fn uneven(channels: &[Totals], parts: &[Ratio]) -> Option<usize>
+/// Returns the lowest channel that the relative rates `ratios` do not balance.
+fn unbalanced_channel(channels: &[Totals], ratios: &[Ratio]) -> Option<usize>
     requires from_in { (c : ℕ) → c < length channels.now →
-        (slice_index_or channels.now c no_totals).from < length parts.now }
+        (slice_index_or channels.now c no_totals).from < length ratios.now }
     requires to_in { (c : ℕ) → c < length channels.now →
-        (slice_index_or channels.now c no_totals).to < length parts.now }
-    requires small { (a : ℕ) → a < length parts.now → IsSmall (ratio parts.now a) }
+        (slice_index_or channels.now c no_totals).to < length ratios.now }
+    requires small { (a : ℕ) → a < length ratios.now → IsSmall (ratio ratios.now a) }
     requires put_small { (c : ℕ) → c < length channels.now →
-        (slice_index_or channels.now c no_totals).put ≤ MOST_RATE * MOST_CYCLE }
+        (slice_index_or channels.now c no_totals).put ≤ MAX_RATE * MAX_CYCLE }
     requires take_small { (c : ℕ) → c < length channels.now →
-        (slice_index_or channels.now c no_totals).take ≤ MOST_RATE * MOST_CYCLE }
+        (slice_index_or channels.now c no_totals).take ≤ MAX_RATE * MAX_CYCLE }
     ensures { MatchOption result
-        ((c : ℕ) → c < length channels.now → IsEven parts.now (slice_index_or channels.now c no_totals))
-        (λ c. (c < length channels.now) × (IsEven parts.now (slice_index_or channels.now c no_totals) → ⊥)
-        × ((d : ℕ) → d < c → IsEven parts.now (slice_index_or channels.now d no_totals))) }
+        ((c : ℕ) → c < length channels.now → IsBalanced ratios.now (slice_index_or channels.now c no_totals))
+        (λ c. (c < length channels.now) × (IsBalanced ratios.now (slice_index_or channels.now c no_totals) → ⊥)
+        × ((d : ℕ) → d < c → IsBalanced ratios.now (slice_index_or channels.now d no_totals))) }
 {
     for (i, channel) in channels.iter().enumerate() {
-        let from = parts[channel.from];
-        let to = parts[channel.to];
-        if !evens(channel, from, to) {
+        let from = ratios[channel.from];
+        let to = ratios[channel.to];
+        if !is_balanced(channel, from, to) {
             return Some(i);
         }
     }
@@ -83,11 +84,11 @@ fn uneven(channels: &[Totals], parts: &[Ratio]) -> Option<usize>
 }
 
 /// Checks whether the relative rates `from` and `to` balance `channel`.
-fn evens(channel: &Totals, from: Ratio, to: Ratio) -> bool
+fn is_balanced(channel: &Totals, from: Ratio, to: Ratio) -> bool
     requires from_small { IsSmall from }
     requires to_small { IsSmall to }
-    requires put_small { channel.now.put ≤ MOST_RATE * MOST_CYCLE }
-    requires take_small { channel.now.take ≤ MOST_RATE * MOST_CYCLE }
+    requires put_small { channel.now.put ≤ MAX_RATE * MAX_CYCLE }
+    requires take_small { channel.now.take ≤ MAX_RATE * MAX_CYCLE }
     ensures { IsTrue result ↔ (from.num * channel.now.put * to.den ≡ to.num * channel.now.take * from.den) }
 {
     from.num * u64::from(channel.put) * to.den == to.num * u64::from(channel.take) * from.den
@@ -95,58 +96,58 @@ fn evens(channel: &Totals, from: Ratio, to: Ratio) -> bool
 
 /// Returns the relative rate of a channel's unreached end. `near` is the rate of the reached end, which moves `gives`
 /// samples in a cycle; the unreached end moves `takes`.
-fn carried(near: Ratio, gives: u32, takes: u32) -> Ratio
+fn rate_across(near: Ratio, gives: u32, takes: u32) -> Ratio
     requires small { IsSmall near }
-    requires gives_small { gives ≤ MOST_RATE * MOST_CYCLE }
-    requires takes_small { takes ≤ MOST_RATE * MOST_CYCLE }
+    requires gives_small { gives ≤ MAX_RATE * MAX_CYCLE }
+    requires takes_small { takes ≤ MAX_RATE * MAX_CYCLE }
     requires top { (0 < near.num) × (0 < gives) }
     requires bottom { (0 < near.den) × (0 < takes) }
     ensures { IsReduced (near.num * gives) (near.den * takes) result.num result.den }
 {
-    reduced(near.num * u64::from(gives), near.den * u64::from(takes))
+    lowest_terms(near.num * u64::from(gives), near.den * u64::from(takes))
 }
 
-/// Returns the least common multiple of the denominators of `parts`, unless it is over `MOST_PERIOD`.
-fn common(parts: &[Ratio]) -> Option<u64>
-    requires { (a : ℕ) → a < length parts.now → (0 < (ratio parts.now a).den) × IsSmall (ratio parts.now a) }
+/// Returns the least common multiple of the denominators of `ratios`, unless it is over `MAX_PERIOD`.
+fn common_denominator(ratios: &[Ratio]) -> Option<u64>
+    requires { (a : ℕ) → a < length ratios.now → (0 < (ratio ratios.now a).den) × IsSmall (ratio ratios.now a) }
     ensures { MatchOption result
-        ((n : ℕ) → 0 < n → ((a : ℕ) → a < length parts.now → Divides (ratio parts.now a).den n) → MOST_PERIOD < n)
-        (λ m. (m ≤ MOST_PERIOD) × IsCommon parts.now (length parts.now) m) }
+        ((n : ℕ) → 0 < n → ((a : ℕ) → a < length ratios.now → Divides (ratio ratios.now a).den n) → MAX_PERIOD < n)
+        (λ m. (m ≤ MAX_PERIOD) × IsCommon ratios.now (length ratios.now) m) }
 {
     let mut all = 1;
-    for part in parts {
-        let rest = reduced(all, part.den);
+    for part in ratios {
+        let rest = lowest_terms(all, part.den);
         all *= rest.den;
-        if all > MOST_PERIOD {
+        if all > MAX_PERIOD {
             return None;
         }
     }
     Some(all)
 }
 
-/// Returns the firings of each actor in `all` cycles of actor 0, unless their sum is over `MOST_PERIOD`.
-fn scaled(
+/// Returns the firings of each actor in `all` cycles of actor 0, unless their sum is over `MAX_PERIOD`.
+fn repetitions_in(
     alloc: Global,
     cycles: &[u32],
-    parts: &[Ratio],
+    ratios: &[Ratio],
     all: u64,
 ) -> Result<Repetitions, GraphFault>
-    requires limit { all ≤ MOST_PERIOD }
-    requires same { length cycles.now ≡ length parts.now }
-    requires short { (a : ℕ) → slice_index cycles.now a ≤ MOST_CYCLE }
-    requires each { (a : ℕ) → a < length parts.now → (0 < (ratio parts.now a).den) × IsSmall (ratio parts.now a) }
+    requires limit { all ≤ MAX_PERIOD }
+    requires same { length cycles.now ≡ length ratios.now }
+    requires short { (a : ℕ) → slice_index cycles.now a ≤ MAX_CYCLE }
+    requires each { (a : ℕ) → a < length ratios.now → (0 < (ratio ratios.now a).den) × IsSmall (ratio ratios.now a) }
     ensures { MatchResult result
-        (λ q. (q ≡ map (firings cycles.now parts.now all) (range_with_len 0 (length parts.now)))
-        × (sum q ≤ MOST_PERIOD))
-        (IsScaleFault cycles.now parts.now all) }
+        (λ q. (q ≡ map (firings cycles.now ratios.now all) (range_with_len 0 (length ratios.now)))
+        × (sum q ≤ MAX_PERIOD))
+        (IsScaleFault cycles.now ratios.now all) }
 {
-    let mut of = Vec::with_capacity(alloc, parts.len())?;
+    let mut of = Vec::with_capacity(alloc, ratios.len())?;
     let mut period = 0;
-    for (actor, part) in parts.iter().enumerate() {
+    for (actor, part) in ratios.iter().enumerate() {
         let turns = all / part.den * part.num;
         let firings = u64::from(cycles[actor]) * turns;
         period += firings;
-        if period > MOST_PERIOD {
+        if period > MAX_PERIOD {
             return Err(GraphFault::PeriodTooLong);
         }
         of.push_reserved(firings as u32);
@@ -158,37 +159,37 @@ fn scaled(
 }
 
 /// Returns the relative rate of the unmarked end of `channel`. Its other end must be marked.
-fn beyond(graph: &Graph, parts: &[Ratio], marked: &[bool], channel: usize) -> Ratio
-    requires walk { IsWalk graph.now parts.now marked.now }
+fn unmarked_rate(graph: &Graph, ratios: &[Ratio], marked: &[bool], channel: usize) -> Ratio
+    requires walk { IsWalk graph.now ratios.now marked.now }
     requires border { (a : ℕ) × IsBorder graph.now.channels marked.now channel a }
-    ensures share { (a : ℕ) → IsBorder graph.now.channels marked.now channel a → IsShare graph.now a result }
+    ensures share { (a : ℕ) → IsBorder graph.now.channels marked.now channel a → IsRatio graph.now a result }
     ensures even { (a : ℕ) → IsBorder graph.now.channels marked.now channel a →
-        IsEvenAt graph.now (set parts.now a result) channel }
+        IsBalancedAt graph.now (set ratios.now a result) channel }
 {
     let totals = graph.totals_at(channel);
     if marked[totals.from] {
-        carried(parts[totals.from], totals.put, totals.take)
+        rate_across(ratios[totals.from], totals.put, totals.take)
     } else {
-        carried(parts[totals.to], totals.take, totals.put)
+        rate_across(ratios[totals.to], totals.take, totals.put)
     }
 }
 
 /// Returns the relative rates of all actors. It walks the channels from actor 0.
 fn walk(graph: &Graph, alloc: Global) -> Result<Vec<Ratio>, GraphFault>
-    ensures { MatchResult result (λ v. AreShares graph.now v.items) (IsPeriodFault graph.now) }
+    ensures { MatchResult result (λ v. AreRatios graph.now v.items) (IsPeriodFault graph.now) }
 {
-    let mut parts = vec![in alloc; Ratio { num: 1, den: 1 }; graph.actors]?;
-    let mut marked = [false; MOST_ACTORS];
+    let mut ratios = vec![in alloc; Ratio { num: 1, den: 1 }; graph.actors]?;
+    let mut marked = [false; MAX_ACTORS];
     marked[0] = true;
     while let Some((channel, actor)) = border(&graph.channels, &marked) {
-        let part = beyond(graph, &parts, &marked, channel);
-        if part.num > MOST_PERIOD || part.den > MOST_PERIOD {
+        let part = unmarked_rate(graph, &ratios, &marked, channel);
+        if part.num > MAX_PERIOD || part.den > MAX_PERIOD {
             return Err(GraphFault::PeriodTooLong);
         }
-        parts[actor] = part;
+        ratios[actor] = part;
         marked[actor] = true;
     }
-    Ok(parts)
+    Ok(ratios)
 }
 
 /// The firings of each actor in a period: a repetition vector, whose sum is at most 65,536.
@@ -200,13 +201,13 @@ pub struct Repetitions {
 
 impl Model for Repetitions {
     ghost use Rattle.std.specs.Prelude.{◌≡◌, ℕ, ◌≤◌, List, sum};
-    ghost use Rattle.sdf_limits.specs.declared.TheConstants.{MOST_PERIOD};
+    ghost use Rattle.sdf_limits.specs.declared.TheConstants.{MAX_PERIOD};
 
     ghost Value = { List ℕ };
 
     ghost view = { λ s. s.of.items };
 
-    ghost invariant = { λ s. (sum s.of.items ≡ s.period) × (s.period ≤ MOST_PERIOD) };
+    ghost invariant = { λ s. (sum s.of.items ≡ s.period) × (s.period ≤ MAX_PERIOD) };
 }
 
 impl Repetitions {
@@ -235,7 +236,7 @@ impl Repetitions {
     /// Returns how many firings a period has.
     pub fn period(&self) -> u32
         ensures sum { result ≡ sum self.now }
-        ensures within { sum self.now ≤ MOST_PERIOD }
+        ensures within { sum self.now ≤ MAX_PERIOD }
     {
         self.period
     }
@@ -250,17 +251,17 @@ impl Graph {
     /// relative rate beyond the limit.
     pub fn repetitions(&self, alloc: Global) -> Result<Repetitions, GraphFault>
         ensures { MatchResult result
-            (λ q. IsLeastPeriod (rates self.now) q × (sum q ≤ MOST_PERIOD))
+            (λ q. IsLeastPeriod (rates self.now) q × (sum q ≤ MAX_PERIOD))
             (IsPeriodFault self.now) }
     {
-        let parts = walk(self, alloc)?;
-        if let Some(channel) = uneven(&self.totals, &parts) {
-            let meeting = meeting_at(self, &parts, channel);
-            return Err(GraphFault::Inconsistent { channel, meeting });
+        let ratios = walk(self, alloc)?;
+        if let Some(channel) = unbalanced_channel(&self.totals, &ratios) {
+            let balance = balance_of(self, &ratios, channel);
+            return Err(GraphFault::Inconsistent { channel, balance });
         }
-        let Some(all) = common(&parts) else {
+        let Some(all) = common_denominator(&ratios) else {
             return Err(GraphFault::PeriodTooLong);
         };
-        scaled(alloc, &self.cycles, &parts, all)
+        repetitions_in(alloc, &self.cycles, &ratios, all)
     }
 }

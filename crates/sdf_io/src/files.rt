@@ -15,7 +15,7 @@ use std::mem;
 use std::path::Path;
 
 /// The most bytes of a graph file, a coefficient file or the IN of `profile`.
-pub const MOST_BYTES: u32 = 1_073_741_824;
+pub const MAX_BYTES: u32 = 1_073_741_824;
 
 /// Returns the fault for `error`: `OutOfMemory` if memory was refused, and `blamed` otherwise.
 fn device_fault(error: &io::Error, blamed: Fault) -> Fault

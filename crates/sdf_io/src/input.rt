@@ -7,7 +7,7 @@ use std::alloc::Global;
 use std::io::{self, ErrorKind, Read};
 
 /// The most bytes that are kept of the beginning of a sound.
-const MOST_FRONT: usize = 16_384;
+const MAX_FRONT: usize = 16_384;
 
 /// What is known of a sound that was read: its path, its first bytes, and the number of all bytes read. `refused` is
 /// the kind of the last error of the system.
@@ -33,7 +33,7 @@ impl InputTrace {
     /// Notes `bytes` that were read. The front grows no more once memory was refused for it.
     pub fn note(&mut self, bytes: &[u8]) {
         if self.front.len() as u64 == self.bytes {
-            let room = MOST_FRONT.saturating_sub(self.front.len());
+            let room = MAX_FRONT.saturating_sub(self.front.len());
             let kept = bytes.len().min(room);
             let _ = self.front.extend_from_slice(&bytes[..kept]);
         }

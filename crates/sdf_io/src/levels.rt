@@ -4,15 +4,15 @@ ghost use Rattle.std.specs.Prelude.{◌≤◌, ◌<◌, length};
 
 use crate::lanes::{LANES, Lane, Lanes};
 use sdf_options::plural::plural;
-use sdf_wav::{HEADER_BYTES, MOST_CHANNELS};
+use sdf_wav::{HEADER_BYTES, MAX_CHANNELS};
 use std::alloc::{AllocError, Global};
 use std::num::saturating_f64_to_u64;
 
 /// The most bytes of samples that are counted in one batch.
 const PIECE: usize = 65_536;
 
-/// `MOST_CHANNELS` as a length.
-const MOST_OUTPUTS: usize = MOST_CHANNELS as usize;
+/// `MAX_CHANNELS` as a length.
+const MAX_OUTPUTS: usize = MAX_CHANNELS as usize;
 
 /// The levels of an output.
 #[derive(Clone, Copy)]
@@ -58,7 +58,7 @@ impl Level {
 
 /// The progress of a sound that is written: its frames so far, its frames in all, and its frames per second.
 #[derive(Clone, Copy)]
-pub(crate) struct Passed {
+pub(crate) struct WrittenFrames {
     pub(crate) frames: u64,
     pub(crate) all: u64,
     pub(crate) rate: u64,
@@ -73,7 +73,7 @@ pub struct SoundLevels {
     low: Option<u8>,
     /// The output of the next sample.
     next: usize,
-    outputs: [Level; MOST_OUTPUTS],
+    outputs: [Level; MAX_OUTPUTS],
 }
 
 impl SoundLevels {
@@ -84,19 +84,19 @@ impl SoundLevels {
             written: 0,
             low: None,
             next: 0,
-            outputs: [Level::NONE; MOST_OUTPUTS],
+            outputs: [Level::NONE; MAX_OUTPUTS],
         }
     }
 
     /// Returns the number of outputs in the header.
     fn channels(&self) -> usize
-        ensures { result ≤ MOST_OUTPUTS }
+        ensures { result ≤ MAX_OUTPUTS }
     {
-        usize::from(self.header[22]).min(MOST_OUTPUTS)
+        usize::from(self.header[22]).min(MAX_OUTPUTS)
     }
 
     /// Checks whether the header is written whole.
-    fn is_open(&self) -> bool {
+    fn has_header(&self) -> bool {
         self.written >= HEADER_BYTES
     }
 
@@ -185,12 +185,12 @@ impl SoundLevels {
     }
 
     /// Returns how far the sound is written, once its header is whole.
-    pub(crate) fn passed(&self) -> Option<Passed> {
-        if !self.is_open() {
+    pub(crate) fn written_frames(&self) -> Option<WrittenFrames> {
+        if !self.has_header() {
             return None;
         }
         let frame = (self.channels() as u64).max(1) * 2;
-        Some(Passed {
+        Some(WrittenFrames {
             frames: self.frames(),
             all: self.number(40) / frame,
             rate: self.number(24),
@@ -205,7 +205,7 @@ impl SoundLevels {
     /// Returns a line with the levels of each output, or nothing before the header is whole.
     pub fn text(&self, alloc: Global) -> Result<String, AllocError> {
         let mut text = String::new(alloc);
-        if self.is_open() {
+        if self.has_header() {
             for output in 0..self.channels() {
                 push_level(&mut text, output, self.outputs[output])?;
             }

@@ -1,14 +1,14 @@
 //! A writer of a sound that counts what it writes and shows its progress.
 
 use crate::levels::SoundLevels;
-use crate::progress::{GONE, Progress};
+use crate::progress::{ERASE_LINE, Progress};
 use std::alloc::Global;
 use std::io::{self, ErrorKind, Write};
 use std::time::Clock;
 
 /// The progress line of a sound that is written, on standard error and timed by a clock.
 #[derive(Drop)]
-pub struct Shown<'a, E, C> {
+pub struct ProgressLine<'a, E, C> {
     pub alloc: Global,
     pub err: &'a mut E,
     pub clock: &'a C,
@@ -16,13 +16,14 @@ pub struct Shown<'a, E, C> {
     pub progress: Option<Progress>,
 }
 
-impl<E: Write, C: Clock> Shown<'_, E, C> {
+impl<E: Write, C: Clock> ProgressLine<'_, E, C> {
     /// Shows the progress line, if it is due.
     fn show(&mut self, levels: &SoundLevels) {
-        let (Some(progress), Some(passed)) = (&mut self.progress, levels.passed()) else {
+        let (Some(progress), Some(written_frames)) = (&mut self.progress, levels.written_frames())
+        else {
             return;
         };
-        if let Ok(line) = progress.line(self.alloc, self.clock, passed) {
+        if let Ok(line) = progress.line(self.alloc, self.clock, written_frames) {
             let _ = self.err.write_all(line.as_bytes());
         }
     }
@@ -31,7 +32,7 @@ impl<E: Write, C: Clock> Shown<'_, E, C> {
     pub fn hide(&mut self) {
         if let Some(progress) = &self.progress {
             if progress.is_shown() {
-                let _ = self.err.write_all(GONE);
+                let _ = self.err.write_all(ERASE_LINE);
             }
         }
     }
@@ -41,7 +42,7 @@ impl<E: Write, C: Clock> Shown<'_, E, C> {
 #[derive(Drop)]
 pub struct Output<'a, W, E, C> {
     to: &'a mut W,
-    pub shown: Shown<'a, E, C>,
+    pub progress_line: ProgressLine<'a, E, C>,
     pub levels: Option<SoundLevels>,
     /// The kind of the error with which the system last refused to write.
     pub refused: Option<ErrorKind>,
@@ -49,11 +50,19 @@ pub struct Output<'a, W, E, C> {
 
 impl<'a, W: Write, E: Write, C: Clock> Output<'a, W, E, C> {
     /// Returns a writer at the start of a sound. `counts` is whether its levels are counted.
-    pub fn new(to: &'a mut W, shown: Shown<'a, E, C>, counts: bool) -> Output<'a, W, E, C> {
+    pub fn new(
+        to: &'a mut W,
+        progress_line: ProgressLine<'a, E, C>,
+        counts: bool,
+    ) -> Output<'a, W, E, C> {
         Output {
             to,
-            shown,
-            levels: if counts { Some(SoundLevels::new()) } else { None },
+            progress_line,
+            levels: if counts {
+                Some(SoundLevels::new())
+            } else {
+                None
+            },
             refused: None,
         }
     }
@@ -67,7 +76,7 @@ impl<W: Write, E: Write, C: Clock> Write for Output<'_, W, E, C> {
             Ok(count) => {
                 if let Some(levels) = &mut self.levels {
                     levels.note(&bytes[..count]);
-                    self.shown.show(levels);
+                    self.progress_line.show(levels);
                 }
                 Ok(count)
             }

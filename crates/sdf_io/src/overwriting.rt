@@ -6,7 +6,7 @@ use crate::storage::Storage;
 use crate::world::STANDARD;
 use sdf_faults::Fault;
 use sdf_options::printable::printable;
-use sdf_cli::mistake;
+use sdf_options::usage_error;
 use std::alloc::{AllocError, Global};
 use std::io::ErrorKind;
 use std::path::{Path, PathBuf};
@@ -43,7 +43,7 @@ pub struct Paths<'a> {
 /// Returns the usage error for an output, called `word`, that is the same file as the input `what`.
 pub fn same_file(alloc: Global, word: &str, what: &str) -> Fault {
     match format!(in alloc; "{word} is the same file as {what}") {
-        Ok(text) => Fault::from(mistake(alloc, text.as_str())),
+        Ok(text) => Fault::from(usage_error(alloc, text.as_str())),
         Err(_) => Fault::OutOfMemory,
     }
 }
@@ -105,7 +105,7 @@ fn keep_files<S: Storage>(
 
 /// Refuses an output, called `word`, that is the same file as IN, GRAPH or a coefficient file in `names`. Standard
 /// input and standard output are not files here.
-pub fn keep_what_is_read<S: Storage>(
+pub fn refuse_overwriting<S: Storage>(
     alloc: Global,
     storage: &S,
     word: &str,
@@ -133,5 +133,5 @@ pub fn keep_file<S: Storage>(
         return Ok(());
     }
     let text = format!(in alloc; "FOLDER already has a file {name}")?;
-    Err(Fault::from(mistake(alloc, text.as_str())))
+    Err(Fault::from(usage_error(alloc, text.as_str())))
 }

@@ -1,6 +1,6 @@
 //! The progress of a run, on one line of a terminal.
 
-use crate::levels::Passed;
+use crate::levels::WrittenFrames;
 use std::alloc::{AllocError, Global};
 use std::time::Clock;
 
@@ -10,8 +10,8 @@ const SHORT: u64 = 2_000;
 /// The milliseconds between two updates of the line.
 const PAUSE: u64 = 200;
 
-/// The bytes that remove the line.
-pub const GONE: &[u8] = b"\r\x1b[K";
+/// The bytes that erase the line.
+pub const ERASE_LINE: &[u8] = b"\r\x1b[K";
 
 /// Returns the time of `clock` in milliseconds, or 0 if it can't be read.
 fn now<C: Clock>(clock: &C) -> u64 {
@@ -55,14 +55,14 @@ impl Progress {
         &mut self,
         alloc: Global,
         clock: &C,
-        passed: Passed,
+        written_frames: WrittenFrames,
     ) -> Result<String, AllocError> {
         let time = now(clock);
         if !self.is_due(time) {
             return Ok(String::new(alloc));
         }
         self.shown = Some(time);
-        line_of(alloc, passed, time.saturating_sub(self.begun))
+        line_of(alloc, written_frames, time.saturating_sub(self.begun))
     }
 }
 
@@ -77,9 +77,13 @@ fn push_tenths(text: &mut String, tenths: u64) -> Result<(), AllocError> {
     write!(text, "{whole}.{tenth}")
 }
 
-/// Returns the line of a sound that was written as far as `passed` in `milliseconds`.
-fn line_of(alloc: Global, passed: Passed, milliseconds: u64) -> Result<String, AllocError> {
-    let Passed { frames, all, rate } = passed;
+/// Returns the line of a sound that was written as far as `written_frames` in `milliseconds`.
+fn line_of(
+    alloc: Global,
+    written_frames: WrittenFrames,
+    milliseconds: u64,
+) -> Result<String, AllocError> {
+    let WrittenFrames { frames, all, rate } = written_frames;
     let mut text = String::from_str(alloc, "\r")?;
     push_tenths(&mut text, tenths(frames, rate))?;
     text.push_str(" s of ")?;

@@ -7,7 +7,7 @@ use Rattle.std.specs.Cmp.Lexicographic.{slice_cmp}
 use Rattle.std.proofs.Math.Nat.{max-le}
 use Rattle.serde_json.specs.Data.{Data, Members, no_members, member, put, depth, members_depth, items_depth}
 use Rattle.serde_json.specs.View.{items_of}
-use Rattle.sdf_json.specs.Values.{perhaps, with, each_to}
+use Rattle.sdf_json.specs.Values.{or_null, with, each_to}
 
 -- the value nests at most n deep
 abbrev pub IsFlat : ℕ → Data → Type 0
@@ -51,6 +51,6 @@ pub map_flat : {X : Type 0} (n : ℕ) (f : X → Data) (xs : List X) → ((x : X
 map_flat n f [] each = omega arith
 map_flat n f (x ∷ xs) each = max-le (each x) (map_flat n f xs each)
 
-pub perhaps_flat : (n : ℕ) (number : Option ℕ) → IsFlat n (perhaps number)
+pub perhaps_flat : (n : ℕ) (number : Option ℕ) → IsFlat n (or_null number)
 perhaps_flat n None = omega arith
 perhaps_flat n (Some number) = omega arith

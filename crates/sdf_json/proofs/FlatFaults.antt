@@ -8,8 +8,8 @@ use Rattle.sdf_options.specs.declared.fault.WordFault.TheVariants as words
 use Rattle.sdf_faults.specs.declared.fault.Progress.{Progress}
 use Rattle.sdf_faults.specs.declared.fault.Fault.{Fault}
 use Rattle.sdf_faults.specs.declared.fault.Fault.TheVariants as fault
-use Rattle.sdf_json.specs.Values.{natural, perhaps, list_of}
-use Rattle.sdf_json.specs.Told.{plain}
+use Rattle.sdf_json.specs.Values.{natural, or_null, list_of}
+use Rattle.sdf_json.specs.FaultMembers.{plain_fault}
 use Rattle.sdf_json.specs.Faults.{progress_value, stalled_value, usage_value, IsWordsValue, IsFaultValue}
 use Rattle.sdf_json.proofs.Depths.{IsFlat, with_flat, map_flat, perhaps_flat}
 use Rattle.sdf_json.proofs.FlatLayers.{told_flat, plain_flat, file_flat, prec_flat, format_flat}
@@ -17,7 +17,7 @@ use Rattle.sdf_json.proofs.FlatLayers.{told_flat, plain_flat, file_flat, prec_fl
 progress_flat : (p : Progress) → IsFlat 1 (progress_value p)
 progress_flat p =
     let inner = with_flat 0 no_members ((codes "name", string (string_bytes p.name)) ∷ (codes "done", natural p.done)
-    ∷ (codes "of", natural p.of) ∷ (codes "short", perhaps p.short) ∷ []) (omega arith)
+    ∷ (codes "of", natural p.of) ∷ (codes "short", or_null p.short) ∷ []) (omega arith)
     (omega arith, (omega arith, (omega arith, (perhaps_flat 0 p.short, tt)))) in
     omega (arith, inner)
 
@@ -30,8 +30,8 @@ stalled_flat actors =
 same : (d e : Data) → d ≡ e → IsFlat 3 e → IsFlat 3 d
 same d e is flat = subst (IsFlat 3) (sym is) flat
 
-is_plain : {number : ℕ} {name : List ℕ} {d : Data} → d ≡ plain number name → IsFlat 3 d
-is_plain {number} {name} {d} is = same d (plain number name) is (plain_flat number name)
+is_plain : {number : ℕ} {name : List ℕ} {d : Data} → d ≡ plain_fault number name → IsFlat 3 d
+is_plain {number} {name} {d} is = same d (plain_fault number name) is (plain_flat number name)
 
 words_flat : (f : WordFault) (d : Data) → IsWordsValue f d → IsFlat 3 d
 words_flat words.OutOfMemory d is = is_plain is

@@ -10,7 +10,7 @@ use Rattle.sdf_kinds.specs.declared.row.Form.TheVariants.{Natural, Optional, Int
 use Rattle.sdf_kinds.specs.declared.row.Form.TheVariants.{List as ListForm}
 use Rattle.sdf_kinds.specs.declared.ports.PortRow.{PortRow}
 use Rattle.sdf_kinds.specs.Ports.{ports_in, samples_in}
-use Rattle.sdf_kinds.specs.Rows.{KeyRow, row_of, kinds, shared_keys}
+use Rattle.sdf_kinds.specs.Rows.{KeyFormValue, row_of, kinds, shared_keys}
 use Rattle.sdf_json.specs.declared.ports.Amount.{Amount}
 use Rattle.sdf_json.specs.declared.ports.Amount.TheVariants.{Zero, One, Block, Up, Down, Factor, Ways, Run}
 use Rattle.sdf_json.specs.declared.kinds.Range.{Range}
@@ -60,7 +60,7 @@ more_flat (Integer least most absent) = tt
 more_flat (FromLeast least most absent) = (omega arith, tt)
 more_flat (ListForm most width) = (omega arith, tt)
 
-key_flat : (k : KeyRow) → IsFlat 1 (key_value k)
+key_flat : (k : KeyFormValue) → IsFlat 1 (key_value k)
 key_flat k =
     let named = with_flat 0 no_members ((codes "name", string k.name) ∷ []) (omega arith) (omega arith, tt) in
     let limited = with_flat 0 (with no_members ((codes "name", string k.name) ∷ [])) (range_members (range_of k.form))
@@ -69,16 +69,18 @@ key_flat k =
     (range_members (range_of k.form))) (more_members k.form) limited (more_flat k.form) in
     omega (arith, inner)
 
-keys_flat : (ks : List KeyRow) → IsFlat 2 (list_of (map key_value ks))
+keys_flat : (ks : List KeyFormValue) → IsFlat 2 (list_of (map key_value ks))
 keys_flat ks = let inner = map_flat 1 key_value ks key_flat in omega (arith, inner)
 
 kind_flat : (k : Kind) → IsFlat 3 (kind_value k)
 kind_flat k =
     let front = (codes "keys", list_of (map key_value (row_of k).keys))
     ∷ (codes "name", string (row_of k).word) ∷ (codes "since", natural (row_of k).since) ∷ [] in
-    let begun = with_flat 2 no_members front (omega arith) (keys_flat (row_of k).keys, (omega arith, (omega arith, tt)))
+    let number_and_name = with_flat 2 no_members front (omega arith)
+    (keys_flat (row_of k).keys, (omega arith, (omega arith, tt)))
     in
-    let inner = with_flat 2 (with no_members front) (port_members (ports_of k)) begun (ports_flat (ports_of k)) in
+    let inner = with_flat 2 (with no_members front) (port_members (ports_of k)) number_and_name
+    (ports_flat (ports_of k)) in
     omega (arith, inner)
 
 all_flat : IsFlat 4 (list_of (map kind_value kinds))

@@ -19,12 +19,12 @@ use Rattle.sdf_prec.specs.declared.fault.PrecFault.TheVariants as prec
 use Rattle.sdf_wav.specs.declared.fault.FormatFault.{FormatFault}
 use Rattle.sdf_wav.specs.declared.fault.FormatFault.TheVariants as format
 use Rattle.sdf_json.specs.Values.{natural}
-use Rattle.sdf_json.specs.Told.{begun, told, plain, at, place_member, at_place, at_key}
+use Rattle.sdf_json.specs.FaultMembers.{number_and_name, told, plain_fault, at, place_member, at_place, at_key}
 use Rattle.sdf_json.specs.DesignFaults.{graph_value, side_word, open_value, net_value, document_value, file_value}
-use Rattle.sdf_json.specs.RunFaults.{firing_value, in_row_members, in_row, prec_value, format_value}
+use Rattle.sdf_json.specs.RunFaults.{firing_value, in_row_members, row_fault, prec_value, format_value}
 use Rattle.sdf_json.proofs.Depths.{IsFlat, with_flat}
 
-begun_flat : (number : ℕ) (name : List ℕ) → members_depth (begun number name) ≤ 2
+begun_flat : (number : ℕ) (name : List ℕ) → members_depth (number_and_name number name) ≤ 2
 begun_flat number name =
     with_flat 2 no_members ((codes "fault", natural number) ∷ (codes "name", string name) ∷ []) (omega arith)
     (omega arith, (omega arith, tt))
@@ -32,9 +32,9 @@ begun_flat number name =
 pub told_flat : (number : ℕ) (name : List ℕ) (more : List (List ℕ × Data)) →
     AllByRecursion (λ (m : List ℕ × Data). IsFlat 2 m.1) more → IsFlat 3 (told number name more)
 told_flat number name more flat =
-    let inner = with_flat 2 (begun number name) more (begun_flat number name) flat in omega (arith, inner)
+    let inner = with_flat 2 (number_and_name number name) more (begun_flat number name) flat in omega (arith, inner)
 
-pub plain_flat : (number : ℕ) (name : List ℕ) → IsFlat 3 (plain number name)
+pub plain_flat : (number : ℕ) (name : List ℕ) → IsFlat 3 (plain_fault number name)
 plain_flat number name = told_flat number name [] tt
 
 pub at_flat : (number : ℕ) (name word : List ℕ) (n : ℕ) → IsFlat 3 (at number name word n)
@@ -65,9 +65,9 @@ firing_flat f =
     omega (arith, inner)
 
 in_row_flat : (number : ℕ) (name : List ℕ) (row : ℕ) (firing : Firing) (more : List (List ℕ × Data)) →
-    AllByRecursion (λ (m : List ℕ × Data). IsFlat 2 m.1) more → IsFlat 3 (in_row number name row firing more)
+    AllByRecursion (λ (m : List ℕ × Data). IsFlat 2 m.1) more → IsFlat 3 (row_fault number name row firing more)
 in_row_flat number name row firing more flat =
-    let members = with_flat 2 (begun number name) ((codes "row", natural row)
+    let members = with_flat 2 (number_and_name number name) ((codes "row", natural row)
     ∷ (codes "firing", firing_value firing) ∷ [])
     (begun_flat number name) (omega arith, (firing_flat firing, tt)) in
     let inner = with_flat 2 (in_row_members number name row firing) more members flat in omega (arith, inner)

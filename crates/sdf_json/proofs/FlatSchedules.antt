@@ -5,15 +5,15 @@ use Rattle.std.specs.List.{AllByRecursion}
 use Rattle.serde_json.specs.Data.{Data, depth}
 use Rattle.serde_json.specs.Read.{max_depth}
 use Rattle.sdf_sched.specs.Period.{Schedule}
-use Rattle.sdf_prec.specs.Tables.{Tabled}
+use Rattle.sdf_prec.specs.Tables.{TableValue}
 use Rattle.sdf_options.specs.declared.options.Options.{Options}
 use Rattle.sdf_file.specs.Designs.{DesignValue}
-use Rattle.sdf_analyze.specs.Figures.{Figured}
+use Rattle.sdf_analyze.specs.Figures.{FiguresValue}
 use Rattle.sdf_analyze.specs.declared.columns.Outcome.{Outcome}
 use Rattle.sdf_analyze.specs.declared.columns.Outcome.TheVariants.{Made, Refused}
 use Rattle.sdf_analyze.specs.declared.columns.Entry.{Entry}
 use Rattle.sdf_json.specs.Values.{natural, list_of, each_to}
-use Rattle.sdf_json.specs.Schedules.{asked, schedule_value}
+use Rattle.sdf_json.specs.Schedules.{options_of, schedule_value}
 use Rattle.sdf_json.specs.Analyses.{times_of, analysis_value}
 use Rattle.sdf_json.specs.Comparisons.{outcome_of, entry_value, comparison_value}
 use Rattle.sdf_json.specs.Tables.{order_value, row_value, homed_value, capacity_value}
@@ -28,10 +28,10 @@ both_flat : (ms more : List (List ℕ × Data)) → AreFlat ms → AreFlat more 
 both_flat [] more first second = second
 both_flat (m ∷ ms) more first second = (first.0, both_flat ms more first.1 second)
 
-asked_flat : (o : Options) → AreFlat (asked o)
+asked_flat : (o : Options) → AreFlat (options_of o)
 asked_flat o = (omega arith, (omega arith, (omega arith, (omega arith, tt))))
 
-pub schedule_flat : (d : DesignValue) (o : Options) (s : Schedule) (t : Tabled) →
+pub schedule_flat : (d : DesignValue) (o : Options) (s : Schedule) (t : TableValue) →
     depth (schedule_value d o s t) ≤ max_depth
 schedule_flat d o s t =
     let actors = list_of (each_to (homed_value d s t) (length d.net.nodes)) in
@@ -53,13 +53,13 @@ schedule_flat d o s t =
         ),
       ),
     ) in
-    let flat = object_flat 3 (asked o ++ more) (both_flat (asked o) more (asked_flat o) each) in
+    let flat = object_flat 3 (options_of o ++ more) (both_flat (options_of o) more (asked_flat o) each) in
     omega (arith, flat)
 
-times_flat : (f : Figured) → AreFlat (times_of f)
+times_flat : (f : FiguresValue) → AreFlat (times_of f)
 times_flat f = (omega arith, (omega arith, (omega arith, (omega arith, (omega arith, tt)))))
 
-pub analysis_flat : (d : DesignValue) (o : Options) (t : Tabled) (f : Figured) →
+pub analysis_flat : (d : DesignValue) (o : Options) (t : TableValue) (f : FiguresValue) →
     depth (analysis_value d o t f) ≤ max_depth
 analysis_flat d o t f =
     let loads = list_of (map natural f.loads) in
@@ -68,7 +68,8 @@ analysis_flat d o t f =
     let more : List (List ℕ × Data) = (codes "loads", loads) ∷ (codes "samples", natural f.held)
     ∷ (codes "links", links) ∷ [] in
     let last : AreFlat more = (omega (arith, each), (omega arith, (links_flat d t.caps (length d.net.wires), tt))) in
-    let flat = object_flat 3 (asked o ++ times_of f ++ more) (both_flat (asked o) (times_of f ++ more) (asked_flat o)
+    let flat = object_flat 3 (options_of o ++ times_of f ++ more)
+    (both_flat (options_of o) (times_of f ++ more) (asked_flat o)
     (both_flat (times_of f) more (times_flat f) last)) in
     omega (arith, flat)
 
@@ -78,7 +79,8 @@ outcome_flat (Refused number) = (omega arith, tt)
 
 entry_flat : (e : Entry) → IsFlat 4 (entry_value e)
 entry_flat e =
-    object_flat 3 (asked e.options ++ outcome_of e.outcome) (both_flat (asked e.options) (outcome_of e.outcome)
+    object_flat 3 (options_of e.options ++ outcome_of e.outcome)
+    (both_flat (options_of e.options) (outcome_of e.outcome)
     (asked_flat e.options) (outcome_flat e.outcome))
 
 pub comparison_flat : (entries : List Entry) → depth (comparison_value entries) ≤ max_depth

@@ -4,10 +4,10 @@ use Rattle.std.specs.Prelude.{codes, slice_index}
 use Rattle.serde_json.specs.Data.{string}
 use Rattle.sdf_sched.specs.Period.{Schedule}
 use Rattle.sdf_prec.specs.declared.firing.Firing.{Firing}
-use Rattle.sdf_prec.specs.Tables.{Tabled, home_in}
+use Rattle.sdf_prec.specs.Tables.{TableValue, home_in}
 use Rattle.sdf_file.specs.Designs.{DesignValue}
 use Rattle.sdf_texts.specs.Schedules.{Stretch, stretches, name_of}
-use Rattle.sdf_json.specs.Values.{natural, perhaps, list_of, each_to}
+use Rattle.sdf_json.specs.Values.{natural, or_null, list_of, each_to}
 use Rattle.sdf_json.specs.Designs.{ends_of}
 use Rattle.sdf_json.specs.Tables.{stretch_value, order_value, cell_value, row_value, homed_value, capacity_value}
 use Rattle.sdf_json.proofs.Depths.{IsFlat, map_flat, perhaps_flat}
@@ -33,12 +33,12 @@ row_flat d cells = let each = map_flat 1 (cell_value d) cells (cell_flat d) in o
 pub rows_flat : (d : DesignValue) (rows : List (List (Option Firing))) → IsFlat 3 (list_of (map (row_value d) rows))
 rows_flat d rows = let each = map_flat 2 (row_value d) rows (row_flat d) in omega (arith, each)
 
-homed_flat : (d : DesignValue) (s : Schedule) (t : Tabled) (a : ℕ) → IsFlat 1 (homed_value d s t a)
+homed_flat : (d : DesignValue) (s : Schedule) (t : TableValue) (a : ℕ) → IsFlat 1 (homed_value d s t a)
 homed_flat d s t a =
     object_flat 0 ((codes "name", string (name_of d a)) ∷ (codes "firings", natural (slice_index s.repetitions a))
-    ∷ (codes "worker", perhaps (home_in t a)) ∷ []) (omega arith, (omega arith, (perhaps_flat 0 (home_in t a), tt)))
+    ∷ (codes "worker", or_null (home_in t a)) ∷ []) (omega arith, (omega arith, (perhaps_flat 0 (home_in t a), tt)))
 
-pub actors_flat : (d : DesignValue) (s : Schedule) (t : Tabled) (n : ℕ) →
+pub actors_flat : (d : DesignValue) (s : Schedule) (t : TableValue) (n : ℕ) →
     IsFlat 2 (list_of (each_to (homed_value d s t) n))
 actors_flat d s t n = list_flat 1 (homed_value d s t) n (homed_flat d s t)
 

@@ -9,7 +9,7 @@ use Rattle.sdf_analyze.specs.declared.columns.Outcome.TheVariants.{Made, Refused
 use Rattle.sdf_analyze.specs.declared.columns.Entry.{Entry}
 use Rattle.sdf_analyze.specs.Comparisons.{AreCompared}
 use Rattle.sdf_json.specs.Values.{natural, object_of, list_of, IsLineOf}
-use Rattle.sdf_json.specs.Schedules.{asked}
+use Rattle.sdf_json.specs.Schedules.{options_of}
 
 -- the compared values of a schedule, with the periods of its block
 abbrev pub measures_of : Measures → List (List ℕ × Data)
@@ -25,7 +25,7 @@ outcome_of (Refused number) = (codes "fault", natural number) ∷ []
 
 -- the options that a schedule was asked for with, and its outcome
 abbrev pub entry_value : Entry → Data
-entry_value e = object_of (asked e.options ++ outcome_of e.outcome)
+entry_value e = object_of (options_of e.options ++ outcome_of e.outcome)
 
 abbrev pub comparison_value : List Entry → Data
 comparison_value entries = list_of (map entry_value entries)
@@ -33,5 +33,5 @@ comparison_value entries = list_of (map entry_value entries)
 -- the text of the schedules that are compared, in their order
 pub record IsComparisonJson (d : DesignValue) (o : Options) (text : List ℕ) : Type 0 where
   pub entries : List Entry
-  pub compared : AreCompared d o entries
+  pub comparison_entries : AreCompared d o entries
   pub is : IsLineOf (comparison_value entries) text

@@ -12,19 +12,19 @@ use Rattle.sdf_document.specs.declared.fault.DocumentFault.TheVariants as docume
 use Rattle.sdf_file.specs.declared.fault.FileFault.{FileFault}
 use Rattle.sdf_file.specs.declared.fault.FileFault.TheVariants as file
 use Rattle.sdf_json.specs.Values.{natural}
-use Rattle.sdf_json.specs.Told.{told, plain, at, at_place, at_key}
+use Rattle.sdf_json.specs.FaultMembers.{told, plain_fault, at, at_place, at_key}
 
 abbrev pub graph_value : GraphFault → Data
-graph_value graph.OutOfMemory = plain 1 (codes "OutOfMemory")
-graph_value graph.ActorCount = plain 2 (codes "ActorCount")
-graph_value graph.ChannelCount = plain 3 (codes "ChannelCount")
+graph_value graph.OutOfMemory = plain_fault 1 (codes "OutOfMemory")
+graph_value graph.ActorCount = plain_fault 2 (codes "ActorCount")
+graph_value graph.ChannelCount = plain_fault 3 (codes "ChannelCount")
 graph_value (graph.BadEnd channel) = at 4 (codes "BadEnd") (codes "link") channel
 graph_value (graph.BadRate channel) = at 5 (codes "BadRate") (codes "link") channel
 graph_value (graph.InitialCount channel) = at 6 (codes "InitialCount") (codes "link") channel
 graph_value (graph.CycleLength channel) = at 63 (codes "CycleLength") (codes "link") channel
 graph_value (graph.NotConnected actor) = at 7 (codes "NotConnected") (codes "actor") actor
 graph_value (graph.Inconsistent channel meeting) = at 8 (codes "Inconsistent") (codes "link") channel
-graph_value graph.PeriodTooLong = plain 9 (codes "PeriodTooLong")
+graph_value graph.PeriodTooLong = plain_fault 9 (codes "PeriodTooLong")
 
 abbrev pub side_word : Side → List ℕ
 side_word side.Input = codes "input"
@@ -37,7 +37,7 @@ open_value actor side port =
     ∷ [])
 
 abbrev pub net_value : NetFault → Data
-net_value net.OutOfMemory = plain 1 (codes "OutOfMemory")
+net_value net.OutOfMemory = plain_fault 1 (codes "OutOfMemory")
 net_value (net.Graph f) = graph_value f
 net_value (net.NoPort link) = at 20 (codes "NoPort") (codes "link") link
 net_value (net.PortTwice link) = at 21 (codes "PortTwice") (codes "link") link
@@ -45,12 +45,12 @@ net_value (net.PortOpen actor side port) = open_value actor (side_word side) por
 net_value (net.ExtTwice actor) = at 23 (codes "ExtTwice") (codes "actor") actor
 net_value (net.InputRates actor) = at 24 (codes "InputRates") (codes "actor") actor
 net_value (net.OutputRates actor) = at 25 (codes "OutputRates") (codes "actor") actor
-net_value net.NoInput = plain 26 (codes "NoInput")
+net_value net.NoInput = plain_fault 26 (codes "NoInput")
 net_value (net.NoOutput channel) = at 27 (codes "NoOutput") (codes "channel") channel
 
 abbrev pub document_value : DocumentFault → Data
-document_value document.ActorCount = plain 2 (codes "ActorCount")
-document_value document.ChannelCount = plain 3 (codes "ChannelCount")
+document_value document.ActorCount = plain_fault 2 (codes "ActorCount")
+document_value document.ChannelCount = plain_fault 3 (codes "ChannelCount")
 document_value (document.KitValue p key) = at_key 28 (codes "KitValue") p key.now
 document_value (document.NotToml p) = at_place 49 (codes "NotToml") p
 document_value (document.Format p) = at_place 50 (codes "Format") p
@@ -66,6 +66,6 @@ document_value (document.NoFile name) =
     told 58 (codes "NoFile") ((codes "file", string (string_bytes name)) ∷ [])
 
 abbrev pub file_value : FileFault → Data
-file_value file.OutOfMemory = plain 1 (codes "OutOfMemory")
+file_value file.OutOfMemory = plain_fault 1 (codes "OutOfMemory")
 file_value (file.Document f) = document_value f
 file_value (file.Net f) = net_value f

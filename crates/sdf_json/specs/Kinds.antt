@@ -9,7 +9,7 @@ use Rattle.sdf_kinds.specs.declared.row.Form.TheVariants.{Natural, Optional, Int
 use Rattle.sdf_kinds.specs.declared.row.Form.TheVariants.{List as ListForm}
 use Rattle.sdf_kinds.specs.declared.ports.PortRow.{PortRow}
 use Rattle.sdf_kinds.specs.Ports.{ports_in, samples_in}
-use Rattle.sdf_kinds.specs.Rows.{KeyRow, row_of, kinds, shared_keys}
+use Rattle.sdf_kinds.specs.Rows.{KeyFormValue, row_of, kinds, shared_keys}
 use Rattle.sdf_json.specs.declared.ports.Amount.{Amount}
 use Rattle.sdf_json.specs.declared.ports.Amount.TheVariants.{Zero, One, Block, Up, Down, Factor, Ways, Run}
 use Rattle.sdf_json.specs.declared.kinds.Range.{Range}
@@ -72,7 +72,7 @@ more_members (Integer least most absent) = []
 more_members (FromLeast least most absent) = (codes "from", string (codes "least")) ∷ []
 more_members (ListForm most width) = (codes "values", natural most) ∷ []
 
-abbrev pub key_value : KeyRow → Data
+abbrev pub key_value : KeyFormValue → Data
 key_value k = object
     (with (with (with no_members ((codes "name", string k.name) ∷ [])) (range_members (range_of k.form)))
     (more_members k.form))

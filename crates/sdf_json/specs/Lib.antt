@@ -1,5 +1,5 @@
 pub mod Values
-pub mod Told
+pub mod FaultMembers
 pub mod DesignFaults
 pub mod RunFaults
 pub mod Faults

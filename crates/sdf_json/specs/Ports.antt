@@ -12,7 +12,7 @@ use Rattle.sdf_kinds.specs.declared.ports.PortRow.{PortRow}
 use Rattle.sdf_kinds.specs.Ports.{ports_in, samples_in}
 use Rattle.sdf_kinds.specs.Ports as rows
 use Rattle.sdf_document.specs.declared.key.KeyValue.{KeyValue}
-use Rattle.sdf_kinds.specs.Rows.{KeyRow, row_of}
+use Rattle.sdf_kinds.specs.Rows.{KeyFormValue, row_of}
 use Rattle.sdf_document.specs.Kinds.{entry_of, natural, first, rest}
 use Rattle.sdf_file.specs.Designs.{node_of}
 use Rattle.sdf_json.specs.declared.ports.Amount.{Amount}
@@ -37,7 +37,7 @@ ports_of kind.Offset = rows.pointwise One
 -- ---- that a kind has them
 
 -- the number at the key `name`, by the keys of a row and their values
-abbrev pub value_of : List ℕ → List KeyRow → List KeyValue → ℕ
+abbrev pub value_of : List ℕ → List KeyFormValue → List KeyValue → ℕ
 value_of name [] vs = 0
 value_of name (k ∷ ks) vs = if bytes_eq k.name name then natural (first vs) else value_of name ks (rest vs)
 

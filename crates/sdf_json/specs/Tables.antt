@@ -3,10 +3,10 @@ use Rattle.std.specs.Prelude.{ℕ, List, [], ◌∷◌, ◌++◌, map, codes, sl
 use Rattle.serde_json.specs.Data.{Data, null, string}
 use Rattle.sdf_sched.specs.Period.{Schedule}
 use Rattle.sdf_prec.specs.declared.firing.Firing.{Firing}
-use Rattle.sdf_prec.specs.Tables.{Tabled, home_in}
+use Rattle.sdf_prec.specs.Tables.{TableValue, home_in}
 use Rattle.sdf_file.specs.Designs.{DesignValue}
 use Rattle.sdf_texts.specs.Schedules.{Stretch, stretches, name_of}
-use Rattle.sdf_json.specs.Values.{natural, perhaps, object_of, list_of}
+use Rattle.sdf_json.specs.Values.{natural, or_null, object_of, list_of}
 use Rattle.sdf_json.specs.Designs.{ends_of}
 
 -- several firings of one actor, one after another
@@ -28,10 +28,10 @@ abbrev pub row_value : DesignValue → List (Option Firing) → Data
 row_value d cells = list_of (map (cell_value d) cells)
 
 -- an actor, how often it fires in the period, and the worker of all its firings, or null
-abbrev pub homed_value : DesignValue → Schedule → Tabled → ℕ → Data
+abbrev pub homed_value : DesignValue → Schedule → TableValue → ℕ → Data
 homed_value d s t a = object_of (
     (codes "name", string (name_of d a)) ∷ (codes "firings", natural (slice_index s.repetitions a))
-    ∷ (codes "worker", perhaps (home_in t a)) ∷ [])
+    ∷ (codes "worker", or_null (home_in t a)) ∷ [])
 
 -- link c and the most samples that it holds
 abbrev pub capacity_value : DesignValue → List ℕ → ℕ → Data

@@ -11,9 +11,9 @@ abbrev pub natural : ℕ → Data
 natural n = number (unsigned n)
 
 -- a number, or null if there is none
-abbrev pub perhaps : Option ℕ → Data
-perhaps None = null
-perhaps (Some n) = natural n
+abbrev pub or_null : Option ℕ → Data
+or_null None = null
+or_null (Some n) = natural n
 
 -- members with more of them put in, each a key and its value
 abbrev pub with : Members → List (List ℕ × Data) → Members

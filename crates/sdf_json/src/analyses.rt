@@ -3,14 +3,14 @@
 ghost use Rattle.std.specs.Prelude.{◌≡◌, ◌<◌, ◌≤◌, ◌∷◌, ◌++◌, [], IfOk, OnOk, MatchResult, length, map, take, codes};
 ghost use Rattle.std.specs.Prelude.{string_bytes};
 ghost use Rattle.serde_json.specs.View.{view, members_view};
-ghost use Rattle.sdf_plan.specs.Schedules.{IsShowFault};
+ghost use Rattle.sdf_plan.specs.Schedules.{IsDesignScheduleFault};
 ghost use Rattle.sdf_json.specs.Values.{natural, with};
 ghost use Rattle.sdf_json.specs.Analyses.{times_of, analysis_value, IsAnalysisJson};
 
-use crate::schedules::asked;
+use crate::schedules::options_of;
 use crate::tables::capacities;
 use crate::values::{Members, line_of, put_number};
-use sdf_analyze::{Analysis, Figures, figured};
+use sdf_analyze::{Analysis, Figures, analysis_of};
 use sdf_faults::Fault;
 use sdf_file::Design;
 use sdf_options::Options;
@@ -55,7 +55,7 @@ fn analysis_value(
 {
     let loads = loads(alloc, figures, options.workers)?;
     let links = capacities(alloc, design, table)?;
-    let mut members = asked(alloc, options)?;
+    let mut members = options_of(alloc, options)?;
     put_times(&mut members, alloc, figures)?;
     put(&mut members, alloc, "loads", Value::Array(loads))?;
     put_number(&mut members, alloc, "samples", figures.held())?;
@@ -65,13 +65,13 @@ fn analysis_value(
 
 /// Returns the figures of a design's schedule as a line of JSON. They are the options, the makespan, the work, the
 /// span, the bound, the speedup in hundredths and the load of each worker. Then come the sum of the links' capacities,
-/// in samples, and the links. The tests are listed at `sdf_plan::schedule::scheduled`.
+/// in samples, and the links. The tests are listed at `sdf_plan::schedule::design_schedule`.
 pub fn analysis_json(alloc: Global, design: &Design, options: &Options) -> Result<String, Fault>
     ensures { MatchResult result (λ text. IsAnalysisJson design.now options.now (string_bytes text))
-        (IsShowFault design.now options.now) }
+        (IsDesignScheduleFault design.now options.now) }
 {
-    let Analysis { block, figures } = figured(alloc, design, options)?;
-    let placed = options.with_blocking(block.periods);
+    let Analysis { block, figures } = analysis_of(alloc, design, options)?;
+    let placed = options.with_blocking(block.blocking);
     let value = analysis_value(alloc, design, &placed, &block.table, &figures)?;
     Ok(line_of(alloc, &value)?)
 }

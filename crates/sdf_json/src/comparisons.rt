@@ -7,9 +7,9 @@ ghost use Rattle.sdf_json.specs.Values.{with};
 ghost use Rattle.sdf_json.specs.Comparisons.{measures_of, outcome_of, entry_value, comparison_value};
 ghost use Rattle.sdf_json.specs.Comparisons.{IsComparisonJson};
 
-use crate::schedules::asked;
+use crate::schedules::options_of;
 use crate::values::{Members, line_of, put_number};
-use sdf_analyze::{Entry, Measures, Outcome, compared};
+use sdf_analyze::{Entry, Measures, Outcome, comparison_entries};
 use sdf_faults::Fault;
 use sdf_file::Design;
 use sdf_options::Options;
@@ -42,7 +42,7 @@ fn put_outcome(members: &mut Members, alloc: Global, outcome: Outcome) -> Result
 fn entry_value(alloc: Global, entry: Entry) -> Result<Value, AllocError>
     ensures { IfOk result (λ v. view v ≡ entry_value entry) }
 {
-    let mut members = asked(alloc, &entry.options)?;
+    let mut members = options_of(alloc, &entry.options)?;
     put_outcome(&mut members, alloc, entry.outcome)?;
     Ok(Value::Object(members))
 }
@@ -64,15 +64,16 @@ fn comparison_value(alloc: Global, entries: &[Entry]) -> Result<Value, AllocErro
     Ok(Value::Array(entry_values(alloc, entries)?))
 }
 
-/// Returns a comparison of schedules as a line of JSON: an array of the schedules that `sdf_analyze::compared`
-/// compares. Each has its options, and either the number of a fault or its values. The values are the periods of its
-/// block, the makespan, the speedup in hundredths, the rows, and the sum of the links' capacities, in samples.
+/// Returns a comparison of schedules as a line of JSON: an array of the schedules that
+/// `sdf_analyze::comparison_entries` compares. Each has its options, and either the number of a fault or its values.
+/// The values are the periods of its block, the makespan, the speedup in hundredths, the rows, and the sum of the
+/// links' capacities, in samples.
 pub fn comparison_json(alloc: Global, design: &Design, options: &Options) -> Result<String, Fault>
     requires { AreSizes options.now }
     ensures { MatchResult result (λ text. IsComparisonJson design.now options.now (string_bytes text))
         (IsScheduleFault design.now) }
 {
-    let entries = compared(alloc, design, options)?;
+    let entries = comparison_entries(alloc, design, options)?;
     let value = comparison_value(alloc, &entries)?;
     Ok(line_of(alloc, &value)?)
 }

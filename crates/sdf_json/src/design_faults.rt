@@ -4,11 +4,11 @@ ghost use Rattle.std.specs.Prelude.{◌≡◌, ◌∷◌, [], IfOk, codes, strin
 ghost use Rattle.serde_json.specs.Data.{string};
 ghost use Rattle.serde_json.specs.View.{view};
 ghost use Rattle.sdf_json.specs.Values.{natural};
-ghost use Rattle.sdf_json.specs.Told.{told};
+ghost use Rattle.sdf_json.specs.FaultMembers.{told};
 ghost use Rattle.sdf_json.specs.DesignFaults.{graph_value, side_word, open_value, net_value, document_value};
 ghost use Rattle.sdf_json.specs.DesignFaults.{file_value};
 
-use crate::told::{at, at_key, at_place, begun, plain};
+use crate::fault_members::{at, at_key, at_place, number_and_name, plain_fault};
 use crate::values::{put_number, put_text};
 use sdf_actor::{NetFault, Side};
 use sdf_document::DocumentFault;
@@ -21,16 +21,16 @@ fn graph_value(alloc: Global, fault: &GraphFault) -> Result<Value, AllocError>
     ensures { IfOk result (λ v. view v ≡ graph_value fault.now) }
 {
     match fault {
-        GraphFault::OutOfMemory => plain(alloc, 1, "OutOfMemory"),
-        GraphFault::ActorCount => plain(alloc, 2, "ActorCount"),
-        GraphFault::ChannelCount => plain(alloc, 3, "ChannelCount"),
+        GraphFault::OutOfMemory => plain_fault(alloc, 1, "OutOfMemory"),
+        GraphFault::ActorCount => plain_fault(alloc, 2, "ActorCount"),
+        GraphFault::ChannelCount => plain_fault(alloc, 3, "ChannelCount"),
         GraphFault::BadEnd { channel } => at(alloc, 4, "BadEnd", "link", *channel),
         GraphFault::BadRate { channel } => at(alloc, 5, "BadRate", "link", *channel),
         GraphFault::InitialCount { channel } => at(alloc, 6, "InitialCount", "link", *channel),
         GraphFault::CycleLength { channel } => at(alloc, 63, "CycleLength", "link", *channel),
         GraphFault::NotConnected { actor } => at(alloc, 7, "NotConnected", "actor", *actor),
         GraphFault::Inconsistent { channel, .. } => at(alloc, 8, "Inconsistent", "link", *channel),
-        GraphFault::PeriodTooLong => plain(alloc, 9, "PeriodTooLong"),
+        GraphFault::PeriodTooLong => plain_fault(alloc, 9, "PeriodTooLong"),
     }
 }
 
@@ -46,7 +46,7 @@ fn side_word(side: Side) -> &'static str
 fn open_value(alloc: Global, actor: usize, side: &str, port: usize) -> Result<Value, AllocError>
     ensures { IfOk result (λ v. view v ≡ open_value actor side.now port) }
 {
-    let mut members = begun(alloc, 22, "PortOpen")?;
+    let mut members = number_and_name(alloc, 22, "PortOpen")?;
     put_number(&mut members, alloc, "actor", actor as u64)?;
     put_text(&mut members, alloc, "side", side)?;
     put_number(&mut members, alloc, "port", port as u64)?;
@@ -57,7 +57,7 @@ fn net_value(alloc: Global, fault: &NetFault) -> Result<Value, AllocError>
     ensures { IfOk result (λ v. view v ≡ net_value fault.now) }
 {
     match fault {
-        NetFault::OutOfMemory => plain(alloc, 1, "OutOfMemory"),
+        NetFault::OutOfMemory => plain_fault(alloc, 1, "OutOfMemory"),
         NetFault::Graph(fault) => graph_value(alloc, fault),
         NetFault::NoPort { link } => at(alloc, 20, "NoPort", "link", *link),
         NetFault::PortTwice { link } => at(alloc, 21, "PortTwice", "link", *link),
@@ -67,7 +67,7 @@ fn net_value(alloc: Global, fault: &NetFault) -> Result<Value, AllocError>
         NetFault::ExtTwice { actor } => at(alloc, 23, "ExtTwice", "actor", *actor),
         NetFault::InputRates { actor } => at(alloc, 24, "InputRates", "actor", *actor),
         NetFault::OutputRates { actor } => at(alloc, 25, "OutputRates", "actor", *actor),
-        NetFault::NoInput => plain(alloc, 26, "NoInput"),
+        NetFault::NoInput => plain_fault(alloc, 26, "NoInput"),
         NetFault::NoOutput { channel } => at(alloc, 27, "NoOutput", "channel", *channel),
     }
 }
@@ -76,7 +76,7 @@ fn port_value(alloc: Global, link: usize, key: &str) -> Result<Value, AllocError
     ensures { IfOk result (λ v. view v ≡
         told 57 (codes "BadPort") ((codes "link", natural link) ∷ (codes "key", string key.now) ∷ [])) }
 {
-    let mut members = begun(alloc, 57, "BadPort")?;
+    let mut members = number_and_name(alloc, 57, "BadPort")?;
     put_number(&mut members, alloc, "link", link as u64)?;
     put_text(&mut members, alloc, "key", key)?;
     Ok(Value::Object(members))
@@ -85,7 +85,7 @@ fn port_value(alloc: Global, link: usize, key: &str) -> Result<Value, AllocError
 fn no_file_value(alloc: Global, name: &str) -> Result<Value, AllocError>
     ensures { IfOk result (λ v. view v ≡ told 58 (codes "NoFile") ((codes "file", string name.now) ∷ [])) }
 {
-    let mut members = begun(alloc, 58, "NoFile")?;
+    let mut members = number_and_name(alloc, 58, "NoFile")?;
     put_text(&mut members, alloc, "file", name)?;
     Ok(Value::Object(members))
 }
@@ -94,8 +94,8 @@ fn document_value(alloc: Global, fault: &DocumentFault) -> Result<Value, AllocEr
     ensures { IfOk result (λ v. view v ≡ document_value fault.now) }
 {
     match fault {
-        DocumentFault::ActorCount => plain(alloc, 2, "ActorCount"),
-        DocumentFault::ChannelCount => plain(alloc, 3, "ChannelCount"),
+        DocumentFault::ActorCount => plain_fault(alloc, 2, "ActorCount"),
+        DocumentFault::ChannelCount => plain_fault(alloc, 3, "ChannelCount"),
         DocumentFault::KitValue(place, key) => at_key(alloc, 28, "KitValue", place, key),
         DocumentFault::NotToml(place) => at_place(alloc, 49, "NotToml", place),
         DocumentFault::Format(place) => at_place(alloc, 50, "Format", place),
@@ -116,7 +116,7 @@ pub(crate) fn file_value(alloc: Global, fault: &FileFault) -> Result<Value, Allo
     ensures { IfOk result (λ v. view v ≡ file_value fault.now) }
 {
     match fault {
-        FileFault::OutOfMemory => plain(alloc, 1, "OutOfMemory"),
+        FileFault::OutOfMemory => plain_fault(alloc, 1, "OutOfMemory"),
         FileFault::Document(fault) => document_value(alloc, fault),
         FileFault::Net(fault) => net_value(alloc, fault),
     }

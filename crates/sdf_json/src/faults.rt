@@ -8,9 +8,9 @@ ghost use Rattle.sdf_json.specs.Faults.{progress_value, stalled_value, usage_val
 ghost use Rattle.sdf_json.specs.Faults.{IsFaultJson};
 
 use crate::design_faults::file_value;
+use crate::fault_members::{number_and_name, plain_fault};
 use crate::run_faults::{format_value, prec_value};
-use crate::told::{begun, plain};
-use crate::values::{line_of, perhaps, put_number, put_text};
+use crate::values::{line_of, or_null, put_number, put_text};
 use sdf_faults::{Fault, Progress, Stalled};
 use sdf_options::WordFault;
 use serde_json::{Map, Value, put};
@@ -23,7 +23,7 @@ fn progress_value(alloc: Global, progress: &Progress) -> Result<Value, AllocErro
     put_text(&mut members, alloc, "name", progress.name.as_str())?;
     put_number(&mut members, alloc, "done", u64::from(progress.done))?;
     put_number(&mut members, alloc, "of", u64::from(progress.of))?;
-    put(&mut members, alloc, "short", perhaps(progress.short))?;
+    put(&mut members, alloc, "short", or_null(progress.short))?;
     Ok(Value::Object(members))
 }
 
@@ -42,7 +42,7 @@ fn stalled_value(alloc: Global, stalled: &Stalled) -> Result<Value, AllocError>
     ensures { IfOk result (λ v. view v ≡ stalled_value stalled.now.actors.items) }
 {
     let actors = progresses(alloc, &stalled.actors)?;
-    let mut members = begun(alloc, 10, "Deadlock")?;
+    let mut members = number_and_name(alloc, 10, "Deadlock")?;
     put(&mut members, alloc, "actors", Value::Array(actors))?;
     Ok(Value::Object(members))
 }
@@ -51,7 +51,7 @@ fn stalled_value(alloc: Global, stalled: &Stalled) -> Result<Value, AllocError>
 fn usage_value(alloc: Global, text: &str) -> Result<Value, AllocError>
     ensures { IfOk result (λ v. view v ≡ usage_value text.now) }
 {
-    let mut members = begun(alloc, 0, "Usage")?;
+    let mut members = number_and_name(alloc, 0, "Usage")?;
     put_text(&mut members, alloc, "text", text)?;
     Ok(Value::Object(members))
 }
@@ -60,7 +60,7 @@ fn words_value(alloc: Global, fault: &WordFault) -> Result<Value, AllocError>
     ensures { IfOk result (λ v. IsWordsValue fault.now (view v)) }
 {
     match fault {
-        WordFault::OutOfMemory => plain(alloc, 1, "OutOfMemory"),
+        WordFault::OutOfMemory => plain_fault(alloc, 1, "OutOfMemory"),
         WordFault::Usage(error) => {
             let text = format!(in alloc; "{error}")?;
             usage_value(alloc, text.as_str())
@@ -73,23 +73,23 @@ fn fault_value(alloc: Global, fault: &Fault) -> Result<Value, AllocError>
     ensures { IfOk result (λ v. IsFaultValue fault.now (view v)) }
 {
     match fault {
-        Fault::OutOfMemory => plain(alloc, 1, "OutOfMemory"),
+        Fault::OutOfMemory => plain_fault(alloc, 1, "OutOfMemory"),
         Fault::Words(fault) => words_value(alloc, fault),
         Fault::File(fault) => file_value(alloc, fault),
         Fault::Deadlock(stalled) => stalled_value(alloc, stalled),
-        Fault::BlockingFactor => plain(alloc, 11, "BlockingFactor"),
-        Fault::WorkerCount => plain(alloc, 12, "WorkerCount"),
+        Fault::BlockingFactor => plain_fault(alloc, 11, "BlockingFactor"),
+        Fault::WorkerCount => plain_fault(alloc, 12, "WorkerCount"),
         Fault::Table(fault) => prec_value(alloc, fault),
-        Fault::InputLength => plain(alloc, 29, "InputLength"),
-        Fault::NotHomed => plain(alloc, 30, "NotHomed"),
-        Fault::Patience => plain(alloc, 31, "Patience"),
-        Fault::NoWorker => plain(alloc, 32, "NoWorker"),
-        Fault::SessionFailed => plain(alloc, 33, "SessionFailed"),
+        Fault::InputLength => plain_fault(alloc, 29, "InputLength"),
+        Fault::NotHomed => plain_fault(alloc, 30, "NotHomed"),
+        Fault::Patience => plain_fault(alloc, 31, "Patience"),
+        Fault::NoWorker => plain_fault(alloc, 32, "NoWorker"),
+        Fault::SessionFailed => plain_fault(alloc, 33, "SessionFailed"),
         Fault::Wav(fault) => format_value(alloc, fault),
-        Fault::Read => plain(alloc, 47, "Read"),
-        Fault::Write => plain(alloc, 48, "Write"),
-        Fault::ChannelsMissing => plain(alloc, 59, "ChannelsMissing"),
-        Fault::RateNotWhole => plain(alloc, 60, "RateNotWhole"),
+        Fault::Read => plain_fault(alloc, 47, "Read"),
+        Fault::Write => plain_fault(alloc, 48, "Write"),
+        Fault::ChannelsMissing => plain_fault(alloc, 59, "ChannelsMissing"),
+        Fault::RateNotWhole => plain_fault(alloc, 60, "RateNotWhole"),
     }
 }
 

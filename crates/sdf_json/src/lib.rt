@@ -14,13 +14,13 @@ mod analyses;
 mod comparisons;
 mod design_faults;
 mod designs;
+mod fault_members;
 mod faults;
 mod kinds;
 pub mod ports;
 mod run_faults;
 mod schedules;
 mod tables;
-mod told;
 mod values;
 
 pub use analyses::analysis_json;

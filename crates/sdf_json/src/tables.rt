@@ -7,7 +7,7 @@ ghost use Rattle.sdf_json.specs.Values.{each_to};
 ghost use Rattle.sdf_json.specs.Tables.{stretch_value, cell_value, row_value, homed_value, capacity_value};
 
 use crate::designs::ends_of;
-use crate::values::{perhaps, put_number, put_text};
+use crate::values::{or_null, put_number, put_text};
 use sdf_file::Design;
 use sdf_prec::{Firing, Table};
 use sdf_sched::Period;
@@ -96,7 +96,7 @@ fn homed_value(
     let mut members = Map::new(alloc);
     put_text(&mut members, alloc, "name", design.name(actor))?;
     put_number(&mut members, alloc, "firings", u64::from(firings))?;
-    put(&mut members, alloc, "worker", perhaps(table.home(actor)))?;
+    put(&mut members, alloc, "worker", or_null(table.home(actor)))?;
     Ok(Value::Object(members))
 }
 

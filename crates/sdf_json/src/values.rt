@@ -4,7 +4,7 @@ ghost use Rattle.std.specs.Prelude.{◌≡◌, ◌++◌, ◌∷◌, ◌≤◌, [
 ghost use Rattle.serde_json.specs.Data.{no_members, put as with_member, depth, string, object, array};
 ghost use Rattle.serde_json.specs.Read.{max_depth};
 ghost use Rattle.serde_json.specs.View.{view, members_view, items_view};
-ghost use Rattle.sdf_json.specs.Values.{natural, perhaps, IsLineOf};
+ghost use Rattle.sdf_json.specs.Values.{natural, or_null, IsLineOf};
 
 use serde_json::{Map, Value, put};
 use std::alloc::{AllocError, Global};
@@ -40,8 +40,8 @@ pub(crate) fn put_number(
 }
 
 /// Returns a number, or null if there is none.
-pub(crate) fn perhaps(number: Option<usize>) -> Value
-    ensures { view result ≡ perhaps number }
+pub(crate) fn or_null(number: Option<usize>) -> Value
+    ensures { view result ≡ or_null number }
 {
     match number {
         Some(number) => Value::from(number),

@@ -10,7 +10,7 @@ use Rattle.sdf_kinds.specs.declared.row.Form.TheVariants.{List as ListForm}
 use Rattle.sdf_kinds.specs.declared.row.Kind.{Kind}
 use Rattle.sdf_kinds.specs.declared.row.Width.{Width}
 use Rattle.sdf_kinds.specs.declared.row.Width.TheVariants.{Bits16, Bits32}
-use Rattle.sdf_kinds.specs.Rows.{KeyRow, KindRow, row_of, kinds, shared_keys}
+use Rattle.sdf_kinds.specs.Rows.{KeyFormValue, RowValue, row_of, kinds, shared_keys}
 
 -- a line feed
 abbrev pub end : List ℕ
@@ -68,11 +68,11 @@ default_text (FromLeast least most absent) = absent_text absent
 default_text (ListForm most width) = []
 
 -- a key, with its limits and its default
-abbrev pub key_text : KeyRow → List ℕ
+abbrev pub key_text : KeyFormValue → List ℕ
 key_text k = k.name ++ lead_text k.form ++ limits_text k.form ++ default_text k.form
 
 -- keys, in their order
-abbrev pub keys_text : List KeyRow → List ℕ
+abbrev pub keys_text : List KeyFormValue → List ℕ
 keys_text [] = []
 keys_text (k ∷ ks) = key_text k ++ flat_map (λ l. codes ", " ++ key_text l) ks
 
@@ -81,7 +81,7 @@ abbrev pub since_text : ℕ → List ℕ
 since_text n = if n == 1 then [] else codes ", format " ++ decimal n
 
 -- a line: the word of a kind and its keys
-abbrev pub line : KindRow → List ℕ
+abbrev pub line : RowValue → List ℕ
 line row = row.word ++ since_text row.since ++ codes ": " ++ keys_text row.keys ++ end
 
 -- the line of a kind
@@ -89,7 +89,7 @@ abbrev pub line_of : Kind → List ℕ
 line_of k = line (row_of k)
 
 -- a line for each of some kinds, and a line of the keys that every actor may have
-abbrev pub listing_of : List Kind → List KeyRow → List ℕ
+abbrev pub listing_of : List Kind → List KeyFormValue → List ℕ
 listing_of ks shared = flat_map line_of ks ++ codes "every kind: " ++ keys_text shared ++ end
 
 -- all kinds and their keys

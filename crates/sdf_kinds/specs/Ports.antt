@@ -14,34 +14,34 @@ samples_in (Every ports samples) = samples
 samples_in (InTurn ports samples) = samples
 
 -- one phase, and the same at each port of a side
-abbrev pub steady : {N : Type 0} → N → N → N → N → N → PortRow N
-steady inputs takes outputs puts one =
+abbrev pub single_phase : {N : Type 0} → N → N → N → N → N → PortRow N
+single_phase inputs takes outputs puts one =
     record { cycle = one; inputs = Every inputs takes; outputs = Every outputs puts }
 
 abbrev pub input : {N : Type 0} → N → N → N → PortRow N
-input block zero one = steady zero zero one block one
+input block zero one = single_phase zero zero one block one
 
 abbrev pub output : {N : Type 0} → N → N → N → PortRow N
-output block zero one = steady one block zero zero one
+output block zero one = single_phase one block zero zero one
 
 abbrev pub fir : {N : Type 0} → N → N → N → PortRow N
-fir up down one = steady one down one up one
+fir up down one = single_phase one down one up one
 
 abbrev pub decimate : {N : Type 0} → N → N → PortRow N
-decimate factor one = steady one factor one one one
+decimate factor one = single_phase one factor one one one
 
 abbrev pub interpolate : {N : Type 0} → N → N → PortRow N
-interpolate factor one = steady one one one factor one
+interpolate factor one = single_phase one one one factor one
 
 abbrev pub add : {N : Type 0} → N → N → PortRow N
-add ways one = steady ways one one one one
+add ways one = single_phase ways one one one one
 
 abbrev pub fork : {N : Type 0} → N → N → PortRow N
-fork ways one = steady one one ways one one
+fork ways one = single_phase one one ways one one
 
 -- a gain, delay, table, clip or offset
 abbrev pub pointwise : {N : Type 0} → N → PortRow N
-pointwise one = steady one one one one one
+pointwise one = single_phase one one one one one
 
 -- the ports of one side are served in turn, a run at each
 abbrev pub deal : {N : Type 0} → N → N → N → PortRow N

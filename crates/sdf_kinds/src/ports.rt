@@ -2,7 +2,7 @@
 //! and the zero of that type.
 
 ghost use Rattle.std.specs.Prelude.{◌≡◌};
-ghost use Rattle.sdf_kinds.specs.Ports.{ports_in, samples_in, steady, input, output, fir, decimate, interpolate};
+ghost use Rattle.sdf_kinds.specs.Ports.{ports_in, samples_in, single_phase, input, output, fir, decimate, interpolate};
 ghost use Rattle.sdf_kinds.specs.Ports.{add, fork, pointwise, deal, gather};
 
 /// The ports on one side of an actor, numbered from 0.
@@ -44,8 +44,8 @@ impl<N: Copy> SideRow<N> {
 
 /// Returns the ports of an actor whose firings all do the same: `takes` samples at each of `inputs` ports, `puts` at
 /// each of `outputs`.
-fn steady<N: Copy>(inputs: N, takes: N, outputs: N, puts: N, one: N) -> PortRow<N>
-    ensures { result ≡ steady inputs takes outputs puts one }
+fn single_phase<N: Copy>(inputs: N, takes: N, outputs: N, puts: N, one: N) -> PortRow<N>
+    ensures { result ≡ single_phase inputs takes outputs puts one }
 {
     PortRow {
         cycle: one,
@@ -64,56 +64,56 @@ fn steady<N: Copy>(inputs: N, takes: N, outputs: N, puts: N, one: N) -> PortRow<
 pub fn input<N: Copy>(block: N, zero: N, one: N) -> PortRow<N>
     ensures { result ≡ input block zero one }
 {
-    steady(zero, zero, one, block, one)
+    single_phase(zero, zero, one, block, one)
 }
 
 /// Returns the ports of an `output`.
 pub fn output<N: Copy>(block: N, zero: N, one: N) -> PortRow<N>
     ensures { result ≡ output block zero one }
 {
-    steady(one, block, zero, zero, one)
+    single_phase(one, block, zero, zero, one)
 }
 
 /// Returns the ports of a `fir`.
 pub fn fir<N: Copy>(up: N, down: N, one: N) -> PortRow<N>
     ensures { result ≡ fir up down one }
 {
-    steady(one, down, one, up, one)
+    single_phase(one, down, one, up, one)
 }
 
 /// Returns the ports of a `decimate`.
 pub fn decimate<N: Copy>(factor: N, one: N) -> PortRow<N>
     ensures { result ≡ decimate factor one }
 {
-    steady(one, factor, one, one, one)
+    single_phase(one, factor, one, one, one)
 }
 
 /// Returns the ports of an `interpolate`.
 pub fn interpolate<N: Copy>(factor: N, one: N) -> PortRow<N>
     ensures { result ≡ interpolate factor one }
 {
-    steady(one, one, one, factor, one)
+    single_phase(one, one, one, factor, one)
 }
 
 /// Returns the ports of an `add`.
 pub fn add<N: Copy>(ways: N, one: N) -> PortRow<N>
     ensures { result ≡ add ways one }
 {
-    steady(ways, one, one, one, one)
+    single_phase(ways, one, one, one, one)
 }
 
 /// Returns the ports of a `fork`.
 pub fn fork<N: Copy>(ways: N, one: N) -> PortRow<N>
     ensures { result ≡ fork ways one }
 {
-    steady(one, one, ways, one, one)
+    single_phase(one, one, ways, one, one)
 }
 
 /// Returns the ports of a `gain`, `delay`, `table`, `clip` or `offset`.
 pub fn pointwise<N: Copy>(one: N) -> PortRow<N>
     ensures { result ≡ pointwise one }
 {
-    steady(one, one, one, one, one)
+    single_phase(one, one, one, one, one)
 }
 
 /// Returns the ports of a `deal`, which serves its outputs in turn.

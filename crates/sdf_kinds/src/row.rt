@@ -7,8 +7,8 @@ ghost use Rattle.sdf_kinds.specs.Rows.{keys_view, row_view, shared_keys, row_of,
 
 use crate::key::Key;
 use sdf_limits::{
-    LEAST_WAYS, MOST_CHANNEL, MOST_COST, MOST_DELAY, MOST_FACTOR, MOST_PROCESSOR, MOST_RATE,
-    MOST_RUN, MOST_SHIFT, MOST_TAPS, MOST_VALUES, MOST_WAYS,
+    LEAST_WAYS, MAX_CHANNEL, MAX_COST, MAX_DELAY, MAX_FACTOR, MAX_PROCESSOR, MAX_RATE, MAX_RUN,
+    MAX_SHIFT, MAX_TAPS, MAX_VALUES, MAX_WAYS,
 };
 
 /// The kinds of actors.
@@ -66,36 +66,36 @@ pub struct Row {
 }
 
 static CHANNEL_KEYS: [KeyForm; 2] = [
-    KeyForm(Key::Channel, Form::Natural(0, MOST_CHANNEL, None)),
-    KeyForm(Key::Block, Form::Natural(1, MOST_RATE, Some(1))),
+    KeyForm(Key::Channel, Form::Natural(0, MAX_CHANNEL, None)),
+    KeyForm(Key::Block, Form::Natural(1, MAX_RATE, Some(1))),
 ];
 
 static FIR_KEYS: [KeyForm; 4] = [
-    KeyForm(Key::Up, Form::Natural(1, MOST_FACTOR, Some(1))),
-    KeyForm(Key::Down, Form::Natural(1, MOST_FACTOR, Some(1))),
-    KeyForm(Key::Shift, Form::Natural(0, MOST_SHIFT, None)),
-    KeyForm(Key::Taps, Form::List(MOST_TAPS, Width::Bits16)),
+    KeyForm(Key::Up, Form::Natural(1, MAX_FACTOR, Some(1))),
+    KeyForm(Key::Down, Form::Natural(1, MAX_FACTOR, Some(1))),
+    KeyForm(Key::Shift, Form::Natural(0, MAX_SHIFT, None)),
+    KeyForm(Key::Taps, Form::List(MAX_TAPS, Width::Bits16)),
 ];
 
-static FACTOR_KEYS: [KeyForm; 1] = [KeyForm(Key::Factor, Form::Natural(1, MOST_FACTOR, None))];
+static FACTOR_KEYS: [KeyForm; 1] = [KeyForm(Key::Factor, Form::Natural(1, MAX_FACTOR, None))];
 
-static WAYS_KEYS: [KeyForm; 1] = [KeyForm(Key::Ways, Form::Natural(LEAST_WAYS, MOST_WAYS, None))];
+static WAYS_KEYS: [KeyForm; 1] = [KeyForm(Key::Ways, Form::Natural(LEAST_WAYS, MAX_WAYS, None))];
 
 static GAIN_KEYS: [KeyForm; 2] = [
     KeyForm(Key::Gain, Form::Integer(-32768, 32767, None)),
-    KeyForm(Key::Shift, Form::Natural(0, MOST_SHIFT, None)),
+    KeyForm(Key::Shift, Form::Natural(0, MAX_SHIFT, None)),
 ];
 
-static DELAY_KEYS: [KeyForm; 1] = [KeyForm(Key::Length, Form::Natural(0, MOST_DELAY, None))];
+static DELAY_KEYS: [KeyForm; 1] = [KeyForm(Key::Length, Form::Natural(0, MAX_DELAY, None))];
 
 static TABLE_KEYS: [KeyForm; 2] = [
     KeyForm(Key::Offset, Form::Integer(i32::MIN, i32::MAX, None)),
-    KeyForm(Key::Values, Form::List(MOST_VALUES, Width::Bits32)),
+    KeyForm(Key::Values, Form::List(MAX_VALUES, Width::Bits32)),
 ];
 
 static TURN_KEYS: [KeyForm; 2] = [
-    KeyForm(Key::Ways, Form::Natural(LEAST_WAYS, MOST_WAYS, None)),
-    KeyForm(Key::Run, Form::Natural(1, MOST_RUN, Some(1))),
+    KeyForm(Key::Ways, Form::Natural(LEAST_WAYS, MAX_WAYS, None)),
+    KeyForm(Key::Run, Form::Natural(1, MAX_RUN, Some(1))),
 ];
 
 static CLIP_KEYS: [KeyForm; 2] = [
@@ -106,8 +106,8 @@ static CLIP_KEYS: [KeyForm; 2] = [
 static OFFSET_KEYS: [KeyForm; 1] = [KeyForm(Key::Value, Form::Integer(-32768, 32767, None))];
 
 static SHARED_KEYS: [KeyForm; 2] = [
-    KeyForm(Key::Processor, Form::Optional(0, MOST_PROCESSOR)),
-    KeyForm(Key::Cost, Form::Natural(1, MOST_COST, Some(1))),
+    KeyForm(Key::Processor, Form::Optional(0, MAX_PROCESSOR)),
+    KeyForm(Key::Cost, Form::Natural(1, MAX_COST, Some(1))),
 ];
 
 static KINDS: [Kind; 14] = [

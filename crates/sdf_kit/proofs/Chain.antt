@@ -3,7 +3,7 @@ use Rattle.std.proofs.Common.{◌≡◌, ℕ, suc, ◌+◌, ◌*◌, ◌<◌, �
 use Rattle.std.specs.List.{range_with_len}
 use Rattle.std.proofs.lemmas.List.FromFn.{fill_by_all, length-map-range_with_len, get_or-map-range_with_len}
 use Rattle.std.proofs.Math.Nat.{suc-mul, mul-le-mul_right, mul_right_comm, mul-one}
-use Rattle.sdf_kit.specs.Samples.{settled, sample, upsampled}
+use Rattle.sdf_kit.specs.Samples.{rescaled, sample, upsampled}
 use Rattle.sdf_kit.specs.Fir.{Filter, convolved, filtered}
 use Rattle.sdf_kit.specs.PutsFit.{sum_rates, sum_ones}
 use Rattle.sdf_kit.specs.Formulas.{formula_list, FirIsChain}
@@ -54,7 +54,7 @@ module _ (f : Filter) (some_up : 1 ≤ f.up) (some_down : 1 ≤ f.down) (x : Lis
       let crossed : m * f.up * f.down ≡ m * f.down * f.up = mul_right_comm m f.up f.down in
       let wide : m * f.down * f.up ≡ size = ap (λ n. n * f.up) (sym e) in
       let in_size : k * f.down < size = omega arith in
-      ap (λ z. settled z f.shift) (same_sum (k * f.down) in_size) ∙
+      ap (λ z. rescaled z f.shift) (same_sum (k * f.down) in_size) ∙
       sym (get_or-map-range_with_len (filtered flat spaced_out) 0 size (k * f.down) (k * f.down) (pos 0)
       in_size (omega arith))
 

@@ -6,18 +6,18 @@ use Rattle.std.specs.Prelude.{◌&&◌, ◌||◌, nat_le, nat_lt}
 use Rattle.std.proofs.lemmas.Bool.{cases_lt}
 use Rattle.std.proofs.lemmas.List.{at_drop_more}
 use Rattle.std.proofs.lemmas.List.Folds.{list_all_at}
-use Rattle.sdf_kit.specs.Stretches.{is_wide, walked}
+use Rattle.sdf_kit.specs.Stretches.{is_wide, stretch_count}
 use Rattle.sdf_kit.specs.declared.branches.TheConstants.{LEAST_PEAK_TO_SPLIT, STRETCH_COST}
 
 -- a stretch begins at the next sixteen
 pub walk_begins : (lens : List ℕ) (i : ℕ) → i < length lens →
-    walked 0 (drop i lens) ≡ 1 + walked (get_or lens i 0 - 1) (drop (i + 1) lens)
-walk_begins lens i l = at_drop_more (walked 0) lens i 0 l
+    stretch_count 0 (drop i lens) ≡ 1 + stretch_count (get_or lens i 0 - 1) (drop (i + 1) lens)
+walk_begins lens i l = at_drop_more (stretch_count 0) lens i 0 l
 
 -- a stretch goes on over the next sixteen
 pub walk_goes_on : (lens : List ℕ) (n i : ℕ) → i < length lens →
-    walked (n + 1) (drop i lens) ≡ walked n (drop (i + 1) lens)
-walk_goes_on lens n i l = ap (λ m. walked m (drop i lens)) one ∙ at_drop_more (walked (suc n)) lens i 0 l
+    stretch_count (n + 1) (drop i lens) ≡ stretch_count n (drop (i + 1) lens)
+walk_goes_on lens n i l = ap (λ m. stretch_count m (drop i lens)) one ∙ at_drop_more (stretch_count (suc n)) lens i 0 l
   where
     one : n + 1 ≡ suc n
     one = omega arith
@@ -29,7 +29,7 @@ wide_begins lens up peak wide is so k l = go (cases_lt 0 (get_or lens k 0))
   where
     cheap : Bool
     cheap = nat_lt peak LEAST_PEAK_TO_SPLIT
-        || nat_le (STRETCH_COST * walked 0 lens) (length lens + STRETCH_COST * up)
+        || nat_le (STRETCH_COST * stretch_count 0 lens) (length lens + STRETCH_COST * up)
 
     go : (0 < get_or lens k 0) ⊎ (get_or lens k 0 ≤ 0) → 1 ≤ get_or lens k 0
     go (inl less) = omega arith

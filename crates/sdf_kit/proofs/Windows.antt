@@ -12,8 +12,8 @@ use Rattle.std.proofs.lemmas.List.{length-take-le, length-drop, length-append, l
 use Rattle.std.proofs.lemmas.List.{get_or-take, get_or-drop, get_or-replicate, get_or_append_left, get_or-append_right}
 use Rattle.std.proofs.lemmas.List.{ext_get_or}
 use Rattle.sdf_kit.specs.Dots.{AreWithin, joined, dot, total_abs, wrap}
-use Rattle.sdf_kit.specs.Samples.{settled}
-use Rattle.sdf_kit.specs.Window.{Held, part_as, AreHeld, held, seen, output_of, AreFit}
+use Rattle.sdf_kit.specs.Samples.{rescaled}
+use Rattle.sdf_kit.specs.Window.{WindowValue, part_as, AreHeld, held, seen, output_of, AreFit}
 use Rattle.sdf_kit.specs.Stretches.{IsBranch}
 use Rattle.sdf_kit.specs.declared.branches.Limits.{Limits}
 use Rattle.sdf_kit.specs.declared.window.SampleForm.{SampleForm}
@@ -35,8 +35,8 @@ take_joined (suc n) [] b = refl
 take_joined (suc n) (x ∷ a) [] = refl
 take_joined (suc n) (x ∷ a) (y ∷ b) = ap (λ z. ((pos 256 *ℤ x) +ℤ y) ∷ z) (take_joined n a b)
 
-pub length_held : (way : SampleForm) (high low : List ℤ) (n : ℕ) (limits : Limits) → AreHeld way high low n limits →
-    length (held way high low n) ≡ n
+pub length_held : (form : SampleForm) (high low : List ℤ) (n : ℕ) (limits : Limits) → AreHeld form high low n limits →
+    length (held form high low n) ≡ n
 length_held Quiet high low n limits are = length-take-le n high are.high_room
 length_held Wide high low n limits are = length-take-le n high are.high_room
 length_held Split high low n limits are =
@@ -58,16 +58,16 @@ short_front xs peak w low = each1 (FitsSigned w16) xs
     fits_signed_from_abs w16 (get_or xs k (pos 0)) (omega arith))
 
 -- the numbers that are held have 16 bits
-high_short : (way : SampleForm) (high low : List ℤ) (n : ℕ) (limits : Limits) → AreHeld way high low n limits →
+high_short : (form : SampleForm) (high low : List ℤ) (n : ℕ) (limits : Limits) → AreHeld form high low n limits →
     Each1 (FitsSigned w16) (take n high)
 high_short Quiet high low n limits are = short_front (take n high) limits.peak are.within are.small
 high_short Wide high low n limits are = are.within.1
 high_short Split high low n limits are = short_front (take n high) limits.peak are.within.0 are.small
 
-pub high_fits : {way : SampleForm} {high low x : List ℤ} {n : ℕ} {limits : Limits} → AreHeld way high low n limits →
+pub high_fits : {form : SampleForm} {high low x : List ℤ} {n : ℕ} {limits : Limits} → AreHeld form high low n limits →
     x ≡ take n high → Each1 (FitsSigned w16) x
-high_fits {way} {high} {low} {x} {n} {limits} are is =
-    subst (λ xs. Each1 (FitsSigned w16) xs) (sym is) (high_short way high low n limits are)
+high_fits {form} {high} {low} {x} {n} {limits} are is =
+    subst (λ xs. Each1 (FitsSigned w16) xs) (sym is) (high_short form high low n limits are)
 
 pub low_short : (high low : List ℤ) (n : ℕ) (limits : Limits) → AreHeld Split high low n limits →
     Each1 (FitsSigned w16) (take n low)
@@ -117,44 +117,45 @@ pub read : (sums : List ℤ) (i : ℕ) (z : ℤ) → get_or sums i (pos 0) ≡ w
     to_z w32 (of_z w32 (get_or sums i (pos 0))) ≡ wrap z
 read sums i z e = passed (get_or sums i (pos 0)) z e
 
--- what is known of a window w whose samples are held in this way
-module _ {way : SampleForm} {high low : List ℤ} {n : ℕ} {limits : Limits} (are : AreHeld way high low n limits) {w : Held}
-    (view : record { samples = held way high low n; limits = limits } ≡ w) {h : List ℤ} {lens : List ℕ}
+-- what is known of a window w whose samples are held in this form
+module _ {form : SampleForm} {high low : List ℤ} {n : ℕ} {limits : Limits} (are : AreHeld form high low n limits)
+    {w : WindowValue}
+    (view : record { samples = held form high low n; limits = limits } ≡ w) {h : List ℤ} {lens : List ℕ}
     (branch : IsBranch w.limits h lens) where
   pub branch_held : IsBranch limits h lens
-  branch_held = subst (λ (v : Held). IsBranch v.limits h lens) (sym view) branch
+  branch_held = subst (λ (v : WindowValue). IsBranch v.limits h lens) (sym view) branch
 
-  pub in_held : (at : ℕ) → at + length h ≤ length w.samples → at + length h ≤ length (held way high low n)
-  in_held at room = subst (λ (v : Held). at + length h ≤ length v.samples) (sym view) room
+  pub in_held : (at : ℕ) → at + length h ≤ length w.samples → at + length h ≤ length (held form high low n)
+  in_held at room = subst (λ (v : WindowValue). at + length h ≤ length v.samples) (sym view) room
 
-  pub held_are : (other : SampleForm) → way ≡ other → AreHeld other high low n limits
+  pub held_are : (other : SampleForm) → form ≡ other → AreHeld other high low n limits
   held_are other e = subst (λ o. AreHeld o high low n limits) e are
 
-  pub room_as : (other : SampleForm) → way ≡ other → (at : ℕ) → at + length h ≤ length w.samples →
+  pub room_as : (other : SampleForm) → form ≡ other → (at : ℕ) → at + length h ≤ length w.samples →
       at + length h ≤ length (held other high low n)
   room_as other e at room = subst (λ o. at + length h ≤ length (held o high low n)) e (in_held at room)
 
   -- an output, told of what is held
-  pub output_is : (other : SampleForm) → way ≡ other → {r : ℤ} (at shift : ℕ) → FitsSigned w32 r →
+  pub output_is : (other : SampleForm) → form ≡ other → {r : ℤ} (at shift : ℕ) → FitsSigned w32 r →
       r ≡ output_of h (held other high low n) at shift → to_z w32 (of_z w32 r) ≡ output_of h w.samples at shift
   output_is other e {r} at shift fits is =
       to_z-of_z w32 r fits ∙ (is ∙ (ap (λ o. output_of h (held o high low n) at shift) (sym e)
-      ∙ ap (λ (v : Held). output_of h v.samples at shift) view))
+      ∙ ap (λ (v : WindowValue). output_of h v.samples at shift) view))
 
   -- where none of the samples x is past the peak, by a sum a
-  pub quiet_small : way ≡ Quiet → {x : List ℤ} → x ≡ take n high → (a : ℤ) (at : ℕ) →
+  pub quiet_small : form ≡ Quiet → {x : List ℤ} → x ≡ take n high → (a : ℤ) (at : ℕ) →
       at + length h ≤ length w.samples → to_z w32 (of_z w32 a) ≡ wrap (dot h (seen h x at)) →
       unsigned_abs (to_z w32 (of_z w32 a)) ≤ 2147467263
   quiet_small e {x} is a at room reads =
       subst (λ z. unsigned_abs z ≤ 2147467263) (sym (reads ∙ ap (λ y. wrap (dot h (seen h y at))) is))
       (quiet_value h high low n at limits (held_are Quiet e) branch_held.quiet (room_as Quiet e at room)).1
 
-  pub quiet_output : way ≡ Quiet → {x : List ℤ} → x ≡ take n high → (a : ℤ) {r : ℤ} (at shift : ℕ) →
+  pub quiet_output : form ≡ Quiet → {x : List ℤ} → x ≡ take n high → (a : ℤ) {r : ℤ} (at shift : ℕ) →
       at + length h ≤ length w.samples → to_z w32 (of_z w32 a) ≡ wrap (dot h (seen h x at)) →
-      r ≡ settled (to_z w32 (of_z w32 a)) shift → FitsSigned w32 r →
+      r ≡ rescaled (to_z w32 (of_z w32 a)) shift → FitsSigned w32 r →
       to_z w32 (of_z w32 r) ≡ output_of h w.samples at shift
   quiet_output e {x} is a {r} at shift room reads value fits =
-      output_is Quiet e at shift fits (value ∙ ap (λ z. settled z shift) (reads
+      output_is Quiet e at shift fits (value ∙ ap (λ z. rescaled z shift) (reads
       ∙ (ap (λ y. wrap (dot h (seen h y at))) is
       ∙ (quiet_value h high low n at limits (held_are Quiet e) branch_held.quiet (room_as Quiet e at room)).0)))
 
@@ -176,34 +177,34 @@ module _ {way : SampleForm} {high low : List ℤ} {n : ℕ} {limits : Limits} (a
       unsigned_abs (to_z w64 (of_z w64 a)) ≤ 2 ^ 56
   wide_settles is at sums = subst (λ z. unsigned_abs z ≤ 2 ^ 56) (sym (wide_sent is at sums)) (wide_small is at)
 
-  pub wide_output : way ≡ Wide → {x : List ℤ} → x ≡ take n high → (a : ℤ) {r : ℤ} (at shift : ℕ) →
-      a ≡ dot h (seen h x at) → r ≡ settled a shift → FitsSigned w32 r →
+  pub wide_output : form ≡ Wide → {x : List ℤ} → x ≡ take n high → (a : ℤ) {r : ℤ} (at shift : ℕ) →
+      a ≡ dot h (seen h x at) → r ≡ rescaled a shift → FitsSigned w32 r →
       to_z w32 (of_z w32 r) ≡ output_of h w.samples at shift
   wide_output e {x} is a {r} at shift reads value fits =
-      output_is Wide e at shift fits (value ∙ ap (λ z. settled z shift)
+      output_is Wide e at shift fits (value ∙ ap (λ z. rescaled z shift)
       (reads ∙ ap (λ y. dot h (seen h y at)) is))
 
   -- by a sum a of the samples' upper bits x, and a sum b of their lowest ones y
-  pub split_output : way ≡ Split → {x y : List ℤ} → x ≡ take n high → y ≡ take n low → (a b : ℤ) {r : ℤ}
+  pub split_output : form ≡ Split → {x y : List ℤ} → x ≡ take n high → y ≡ take n low → (a b : ℤ) {r : ℤ}
       (at shift : ℕ) → at + length h ≤ length w.samples →
       to_z w32 (of_z w32 a) ≡ wrap (dot h (seen h x at)) → to_z w32 (of_z w32 b) ≡ wrap (dot h (seen h y at)) →
-      r ≡ settled ((pos 256 *ℤ to_z w32 (of_z w32 a)) +ℤ to_z w32 (of_z w32 b)) shift → FitsSigned w32 r →
+      r ≡ rescaled ((pos 256 *ℤ to_z w32 (of_z w32 a)) +ℤ to_z w32 (of_z w32 b)) shift → FitsSigned w32 r →
       to_z w32 (of_z w32 r) ≡ output_of h w.samples at shift
   split_output e {x} {y} is_high is_low a b {r} at shift room reads_high reads_low value fits =
-      output_is Split e at shift fits (value ∙ ap (λ z. settled z shift)
+      output_is Split e at shift fits (value ∙ ap (λ z. rescaled z shift)
       (ap (λ z. (pos 256 *ℤ z) +ℤ to_z w32 (of_z w32 b)) (reads_high ∙ ap (λ v. wrap (dot h (seen h v at))) is_high)
       ∙ (ap (λ z. (pos 256 *ℤ wrap (dot h (seen h (take n high) at))) +ℤ z)
       (reads_low ∙ ap (λ v. wrap (dot h (seen h v at))) is_low)
       ∙ split_value h high low n at limits (held_are Split e) branch_held.quiet (room_as Split e at room))))
 
 -- the samples that are read from a window, themselves or their upper bits
-pub front_long : {way : SampleForm} {high low x : List ℤ} {n : ℕ} {limits : Limits} → AreHeld way high low n limits →
-    {w : Held} → record { samples = held way high low n; limits = limits } ≡ w →
+pub front_long : {form : SampleForm} {high low x : List ℤ} {n : ℕ} {limits : Limits} → AreHeld form high low n limits →
+    {w : WindowValue} → record { samples = held form high low n; limits = limits } ≡ w →
     (x ≡ take n high) ⊎ (x ≡ take n low) → length x ≡ length w.samples
-front_long {way} {high} {low} {x} {n} {limits} are view is =
+front_long {form} {high} {low} {x} {n} {limits} are view is =
     ⊎_elim (λ e. ap length e ∙ length-take-le n high are.high_room)
     (λ e. ap length e ∙ length-take-le n low are.low_room) is
-    ∙ (sym (length_held way high low n limits are) ∙ ap (λ (v : Held). length v.samples) view)
+    ∙ (sym (length_held form high low n limits are) ∙ ap (λ (v : WindowValue). length v.samples) view)
 
 -- the parts of what is within a peak are within it
 pub high_small : (x : ℤ) (peak : ℕ) → unsigned_abs x ≤ 255 * peak → unsigned_abs (part_as High x) ≤ peak

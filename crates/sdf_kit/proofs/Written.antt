@@ -4,7 +4,7 @@ use Rattle.std.proofs.Common.{get_or, set, refl, sym, ap, subst, ◌∙◌, arit
 use Rattle.std.proofs.lemmas.Bool.{cases_lt}
 use Rattle.std.proofs.lemmas.Nat.{mod-mul-add, div-add-mod', mod_below, div_below}
 use Rattle.std.proofs.lemmas.List.{length-set, get_or-set_same, get_or-set_other}
-use Rattle.sdf_kit.specs.Samples.{settled}
+use Rattle.sdf_kit.specs.Samples.{rescaled}
 use Rattle.sdf_kit.specs.Dots.{dot}
 use Rattle.sdf_kit.specs.Branches.{branch_at, branch_output}
 use Rattle.sdf_kit.specs.declared.branches.Branches.{Branches}
@@ -117,15 +117,16 @@ windows_fit down first m k many long samples low few room =
 -- an output of a branch among all outputs
 pub branch_step : (b : Branches) (up down shift : ℕ) (samples branch : List ℤ) (j i first : ℕ) → 1 ≤ up →
     branch ≡ branch_at b (j * down % up) → length branch ≡ b.width → first ≡ j * down / up →
-    settled (dot branch (take (length branch) (drop (first + i * down) samples))) shift ≡
+    rescaled (dot branch (take (length branch) (drop (first + i * down) samples))) shift ≡
     branch_output b up down shift samples (i * up + j)
 branch_step b up down shift samples branch j i first some is long first_is =
-    ap (λ n. settled (dot branch (take n (drop (first + i * down) samples))) shift) long ∙
-    (ap (λ h. settled (dot h (take b.width (drop (first + i * down) samples))) shift) is ∙
-    (ap (λ n. settled (dot (branch_at b (j * down % up)) (take b.width (drop (n + i * down) samples))) shift) first_is ∙
-    sym (ap (λ p. settled (dot (branch_at b p) (take b.width (drop ((i * up + j) * down / up) samples))) shift)
+    ap (λ n. rescaled (dot branch (take n (drop (first + i * down) samples))) shift) long ∙
+    (ap (λ h. rescaled (dot h (take b.width (drop (first + i * down) samples))) shift) is ∙
+    (ap (λ n. rescaled (dot (branch_at b (j * down % up)) (take b.width (drop (n + i * down) samples)))
+    shift) first_is ∙
+    sym (ap (λ p. rescaled (dot (branch_at b p) (take b.width (drop ((i * up + j) * down / up) samples))) shift)
     (output_phase up down i j some) ∙
-    ap (λ n. settled (dot (branch_at b (j * down % up)) (take b.width (drop n samples))) shift)
+    ap (λ n. rescaled (dot (branch_at b (j * down % up)) (take b.width (drop n samples))) shift)
     (output_newest up down i j some))))
 
 -- outputs of branches before this one stay

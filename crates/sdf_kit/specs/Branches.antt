@@ -2,8 +2,8 @@
 use Rattle.std.specs.Prelude.{ℕ, ◌≡◌, ◌+◌, ◌-◌, ◌*◌, ◌/◌, ◌%◌, ◌<◌, ◌≤◌, ℤ, pos, List, ◌++◌, length, map, take, drop}
 use Rattle.std.specs.Prelude.{replicate}
 use Rattle.std.specs.List.{range_with_len}
-use Rattle.sdf_limits.specs.declared.TheConstants.{MOST_FACTOR, MOST_SHIFT}
-use Rattle.sdf_kit.specs.Samples.{sample, settled, upsampled}
+use Rattle.sdf_limits.specs.declared.TheConstants.{MAX_FACTOR, MAX_SHIFT}
+use Rattle.sdf_kit.specs.Samples.{sample, rescaled, upsampled}
 use Rattle.sdf_kit.specs.Fir.{convolved}
 use Rattle.sdf_kit.specs.Dots.{dot}
 use Rattle.sdf_kit.specs.Stretches.{IsBranch}
@@ -39,14 +39,14 @@ pub record AreBranches (taps : List ℤ) (up : ℕ) (b : Branches) : Type 0 wher
 
 -- the factors and the shift of firings are within their limits
 pub record AreFirings (f : Firings) : Type 0 where
-  pub up : (1 ≤ f.up) × (f.up ≤ MOST_FACTOR)
-  pub down : (1 ≤ f.down) × (f.down ≤ MOST_FACTOR)
-  pub shift : f.shift ≤ MOST_SHIFT
+  pub up : (1 ≤ f.up) × (f.up ≤ MAX_FACTOR)
+  pub down : (1 ≤ f.down) × (f.down ≤ MAX_FACTOR)
+  pub shift : f.shift ≤ MAX_SHIFT
 
 -- output n of the branches on the samples of a window: outputs are `down` places apart at the higher rate
 abbrev pub branch_output : Branches → ℕ → ℕ → ℕ → List ℤ → ℕ → ℤ
 branch_output b up down shift samples n =
-    settled (dot (branch_at b (n * down % up)) (take b.width (drop (n * down / up) samples))) shift
+    rescaled (dot (branch_at b (n * down % up)) (take b.width (drop (n * down / up) samples))) shift
 
 -- The output of a filter at place t is the dot product of the branch of its phase, n taps, with the n samples up to
 -- its newest one. Place 0 is at the first input that is taken. Of the inputs before it, K taps meet the last

@@ -1,6 +1,6 @@
 -- Delayed samples.
 use Rattle.std.specs.Prelude.{ℕ, ◌-◌, ◌≤◌, nat_lt, nat_le, cond, pos, ◌++◌, take, Result, Ok}
-use Rattle.sdf_limits.specs.declared.TheConstants.{MOST_DELAY}
+use Rattle.sdf_limits.specs.declared.TheConstants.{MAX_DELAY}
 use Rattle.sdf_kit.specs.declared.fault.KitFault.{KitFault}
 use Rattle.sdf_kinds.specs.declared.row.Kind.TheVariants as kinds
 use Rattle.sdf_kinds.specs.declared.key.Key.TheVariants as keys
@@ -22,7 +22,7 @@ delay length = record {
 
 -- the length of a delay is within its limits
 abbrev pub IsDelay : ℕ → Type 0
-IsDelay length = length ≤ MOST_DELAY
+IsDelay length = length ≤ MAX_DELAY
 
 abbrev pub length_of : ℕ → Result ℕ KitFault
-length_of length = tested (nat_le length MOST_DELAY) kinds.Delay keys.Length (Ok length)
+length_of length = tested (nat_le length MAX_DELAY) kinds.Delay keys.Length (Ok length)

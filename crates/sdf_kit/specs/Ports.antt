@@ -1,6 +1,6 @@
 -- Ports, and how many samples a firing moves at each.
 use Rattle.std.specs.Prelude.{ℕ, ◌≤◌, ◌==◌, cond}
-use Rattle.sdf_limits.specs.declared.TheConstants.{MOST_PORTS}
+use Rattle.sdf_limits.specs.declared.TheConstants.{MAX_PORTS}
 use Rattle.sdf_kit.specs.declared.ports.PortRates.{PortRates}
 use Rattle.sdf_kit.specs.declared.ports.PortRates.TheVariants.{Every, InTurn}
 use Rattle.sdf_kit.specs.declared.ports.Ports.{Ports}
@@ -25,7 +25,7 @@ rate (Every ports r) = r
 rate (InTurn ports r) = r
 
 pub record ArePortRates (s : PortRates) : Type 0 where
-  pub few : count s ≤ MOST_PORTS
+  pub few : count s ≤ MAX_PORTS
   pub some : 1 ≤ rate s
 
 pub record ArePorts (x : Ports) : Type 0 where

@@ -32,10 +32,10 @@ pub record IsReach (n : ℕ) (h : List ℤ) : Type 0 where
 
 -- the number of stretches that a sum is made of after the next n sixteens, by the length of the stretch at each
 -- sixteen: each begins where the last one ends
-abbrev pub walked : ℕ → List ℕ → ℕ
-walked n [] = 0
-walked zero (x ∷ xs) = 1 + walked (x - 1) xs
-walked (suc n) (x ∷ xs) = walked n xs
+abbrev pub stretch_count : ℕ → List ℕ → ℕ
+stretch_count n [] = 0
+stretch_count zero (x ∷ xs) = 1 + stretch_count (x - 1) xs
+stretch_count (suc n) (x ∷ xs) = stretch_count n xs
 
 -- whether 16-bit samples above the peak are summed by stretches: one begins at each sixteen. If samples of `up`
 -- branches can be split, the stretches after the first of each branch cost no more than a second pass over the
@@ -43,7 +43,7 @@ walked (suc n) (x ∷ xs) = walked n xs
 abbrev pub is_wide : List ℕ → ℕ → ℕ → Bool
 is_wide lens up peak = list_all (λ n. nat_lt 0 n) lens
     && (nat_lt peak LEAST_PEAK_TO_SPLIT
-    || nat_le (STRETCH_COST * walked 0 lens) (length lens + STRETCH_COST * up))
+    || nat_le (STRETCH_COST * stretch_count 0 lens) (length lens + STRETCH_COST * up))
 
 -- the length of the stretch at each sixteen, in sixteens and at least 1
 pub record AreStretches (h : List ℤ) (lens : List ℕ) : Type 0 where

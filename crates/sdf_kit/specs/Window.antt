@@ -2,7 +2,7 @@
 use Rattle.std.specs.Prelude.{ℕ, ◌≡◌, ◌<◌, ◌≤◌, true, ℤ, pos, ◌-ℤ◌, ◌*ℤ◌, FitsSigned, List, length, take, drop}
 use Rattle.std.specs.Int.{w16, int_shr}
 use Rattle.std.specs.Simd.Lanes.{Each1}
-use Rattle.sdf_kit.specs.Samples.{sample, settled}
+use Rattle.sdf_kit.specs.Samples.{sample, rescaled}
 use Rattle.sdf_kit.specs.declared.branches.Limits.{Limits}
 use Rattle.sdf_kit.specs.declared.window.SampleForm.{SampleForm}
 use Rattle.sdf_kit.specs.declared.window.SampleForm.TheVariants.{Quiet, Wide, Split}
@@ -10,7 +10,7 @@ use Rattle.sdf_kit.specs.declared.window.Part.{Part}
 use Rattle.sdf_kit.specs.declared.window.Part.TheVariants.{Whole, High, Low}
 use Rattle.sdf_kit.specs.Dots.{AreWithin, dot, joined}
 
-pub record Held : Type 0 where
+pub record WindowValue : Type 0 where
   pub samples : List ℤ
   pub limits : Limits
 
@@ -27,11 +27,11 @@ AreWithinLimits Wide high low limits = (limits.is_wide ≡ true) × Each1 (FitsS
 AreWithinLimits Split high low limits = AreWithin limits.peak high × AreWithin limits.peak low
 
 -- the first n are within the limits
-pub record AreHeld (way : SampleForm) (high low : List ℤ) (n : ℕ) (limits : Limits) : Type 0 where
+pub record AreHeld (form : SampleForm) (high low : List ℤ) (n : ℕ) (limits : Limits) : Type 0 where
   pub high_room : n ≤ length high
   pub low_room : n ≤ length low
   pub small : limits.peak ≤ 32767
-  pub within : AreWithinLimits way (take n high) (take n low) limits
+  pub within : AreWithinLimits form (take n high) (take n low) limits
 
 -- the samples that taps meet from a place on
 abbrev pub seen : List ℤ → List ℤ → ℕ → List ℤ
@@ -39,7 +39,7 @@ seen h x at = take (length h) (drop at x)
 
 -- the output of a branch at a place
 abbrev pub output_of : List ℤ → List ℤ → ℕ → ℕ → ℤ
-output_of h x at shift = settled (dot h (seen h x at)) shift
+output_of h x at shift = rescaled (dot h (seen h x at)) shift
 
 -- a sample, its upper bits, or its lowest eight
 abbrev pub part_as : Part → ℤ → ℤ

@@ -7,9 +7,9 @@ ghost use Rattle.sdf_kit.specs.Samples.{sample};
 ghost use Rattle.sdf_kit.specs.Fir.{AreTaps};
 ghost use Rattle.sdf_kit.specs.Dots.{total_abs};
 ghost use Rattle.sdf_kit.specs.Branches.{AreBranches, branch_at, stretches_at};
-ghost use Rattle.sdf_kit.specs.Stretches.{IsReach, is_wide, walked};
+ghost use Rattle.sdf_kit.specs.Stretches.{IsReach, is_wide, stretch_count};
 
-use crate::arithmetic::MOST_SUM;
+use crate::arithmetic::MAX_SUM;
 use crate::stretches::{Branch, reach};
 
 /// The number of places in a table: at most 1,024 taps, and at most sixteen zeros for each of 64 branches.
@@ -165,7 +165,7 @@ fn is_wide(stretches: &[u8], up: u32, peak: u32) -> bool
 {
     let spared = stretches.len() + STRETCH_COST * up as usize;
     are_some(stretches)
-        && (peak < LEAST_PEAK_TO_SPLIT || STRETCH_COST * walked(stretches) <= spared)
+        && (peak < LEAST_PEAK_TO_SPLIT || STRETCH_COST * stretch_count(stretches) <= spared)
 }
 
 /// Returns whether no stretch has length 0.
@@ -176,21 +176,21 @@ fn are_some(stretches: &[u8]) -> bool
 }
 
 /// Counts the stretches that sums are made of: each begins where the last one ends.
-fn walked(stretches: &[u8]) -> usize
-    ensures counted { result ≡ walked 0 stretches.now }
+fn stretch_count(stretches: &[u8]) -> usize
+    ensures counted { result ≡ stretch_count 0 stretches.now }
     ensures few { result ≤ length stretches.now }
 {
-    let mut walked = 0;
+    let mut stretch_count = 0;
     let mut left = 0;
     for sixteens in stretches {
         if left == 0 {
-            walked += 1;
+            stretch_count += 1;
             left = sixteens.saturating_sub(1);
         } else {
             left -= 1;
         }
     }
-    walked
+    stretch_count
 }
 
 /// Returns the greatest gain of a branch: the sum of the absolute values of its taps.
@@ -227,5 +227,5 @@ fn peak_of(gain: u32) -> u32
     ensures small { result ≤ 32767 }
     ensures greatest { result < 32767 → 2147467263 < gain * (result + 1) }
 {
-    (MOST_SUM / gain.max(1)).min(32_767)
+    (MAX_SUM / gain.max(1)).min(32_767)
 }

@@ -54,13 +54,13 @@ impl Clip {
         ensures { put.new ≡ map (clipped self.now) taken.now }
     {
         for (i, output) in put.iter_mut().enumerate() {
-            *output = between(self.least, self.greatest, taken[i]);
+            *output = clip_sample(self.least, self.greatest, taken[i]);
         }
     }
 }
 
 /// Clamps `sample` to the limits.
-fn between(least: i32, greatest: i32, sample: i32) -> i32
+fn clip_sample(least: i32, greatest: i32, sample: i32) -> i32
     requires { least ≤ℤ greatest }
     ensures { result ≡ clipped (record { least = least; greatest = greatest }) sample }
 {

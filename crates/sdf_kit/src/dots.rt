@@ -87,7 +87,7 @@ fn load(x: &[i16], at: usize) -> i16x16
 
 /// Adds sixteen products to `sums`.
 #[tactic(auto, using(crate::proofs::LaneTotals::passed))]
-fn more(sums: i32x8, h: i16x16, x: i16x16) -> i32x8
+fn mac(sums: i32x8, h: i16x16, x: i16x16) -> i32x8
     requires sums { AreLanes w32 8 sums }
     requires h { AreLanes w16 16 h }
     requires x { AreLanes w16 16 x }
@@ -114,7 +114,7 @@ fn sums(h: &[i16], x: &[i16]) -> i32x8
     let mut a = i32x8::splat(0);
     let mut at = 0;
     'chunks: while at < h.len() {
-        a = more(a, load(h, at), load(x, at));
+        a = mac(a, load(h, at), load(x, at));
         at += 16;
     }
     a
@@ -164,10 +164,10 @@ fn four_sums(h: &[i16], x: &[i16], y: &[i16], z: &[i16], w: &[i16]) -> FourSums
     let mut at = 0;
     'chunks: while at < h.len() {
         let taps = load(h, at);
-        a = more(a, taps, load(x, at));
-        b = more(b, taps, load(y, at));
-        c = more(c, taps, load(z, at));
-        d = more(d, taps, load(w, at));
+        a = mac(a, taps, load(x, at));
+        b = mac(b, taps, load(y, at));
+        c = mac(c, taps, load(z, at));
+        d = mac(d, taps, load(w, at));
         at += 16;
     }
     FourSums { a, b, c, d }

@@ -35,7 +35,7 @@ use crate::offset::Offset;
 use crate::ports::Ports;
 use crate::table::Lookup;
 use sdf_actor::Actor;
-use sdf_limits::MOST_DELAY;
+use sdf_limits::MAX_DELAY;
 use std::alloc::{AllocError, Global};
 
 /// An actor of one of the kinds, on 32-bit samples.
@@ -166,7 +166,7 @@ impl Kit {
     /// Returns the number of samples that it keeps from one firing to the next.
     fn kept_len(&self) -> usize
         ensures is { result ≡ (behaviour self.now).kept }
-        ensures few { result ≤ MOST_DELAY }
+        ensures few { result ≤ MAX_DELAY }
     {
         match self {
             Kit::Fir(f) => f.kept_len(),

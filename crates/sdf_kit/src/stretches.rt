@@ -7,7 +7,7 @@ ghost use Rattle.sdf_kit.specs.Stretches.{weight as weight_is, IsReach, AreStret
 use crate::dots::{FourDots, stretch_dot, stretch_dots};
 
 /// The greatest weight of a stretch: 65,535 times 32,768 is less than 2^31.
-const MOST_WEIGHT: u32 = 65_535;
+const MAX_WEIGHT: u32 = 65_535;
 
 /// The taps of a branch, and the length of the stretch at each sixteen, in sixteens.
 #[derive(Clone, Copy)]
@@ -27,7 +27,7 @@ pub(crate) fn reach(taps: &[i16]) -> u8
     'sixteens: while 16 * usize::from(reached) < taps.len() {
         let at = 16 * usize::from(reached);
         total += weight(&taps[at..at + 16]);
-        if total > MOST_WEIGHT {
+        if total > MAX_WEIGHT {
             return reached;
         }
         reached += 1;

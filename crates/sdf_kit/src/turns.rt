@@ -5,7 +5,7 @@ ghost use Rattle.sdf_kit.specs.Turns.{turns_of};
 
 use crate::fault::{KitFault, check, check_ways, is_between};
 use sdf_kinds::{Key, Kind};
-use sdf_limits::{MOST_RUN, MOST_WAYS};
+use sdf_limits::{MAX_RUN, MAX_WAYS};
 use std::marker::Model;
 
 /// The number of ways, and the number of samples in each turn.
@@ -32,7 +32,7 @@ impl Turns {
     {
         check_ways(ways, kind)?;
         check(
-            is_between(1, MOST_RUN as usize, run as usize),
+            is_between(1, MAX_RUN as usize, run as usize),
             kind,
             Key::Run,
         )?;
@@ -43,7 +43,7 @@ impl Turns {
     pub fn cycle(&self) -> u32
         ensures is { result ≡ self.now.ways }
         ensures some { 1 ≤ result }
-        ensures few { result ≤ MOST_WAYS }
+        ensures few { result ≤ MAX_WAYS }
     {
         self.ways as u32
     }

@@ -4,16 +4,16 @@ ghost use Rattle.std.specs.Prelude.{ℕ, ◌≡◌, ◌+◌, ◌*◌, ◌%◌, �
 ghost use Rattle.std.specs.Prelude.{replicate, FitsSigned, ◌*ℤ◌, ◌+ℤ◌, ◌≤ℤ◌, map};
 ghost use Rattle.std.specs.Int.{w16};
 ghost use Rattle.std.specs.Simd.Lanes.{Each1};
-ghost use Rattle.sdf_kit.specs.Samples.{sample, settled};
+ghost use Rattle.sdf_kit.specs.Samples.{sample, rescaled};
 ghost use Rattle.sdf_kit.specs.Dots.{dot as dot_of, wrap};
 ghost use Rattle.sdf_kit.specs.Stretches.{AreStretches, AreVectors, IsBranch};
 ghost use Rattle.sdf_kit.specs.Window.{part_as, seen, output_of, AreFit};
 
-use crate::arithmetic::{most, settle, settle_small};
+use crate::arithmetic::{max_abs, rescale, rescale_small};
 use crate::branches::{LEAST_PEAK_TO_SPLIT, Limits};
 use crate::dots::{FourDots, dot, dots};
 use crate::stretches::{Branch, wide_dot, wide_dots};
-use sdf_limits::MOST_SHIFT;
+use sdf_limits::MAX_SHIFT;
 use std::marker::Model;
 
 /// The number of samples that a window can hold.
@@ -26,7 +26,7 @@ pub(crate) struct Window {
     low: [i16; ROOM],
     len: usize,
     limits: Limits,
-    way: SampleForm,
+    form: SampleForm,
 }
 
 /// The form in which samples are held.
@@ -41,13 +41,13 @@ enum SampleForm {
 }
 
 impl Model for Window {
-    ghost use Rattle.sdf_kit.specs.Window.{Held, held, AreHeld};
+    ghost use Rattle.sdf_kit.specs.Window.{WindowValue, held, AreHeld};
 
-    ghost Value = { Held };
+    ghost Value = { WindowValue };
 
-    ghost view = { λ w. record { samples = held w.way w.high w.low w.len; limits = w.limits } };
+    ghost view = { λ w. record { samples = held w.form w.high w.low w.len; limits = w.limits } };
 
-    ghost invariant = { λ w. AreHeld w.way w.high w.low w.len w.limits };
+    ghost invariant = { λ w. AreHeld w.form w.high w.low w.len w.limits };
 }
 
 impl Window {
@@ -61,7 +61,7 @@ impl Window {
                 peak: 0,
                 is_wide: false,
             },
-            way: SampleForm::Quiet,
+            form: SampleForm::Quiet,
         }
     }
 
@@ -72,27 +72,27 @@ impl Window {
         ensures limits { result ≡ true → self.new.limits ≡ limits }
         ensures samples { result ≡ true → self.new.samples ≡ replicate pad (pos 0) ++ (kept.now ++ taken.now) }
     {
-        let most = most(kept).max(most(taken));
+        let max_abs = max_abs(kept).max(max_abs(taken));
         let len = pad + kept.len() + taken.len();
         let peak = limits.peak;
         self.len = 0;
-        self.way = SampleForm::Quiet;
+        self.form = SampleForm::Quiet;
         self.limits = limits;
-        if most <= peak {
+        if max_abs <= peak {
             write_all(&mut self.high, Part::Whole, pad, kept, taken);
             self.len = len;
             return true;
         }
-        if limits.is_wide && most <= 32_768 && are_short(kept) && are_short(taken) {
+        if limits.is_wide && max_abs <= 32_768 && are_short(kept) && are_short(taken) {
             write_all(&mut self.high, Part::Whole, pad, kept, taken);
-            self.way = SampleForm::Wide;
+            self.form = SampleForm::Wide;
             self.len = len;
             return true;
         }
-        if LEAST_PEAK_TO_SPLIT <= peak && most <= 255 * peak {
+        if LEAST_PEAK_TO_SPLIT <= peak && max_abs <= 255 * peak {
             write_all(&mut self.high, Part::High, pad, kept, taken);
             write_all(&mut self.low, Part::Low, pad, kept, taken);
-            self.way = SampleForm::Split;
+            self.form = SampleForm::Split;
             self.len = len;
             return true;
         }
@@ -103,30 +103,30 @@ impl Window {
     pub(crate) fn four(&self, branch: Branch, at: usize, step: usize, shift: u32) -> [i32; 4]
         requires branch { IsBranch self.now.limits branch.taps.now branch.stretches.now }
         requires room { at + 3 * step + length branch.taps.now ≤ length self.now.samples }
-        requires shift { shift ≤ MOST_SHIFT }
+        requires shift { shift ≤ MAX_SHIFT }
         ensures { result ≡ output_of branch.entry.taps.now self.now.samples at shift
             ∷ output_of branch.entry.taps.now self.now.samples (at + step) shift
             ∷ output_of branch.entry.taps.now self.now.samples (at + 2 * step) shift
             ∷ output_of branch.entry.taps.now self.now.samples (at + 3 * step) shift ∷ [] }
     {
         let high = front(&self.high, self.len);
-        match self.way {
+        match self.form {
             SampleForm::Quiet => {
                 let a = four_dots(branch.taps, high, at, step);
                 [
-                    settle_small(a[0], shift),
-                    settle_small(a[1], shift),
-                    settle_small(a[2], shift),
-                    settle_small(a[3], shift),
+                    rescale_small(a[0], shift),
+                    rescale_small(a[1], shift),
+                    rescale_small(a[2], shift),
+                    rescale_small(a[3], shift),
                 ]
             }
             SampleForm::Wide => {
                 let sums = four_wide_dots(branch, high, at, step);
                 [
-                    settle(sums.a, shift),
-                    settle(sums.b, shift),
-                    settle(sums.c, shift),
-                    settle(sums.d, shift),
+                    rescale(sums.a, shift),
+                    rescale(sums.b, shift),
+                    rescale(sums.c, shift),
+                    rescale(sums.d, shift),
                 ]
             }
             SampleForm::Split => {
@@ -146,13 +146,16 @@ impl Window {
     pub(crate) fn one(&self, branch: Branch, at: usize, shift: u32) -> i32
         requires branch { IsBranch self.now.limits branch.taps.now branch.stretches.now }
         requires room { at + length branch.taps.now ≤ length self.now.samples }
-        requires shift { shift ≤ MOST_SHIFT }
+        requires shift { shift ≤ MAX_SHIFT }
         ensures { result ≡ output_of branch.entry.taps.now self.now.samples at shift }
     {
         let high = front(&self.high, self.len);
-        match self.way {
-            SampleForm::Quiet => settle_small(one_dot(branch.taps, high, at), shift),
-            SampleForm::Wide => settle(wide_dot(branch, piece(high, at, branch.taps.len())), shift),
+        match self.form {
+            SampleForm::Quiet => rescale_small(one_dot(branch.taps, high, at), shift),
+            SampleForm::Wide => rescale(
+                wide_dot(branch, piece(high, at, branch.taps.len())),
+                shift,
+            ),
             SampleForm::Split => {
                 let a = one_dot(branch.taps, high, at);
                 let b = one_dot(branch.taps, front(&self.low, self.len), at);
@@ -234,10 +237,10 @@ fn front(numbers: &[i16], len: usize) -> &[i16]
 
 /// Returns the output from `high`, the sum of upper bits, and `low`, the sum of the lowest eight.
 fn join(high: i32, low: i32, shift: u32) -> i32
-    requires shift { shift ≤ MOST_SHIFT }
-    ensures { result ≡ settled ((pos 256 *ℤ high) +ℤ low) shift }
+    requires shift { shift ≤ MAX_SHIFT }
+    ensures { result ≡ rescaled ((pos 256 *ℤ high) +ℤ low) shift }
 {
-    settle(256 * i64::from(high) + i64::from(low), shift)
+    rescale(256 * i64::from(high) + i64::from(low), shift)
 }
 
 /// Checks whether no sample exceeds 32,767. `load` has checked before that none is below -32,768.

@@ -25,9 +25,10 @@ puts_of s (node.Source ext block) j = block
 puts_of s (node.Sink ext block) j = 0
 puts_of s (node.Inner x) j = total_out s x j
 
--- no firing of a node takes more than `most` samples at all its ports, or puts more than `most` on them
-abbrev pub IsMost : {A S T : Type 0} → Steps A S T → Node A → ℕ → Type 0
-IsMost s x most = (j : ℕ) → j < cycle_of s x → (takes_of s x j ≤ most) × (puts_of s x j ≤ most)
+-- no firing of a node takes more than `max_samples` samples at all its ports, or puts more than `max_samples` on them
+abbrev pub IsMaxSamples : {A S T : Type 0} → Steps A S T → Node A → ℕ → Type 0
+IsMaxSamples s x max_samples = (j : ℕ) → j < cycle_of s x →
+    (takes_of s x j ≤ max_samples) × (puts_of s x j ≤ max_samples)
 
 -- the next firing finds what it reads and has room for what it makes; it takes `taken` samples and puts `put` samples
 abbrev pub CanStep : {A S T : Type 0} → Steps A S T → List (List T) → Node A → NodeState T S → ℕ → ℕ → Type 0

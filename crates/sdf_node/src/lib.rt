@@ -10,10 +10,10 @@ pub mod gate;
 pub mod laws;
 pub mod many;
 pub mod node;
-pub mod rest;
+pub mod node_states;
 
 pub use collect::collect_at;
 pub use gate::{ActorId, Gate, NoGate};
 pub use many::step_many;
-pub use node::{NodeState, append, begin, most, puts, step, takes};
-pub use rest::kept;
+pub use node::{NodeState, append, begin, max_samples, puts, step, takes};
+pub use node_states::kept;

@@ -4,7 +4,7 @@ ghost use Rattle.std.specs.Prelude.{◌≡◌, ◌+◌, ◌≤◌, ◌<◌, ◌+
 ghost use Rattle.std.specs.Prelude.{vec_len, vec_capacity, IfOk};
 ghost use Rattle.sdf_actor.specs.Nets.{answer_of, cycle_of};
 ghost use Rattle.sdf_actor.specs.Wires.{lists};
-ghost use Rattle.sdf_node.specs.Nodes.{phase_at, takes_of, puts_of, CanStep, CanBegin, IsAt, IsMost};
+ghost use Rattle.sdf_node.specs.Nodes.{phase_at, takes_of, puts_of, CanStep, CanBegin, IsAt, IsMaxSamples};
 
 use sdf_actor::actor::next_phase;
 use sdf_actor::{Actor, Node};
@@ -59,14 +59,14 @@ pub fn puts<A: Actor>(node: &Node<A>, phase: u32) -> usize
 }
 
 /// Returns a number of samples that no firing exceeds, neither by what it takes at all ports nor by what it puts.
-pub fn most<A: Actor>(node: &Node<A>) -> usize
-    ensures { IsMost A.steps node.now result }
+pub fn max_samples<A: Actor>(node: &Node<A>) -> usize
+    ensures { IsMaxSamples A.steps node.now result }
 {
-    let mut most = 0;
+    let mut max_samples = 0;
     for phase in 0..node.cycle() {
-        most = most.max(takes(node, phase)).max(puts(node, phase));
+        max_samples = max_samples.max(takes(node, phase)).max(puts(node, phase));
     }
-    most
+    max_samples
 }
 
 /// Returns the state of a node before its first firing. The list of a sink gets room for `room` samples.

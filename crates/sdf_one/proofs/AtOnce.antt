@@ -1,4 +1,4 @@
--- What a runner holds, before so many firings of a node at once and after them.
+-- What a runner holds, before a batch of firings of a node and after it.
 use Rattle.std.proofs.Common.{◌≡◌, ℕ, zero, suc, ◌+◌, ◌-◌, ◌*◌, ◌≤◌, ◌<◌, List, [], ◌∷◌, ◌++◌, length, get_or, take}
 use Rattle.std.proofs.Common.{drop, cond, eqb, refl, sym, ap, ◌∙◌, subst, inl, inr, ◌⊎◌, arith}
 use Rattle.std.specs.List.{between, flat_map, sum_by}
@@ -23,11 +23,11 @@ use Rattle.sdf_queues.specs.Moves.{FitsPorts}
 use Rattle.sdf_queues.specs.Sizes.{IsPlan, at_phase, in_all, out_all}
 use Rattle.sdf_queues.specs.Lists.{list}
 use Rattle.sdf_one.specs.Firings.{phase_at}
-use Rattle.sdf_one.specs.AtOnce.{GoesAtOnce, fronts, all_made, CanFireAtOnce, AreFired}
+use Rattle.sdf_one.specs.AtOnce.{CanBatch, fronts, all_made, CanFireBatch, AreFired}
 use Rattle.sdf_queues.specs.Periods.{AreApart}
 use Rattle.sdf_actor.proofs.Theorems.{taken_stays}
 use Rattle.sdf_queues.proofs.Theorems.{blocks_are_counted, nodes_take_theirs, plans_fit, sinks_take_all}
-use Rattle.sdf_one.specs.Runs.{IsWork, Stands}
+use Rattle.sdf_one.specs.Runs.{IsWork, IsState}
 use Rattle.sdf_one.proofs.Answered.{source_puts, states, actor_puts}
 use Rattle.sdf_one.proofs.AtOnceWorks as work
 use Rattle.sdf_one.proofs.AtOnceWorks.{all_answers}
@@ -56,7 +56,7 @@ part_within xs ys i many h =
     ∙ take-append-le many (drop i xs) ys (omega (arith, long))))
 
 module _ {A S T Z : Type 0} (g : Holding A S T Z) (d : Work A T S)
-    (goes : GoesAtOnce g.s (get_or g.works g.a d) ((wiring g.s g.n).ins g.a) ((wiring g.s g.n).outs g.a)) where
+    (goes : CanBatch g.s (get_or g.works g.a d) ((wiring g.s g.n).ins g.a) ((wiring g.s g.n).outs g.a)) where
   open g use {s, n, net, inputs, many, k, a, known, works, qs, outputs, st, z}
 
   abbrev ins : List ℕ
@@ -133,7 +133,7 @@ module _ {A S T Z : Type 0} (g : Holding A S T Z) (d : Work A T S)
     -- they can be done
     pub can_fire : (reach : InputsReach n inputs many) →
         ((c : ℕ) → c < length n.wires → tokens (wiring s n).rates m c ≤ room qs c) →
-        CanFireAtOnce s inputs times ins outs takes puts w qs outputs
+        CanFireBatch s inputs times ins outs takes puts w qs outputs
     can_fire reach fits = record {
       ins_are = standing.ports_in g d;
       outs_are = subst (ArePorts outs puts) (sym st.channels) (fits_ports (k a)).outs_are;
@@ -449,7 +449,7 @@ module _ {A S T Z : Type 0} (g : Holding A S T Z) (d : Work A T S)
       each b e l (inr ne) = subst (IsWork s inputs outputs' (many b) (nets.node n b)
           (taken_before (wiring s n) W b (m b))) (sym (p.rest b e ne)) (there b e l ne)
 
-      pub fired_stands : Stands s n inputs many m p.works p.qs outputs'
+      pub fired_stands : IsState s n inputs many m p.works p.qs outputs'
       fired_stands = record {
         history = W;
         is = is;

@@ -1,4 +1,4 @@
--- A node's work, by its sort, over so many firings at once.
+-- A node's work, by its sort, over a batch of firings.
 use Rattle.std.proofs.Common.{◌≡◌, ℕ, zero, suc, ◌+◌, ◌*◌, ◌%◌, ◌≤◌, ◌<◌, List, [], ◌++◌, length, get_or, cond, refl}
 use Rattle.std.proofs.Common.{sym, ap, ◌∙◌, subst, arith}
 use Rattle.std.specs.List.{between, flat_map}
@@ -16,7 +16,7 @@ use Rattle.sdf_one.specs.declared.work.Work.TheVariants.{Source, Sink, Inner}
 use Rattle.sdf_queues.specs.Lists.{list, capacity}
 use Rattle.sdf_queues.specs.Sizes.{in_all, out_all}
 use Rattle.sdf_one.specs.Firings.{added}
-use Rattle.sdf_one.specs.AtOnce.{GoesAtOnce, all_made, HaveWorked, CanWorkAtOnce}
+use Rattle.sdf_one.specs.AtOnce.{CanBatch, all_made, HaveWorked, CanWorkBatch}
 use Rattle.sdf_one.specs.Runs.{IsWork}
 use Rattle.sdf_one.proofs.Parts.{none_of}
 
@@ -39,9 +39,9 @@ all_answers s inputs times (node.Sink ext block) past b = []
 all_answers s inputs times (node.Inner x) past b = puts_to s x (phase s x (length past)) (state_after s x past) b times
 
 module _ {A S T Z : Type 0} (s : Steps A S T) (inputs : List (List T)) (many times : ℕ) where
-  -- a node whose firings can be done at once has one phase
+  -- a node whose firings can be batched has one phase
   pub one_phase : (x : Node A) (past : List (List T)) (w : Work A T S) (outputs : List (Vec T Z)) (ins outs : List ℕ) →
-      IsWork s inputs outputs many x past w → GoesAtOnce s w ins outs → cycle_of s x ≡ 1
+      IsWork s inputs outputs many x past w → CanBatch s w ins outs → cycle_of s x ≡ 1
   one_phase (node.Source ext block) past (Source e next size) outputs ins outs is at = refl
   one_phase (node.Sink ext block) past (Sink e) outputs ins outs is at = refl
   one_phase (node.Inner x) past (Inner actor j state taken put lengths) outputs ins outs is at =
@@ -55,7 +55,7 @@ module _ {A S T Z : Type 0} (s : Steps A S T) (inputs : List (List T)) (many tim
 
   -- it has one channel on each side at most, and not the same on both
   pub few_channels : (x : Node A) (past : List (List T)) (w : Work A T S) (outputs : List (Vec T Z))
-      (ins outs : List ℕ) → IsWork s inputs outputs many x past w → GoesAtOnce s w ins outs →
+      (ins outs : List ℕ) → IsWork s inputs outputs many x past w → CanBatch s w ins outs →
       length ins ≡ inputs_of s x → length outs ≡ outputs_of s x →
       (length ins ≤ 1) × (length outs ≤ 1) × (0 < length ins → 0 < length outs → get_or ins 0 0 ≡ get_or outs 0 0 → ⊥)
   few_channels (node.Source ext block) past (Source e next size) outputs ins outs is at in_is out_is =
@@ -74,7 +74,7 @@ module _ {A S T Z : Type 0} (s : Steps A S T) (inputs : List (List T)) (many tim
   few_channels (node.Inner x) past (Sink e) outputs ins outs is at in_is out_is = absurd is
 
   pub one_in : (x : A) (past : List (List T)) (w : Work A T S) (outputs : List (Vec T Z)) (ins outs : List ℕ) →
-      IsWork s inputs outputs many (node.Inner x) past w → GoesAtOnce s w ins outs → length ins ≡ 1
+      IsWork s inputs outputs many (node.Inner x) past w → CanBatch s w ins outs → length ins ≡ 1
   one_in x past (Inner actor j state taken put lengths) outputs ins outs is at = at.1
   one_in x past (Source e next size) outputs ins outs is at = absurd is
   one_in x past (Sink e) outputs ins outs is at = absurd is
@@ -82,12 +82,12 @@ module _ {A S T Z : Type 0} (s : Steps A S T) (inputs : List (List T)) (many tim
   -- where it has so many firings left, it can do them
   pub can_work : (x : Node A) (past : List (List T)) (w : Work A T S) (outputs : List (Vec T Z)) (ins outs : List ℕ)
       (take put : ℕ) →
-      IsWork s inputs outputs many x past w → GoesAtOnce s w ins outs → length past + times ≤ many →
+      IsWork s inputs outputs many x past w → CanBatch s w ins outs → length past + times ≤ many →
       length ins ≡ inputs_of s x → length outs ≡ outputs_of s x →
       (length ins ≡ 1 → take ≡ times * in_all s x (length past)) →
       (length outs ≡ 1 → put ≡ times * out_all s x (length past)) →
       ((ext block : ℕ) → x ≡ node.Sink ext block → length (flat_map (λ b. b) past) ≡ block * length past) →
-      CanWorkAtOnce s inputs times w ins outs take put outputs
+      CanWorkBatch s inputs times w ins outs take put outputs
   can_work (node.Source ext block) past (Source e next size) outputs ins outs take put is at left in_is out_is
       take_is put_is long =
       let within : block * (length past + times) ≤ block * many = mul-le-mul_left block left in

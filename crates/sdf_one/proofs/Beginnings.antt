@@ -14,7 +14,7 @@ use Rattle.sdf_actor.specs.Steps.{Steps, total_in, total_out, sum_in, sum_out}
 use Rattle.sdf_actor.specs.Nets as nets
 use Rattle.sdf_actor.specs.Nets.{Netlist, wiring, IsNet}
 use Rattle.sdf_queues.proofs.Theorems.{plans_fit}
-use Rattle.sdf_queues.specs.Sizes.{Rows, IsPlan, AreSizes, at_phase, phase_of, in_all, out_all}
+use Rattle.sdf_queues.specs.Sizes.{SizesValue, IsPlan, AreSizes, at_phase, phase_of, in_all, out_all}
 use Rattle.sdf_one.specs.declared.work.Work.TheVariants.{Inner}
 use Rattle.sdf_one.specs.Cycles.{AreRowsAt}
 use Rattle.sdf_one.specs.Runs.{HasBlocks, BeginsWork}
@@ -35,7 +35,7 @@ one_of_sum f (suc many) i l = go (λ less. one_of_sum f many i less) (cases_lt i
     go before (inr last) =
         let same : f i ≡ f many = ap f (let e : i ≡ many = omega arith in e) in omega (arith, same)
 
-module _ {A S T : Type 0} (s : Steps A S T) (n : Netlist A T) (good : IsNet s n) (z : Rows)
+module _ {A S T : Type 0} (s : Steps A S T) (n : Netlist A T) (good : IsNet s n) (z : SizesValue)
     (sizes : AreSizes s n z)
     (a : ℕ) (known : a < length n.nodes) (x : A) (is : nets.node n a ≡ node.Inner x) where
   -- firing j of the first cycle is at phase j

@@ -8,7 +8,7 @@ use Rattle.std.proofs.lemmas.Nat.{mod-mul-add}
 use Rattle.sdf_actor.specs.Steps.{total_out}
 use Rattle.sdf_actor.specs.Histories.{spread}
 use Rattle.sdf_actor.specs.Nets.{wiring}
-use Rattle.sdf_queues.specs.Held.{Held}
+use Rattle.sdf_queues.specs.QueueValue.{QueueValue}
 use Rattle.sdf_queues.specs.Blocks.{samples}
 use Rattle.sdf_queues.specs.Sizes.{at_phase}
 use Rattle.sdf_one.specs.Cycles.{IsInTurn}
@@ -72,7 +72,7 @@ module _ {A S T : Type 0} (its : ActorOf A S T) (times : ℕ) where
   next_put i c l e = sym (ap (put_by c) (sym (add-one i)) ∙ (cycle.plan its i).put c l e)
 
   -- what they take
-  module _ (qs : List (Held T)) (turn_in : IsInTurn ((wiring s n).ins a) z.takes (s.cycle x)) where
+  module _ (qs : List (QueueValue T)) (turn_in : IsInTurn ((wiring s n).ins a) z.takes (s.cycle x)) where
     -- what firing i takes
     abbrev f : ℕ → List T
     f i = flat_map (λ c. take (get_or (takes_at i) c 0) (drop (taken_by c i) (samples qs c))) ins

@@ -11,10 +11,10 @@ use Rattle.sdf_actor.specs.Nets as nets
 use Rattle.sdf_actor.specs.Nets.{Netlist, wire, wiring, IsHistoryOf}
 use Rattle.sdf_one.specs.declared.work.Work.{Work}
 use Rattle.sdf_one.specs.declared.work.Work.TheVariants.{Source, Sink, Inner}
-use Rattle.sdf_queues.specs.Held.{Held}
+use Rattle.sdf_queues.specs.QueueValue.{QueueValue}
 use Rattle.sdf_queues.specs.Blocks.{samples}
 use Rattle.sdf_queues.specs.Lists.{list, capacity}
-use Rattle.sdf_one.specs.Runs.{IsWork, Stands, BeginsWork}
+use Rattle.sdf_one.specs.Runs.{IsWork, IsState, BeginsWork}
 use Rattle.sdf_one.proofs.Readings.{some_of}
 
 module _ {A S T Z : Type 0} (s : Steps A S T) (inputs : List (List T)) (outputs : List (Vec T Z)) (many : ℕ) where
@@ -44,7 +44,7 @@ module _ {A S T Z : Type 0} (s : Steps A S T) (inputs : List (List T)) (outputs 
   sink_list ext block past (Inner actor j state taken put lengths) is = absurd is
 
 module _ {A S T Z : Type 0} (s : Steps A S T) (n : Netlist A T) (wired : IsWired (wiring s n)) (inputs : List (List T))
-    (many k : ℕ → ℕ) (works : List (Work A T S)) (qs : List (Held T)) (outputs : List (Vec T Z)) where
+    (many k : ℕ → ℕ) (works : List (Work A T S)) (qs : List (QueueValue T)) (outputs : List (Vec T Z)) where
   -- before the first firing
   pub begun_stands : ((a : ℕ) → k a ≡ 0) → IsHistoryOf s n inputs k (wiring s n).starts → length qs ≡ length n.wires →
       length works ≡ length n.nodes →
@@ -54,7 +54,7 @@ module _ {A S T Z : Type 0} (s : Steps A S T) (n : Netlist A T) (wired : IsWired
       (ext < length inputs) × (block * many a ≤ length (get_or inputs ext []))) →
       ((a ext block : ℕ) → a < length n.nodes → nets.node n a ≡ node.Sink ext block →
       (ext < length outputs) × (list outputs ext ≡ []) × (block * many a ≤ capacity outputs ext)) →
-      Stands s n inputs many k works qs outputs
+      IsState s n inputs many k works qs outputs
   begun_stands none begun channels nodes queues works_begin reads makes = record {
     history = (wiring s n).starts;
     is = begun;
@@ -73,7 +73,7 @@ module _ {A S T Z : Type 0} (s : Steps A S T) (n : Netlist A T) (wired : IsWired
   }
 
   -- after the last firing the list of each sink is what it took
-  pub all_taken : (st : Stands s n inputs many k works qs outputs) → (a e block : ℕ) → a < length n.nodes →
+  pub all_taken : (st : IsState s n inputs many k works qs outputs) → (a e block : ℕ) → a < length n.nodes →
       nets.node n a ≡ node.Sink e block →
       list outputs e ≡ flat_map (λ (b : List T). b) (taken_before (wiring s n) st.history a (k a))
   all_taken st a e block l is =

@@ -13,13 +13,13 @@ use Rattle.sdf_actor.specs.Steps.{Steps}
 use Rattle.sdf_actor.specs.Histories.{spread}
 use Rattle.sdf_one.specs.declared.work.Work.{Work}
 use Rattle.sdf_one.specs.declared.work.Work.TheVariants.{Inner}
-use Rattle.sdf_queues.specs.Held.{Held}
+use Rattle.sdf_queues.specs.QueueValue.{QueueValue}
 use Rattle.sdf_queues.specs.Blocks.{samples, room, at_ports, HoldBlocks, front}
 use Rattle.sdf_queues.specs.Lists.{list, capacity}
 use Rattle.sdf_one.specs.Firings.{IsFired}
 
 -- a block at the front has its length
-pub length_front : {T : Type 0} (takes ins : List ℕ) (qs : List (Held T)) → HoldBlocks ins takes qs →
+pub length_front : {T : Type 0} (takes ins : List ℕ) (qs : List (QueueValue T)) → HoldBlocks ins takes qs →
     length (front takes ins qs) ≡ sum_by (λ c. get_or takes c 0) ins
 length_front takes [] qs held = refl
 length_front takes (c ∷ cs) qs held =
@@ -85,9 +85,9 @@ capacity_set {T} {Z} outputs ext v d within is e l = go (cases_eq ext e)
         (get_or-set_other outputs ext e v d (λ s. ne (sym s))) ∙ sym was)
 
 -- an actor's: its block is taken, and then its block is put
-pub fired_inner : {A S T : Type 0} (s : Steps A S T) (ins outs takes puts : List ℕ) (qs qs' : List (Held T))
+pub fired_inner : {A S T : Type 0} (s : Steps A S T) (ins outs takes puts : List ℕ) (qs qs' : List (QueueValue T))
     (w : Work A T S) (actor : Bor A) (phase phase' : ℕ) (state state' : S) (taken put taken' put' : Vec T Global)
-    (lengths : Vec ℕ Global) (mid : List (Held T)) →
+    (lengths : Vec ℕ Global) (mid : List (QueueValue T)) →
     w ≡ Inner actor phase state taken put lengths →
     phase' ≡ (phase + 1) % s.cycle actor.now →
     state' ≡ s.next actor.now phase state (front takes ins qs) → vec_capacity taken' ≡ vec_capacity taken →

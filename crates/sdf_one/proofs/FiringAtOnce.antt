@@ -1,4 +1,4 @@
--- What so many firings of a node at once do, of what its queues do.
+-- What a batch of firings of a node does, of what its queues do.
 use Rattle.std.proofs.Common.{◌≡◌, ℕ, ◌+◌, ◌-◌, ◌*◌, ◌≤◌, ◌<◌, List, [], ◌++◌, length, get_or, set, take, drop, cond}
 use Rattle.std.proofs.Common.{eqb, refl, sym, ap, ◌∙◌, subst, arith, vec_capacity}
 use Rattle.std.specs.List.{between, flat_map}
@@ -11,16 +11,17 @@ use Rattle.sdf_actor.specs.Steps.{Steps, state_at, puts_to}
 use Rattle.sdf_actor.specs.Histories.{spread}
 use Rattle.sdf_one.specs.declared.work.Work.{Work}
 use Rattle.sdf_one.specs.declared.work.Work.TheVariants.{Source, Sink, Inner}
-use Rattle.sdf_queues.specs.Held.{Held}
+use Rattle.sdf_queues.specs.QueueValue.{QueueValue}
 use Rattle.sdf_queues.specs.Blocks.{nothing, samples, room, at_ports, ArePorts}
 use Rattle.sdf_queues.specs.Lists.{list}
-use Rattle.sdf_one.specs.AtOnce.{fronts, CanFireAtOnce, AreFired}
+use Rattle.sdf_one.specs.AtOnce.{fronts, CanFireBatch, AreFired}
 use Rattle.sdf_one.proofs.Firing.{list_set, capacity_set}
 use Rattle.sdf_one.proofs.Parts.{one_of}
 use Rattle.sdf_one.proofs.Passing.{put_one, take_one, room_one, passed}
 
 -- at one port
-fronts_one : {T : Type 0} (times : ℕ) (takes ins : List ℕ) (qs : List (Held T)) (x : Held T) → length ins ≡ 1 →
+fronts_one : {T : Type 0} (times : ℕ) (takes ins : List ℕ) (qs : List (QueueValue T)) (x : QueueValue T) →
+    length ins ≡ 1 →
     get_or ins 0 0 < length qs →
     fronts times takes ins qs ≡ take (times * get_or takes (get_or ins 0 0) 0) (get_or qs (get_or ins 0 0) x).samples
 fronts_one times takes ins qs x one known =
@@ -37,7 +38,8 @@ dealt_one times puts outs block c one long =
     ap (λ ys. cond (eqb (get_or outs 0 0) c) ys []) (take_all (times * get_or puts (get_or outs 0 0) 0) block long)
 
 -- from one queue into another
-pub through : {T : Type 0} (qs : List (Held T)) (times : ℕ) (ins outs takes puts : List ℕ) (q y e xf xt : Held T)
+pub through : {T : Type 0} (qs : List (QueueValue T)) (times : ℕ) (ins outs takes puts : List ℕ)
+    (q y e xf xt : QueueValue T)
     (block : List T) → ArePorts ins takes (length qs) → ArePorts outs puts (length qs) →
     length ins ≡ 1 → length outs ≡ 1 → (get_or ins 0 0 ≡ get_or outs 0 0 → ⊥) →
     q.samples ≡ drop (times * get_or takes (get_or ins 0 0) 0) (get_or qs (get_or ins 0 0) xf).samples →
@@ -52,24 +54,24 @@ through qs times ins outs takes puts q y e xf xt block ins_are outs_are one_in o
     (λ i. drop (sym (ap (λ ds. at_ports ds (times * get_or takes c 0) c) (one_of ins one_in)) i) (samples qs c)
     ++ sym (dealt_one times puts outs block c one_out (omega (arith, long))) i)
 
-pub taken_through : {T : Type 0} (qs : List (Held T)) (times : ℕ) (ins takes : List ℕ) (x : Held T) →
+pub taken_through : {T : Type 0} (qs : List (QueueValue T)) (times : ℕ) (ins takes : List ℕ) (x : QueueValue T) →
     ArePorts ins takes (length qs) → length ins ≡ 1 →
     take (times * get_or takes (get_or ins 0 0) 0) (get_or qs (get_or ins 0 0) x).samples ≡ fronts times takes ins qs
 taken_through qs times ins takes x ins_are one_in =
     sym (fronts_one times takes ins qs x one_in (ins_are.known 0 (omega (arith, one_in))))
 
 module _ {A S T Z : Type 0} (s : Steps A S T) (inputs : List (List T)) (times : ℕ) (ins outs takes puts : List ℕ)
-    (qs : List (Held T)) (outputs : List (Vec T Z)) where
+    (qs : List (QueueValue T)) (outputs : List (Vec T Z)) where
   -- a source's
-  pub fired_source : (w : Work A T S) (ext next block : ℕ) (q x : Held T) → w ≡ Source ext next block →
-      CanFireAtOnce s inputs times ins outs takes puts w qs outputs →
+  pub fired_source : (w : Work A T S) (ext next block : ℕ) (q x : QueueValue T) → w ≡ Source ext next block →
+      CanFireBatch s inputs times ins outs takes puts w qs outputs →
       q.samples ≡ (get_or qs (get_or outs 0 0) x).samples
       ++ between next (next + block * times) (get_or inputs ext []) →
       q.room ≡ (get_or qs (get_or outs 0 0) x).room →
       AreFired s inputs times ins outs takes puts w (Source ext (next + block * times) block) qs
       (set qs (get_or outs 0 0) q) outputs outputs
   fired_source w ext next block q x is can put keeps =
-      subst (λ w. CanFireAtOnce s inputs times ins outs takes puts w qs outputs →
+      subst (λ w. CanFireBatch s inputs times ins outs takes puts w qs outputs →
       AreFired s inputs times ins outs takes puts w (Source ext (next + block * times) block) qs
       (set qs (get_or outs 0 0) q) outputs outputs) (sym is)
       (λ can.
@@ -88,8 +90,8 @@ module _ {A S T Z : Type 0} (s : Steps A S T) (inputs : List (List T)) (times : 
       }) can
 
   -- a sink's
-  pub fired_sink : (w : Work A T S) (ext : ℕ) (v d : Vec T Z) (q x : Held T) → w ≡ Sink ext →
-      CanFireAtOnce s inputs times ins outs takes puts w qs outputs →
+  pub fired_sink : (w : Work A T S) (ext : ℕ) (v d : Vec T Z) (q x : QueueValue T) → w ≡ Sink ext →
+      CanFireBatch s inputs times ins outs takes puts w qs outputs →
       v.items ≡ (get_or outputs ext d).items ++ take (times * get_or takes (get_or ins 0 0) 0)
       (get_or qs (get_or ins 0 0) x).samples → vec_capacity v ≡ vec_capacity (get_or outputs ext d) →
       q.samples ≡ drop (times * get_or takes (get_or ins 0 0) 0) (get_or qs (get_or ins 0 0) x).samples →
@@ -97,7 +99,7 @@ module _ {A S T Z : Type 0} (s : Steps A S T) (inputs : List (List T)) (times : 
       AreFired s inputs times ins outs takes puts w (Sink ext) qs (set qs (get_or ins 0 0) q) outputs
       (set outputs ext v)
   fired_sink w ext v d q x is can items cap taken keeps =
-      subst (λ w. CanFireAtOnce s inputs times ins outs takes puts w qs outputs →
+      subst (λ w. CanFireBatch s inputs times ins outs takes puts w qs outputs →
       AreFired s inputs times ins outs takes puts w (Sink ext) qs (set qs (get_or ins 0 0) q) outputs
       (set outputs ext v)) (sym is)
       (λ can.
@@ -119,7 +121,7 @@ module _ {A S T Z : Type 0} (s : Steps A S T) (inputs : List (List T)) (times : 
 
   -- an actor's
   pub fired_actor : (w : Work A T S) (actor : Bor A) (phase : ℕ) (state state' : S) (taken put : Vec T Global)
-      (lengths : Vec ℕ Global) (qs' : List (Held T)) → w ≡ Inner actor phase state taken put lengths →
+      (lengths : Vec ℕ Global) (qs' : List (QueueValue T)) → w ≡ Inner actor phase state taken put lengths →
       state' ≡ state_at s actor.now phase state (fronts times takes ins qs) times →
       ((c : ℕ) → c < length qs → samples qs' c ≡ drop (at_ports ins (times * get_or takes c 0) c) (samples qs c)
       ++ spread (λ d. times * get_or puts d 0) outs

@@ -9,14 +9,15 @@ use Rattle.sdf_actor.specs.Steps.{Steps, state_at, puts_to}
 use Rattle.sdf_node.specs.Many.{joined}
 use Rattle.sdf_one.specs.declared.work.Work.{Work}
 use Rattle.sdf_one.specs.declared.work.Work.TheVariants.{Inner}
-use Rattle.sdf_queues.specs.Held.{Held}
+use Rattle.sdf_queues.specs.QueueValue.{QueueValue}
 use Rattle.sdf_queues.specs.Blocks.{samples, room, at_ports, front_at, dealt}
 use Rattle.sdf_one.specs.Many.{AreManyFired}
 
 -- their blocks are taken, and then their blocks are put
 pub many_fired_inner : {A S T : Type 0} (s : Steps A S T) (times : ℕ) (ins outs takes puts : List ℕ)
-    (qs qs' : List (Held T)) (w : Work A T S) (actor : Bor A) (phase : ℕ) (state state' : S)
-    (taken put taken' put' : Vec T Global) (lengths : Vec ℕ Global) (mid : List (Held T)) (b p : List T) (more : ℕ) →
+    (qs qs' : List (QueueValue T)) (w : Work A T S) (actor : Bor A) (phase : ℕ) (state state' : S)
+    (taken put taken' put' : Vec T Global) (lengths : Vec ℕ Global) (mid : List (QueueValue T))
+    (b p : List T) (more : ℕ) →
     w ≡ Inner actor phase state taken put lengths → b ≡ joined (front_at takes ins qs) times →
     state' ≡ state_at s actor.now phase state b (times * s.cycle actor.now) →
     p ≡ puts_to s actor.now phase state b (times * s.cycle actor.now) →

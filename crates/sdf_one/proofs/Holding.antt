@@ -5,14 +5,14 @@ use Rattle.sdf_actor.specs.declared.node.Node.TheVariants.{Inner}
 use Rattle.sdf_actor.specs.Steps.{Steps, PutsFit}
 use Rattle.sdf_actor.specs.Histories.{taken_before}
 use Rattle.sdf_actor.specs.Nets.{Netlist, node, wiring, cycle_of}
-use Rattle.sdf_queues.specs.Held.{Held}
+use Rattle.sdf_queues.specs.QueueValue.{QueueValue}
 use Rattle.sdf_queues.specs.Blocks.{HoldManyBlocks}
-use Rattle.sdf_queues.specs.Sizes.{Rows, AreSizes}
+use Rattle.sdf_queues.specs.Sizes.{SizesValue, AreSizes}
 use Rattle.sdf_one.specs.declared.cycles.Cycles.{Cycles}
 use Rattle.sdf_one.specs.declared.work.Work.{Work}
 use Rattle.sdf_one.specs.Cycles.{AreCycles}
-use Rattle.sdf_one.specs.Many.{GoesByMany}
-use Rattle.sdf_one.specs.Runs.{IsWork, Stands}
+use Rattle.sdf_one.specs.Many.{CanBatchCycles}
+use Rattle.sdf_one.specs.Runs.{IsWork, IsState}
 use Rattle.sdf_one.proofs.Known.{Known}
 
 -- a net, with the sizes of each firing and of each cycle
@@ -20,7 +20,7 @@ pub record Sized (A S T : Type 0) : Type 0 where
   pub s : Steps A S T
   pub n : Netlist A T
   pub net : Known s n
-  pub z : Rows
+  pub z : SizesValue
   pub sizes : AreSizes s n z
   pub y : Cycles
   pub cycles : AreCycles s n y
@@ -44,9 +44,9 @@ pub record Holding (A S T Z : Type 0) : Type 0 where
   pub many : ℕ → ℕ
   pub k : ℕ → ℕ
   pub works : List (Work A T S)
-  pub qs : List (Held T)
+  pub qs : List (QueueValue T)
   pub outputs : List (Vec T Z)
-  pub st : Stands s n inputs many k works qs outputs
+  pub st : IsState s n inputs many k works qs outputs
 
 -- node b there has this work
 abbrev pub HasWork : {A S T Z : Type 0} → Holding A S T Z → ℕ → Work A T S → Type 0
@@ -68,7 +68,7 @@ pub record Ahead {A S T Z : Type 0} (g : Holding A S T Z) (times : ℕ) : Type 0
 pub record Cycling {A S T Z : Type 0} (g : Holding A S T Z) : Type 0 where
   pub fits : (x : A) → PutsFit g.s x
   pub goes : (d : Work A T S) →
-      GoesByMany g.s g.z (get_or g.works g.a d) ((wiring g.s g.n).ins g.a) ((wiring g.s g.n).outs g.a)
+      CanBatchCycles g.s g.z (get_or g.works g.a d) ((wiring g.s g.n).ins g.a) ((wiring g.s g.n).outs g.a)
   pub times : ℕ
   pub ahead : Ahead g (times * cycle_of g.s (node g.n g.a))
   pub held : HoldManyBlocks times ((wiring g.s g.n).ins g.a) g.y.takes.items g.qs
@@ -80,5 +80,5 @@ pub record After {A S T Z : Type 0} (g : Holding A S T Z) : Type 0 where
   pub w : Work A T S
   pub its : (d : Work A T S) → get_or works g.a d ≡ w
   pub rest : (b : ℕ) (d : Work A T S) → (g.a ≡ b → ⊥) → get_or works b d ≡ get_or g.works b d
-  pub qs : List (Held T)
+  pub qs : List (QueueValue T)
   pub same_queues : length qs ≡ length g.qs

@@ -6,19 +6,19 @@ use Rattle.std.specs.declared.vec.Vec.{Vec}
 use Rattle.std.proofs.lemmas.List.{get_or-map, length-map}
 use Rattle.sdf_actor.specs.declared.node.Node.{Node}
 use Rattle.sdf_actor.specs.declared.node.Node.TheVariants as node
-use Rattle.sdf_actor.specs.declared.rest.NetState.{NetState}
+use Rattle.sdf_actor.specs.declared.net_state.NetState.{NetState}
 use Rattle.sdf_actor.specs.Histories.{taken_before}
 use Rattle.sdf_actor.specs.Nets as nets
 use Rattle.sdf_actor.specs.Nets.{Netlist, wiring}
-use Rattle.sdf_actor.specs.Rests.{state_left, Leaves}
+use Rattle.sdf_actor.specs.NetStates.{state_left, Leaves}
 use Rattle.sdf_actor.specs.Steps.{Steps}
 use Rattle.sdf_actor.specs.Wires.{lists}
 use Rattle.sdf_queues.specs.Blocks.{nothing}
-use Rattle.sdf_queues.specs.Held.{Held}
+use Rattle.sdf_queues.specs.QueueValue.{QueueValue}
 use Rattle.sdf_one.specs.declared.work.Work.{Work}
 use Rattle.sdf_one.specs.declared.work.Work.TheVariants.{Source, Sink, Inner}
 use Rattle.sdf_one.specs.Fired.{state_in}
-use Rattle.sdf_one.specs.Runs.{IsWork, Stands}
+use Rattle.sdf_one.specs.Runs.{IsWork, IsState}
 
 -- a node at work is in the state that all that it took leaves it in
 state_is : {A S T Z : Type 0} (s : Steps A S T) (inputs : List (List T)) (outputs : List (Vec T Z)) (many : ℕ)
@@ -43,8 +43,9 @@ made_at f P Q one (x ∷ xs) zero l each = one x (each x)
 made_at f P Q one (x ∷ xs) (suc i) l each = made_at f P Q one xs i (omega arith) each
 
 pub leaves : {A S T Z : Type 0} (s : Steps A S T) (n : Netlist A T) (inputs : List (List T)) (many k : ℕ → ℕ)
-    (works : List (Work A T S)) (qs : List (Held T)) (outputs : List (Vec T Z)) →
-    (stands : Stands s n inputs many k works qs outputs) (rest : NetState T S) → rest.states.items ≡ map state_in works →
+    (works : List (Work A T S)) (qs : List (QueueValue T)) (outputs : List (Vec T Z)) →
+    (stands : IsState s n inputs many k works qs outputs) (rest : NetState T S) →
+    rest.states.items ≡ map state_in works →
     lists rest.held.items ≡ map (λ q. q.samples) qs →
     Leaves s n k stands.history rest
 leaves {A} {S} {T} s n inputs many k works qs outputs stands rest states held = record {
@@ -57,8 +58,9 @@ leaves {A} {S} {T} s n inputs many k works qs outputs stands rest states held = 
       (λ w. state_is s inputs outputs (many a) (nets.node n a) (taken_before (wiring s n) stands.history a (k a)) w)
       works a (omega (arith, stands.nodes, l)) (λ d. stands.each a d l);
   channels = sym (length-map rest.held.items (λ v. v.items))
-      ∙ (ap length held ∙ (length-map qs (λ (q : Held T). q.samples) ∙ stands.channels));
+      ∙ (ap length held ∙ (length-map qs (λ (q : QueueValue T). q.samples) ∙ stands.channels));
   held = λ c l.
       ap (λ v. get_or v c []) held ∙
-      (get_or-map (λ (q : Held T). q.samples) qs c nothing [] (omega (arith, stands.channels, l)) ∙ stands.left c l);
+      (get_or-map (λ (q : QueueValue T). q.samples) qs c nothing [] (omega (arith, stands.channels, l))
+      ∙ stands.left c l);
 }

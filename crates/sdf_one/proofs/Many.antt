@@ -22,15 +22,15 @@ use Rattle.sdf_actor.specs.Nets.{wiring, cycle_of, InputsReach}
 use Rattle.sdf_actor.specs.Laws.{HistoryGrowsByFiring}
 use Rattle.sdf_one.specs.declared.work.Work.{Work}
 use Rattle.sdf_one.specs.declared.work.Work.TheVariants.{Source, Sink, Inner}
-use Rattle.sdf_queues.specs.Held.{Held}
+use Rattle.sdf_queues.specs.QueueValue.{QueueValue}
 use Rattle.sdf_queues.specs.Blocks.{nothing, samples, room, at_ports, front}
-use Rattle.sdf_queues.specs.Sizes.{Rows, IsPlan, at_phase}
+use Rattle.sdf_queues.specs.Sizes.{SizesValue, IsPlan, at_phase}
 use Rattle.sdf_one.specs.Firings.{made, phase_at, IsActor, IsFired}
 use Rattle.sdf_node.specs.Many.{joined}
 use Rattle.sdf_queues.specs.Blocks.{front_at, dealt}
 use Rattle.sdf_queues.proofs.Theorems.{blocks_are_counted, nodes_take_theirs}
-use Rattle.sdf_one.specs.Many.{GoesByMany, FitsCycles, CanFireMany, AreManyFired}
-use Rattle.sdf_one.specs.Runs.{HasBlocks, Stands}
+use Rattle.sdf_one.specs.Many.{CanBatchCycles, FitsCycles, CanFireMany, AreManyFired}
+use Rattle.sdf_one.specs.Runs.{HasBlocks, IsState}
 use Rattle.sdf_one.proofs.CycleBlocks as blocks
 use Rattle.sdf_one.proofs.ManyWorks.{inner_work, worked_same, its_blocks, stands_along, puts_chained, taken_at}
 use Rattle.sdf_one.proofs.ManyWorks.{parts_long}
@@ -52,8 +52,8 @@ record Begins {A S T : Type 0} (w : Work A T S) : Type 0 where
   lengths : Vec ℕ Global
   is : w ≡ Inner actor 0 state taken put lengths
 
-begins_where : {A S T : Type 0} (s : Steps A S T) (z : Rows) (ins outs : List ℕ) (w : Work A T S) →
-    GoesByMany s z w ins outs → Begins w
+begins_where : {A S T : Type 0} (s : Steps A S T) (z : SizesValue) (ins outs : List ℕ) (w : Work A T S) →
+    CanBatchCycles s z w ins outs → Begins w
 begins_where s z ins outs (Inner actor j state taken put lengths) goes = record {
   actor = actor;
   state = state;
@@ -109,8 +109,8 @@ module _ {A S T Z : Type 0} (g : Holding A S T Z) (cycling : Cycling g) (d : Wor
   abbrev w0 : Work A T S
   w0 = Inner actor 0 state taken' put' lengths
 
-  goes : GoesByMany s z w0 ins outs
-  goes = subst (λ w. GoesByMany s z w ins outs) begins_so.is (cycling.goes d)
+  goes : CanBatchCycles s z w0 ins outs
+  goes = subst (λ w. CanBatchCycles s z w ins outs) begins_so.is (cycling.goes d)
 
   apart : (p q : ℕ) → p < length ins → q < length outs → get_or ins p 0 ≡ get_or outs q 0 → ⊥
   apart = goes.1
@@ -286,7 +286,7 @@ module _ {A S T Z : Type 0} (g : Holding A S T Z) (cycling : Cycling g) (d : Wor
   abbrev made_by : ℕ → ℕ → List T
   made_by i c = joined (λ e. spread (λ d. get_or (puts_at e) d 0) outs (piece e) c) i
 
-  abbrev q : ℕ → List (Held T)
+  abbrev q : ℕ → List (QueueValue T)
   q i = map (λ c. record { samples = cut i c ++ made_by i c; room = room qs c }) (range_with_len 0 (length qs))
 
   q_long : (i : ℕ) → length (q i) ≡ length qs
@@ -301,7 +301,7 @@ module _ {A S T Z : Type 0} (g : Holding A S T Z) (cycling : Cycling g) (d : Wor
       0 (length qs) c c nothing l (omega arith)
 
   q_samples : (i c : ℕ) → c < length qs → samples (q i) c ≡ cut i c ++ made_by i c
-  q_samples i c l = ap (λ (h : Held T). h.samples) (q_at i c l)
+  q_samples i c l = ap (λ (h : QueueValue T). h.samples) (q_at i c l)
 
   -- firing i finds what it takes
   part_held : (i p : ℕ) → i < firings → p < length ins →
@@ -420,10 +420,10 @@ module _ {A S T Z : Type 0} (g : Holding A S T Z) (cycling : Cycling g) (d : Wor
   piece_is i l = λ e. s.puts actor.now (phase_is i e) (state_i i) ((block_is i l ∙ sym (front_is i l)) e)
 
   -- a runner after i of them
-  abbrev after : (i : ℕ) → Stands s n inputs many (kk i) (set works a (w i)) (q i) outputs → Holding A S T Z
+  abbrev after : (i : ℕ) → IsState s n inputs many (kk i) (set works a (w i)) (q i) outputs → Holding A S T Z
   after i at = record g { k = kk i; works = set works a (w i); qs = q i; st = at }
 
-  module _ (i : ℕ) (l : i < firings) (at : Stands s n inputs many (kk i) (set works a (w i)) (q i) outputs) where
+  module _ (i : ℕ) (l : i < firings) (at : IsState s n inputs many (kk i) (set works a (w i)) (q i) outputs) where
     abbrev past : List (List T)
     past = taken_before (wiring s n) at.history a (kk i a)
 
@@ -482,7 +482,7 @@ module _ {A S T Z : Type 0} (g : Holding A S T Z) (cycling : Cycling g) (d : Wor
           ++ spread (λ d. get_or (puts_at i) d 0) outs (made s (w i) (front (takes_at i) ins (q i))) c)
           (sym (q_samples i c g))));
       rooms = λ c h. let g : c < length qs = omega (arith, h, q_long i) in
-          ap (λ (x : Held T). x.room) (q_at (suc i) c g) ∙ sym (ap (λ (x : Held T). x.room) (q_at i c g));
+          ap (λ (x : QueueValue T). x.room) (q_at (suc i) c g) ∙ sym (ap (λ (x : QueueValue T). x.room) (q_at i c g));
     }
 
     enabled : IsEnabled (wiring s n).rates (kk i) a
@@ -503,7 +503,7 @@ module _ {A S T Z : Type 0} (g : Holding A S T Z) (cycling : Cycling g) (d : Wor
     up b h (inr ne) = omega (arith, kk_other (suc i) b ne, others b ne, below b h)
 
     next_stands : HistoryGrowsByFiring s → InputsReach n inputs many →
-        Stands s n inputs many (kk (suc i)) (set works a (w (suc i))) (q (suc i)) outputs
+        IsState s n inputs many (kk (suc i)) (set works a (w (suc i))) (q (suc i)) outputs
     next_stands grows reach =
         standing.fired_stands (after i at) w0 (record {
           m = kk (suc i);
@@ -523,7 +523,7 @@ module _ {A S T Z : Type 0} (g : Holding A S T Z) (cycling : Cycling g) (d : Wor
         (q i) (q (suc i))) (sym (its i w0)) fired_one)
 
   abbrev Stood : ℕ → Type 0
-  Stood i = Stands s n inputs many (kk i) (set works a (w i)) (q i) outputs
+  Stood i = IsState s n inputs many (kk i) (set works a (w i)) (q i) outputs
       × ((e : ℕ) → e < i → length (piece e) ≡ total_out s actor.now (e % turns))
 
   begun : Stood 0
@@ -578,7 +578,7 @@ module _ {A S T Z : Type 0} (g : Holding A S T Z) (cycling : Cycling g) (d : Wor
   -- and what they leave stands at the counts after them
   pub stands_many : HistoryGrowsByFiring s → InputsReach n inputs many → (p : After g) →
       AreManyFired s times ins outs takes puts (get_or works a d) p.w qs p.qs →
-      Stands s n inputs many m p.works p.qs outputs
+      IsState s n inputs many m p.works p.qs outputs
   stands_many grows reach p all_fired =
       let at = chain grows reach firings (omega arith) in
       stands_along (after firings at.0) (λ e b. count b (cases_eq a b) e)
@@ -599,7 +599,7 @@ module _ {A S T Z : Type 0} (g : Holding A S T Z) (cycling : Cycling g) (d : Wor
       ends : firings % turns ≡ 0
       ends = cycle.begins its_actor times
 
-      each : (at : Stands s n inputs many (kk firings) (set works a (w firings)) (q firings) outputs) (b : ℕ)
+      each : (at : IsState s n inputs many (kk firings) (set works a (w firings)) (q firings) outputs) (b : ℕ)
           (d : Work A T S) → HasWork (after firings at) b (get_or (set works a (w firings)) b d) →
           (a ≡ b) ⊎ (a ≡ b → ⊥) → HasWork (after firings at) b (get_or p.works b d)
       each at b d x (inl e) =

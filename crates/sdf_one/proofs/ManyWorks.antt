@@ -18,11 +18,11 @@ use Rattle.sdf_actor.specs.Nets as nets
 use Rattle.sdf_actor.specs.Nets.{wiring}
 use Rattle.sdf_one.specs.declared.work.Work.{Work}
 use Rattle.sdf_one.specs.declared.work.Work.TheVariants.{Source, Sink, Inner}
-use Rattle.sdf_queues.specs.Held.{Held}
+use Rattle.sdf_queues.specs.QueueValue.{QueueValue}
 use Rattle.sdf_queues.specs.Blocks.{samples}
 use Rattle.sdf_node.specs.Many.{joined}
 use Rattle.sdf_one.specs.Many.{HasRows, FitsCycles, HaveManyWorked}
-use Rattle.sdf_one.specs.Runs.{HasBlocks, IsWork, Stands}
+use Rattle.sdf_one.specs.Runs.{HasBlocks, IsWork, IsState}
 use Rattle.sdf_one.proofs.WholeCycles as cycle
 use Rattle.sdf_one.proofs.Holding.{Holding, HasWork, actor_of}
 
@@ -120,14 +120,14 @@ module _ {A S T Z : Type 0} (g : Holding A S T Z) where
       (cycle.rows_in its, cycle.rows_out its)
 
   -- a run stands where what it holds is the same
-  pub stands_along : {m : ℕ → ℕ} {works' : List (Work A T S)} {qs' : List (Held T)} → k ≡ m →
+  pub stands_along : {m : ℕ → ℕ} {works' : List (Work A T S)} {qs' : List (QueueValue T)} → k ≡ m →
       length works' ≡ length works → length qs' ≡ length qs →
       ((c : ℕ) → c < length n.wires → samples qs' c ≡ samples qs c) →
       ((b : ℕ) (d : Work A T S) → b < length n.nodes → HasWork g b (get_or works b d) →
       HasWork g b (get_or works' b d)) →
-      Stands s n inputs many m works' qs' outputs
+      IsState s n inputs many m works' qs' outputs
   stands_along {m} {works'} {qs'} same same_works same_queues left each =
-      subst (λ j. Stands s n inputs many j works' qs' outputs) same
+      subst (λ j. IsState s n inputs many j works' qs' outputs) same
       (record {
         history = st.history;
         is = st.is;

@@ -18,7 +18,7 @@ use Rattle.sdf_queues.specs.Sizes.{IsPlan, at_phase, phase_of, in_all, out_all}
 use Rattle.sdf_queues.proofs.Theorems.{blocks_are_counted, blocks_stand, firings_move_on, nodes_take_theirs, plans_fit}
 use Rattle.sdf_queues.proofs.Theorems.{sinks_take_all}
 use Rattle.sdf_one.specs.Firings.{made, phase_at, IsActor, ActorCanFire, IsFired}
-use Rattle.sdf_one.specs.Runs.{IsWork, Stands}
+use Rattle.sdf_one.specs.Runs.{IsWork, IsState}
 use Rattle.sdf_one.proofs.Known.{ins_all, into_sink}
 use Rattle.sdf_one.proofs.Holding.{Holding, Ahead, After}
 use Rattle.sdf_one.proofs.Longer.{reaches}
@@ -247,7 +247,7 @@ module _ {A S T Z : Type 0} (g : Holding A S T Z) (d : Work A T S) where
       each b e l (inr ne) = subst (IsWork s inputs outputs (many b) (nets.node n b)
           (taken_before (wiring s n) W b (m b))) (sym (p.rest b e ne)) (there b e l ne)
 
-      pub fired_stands : Stands s n inputs many m p.works p.qs outputs
+      pub fired_stands : IsState s n inputs many m p.works p.qs outputs
       fired_stands = record {
         history = W;
         is = moved.is;

@@ -20,14 +20,15 @@ use Rattle.sdf_actor.specs.Laws.{HistoryGrowsByFiring}
 use Rattle.sdf_actor.proofs.Theorems.{nets_are_wired}
 use Rattle.sdf_one.specs.declared.work.Work.{Work}
 use Rattle.sdf_one.specs.declared.run.Run.{Run}
-use Rattle.sdf_queues.specs.Held.{Held}
+use Rattle.sdf_queues.specs.QueueValue.{QueueValue}
 use Rattle.sdf_queues.specs.Blocks.{room, ArePorts, HoldBlocks, HoldManyBlocks}
 use Rattle.sdf_queues.specs.Sizes.{phase_of, at_phase}
 use Rattle.sdf_one.specs.Firings.{phase_at, IsActor}
-use Rattle.sdf_one.specs.AtOnce.{GoesAtOnce, CanFireAtOnceAt, AreFiredAt}
-use Rattle.sdf_one.specs.Many.{HasRows, GoesByMany, FitsCycles, GoManyAt, CanFireManyAt, AreManyFiredAt, firings_in}
-use Rattle.sdf_one.specs.Runs.{Stands, IsInRun, FiresAlone, CanFireAt, IsFiredAt}
-use Rattle.sdf_queues.specs.Answer.{periods_of}
+use Rattle.sdf_one.specs.AtOnce.{CanBatch, CanFireBatchAt, AreFiredAt}
+use Rattle.sdf_one.specs.Many.{HasRows, CanBatchCycles, FitsCycles, CanBatchCyclesAt, CanFireManyAt, AreManyFiredAt}
+use Rattle.sdf_one.specs.Many.{firings_in}
+use Rattle.sdf_one.specs.Runs.{IsState, IsInRun, FiresAlone, CanFireAt, IsFiredAt}
+use Rattle.sdf_queues.specs.RunResults.{periods_of}
 use Rattle.sdf_one.specs.Sweeps.{Sweeps, IsSwept, MayFire, HasRoom, Keeps, IsMoved, AreHeld}
 use Rattle.sdf_one.proofs.Readings.{some_of}
 use Rattle.sdf_one.proofs.AtOnce as at_once
@@ -115,7 +116,8 @@ net_known : {A S T : Type 0} (s : Steps A S T) (r : Run A T S) → IsSwept s r �
 net_known s r sw = record { good = sw.good; wired = nets_are_wired s r.net.now sw.good }
 
 -- at the same ports and queues
-pub holds_along : {T : Type 0} (ins ins' sizes sizes' : List ℕ) (qs qs' : List (Held T)) → ins ≡ ins' → sizes ≡ sizes' →
+pub holds_along : {T : Type 0} (ins ins' sizes sizes' : List ℕ) (qs qs' : List (QueueValue T)) → ins ≡ ins' →
+    sizes ≡ sizes' →
     qs ≡ qs' → HoldBlocks ins sizes qs → HoldBlocks ins' sizes' qs'
 holds_along ins ins' sizes sizes' qs qs' i s q h =
     subst (λ x. HoldBlocks x sizes' qs') i (subst (λ x. HoldBlocks ins x qs') s
@@ -269,7 +271,7 @@ module _ {A S T : Type 0} (p : Swept A S T) (times : ℕ)
   -- where the runner stands at the counts after them, it is swept
   module _ (r' : Run A T S) (alone : FiresAlone r r' a times)
       (kept_rooms : (c : ℕ) → c < length r.queues.items → room r'.queues.items c ≡ room r.queues.items c)
-      (stands : Stands s r.net.now (lists r.inputs.now) (periods_of r.repetitions.now r.periods) after r'.works.items
+      (stands : IsState s r.net.now (lists r.inputs.now) (periods_of r.repetitions.now r.periods) after r'.works.items
       r'.queues.items r'.outputs.items) where
     sweeps : Sweeps s r.net.now (lists r.inputs.now) r.sizes r.cycles r.repetitions.now r.periods r.high
         (set r.done.items a (get_or r.done.items a 0 + times)) r'.works.items r'.queues.items r'.outputs.items
@@ -365,10 +367,10 @@ module _ {A S T : Type 0} (p : Swept A S T) (may : MayFire p.s p.r p.a)
   }
 
   module _ (grows : HistoryGrowsByFiring s) (r' : Run A T S) (fired : IsFiredAt s r r' a) where
-    stands : Stands s r.net.now (lists r.inputs.now) (periods_of r.repetitions.now r.periods) (after p 1 next)
+    stands : IsState s r.net.now (lists r.inputs.now) (periods_of r.repetitions.now r.periods) (after p 1 next)
         r'.works.items r'.queues.items r'.outputs.items
     stands =
-        subst (λ x. Stands s r.net.now (lists r.inputs.now) (periods_of r.repetitions.now r.periods) (after p 1 next)
+        subst (λ x. IsState s r.net.now (lists r.inputs.now) (periods_of r.repetitions.now r.periods) (after p 1 next)
         r'.works.items r'.queues.items x.items) (sym fired.lists)
         (standing.fired_stands (holding p) (its_work p) (ahead p 1 next) may.2 sw.reach (actor (its_work p)) grows
         (left_by p r' fired.alone) (fired.fired (its_work p)))
@@ -383,25 +385,25 @@ module _ {A S T : Type 0} (p : Swept A S T) (may : MayFire p.s p.r p.a)
 pub goes_at : {A S T : Type 0} (s : Steps A S T) (r : Run A T S) (a : ℕ) → a < length r.works.items →
     (w : Work A T S) (ins outs : List ℕ) → w ≡ get_or r.works.items a w → ins ≡ (wiring s r.net.now).ins a →
     outs ≡ (wiring s r.net.now).outs a →
-    GoesAtOnce s w ins outs → (d : Work A T S) → GoesAtOnce s (get_or r.works.items a d) ((wiring s r.net.now).ins a)
+    CanBatch s w ins outs → (d : Work A T S) → CanBatch s (get_or r.works.items a d) ((wiring s r.net.now).ins a)
     ((wiring s r.net.now).outs a)
 goes_at s r a known w ins outs is into from goes d =
-    subst (λ x. GoesAtOnce s x ((wiring s r.net.now).ins a) ((wiring s r.net.now).outs a))
+    subst (λ x. CanBatch s x ((wiring s r.net.now).ins a) ((wiring s r.net.now).outs a))
     (is ∙ get_or_default r.works.items a w d known)
-    (subst (λ x. GoesAtOnce s w x ((wiring s r.net.now).outs a)) into (subst (λ x. GoesAtOnce s w ins x) from goes))
+    (subst (λ x. CanBatch s w x ((wiring s r.net.now).outs a)) into (subst (λ x. CanBatch s w ins x) from goes))
 
 pub actor_at : {A S T : Type 0} (works : List (Work A T S)) (a : ℕ) → a < length works → (w : Work A T S) →
     w ≡ get_or works a w → IsActor w → (d : Work A T S) → IsActor (get_or works a d)
 actor_at works a known w is actor d = subst IsActor (is ∙ get_or_default works a w d known) actor
 
--- so many firings at once of one whose firings can be done so
+-- a batch of firings of a node whose firings can be batched
 module _ {A S T : Type 0} (p : Swept A S T) (times : ℕ)
     (inside : get_or p.r.done.items p.a 0 + times ≤ p.r.high * get_or p.r.repetitions.now p.a 0)
-    (goes : (d : Work A T S) → GoesAtOnce p.s (get_or p.r.works.items p.a d) ((wiring p.s p.r.net.now).ins p.a)
+    (goes : (d : Work A T S) → CanBatch p.s (get_or p.r.works.items p.a d) ((wiring p.s p.r.net.now).ins p.a)
     ((wiring p.s p.r.net.now).outs p.a)) (held : AreHeld p.s p.r p.a times) where
   open p use {s, r, sw, a}
 
-  pub can_fire_at_once : CanFireAtOnceAt s r a times
+  pub can_fire_at_once : CanFireBatchAt s r a times
   can_fire_at_once = record {
     inside = in_run p times inside;
     can = λ d. at_once.can_fire (holding p) d (goes d) (ahead p times inside) (held d 0) sw.reach
@@ -409,7 +411,7 @@ module _ {A S T : Type 0} (p : Swept A S T) (times : ℕ)
   }
 
   module _ (grows : HistoryGrowsByFiring s) (r' : Run A T S) (fired : AreFiredAt s r r' a times) where
-    all_stand : Stands s r.net.now (lists r.inputs.now) (periods_of r.repetitions.now r.periods)
+    all_stand : IsState s r.net.now (lists r.inputs.now) (periods_of r.repetitions.now r.periods)
         (after p times inside) r'.works.items r'.queues.items r'.outputs.items
     all_stand =
         at_once.fired_stands (holding p) (its_work p) (goes (its_work p)) (ahead p times inside) (held (its_work p) 0)
@@ -425,7 +427,7 @@ module _ {A S T : Type 0} (p : Swept A S T) (times : ℕ)
 -- so many cycles of an actor through its blocks
 module _ {A S T : Type 0} (p : Swept A S T) (fits : (x : A) → PutsFit p.s x) (times : ℕ)
     (inside : get_or p.r.done.items p.a 0 + firings_in p.s p.r p.a times ≤ p.r.high * get_or p.r.repetitions.now p.a 0)
-    (go : GoManyAt p.s p.r p.a times) where
+    (go : CanBatchCyclesAt p.s p.r p.a times) where
   open p use {s, r, sw, a}
 
   abbrev all : ℕ
@@ -443,10 +445,10 @@ module _ {A S T : Type 0} (p : Swept A S T) (fits : (x : A) → PutsFit p.s x) (
   }
 
   module _ (grows : HistoryGrowsByFiring s) (r' : Run A T S) (fired : AreManyFiredAt s r r' a times) where
-    many_stand : Stands s r.net.now (lists r.inputs.now) (periods_of r.repetitions.now r.periods)
+    many_stand : IsState s r.net.now (lists r.inputs.now) (periods_of r.repetitions.now r.periods)
         (after p all inside) r'.works.items r'.queues.items r'.outputs.items
     many_stand =
-        subst (λ x. Stands s r.net.now (lists r.inputs.now) (periods_of r.repetitions.now r.periods)
+        subst (λ x. IsState s r.net.now (lists r.inputs.now) (periods_of r.repetitions.now r.periods)
         (after p all inside) r'.works.items r'.queues.items x.items) (sym fired.lists)
         (stands_many (holding p) cycling (its_work p) grows sw.reach (left_by p r' fired.alone)
         (fired.fired (its_work p)))
@@ -468,7 +470,7 @@ further s r r' a times sw known alone some =
     omega (arith, now, some)
 
 -- the node's work as it is read, its ports, and what its cycles move there
-module _ {A S T : Type 0} (p : Swept A S T) {w : Work A T S} {ins outs takes puts : List ℕ} {qs : List (Held T)}
+module _ {A S T : Type 0} (p : Swept A S T) {w : Work A T S} {ins outs takes puts : List ℕ} {qs : List (QueueValue T)}
     (is : w ≡ get_or p.r.works.items p.a w) (into : ins ≡ (wiring p.s p.r.net.now).ins p.a)
     (from : outs ≡ (wiring p.s p.r.net.now).outs p.a) (by : takes ≡ p.r.cycles.takes.items)
     (on : puts ≡ p.r.cycles.puts.items) (queues : qs ≡ p.r.queues.items) where
@@ -515,14 +517,14 @@ module _ {A S T : Type 0} (p : Swept A S T) {w : Work A T S} {ins outs takes put
         once = λ u v l h. (net_known s r sw).wired.outs_once a u v known l h;
       }))
 
-  pub go_at : (times : ℕ) → GoesByMany s r.sizes w ins outs → HoldManyBlocks times ins takes qs →
+  pub go_at : (times : ℕ) → CanBatchCycles s r.sizes w ins outs → HoldManyBlocks times ins takes qs →
       FitsCycles w (sum_by (λ c. get_or takes c 0) ins) (sum_by (λ c. get_or puts c 0) outs) times →
-      GoManyAt s r a times
+      CanBatchCyclesAt s r a times
   go_at times goes held fit = record {
-    goes = λ d. subst (λ x. GoesByMany s r.sizes x ((wiring s r.net.now).ins a) ((wiring s r.net.now).outs a))
+    goes = λ d. subst (λ x. CanBatchCycles s r.sizes x ((wiring s r.net.now).ins a) ((wiring s r.net.now).outs a))
         (is ∙ get_or_default r.works.items a w d place_in)
-        (subst (λ x. GoesByMany s r.sizes w x ((wiring s r.net.now).outs a)) into
-        (subst (λ x. GoesByMany s r.sizes w ins x) from goes));
+        (subst (λ x. CanBatchCycles s r.sizes w x ((wiring s r.net.now).outs a)) into
+        (subst (λ x. CanBatchCycles s r.sizes w ins x) from goes));
     held = subst (λ x. HoldManyBlocks times x r.cycles.takes.items r.queues.items) into
         (subst (λ x. HoldManyBlocks times ins x r.queues.items) by
         (subst (λ x. HoldManyBlocks times ins takes x) queues held));

@@ -10,7 +10,7 @@ use Rattle.sdf_actor.specs.Wires.{lists}
 use Rattle.sdf_one.specs.declared.work.Work.{Work}
 use Rattle.sdf_one.specs.declared.work.Work.TheVariants.{Source, Sink, Inner}
 use Rattle.sdf_one.specs.declared.run.Run.{Run}
-use Rattle.sdf_queues.specs.Held.{Held}
+use Rattle.sdf_queues.specs.QueueValue.{QueueValue}
 use Rattle.sdf_queues.specs.Blocks.{samples, at_ports, ArePorts, HoldManyBlocks, HaveRoomForMany, KeepRoom}
 use Rattle.sdf_queues.specs.Sizes.{at_phase}
 use Rattle.sdf_queues.specs.Lists.{list, capacity}
@@ -19,14 +19,14 @@ use Rattle.sdf_one.specs.Runs.{HoldsOfWork, IsInRun, FiresAlone}
 
 -- a node whose firings can be batched from queue to queue: it has one phase, and a channel on each side at most, not
 -- the same on both
-abbrev pub GoesAtOnce : {A S T : Type 0} → Steps A S T → Work A T S → List ℕ → List ℕ → Type 0
-GoesAtOnce s (Source ext next block) ins outs = Unit {0}
-GoesAtOnce s (Sink ext) ins outs = Unit {0}
-GoesAtOnce s (Inner actor phase state taken put lengths) ins outs =
+abbrev pub CanBatch : {A S T : Type 0} → Steps A S T → Work A T S → List ℕ → List ℕ → Type 0
+CanBatch s (Source ext next block) ins outs = Unit {0}
+CanBatch s (Sink ext) ins outs = Unit {0}
+CanBatch s (Inner actor phase state taken put lengths) ins outs =
     (s.cycle actor.now ≡ 1) × (length ins ≡ 1) × (length outs ≡ 1) × (slice_index ins 0 ≡ slice_index outs 0 → ⊥)
 
 -- the input of `times` firings, at the fronts of the queues
-abbrev pub fronts : {T : Type 0} → ℕ → List ℕ → List ℕ → List (Held T) → List T
+abbrev pub fronts : {T : Type 0} → ℕ → List ℕ → List ℕ → List (QueueValue T) → List T
 fronts times takes ins qs = flat_map (λ c. take (times * slice_index takes c) (samples qs c)) ins
 
 -- what `times` firings put, if they take b
@@ -44,30 +44,30 @@ HaveWorked s times (Inner actor phase state taken put lengths) b w =
 
 -- `times` firings take `many` samples and put `more`: a source finds what it reads, a sink has room in its output list,
 -- and an actor moves what its rates say
-abbrev pub CanWorkAtOnce : {A S T Z : Type 0} → Steps A S T → List (List T) → ℕ → Work A T S → List ℕ → List ℕ → ℕ → ℕ →
+abbrev pub CanWorkBatch : {A S T Z : Type 0} → Steps A S T → List (List T) → ℕ → Work A T S → List ℕ → List ℕ → ℕ → ℕ →
     List (Vec T Z) → Type 0
-CanWorkAtOnce s inputs times (Source ext next block) ins outs many more outputs =
+CanWorkBatch s inputs times (Source ext next block) ins outs many more outputs =
     (ins ≡ []) × (length outs ≡ 1) × (more ≡ block * times) × (ext < length inputs)
     × (next + block * times ≤ length (slice_index_or inputs ext []))
-CanWorkAtOnce s inputs times (Sink ext) ins outs many more outputs =
+CanWorkBatch s inputs times (Sink ext) ins outs many more outputs =
     (outs ≡ []) × (length ins ≡ 1) × (ext < length outputs) × (length (list outputs ext) + many ≤ capacity outputs ext)
-CanWorkAtOnce s inputs times (Inner actor phase state taken put lengths) ins outs many more outputs =
+CanWorkBatch s inputs times (Inner actor phase state taken put lengths) ins outs many more outputs =
     (phase < s.cycle actor.now) × (length ins ≡ 1) × (length outs ≡ 1) × (slice_index ins 0 ≡ slice_index outs 0 → ⊥) ×
     (many ≡ sum_in s actor.now phase times) × (more ≡ sum_out s actor.now phase times)
 
 -- a node that takes from the channels ins and puts on the channels outs can do `times` firings in one batch
-pub record CanFireAtOnce {A S T Z : Type 0} (s : Steps A S T) (inputs : List (List T)) (times : ℕ)
-    (ins outs takes puts : List ℕ) (w : Work A T S) (qs : List (Held T)) (outputs : List (Vec T Z)) : Type 0 where
+pub record CanFireBatch {A S T Z : Type 0} (s : Steps A S T) (inputs : List (List T)) (times : ℕ)
+    (ins outs takes puts : List ℕ) (w : Work A T S) (qs : List (QueueValue T)) (outputs : List (Vec T Z)) : Type 0 where
   pub ins_are : ArePorts ins takes (length qs)
   pub outs_are : ArePorts outs puts (length qs)
   pub held : HoldManyBlocks times ins takes qs
   pub room : HaveRoomForMany times outs puts qs
-  pub work : CanWorkAtOnce s inputs times w ins outs (times * slice_index takes (slice_index ins 0))
+  pub work : CanWorkBatch s inputs times w ins outs (times * slice_index takes (slice_index ins 0))
       (times * slice_index puts (slice_index outs 0)) outputs
 
 -- what `times` firings of a node in one batch do
 pub record AreFired {A S T Z : Type 0} (s : Steps A S T) (inputs : List (List T)) (times : ℕ)
-    (ins outs takes puts : List ℕ) (w w' : Work A T S) (qs qs' : List (Held T))
+    (ins outs takes puts : List ℕ) (w w' : Work A T S) (qs qs' : List (QueueValue T))
     (outputs outputs' : List (Vec T Z)) : Type 0 where
   pub work : HaveWorked s times w (fronts times takes ins qs) w'
   pub queues : (c : ℕ) → c < length qs →
@@ -78,9 +78,9 @@ pub record AreFired {A S T Z : Type 0} (s : Steps A S T) (inputs : List (List T)
   pub capacities : (e : ℕ) → e < length outputs → capacity outputs' e ≡ capacity outputs e
 
 -- node a of a run can do `times` firings in one batch
-pub record CanFireAtOnceAt {A S T : Type 0} (s : Steps A S T) (r : Run A T S) (a times : ℕ) : Type 0 where
+pub record CanFireBatchAt {A S T : Type 0} (s : Steps A S T) (r : Run A T S) (a times : ℕ) : Type 0 where
   pub inside : IsInRun r a times
-  pub can : HoldsOfWork r a (λ w. CanFireAtOnce s (lists r.inputs.now) times ((wiring s r.net.now).ins a)
+  pub can : HoldsOfWork r a (λ w. CanFireBatch s (lists r.inputs.now) times ((wiring s r.net.now).ins a)
       ((wiring s r.net.now).outs a) (at_phase r.sizes.takes (phase_at w)) (at_phase r.sizes.puts (phase_at w)) w
       r.queues.items r.outputs.items)
 

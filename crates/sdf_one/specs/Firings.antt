@@ -6,7 +6,7 @@ use Rattle.sdf_actor.specs.Steps.{Steps, total_in, total_out}
 use Rattle.sdf_actor.specs.Histories.{spread}
 use Rattle.sdf_one.specs.declared.work.Work.{Work}
 use Rattle.sdf_one.specs.declared.work.Work.TheVariants.{Source, Sink, Inner}
-use Rattle.sdf_queues.specs.Held.{Held}
+use Rattle.sdf_queues.specs.QueueValue.{QueueValue}
 use Rattle.sdf_queues.specs.Blocks.{samples, room, front, at_ports, ArePorts, HoldBlocks, KeepRoom}
 
 -- the phase of the next firing
@@ -48,7 +48,7 @@ CanWork s w many more = ⊥
 
 -- an actor that takes from the channels ins and puts on the channels outs can fire
 pub record ActorCanFire {A S T : Type 0} (s : Steps A S T) (ins outs takes puts : List ℕ) (w : Work A T S)
-    (qs : List (Held T)) : Type 0 where
+    (qs : List (QueueValue T)) : Type 0 where
   pub ins_are : ArePorts ins takes (length qs)
   pub outs_are : ArePorts outs puts (length qs)
   pub held : HoldBlocks ins takes qs
@@ -60,7 +60,7 @@ pub record ActorCanFire {A S T : Type 0} (s : Steps A S T) (ins outs takes puts 
 
 -- what a firing of an actor does
 pub record IsFired {A S T : Type 0} (s : Steps A S T) (ins outs takes puts : List ℕ) (w w' : Work A T S)
-    (qs qs' : List (Held T)) : Type 0 where
+    (qs qs' : List (QueueValue T)) : Type 0 where
   pub work : IsWorkAfter s w (front takes ins qs) w'
   pub queues : (c : ℕ) → c < length qs →
       samples qs' c ≡ drop (at_ports ins (slice_index takes c) c) (samples qs c)

@@ -8,26 +8,26 @@ use Rattle.sdf_actor.specs.Nets.{node, wiring, cycle_of}
 use Rattle.sdf_one.specs.declared.work.Work.{Work}
 use Rattle.sdf_one.specs.declared.work.Work.TheVariants.{Inner}
 use Rattle.sdf_one.specs.declared.run.Run.{Run}
-use Rattle.sdf_queues.specs.Held.{Held}
+use Rattle.sdf_queues.specs.QueueValue.{QueueValue}
 use Rattle.sdf_node.specs.Many.{joined}
 use Rattle.sdf_queues.specs.Blocks.{samples, at_ports, front_at, dealt, ArePorts, HoldManyBlocks, HaveRoomForMany}
 use Rattle.sdf_queues.specs.Blocks.{KeepRoom}
-use Rattle.sdf_queues.specs.Sizes.{Rows}
+use Rattle.sdf_queues.specs.Sizes.{SizesValue}
 use Rattle.sdf_one.specs.Cycles.{AreRowsAt, IsInTurn}
 use Rattle.sdf_one.specs.Runs.{HoldsOfWork, IsInRun, FiresAlone}
 
 -- there are sizes for each phase of an actor's cycle
-abbrev pub HasRows : {A S T : Type 0} → Steps A S T → Rows → Work A T S → List ℕ → List ℕ → Type 0
+abbrev pub HasRows : {A S T : Type 0} → Steps A S T → SizesValue → Work A T S → List ℕ → List ℕ → Type 0
 HasRows s z (Inner actor phase state taken put lengths) ins outs =
     AreRowsAt ins z.takes (s.cycle actor.now) × AreRowsAt outs z.puts (s.cycle actor.now)
 HasRows s z w ins outs = Unit {0}
 
 -- an actor at the beginning of its cycle. Its ports are served in turn, and it puts on no channel that it takes from
-abbrev pub GoesByMany : {A S T : Type 0} → Steps A S T → Rows → Work A T S → List ℕ → List ℕ → Type 0
-GoesByMany s z (Inner actor phase state taken put lengths) ins outs =
+abbrev pub CanBatchCycles : {A S T : Type 0} → Steps A S T → SizesValue → Work A T S → List ℕ → List ℕ → Type 0
+CanBatchCycles s z (Inner actor phase state taken put lengths) ins outs =
     (phase ≡ 0) × ((i j : ℕ) → i < length ins → j < length outs → slice_index ins i ≡ slice_index outs j → ⊥)
     × IsInTurn ins z.takes (s.cycle actor.now) × IsInTurn outs z.puts (s.cycle actor.now)
-GoesByMany s z w ins outs = ⊥
+CanBatchCycles s z w ins outs = ⊥
 
 -- a cycle takes `many` samples and puts `more`: the actor's blocks have room for `times` cycles
 abbrev pub FitsCycles : {A S T : Type 0} → Work A T S → ℕ → ℕ → ℕ → Type 0
@@ -60,7 +60,7 @@ CanWorkMany s times w many more = ⊥
 
 -- an actor that takes from the channels ins and puts on the channels outs can do `times` cycles
 pub record CanFireMany {A S T : Type 0} (s : Steps A S T) (times : ℕ) (ins outs takes puts : List ℕ) (w : Work A T S)
-    (qs : List (Held T)) : Type 0 where
+    (qs : List (QueueValue T)) : Type 0 where
   pub ins_are : ArePorts ins takes (length qs)
   pub outs_are : ArePorts outs puts (length qs)
   pub held : HoldManyBlocks times ins takes qs
@@ -69,7 +69,7 @@ pub record CanFireMany {A S T : Type 0} (s : Steps A S T) (times : ℕ) (ins out
 
 -- what `times` cycles of an actor do
 pub record AreManyFired {A S T : Type 0} (s : Steps A S T) (times : ℕ) (ins outs takes puts : List ℕ)
-    (w w' : Work A T S) (qs qs' : List (Held T)) : Type 0 where
+    (w w' : Work A T S) (qs qs' : List (QueueValue T)) : Type 0 where
   pub work : HaveManyWorked s times w (joined (front_at takes ins qs) times) w'
   pub queues : (c : ℕ) → c < length qs →
       samples qs' c ≡ drop (at_ports ins (times * slice_index takes c) c) (samples qs c) ++
@@ -97,8 +97,9 @@ pub record AreManyFiredAt {A S T : Type 0} (s : Steps A S T) (r r' : Run A T S) 
 
 -- cycles of node a can be batched, the channels into it hold what `times` cycles take, and its blocks have room for
 -- them
-pub record GoManyAt {A S T : Type 0} (s : Steps A S T) (r : Run A T S) (a times : ℕ) : Type 0 where
-  pub goes : HoldsOfWork r a (λ w. GoesByMany s r.sizes w ((wiring s r.net.now).ins a) ((wiring s r.net.now).outs a))
+pub record CanBatchCyclesAt {A S T : Type 0} (s : Steps A S T) (r : Run A T S) (a times : ℕ) : Type 0 where
+  pub goes : HoldsOfWork r a (λ w. CanBatchCycles s r.sizes w ((wiring s r.net.now).ins a)
+      ((wiring s r.net.now).outs a))
   pub held : HoldManyBlocks times ((wiring s r.net.now).ins a) r.cycles.takes.items r.queues.items
   pub fit : HoldsOfWork r a (λ w. FitsCycles w (sum_by (slice_index r.cycles.takes.items) ((wiring s r.net.now).ins a))
       (sum_by (slice_index r.cycles.puts.items) ((wiring s r.net.now).outs a)) times)

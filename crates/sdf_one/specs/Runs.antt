@@ -14,7 +14,7 @@ use Rattle.sdf_actor.specs.Wires.{lists}
 use Rattle.sdf_one.specs.declared.work.Work.{Work}
 use Rattle.sdf_one.specs.declared.work.Work.TheVariants.{Source, Sink, Inner}
 use Rattle.sdf_one.specs.declared.run.Run.{Run}
-use Rattle.sdf_queues.specs.Held.{Held}
+use Rattle.sdf_queues.specs.QueueValue.{QueueValue}
 use Rattle.sdf_queues.specs.Blocks.{samples}
 use Rattle.sdf_queues.specs.Sizes.{at_phase}
 use Rattle.sdf_queues.specs.Lists.{list, capacity}
@@ -46,8 +46,8 @@ IsWork s inputs outputs many (node.Inner x) past (Inner actor j state taken put 
 IsWork s inputs outputs many x past w = ⊥
 
 -- after k a firings of each node a: a history, the queues with what is left of it, and each node's work
-pub record Stands {A S T Z : Type 0} (s : Steps A S T) (n : Netlist A T) (inputs : List (List T)) (many k : ℕ → ℕ)
-    (works : List (Work A T S)) (qs : List (Held T)) (outputs : List (Vec T Z)) : Type 0 where
+pub record IsState {A S T Z : Type 0} (s : Steps A S T) (n : Netlist A T) (inputs : List (List T)) (many k : ℕ → ℕ)
+    (works : List (Work A T S)) (qs : List (QueueValue T)) (outputs : List (Vec T Z)) : Type 0 where
   pub history : ℕ → List T
   pub is : IsHistoryOf s n inputs k history
   pub channels : length qs ≡ length n.wires
@@ -60,7 +60,7 @@ pub record Stands {A S T Z : Type 0} (s : Steps A S T) (n : Netlist A T) (inputs
 
 -- a run after k a of the many a firings of each node a
 abbrev pub IsRunAt : {A S T : Type 0} → Steps A S T → Run A T S → (ℕ → ℕ) → (ℕ → ℕ) → Type 0
-IsRunAt s r many k = Stands s r.net.now (lists r.inputs.now) many k r.works.items r.queues.items r.outputs.items
+IsRunAt s r many k = IsState s r.net.now (lists r.inputs.now) many k r.works.items r.queues.items r.outputs.items
 
 -- P is true of the work of node a of a run
 abbrev pub HoldsOfWork : {A S T : Type 0} → Run A T S → ℕ → (Work A T S → Type 0) → Type 0

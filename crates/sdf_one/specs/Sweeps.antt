@@ -9,19 +9,19 @@ use Rattle.sdf_actor.specs.Wires.{lists}
 use Rattle.sdf_one.specs.declared.cycles.Cycles.{Cycles}
 use Rattle.sdf_one.specs.declared.work.Work.{Work}
 use Rattle.sdf_one.specs.declared.run.Run.{Run}
-use Rattle.sdf_queues.specs.Held.{Held}
+use Rattle.sdf_queues.specs.QueueValue.{QueueValue}
 use Rattle.sdf_queues.specs.Blocks.{room, HoldManyBlocks, KeepRoom}
-use Rattle.sdf_queues.specs.Sizes.{Rows, AreSizes, at_phase}
+use Rattle.sdf_queues.specs.Sizes.{SizesValue, AreSizes, at_phase}
 use Rattle.sdf_one.specs.Cycles.{AreCycles}
 use Rattle.sdf_one.specs.Firings.{phase_at}
 use Rattle.sdf_queues.specs.Periods.{AreApart, IsPaced}
-use Rattle.sdf_one.specs.Runs.{Stands, HoldsOfWork}
-use Rattle.sdf_queues.specs.Answer.{periods_of}
+use Rattle.sdf_one.specs.Runs.{IsState, HoldsOfWork}
+use Rattle.sdf_queues.specs.RunResults.{periods_of}
 
 -- each node a has fired done a times, at least low and at most high periods, and the queues have room for all up to
 -- high
-pub record Sweeps {A S T Z : Type 0} (s : Steps A S T) (n : Netlist A T) (inputs : List (List T)) (z : Rows)
-    (y : Cycles) (q : List ℕ) (periods high : ℕ) (done : List ℕ) (works : List (Work A T S)) (qs : List (Held T))
+pub record Sweeps {A S T Z : Type 0} (s : Steps A S T) (n : Netlist A T) (inputs : List (List T)) (z : SizesValue)
+    (y : Cycles) (q : List ℕ) (periods high : ℕ) (done : List ℕ) (works : List (Work A T S)) (qs : List (QueueValue T))
     (outputs : List (Vec T Z)) : Type 0 where
   pub good : IsNet s n
   pub apart : AreApart n
@@ -31,7 +31,7 @@ pub record Sweeps {A S T Z : Type 0} (s : Steps A S T) (n : Netlist A T) (inputs
   pub paced : IsPaced (wiring s n).rates q
   pub short : periods < 2 ^ 32
   pub under : high ≤ periods
-  pub stands : Stands s n inputs (periods_of q periods) (slice_index done) works qs outputs
+  pub stands : IsState s n inputs (periods_of q periods) (slice_index done) works qs outputs
   pub all : length done ≡ length n.nodes
   pub low : ℕ
   pub from : (a : ℕ) → a < length n.nodes → low * slice_index q a ≤ slice_index done a

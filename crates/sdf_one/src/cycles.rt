@@ -7,8 +7,8 @@ ghost use Rattle.sdf_queues.specs.Sizes.{rows_on};
 ghost use Rattle.sdf_one.specs.Cycles.{AreCycles, AreRowsAt, IsInTurn};
 
 use sdf_actor::{Actor, Net, Side};
-use sdf_queues::Sizes;
 use sdf_graph::{Channel, End};
+use sdf_queues::Sizes;
 use std::alloc::{AllocError, Global};
 
 /// For each channel, how many samples a cycle of its target takes from it, and a cycle of its source puts on it.
@@ -19,7 +19,7 @@ pub(crate) struct Cycles {
 }
 
 /// Returns how many samples the first `firings` firings of the actor at `end` of `channel` move.
-fn moved(channel: &Channel, end: End, firings: u32) -> usize
+fn samples_moved(channel: &Channel, end: End, firings: u32) -> usize
     requires put { 0 < length channel.now.put }
     requires take { 0 < length channel.now.take }
     ensures { result ≡ sum_to (moves end channel.now) firings }
@@ -39,8 +39,8 @@ pub(crate) fn make_cycles<A: Actor>(alloc: Global, net: &Net<A>) -> Result<Cycle
     let mut takes = Vec::new(alloc);
     let mut puts = Vec::new(alloc);
     for channel in channels {
-        takes.push(moved(channel, End::Target, net.node(channel.to).cycle()))?;
-        puts.push(moved(channel, End::Source, net.node(channel.from).cycle()))?;
+        takes.push(samples_moved(channel, End::Target, net.node(channel.to).cycle()))?;
+        puts.push(samples_moved(channel, End::Source, net.node(channel.from).cycle()))?;
     }
     Ok(Cycles { takes, puts })
 }

@@ -4,15 +4,15 @@ ghost use Rattle.std.specs.Prelude.{◌≡◌, ◌^◌, ◌<◌, ℕ, List, map,
 ghost use Rattle.sdf_graph.specs.Rates.{rates};
 ghost use Rattle.sdf_sched.specs.Period.{IsPeriodOf};
 ghost use Rattle.sdf_actor.specs.Graphs.{graph_of};
-ghost use Rattle.sdf_actor.specs.Rests.{IsRest};
+ghost use Rattle.sdf_actor.specs.NetStates.{IsNetState};
 ghost use Rattle.sdf_actor.specs.Sides.{period_samples};
 ghost use Rattle.sdf_actor.specs.Wires.{lists};
 ghost use Rattle.sdf_actor.specs.declared.sides.Lists.TheVariants.{Inputs};
-ghost use Rattle.sdf_queues.specs.Answer.{HasInputs, periods_of, IsRunFault};
+ghost use Rattle.sdf_queues.specs.RunResults.{HasInputs, periods_of, IsRunFault};
 ghost use Rattle.sdf_queues.specs.Feeds.{HasRun, GoesOnBy};
-ghost use Rattle.sdf_one.specs.Fired.{IsPassage, TakeWhatItMakes, state_in};
+ghost use Rattle.sdf_one.specs.Fired.{AreRunInputs, HaveOutputRoom, state_in};
 
-use crate::fired::{RunInputs, fired};
+use crate::run_inputs::{RunInputs, fired};
 use crate::spare_memory::SpareMemory;
 use crate::work::Work;
 use sdf_actor::{Actor, Net, NetState};
@@ -50,18 +50,18 @@ fn states_of<A: Actor>(
 /// Fires all periods of a run, and returns its outputs and the net state that it leaves.
 fn run<A: Actor>(
     alloc: Global,
-    passage: RunInputs<'_, A>,
+    run_inputs: RunInputs<'_, A>,
     filler: A::Token,
     outputs: Vec<Vec<A::Token>>,
     spares: &mut SpareMemory<A::Token>,
 ) -> Result<(Vec<Vec<A::Token>>, NetState<A::Token, A::State>), AllocError>
-    requires passage { IsPassage A.steps passage }
-    requires short { passage.periods < 2 ^ 32 }
-    requires outputs { TakeWhatItMakes passage outputs.items }
-    ensures { IfOk result (λ made. HasRun A.steps passage.entry.net.now (lists passage.entry.inputs.now)
-        (periods_of passage.entry.period.now.repetitions passage.entry.periods) (lists made.0.items) made.1) }
+    requires run_inputs { AreRunInputs A.steps run_inputs }
+    requires short { run_inputs.periods < 2 ^ 32 }
+    requires outputs { HaveOutputRoom run_inputs outputs.items }
+    ensures { IfOk result (λ made. HasRun A.steps run_inputs.entry.net.now (lists run_inputs.entry.inputs.now)
+        (periods_of run_inputs.entry.period.now.repetitions run_inputs.entry.periods) (lists made.0.items) made.1) }
 {
-    let finished = fired(alloc, passage, filler, outputs, &mut spares.queues)?;
+    let finished = fired(alloc, run_inputs, filler, outputs, &mut spares.queues)?;
     let rest = NetState {
         states: states_of(alloc, &finished.works)?,
         held: held(alloc, &finished.queues)?,
@@ -72,24 +72,24 @@ fn run<A: Actor>(
 
 /// Returns the outputs of a run and the net state that it leaves. Without a sample nothing fires, and the memory of
 /// earlier queues is freed.
-fn fill<A: Actor>(
+fn run_net<A: Actor>(
     alloc: Global,
-    passage: RunInputs<'_, A>,
+    run_inputs: RunInputs<'_, A>,
     outputs: Vec<Vec<A::Token>>,
     spares: &mut SpareMemory<A::Token>,
 ) -> Result<(Vec<Vec<A::Token>>, NetState<A::Token, A::State>), AllocError>
-    requires passage { IsPassage A.steps passage }
-    requires short { passage.periods < 2 ^ 32 }
-    requires some { 0 < period_samples passage.net.now.nodes Inputs passage.period.now.repetitions }
-    requires outputs { TakeWhatItMakes passage outputs.items }
-    ensures { IfOk result (λ made. HasRun A.steps passage.entry.net.now (lists passage.entry.inputs.now)
-        (periods_of passage.entry.period.now.repetitions passage.entry.periods) (lists made.0.items) made.1) }
+    requires run_inputs { AreRunInputs A.steps run_inputs }
+    requires short { run_inputs.periods < 2 ^ 32 }
+    requires some { 0 < period_samples run_inputs.net.now.nodes Inputs run_inputs.period.now.repetitions }
+    requires outputs { HaveOutputRoom run_inputs outputs.items }
+    ensures { IfOk result (λ made. HasRun A.steps run_inputs.entry.net.now (lists run_inputs.entry.inputs.now)
+        (periods_of run_inputs.entry.period.now.repetitions run_inputs.entry.periods) (lists made.0.items) made.1) }
 {
-    match first_sample(passage.inputs) {
-        Some(filler) => run(alloc, passage, filler, outputs, spares),
+    match first_sample(run_inputs.inputs) {
+        Some(filler) => run(alloc, run_inputs, filler, outputs, spares),
         None => {
             spares.queues = Vec::new(alloc);
-            Ok((outputs, passage.net.first_rest(alloc)?))
+            Ok((outputs, run_inputs.net.initial_state(alloc)?))
         }
     }
 }
@@ -141,13 +141,13 @@ fn feed_one_in<A: Actor>(
     }
     let room = periods as usize * net.samples_out();
     let outputs = spares.take_outputs(alloc, net.outputs(), room)?;
-    let passage = RunInputs {
+    let run_inputs = RunInputs {
         net,
         period,
         periods,
         inputs,
     };
-    let (outputs, rest) = fill(alloc, passage, outputs, spares)?;
+    let (outputs, rest) = run_net(alloc, run_inputs, outputs, spares)?;
     Ok((Ran { outputs, rounds: 0 }, rest))
 }
 
@@ -163,44 +163,44 @@ pub fn resume_one<A: Actor>(
 ) -> Result<(Ran<A::Token>, NetState<A::Token, A::State>), RunFault>
     requires period { IsPeriodOf (rates (graph_of A.steps net.now)) period.now }
     requires rest { (first : List (List A.Token)) × (few : ℕ)
-        × IsRest A.steps net.now first (periods_of period.now.repetitions few) rest.now }
+        × IsNetState A.steps net.now first (periods_of period.now.repetitions few) rest.now }
     ensures { let q = period.now.repetitions in MatchResult result
         (λ fed. GoesOnBy A.steps net.now q rest.now periods (lists inputs.now) (lists fed.0.outputs.items) fed.1
         × (fed.0.rounds ≡ 0))
         (IsRunFault net.now q periods (lists inputs.now)) }
 {
-    let passage = RunInputs {
+    let run_inputs = RunInputs {
         net,
         period,
         periods,
         inputs,
     };
-    resume_one_in(alloc, passage, rest, &mut SpareMemory::none(alloc))
+    resume_one_in(alloc, run_inputs, rest, &mut SpareMemory::none(alloc))
 }
 
 /// Resumes a net as `resume_one` does, in the memory that earlier runs left in `spares`, and leaves its own there. A
 /// sound that is run in many pieces then allocates most of its memory once.
 pub fn resume_one_in<A: Actor>(
     alloc: Global,
-    passage: RunInputs<'_, A>,
+    run_inputs: RunInputs<'_, A>,
     rest: &NetState<A::Token, A::State>,
     spares: &mut SpareMemory<A::Token>,
 ) -> Result<(Ran<A::Token>, NetState<A::Token, A::State>), RunFault>
-    requires period { IsPeriodOf (rates (graph_of A.steps passage.net.now)) passage.period.now }
+    requires period { IsPeriodOf (rates (graph_of A.steps run_inputs.net.now)) run_inputs.period.now }
     requires rest { (first : List (List A.Token)) × (few : ℕ)
-        × IsRest A.steps passage.net.now first (periods_of passage.period.now.repetitions few) rest.now }
-    ensures { let q = passage.entry.period.now.repetitions in MatchResult result
-        (λ fed. GoesOnBy A.steps passage.entry.net.now q rest.now passage.entry.periods
-        (lists passage.entry.inputs.now) (lists fed.0.outputs.items) fed.1
+        × IsNetState A.steps run_inputs.net.now first (periods_of run_inputs.period.now.repetitions few) rest.now }
+    ensures { let q = run_inputs.entry.period.now.repetitions in MatchResult result
+        (λ fed. GoesOnBy A.steps run_inputs.entry.net.now q rest.now run_inputs.entry.periods
+        (lists run_inputs.entry.inputs.now) (lists fed.0.outputs.items) fed.1
         × (fed.0.rounds ≡ 0))
-        (IsRunFault passage.entry.net.now q passage.entry.periods (lists passage.entry.inputs.now)) }
+        (IsRunFault run_inputs.entry.net.now q run_inputs.entry.periods (lists run_inputs.entry.inputs.now)) }
 {
     let RunInputs {
         net,
         period,
         periods,
         inputs,
-    } = passage;
+    } = run_inputs;
     nets_have_periods(net);
     let begun = net.begun(alloc, rest)?;
     feed_one_in(alloc, &begun, period, periods, inputs, spares)

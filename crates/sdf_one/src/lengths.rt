@@ -7,16 +7,16 @@ ghost use Rattle.sdf_actor.specs.Graphs.{graph_of};
 ghost use Rattle.sdf_actor.specs.declared.sides.Lists.TheVariants.{Inputs};
 ghost use Rattle.sdf_actor.specs.Sides.{period_samples};
 ghost use Rattle.sdf_one.specs.Lengths.{AreBlock, IsMostPut};
-ghost use Rattle.sdf_one.specs.declared.lengths.TheConstants.{MOST_READ};
+ghost use Rattle.sdf_one.specs.declared.lengths.TheConstants.{MAX_READ};
 
 use sdf_actor::{Actor, Net};
 use sdf_queues::rooms::put_in;
 
 /// The most samples of an input that a block of more than one period reads.
-const MOST_READ: usize = 4096;
+const MAX_READ: usize = 4096;
 
 /// The most samples that a block of more than one period puts on a channel.
-const MOST_PUT: usize = 65_536;
+const MAX_PUT: usize = 65_536;
 
 /// Returns the most samples that a period puts on a channel.
 fn most_put<A: Actor>(net: &Net<A>, repetitions: &[u32]) -> usize
@@ -36,10 +36,10 @@ fn most_put<A: Actor>(net: &Net<A>, repetitions: &[u32]) -> usize
 /// most `put` on a channel.
 fn block_of(read: usize, put: usize, periods: u32) -> u32
     requires { 0 < read }
-    ensures few { result ≤ MOST_READ }
+    ensures few { result ≤ MAX_READ }
     ensures block { AreBlock read put periods result }
 {
-    let most = (MOST_READ / read).min(MOST_PUT / put.max(1));
+    let most = (MAX_READ / read).min(MAX_PUT / put.max(1));
     (most as u32).min(periods).max(1)
 }
 
@@ -48,7 +48,7 @@ pub(crate) fn block_periods<A: Actor>(net: &Net<A>, repetitions: &[u32], periods
     requires all { length repetitions.now ≡ length net.now.nodes }
     requires short { (a : ℕ) → a < length repetitions.now → slice_index repetitions.now a ≤ 65536 }
     ensures some { 0 < result }
-    ensures few { result ≤ MOST_READ }
+    ensures few { result ≤ MAX_READ }
     ensures block { let r = rates (graph_of A.steps net.now) in (q : List ℕ) → IsLeastPeriod r q →
         (put : ℕ) × IsMostPut r repetitions.now (length net.now.wires) put
         × AreBlock (period_samples net.now.nodes Inputs q) put periods result }

@@ -5,7 +5,7 @@ ghost use Rattle.sdf_graph.specs.Rates.{rates};
 ghost use Rattle.sdf_sched.specs.Period.{IsPeriodOf};
 ghost use Rattle.sdf_actor.specs.Graphs.{graph_of};
 ghost use Rattle.sdf_actor.specs.Wires.{lists};
-ghost use Rattle.sdf_queues.specs.Answer.{HasInputs, AreOutputs, periods_of, IsRunFault};
+ghost use Rattle.sdf_queues.specs.RunResults.{HasInputs, AreOutputs, periods_of, IsRunFault};
 
 use crate::feed::feed_one;
 use sdf_actor::{Actor, Net};

@@ -4,8 +4,8 @@ ghost use Rattle.std.specs.Prelude.{◌≡◌, ◌+◌, ◌*◌, ◌≤◌, ◌<
 ghost use Rattle.std.specs.Prelude.{IsTrue};
 ghost use Rattle.sdf_actor.specs.Nets.{wiring};
 ghost use Rattle.sdf_queues.specs.Sizes.{at_phase};
-ghost use Rattle.sdf_one.specs.AtOnce.{CanFireAtOnceAt, AreFiredAt};
-ghost use Rattle.sdf_one.specs.Many.{CanFireManyAt, AreManyFiredAt, GoManyAt, firings_in};
+ghost use Rattle.sdf_one.specs.AtOnce.{CanFireBatchAt, AreFiredAt};
+ghost use Rattle.sdf_one.specs.Many.{CanFireManyAt, AreManyFiredAt, CanBatchCyclesAt, firings_in};
 ghost use Rattle.sdf_one.specs.Runs.{HoldsOfWork, CanFireAt, IsFiredAt};
 ghost use Rattle.sdf_one.specs.Sweeps.{IsSwept, MayFire, HasRoom, Keeps, IsMoved, IsLeft, AreHeld};
 
@@ -96,13 +96,13 @@ impl<'a, A: Actor> Run<'a, A> {
     }
 
     /// Fires node `a` `times` times in one batch, from queue to queue.
-    fn fire_at_once(&mut self, a: usize, times: usize)
-        requires { CanFireAtOnceAt A.steps self.old a times }
+    fn fire_batch(&mut self, a: usize, times: usize)
+        requires { CanFireBatchAt A.steps self.old a times }
         ensures { AreFiredAt A.steps self.old self.new a times }
     {
         let phase = self.works[a].phase();
         let ports = ports_at(self.net, &self.sizes, a, phase);
-        self.works[a].fire_at_once(
+        self.works[a].fire_batch(
             times,
             &ports,
             self.inputs,
@@ -166,10 +166,10 @@ impl<'a, A: Actor> Run<'a, A> {
         requires swept { IsSwept A.steps self.now }
         ensures left { slice_index self.now.done.items a + firings_in A.steps self.now a result ≤
             self.now.high * slice_index self.now.repetitions.now a }
-        ensures go { 0 < result → GoManyAt A.steps self.now a result }
+        ensures go { 0 < result → CanBatchCyclesAt A.steps self.now a result }
     {
         let ports = ports_of(self.net, &self.cycles, a);
-        if !self.works[a].goes_by_many(ports.ins.channels, ports.outs.channels, &self.sizes) {
+        if !self.works[a].can_batch_cycles(ports.ins.channels, ports.outs.channels, &self.sizes) {
             return 0;
         }
         let left = self.left(a) / self.net.node(a).cycle() as usize;
@@ -189,9 +189,9 @@ impl<'a, A: Actor> Run<'a, A> {
         history_grows_by_firing::<A>();
         let ins = self.net.channels_in(a);
         let outs = self.net.channels_out(a);
-        if self.works[a].goes_at_once(ins, outs) {
+        if self.works[a].can_batch(ins, outs) {
             let times = self.times(a);
-            self.fire_at_once(a, times);
+            self.fire_batch(a, times);
         } else {
             let cycles = self.cycles_in_blocks(a);
             if cycles == 0 {

@@ -39,7 +39,7 @@ fn extend<T: Copy>(block: &mut Vec<T>, many: usize, filler: T) -> Result<(), All
 }
 
 /// Samples of working space beyond one cycle, so that cycles can be batched.
-const MORE: usize = 1024;
+const EXTRA_SAMPLES: usize = 1024;
 
 /// The contents of an actor's blocks: a sample to fill them with, and the number of samples beyond one cycle.
 #[derive(Clone, Copy)]
@@ -57,7 +57,7 @@ impl<T: Copy> Blank<T> {
         let is_direct = cycle == 1 && ins.len() == 1 && outs.len() == 1;
         Blank {
             filler,
-            more: if is_direct { 0 } else { MORE },
+            more: if is_direct { 0 } else { EXTRA_SAMPLES },
         }
     }
 }

@@ -1,4 +1,4 @@
-//! The memory that runs on one thread hand on.
+//! The spare memory that runs on one thread hand on.
 
 ghost use Rattle.std.specs.Prelude.{IfOk};
 ghost use Rattle.sdf_queues.specs.Lists.{AreEmpty};
@@ -17,7 +17,7 @@ pub struct SpareMemory<T> {
 }
 
 impl<T: Copy> SpareMemory<T> {
-    /// Makes spares that hold no memory. Allocates nothing.
+    /// Makes empty spare memory. Allocates nothing.
     pub fn none(alloc: Global) -> SpareMemory<T> {
         SpareMemory {
             queues: Vec::new(alloc),

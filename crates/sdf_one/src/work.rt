@@ -11,11 +11,11 @@ use crate::block::{block_size, put_front, put_fronts, take_fronts};
 use crate::cycles::is_in_turn;
 use sdf_actor::actor::next_phase;
 use sdf_actor::{Actor, Side};
+use sdf_node::append;
 use sdf_queues::blocks::{Ports, take_block};
 use sdf_queues::many_blocks::whole_blocks;
-use sdf_queues::queue::{Firings, lengthen};
+use sdf_queues::queue::{Batch, lengthen};
 use sdf_queues::{Queue, Sizes};
-use sdf_node::append;
 
 /// The runtime of a node: what it does in a firing.
 #[derive(Drop)]
@@ -73,29 +73,29 @@ fn fire_into<A: Actor>(
 /// Fires an actor in one batch on the first `all` samples of `taken`. Its `many` samples of output go to the front of
 /// `put`.
 fn fire_many_into<A: Actor>(
-    firings: Firings<'_, A>,
+    batch: Batch<'_, A>,
     state: &mut A::State,
     taken: &Vec<A::Token>,
     all: usize,
     put: &mut Vec<A::Token>,
     many: usize,
 )
-    requires phase { firings.phase < A.steps.cycle firings.actor.now }
+    requires phase { batch.phase < A.steps.cycle batch.actor.now }
     requires taken { all ≤ length taken.now.items }
-    requires all { all ≡ sum_in A.steps firings.actor.now firings.phase firings.times }
+    requires all { all ≡ sum_in A.steps batch.actor.now batch.phase batch.times }
     requires put { many ≤ length put.old.items }
-    requires many { many ≡ sum_out A.steps firings.actor.now firings.phase firings.times }
-    ensures state { state.new ≡ state_at A.steps firings.entry.actor.now firings.entry.phase state.old
-        (take all taken.now.items) firings.entry.times }
-    ensures put { take many put.new.items ≡ puts_to A.steps firings.entry.actor.now firings.entry.phase state.old
-        (take all taken.now.items) firings.entry.times }
+    requires many { many ≡ sum_out A.steps batch.actor.now batch.phase batch.times }
+    ensures state { state.new ≡ state_at A.steps batch.entry.actor.now batch.entry.phase state.old
+        (take all taken.now.items) batch.entry.times }
+    ensures put { take many put.new.items ≡ puts_to A.steps batch.entry.actor.now batch.entry.phase state.old
+        (take all taken.now.items) batch.entry.times }
     ensures len { length put.new.items ≡ length put.old.items }
 {
-    let Firings {
+    let Batch {
         actor,
         phase,
         times,
-    } = firings;
+    } = batch;
     let (front, _) = put.as_mut_slice().split_at_mut(many);
     actor.fire_many(phase, times, state, &taken[..all], front);
 }
@@ -127,54 +127,54 @@ fn has(channels: &[usize], channel: usize) -> bool
 
 /// Fires an actor in one batch, directly from one queue's memory to another's.
 fn fire_through<A: Actor>(
-    firings: Firings<'_, A>,
+    batch: Batch<'_, A>,
     state: &mut A::State,
     ports: &NodePorts,
     queues: &mut [Queue<A::Token>],
 )
-    requires phase { firings.phase < A.steps.cycle firings.actor.now }
+    requires phase { batch.phase < A.steps.cycle batch.actor.now }
     requires ins { ArePorts ports.now.ins.channels.now ports.now.ins.sizes.now (length queues.old) }
     requires outs { ArePorts ports.now.outs.channels.now ports.now.outs.sizes.now (length queues.old) }
     requires one_in { length ports.now.ins.channels.now ≡ 1 }
     requires one_out { length ports.now.outs.channels.now ≡ 1 }
     requires apart { slice_index ports.now.ins.channels.now 0 ≡ slice_index ports.now.outs.channels.now 0 → ⊥ }
-    requires taken { firings.times * slice_index ports.now.ins.sizes.now (slice_index ports.now.ins.channels.now 0) ≡
-        sum_in A.steps firings.actor.now firings.phase firings.times }
-    requires put { firings.times * slice_index ports.now.outs.sizes.now (slice_index ports.now.outs.channels.now 0) ≡
-        sum_out A.steps firings.actor.now firings.phase firings.times }
-    requires held { firings.times * slice_index ports.now.ins.sizes.now (slice_index ports.now.ins.channels.now 0) ≤
+    requires taken { batch.times * slice_index ports.now.ins.sizes.now (slice_index ports.now.ins.channels.now 0) ≡
+        sum_in A.steps batch.actor.now batch.phase batch.times }
+    requires put { batch.times * slice_index ports.now.outs.sizes.now (slice_index ports.now.outs.channels.now 0) ≡
+        sum_out A.steps batch.actor.now batch.phase batch.times }
+    requires held { batch.times * slice_index ports.now.ins.sizes.now (slice_index ports.now.ins.channels.now 0) ≤
         length (samples queues.old (slice_index ports.now.ins.channels.now 0)) }
     requires room { length (samples queues.old (slice_index ports.now.outs.channels.now 0))
-        + firings.times * slice_index ports.now.outs.sizes.now (slice_index ports.now.outs.channels.now 0) ≤
+        + batch.times * slice_index ports.now.outs.sizes.now (slice_index ports.now.outs.channels.now 0) ≤
         room queues.old (slice_index ports.now.outs.channels.now 0) }
-    ensures state { state.new ≡ state_at A.steps firings.entry.actor.now firings.entry.phase state.old
-        (fronts firings.entry.times ports.now.ins.sizes.now ports.now.ins.channels.now queues.old)
-        firings.entry.times }
+    ensures state { state.new ≡ state_at A.steps batch.entry.actor.now batch.entry.phase state.old
+        (fronts batch.entry.times ports.now.ins.sizes.now ports.now.ins.channels.now queues.old)
+        batch.entry.times }
     ensures queues { (c : ℕ) → c < length queues.old → samples queues.new c ≡
-        drop (at_ports ports.now.ins.channels.now (firings.entry.times * slice_index ports.now.ins.sizes.now c) c)
+        drop (at_ports ports.now.ins.channels.now (batch.entry.times * slice_index ports.now.ins.sizes.now c) c)
         (samples queues.old c) ++
-        spread (λ d. firings.entry.times * slice_index ports.now.outs.sizes.now d) ports.now.outs.channels.now
-        (puts_to A.steps firings.entry.actor.now firings.entry.phase state.old
-        (fronts firings.entry.times ports.now.ins.sizes.now ports.now.ins.channels.now queues.old)
-        firings.entry.times) c }
+        spread (λ d. batch.entry.times * slice_index ports.now.outs.sizes.now d) ports.now.outs.channels.now
+        (puts_to A.steps batch.entry.actor.now batch.entry.phase state.old
+        (fronts batch.entry.times ports.now.ins.sizes.now ports.now.ins.channels.now queues.old)
+        batch.entry.times) c }
     ensures rooms { KeepRoom queues.old queues.new }
 {
     let from = ports.ins.channels[0];
     let to = ports.outs.channels[0];
     let size = ports.outs.sizes[to];
-    let mut target = queues[to].lift();
-    let taken = queues[from].oldest_blocks(firings.times, ports.ins.sizes[from]);
+    let mut target = queues[to].take_out();
+    let taken = queues[from].oldest_blocks(batch.times, ports.ins.sizes[from]);
     let many = taken.len();
-    target.put_fired(firings, state, taken, firings.times, size);
+    target.put_fired(batch, state, taken, batch.times, size);
     queues[from].release(many);
     queues[to] = target;
 }
 
 impl<'a, A: Actor> Work<'a, A> {
     ghost use Rattle.sdf_one.specs.Firings.{phase_at, IsActor, ActorCanFire, IsFired};
-    ghost use Rattle.sdf_one.specs.AtOnce.{GoesAtOnce, CanFireAtOnce, AreFired};
+    ghost use Rattle.sdf_one.specs.AtOnce.{CanBatch, CanFireBatch, AreFired};
     ghost use Rattle.std.specs.List.{sum_by};
-    ghost use Rattle.sdf_one.specs.Many.{HasRows, GoesByMany, FitsCycles, CanFireMany, AreManyFired};
+    ghost use Rattle.sdf_one.specs.Many.{HasRows, CanBatchCycles, FitsCycles, CanFireMany, AreManyFired};
 
     /// Returns the phase of the next firing.
     pub(crate) fn phase(&self) -> u32
@@ -214,8 +214,8 @@ impl<'a, A: Actor> Work<'a, A> {
     }
 
     /// Checks whether firings of the node can be batched from queue to queue, if its channels are `ins` and `outs`.
-    pub(crate) fn goes_at_once(&self, ins: &[usize], outs: &[usize]) -> bool
-        ensures goes { IsTrue result → GoesAtOnce A.steps self.now ins.now outs.now }
+    pub(crate) fn can_batch(&self, ins: &[usize], outs: &[usize]) -> bool
+        ensures goes { IsTrue result → CanBatch A.steps self.now ins.now outs.now }
         ensures others { result ≡ false → IsActor self.now }
     {
         match self {
@@ -228,7 +228,7 @@ impl<'a, A: Actor> Work<'a, A> {
 
     /// Fires a node `times` times in one batch: takes all input from the channel into it, and puts all output on the
     /// channel out of it.
-    pub(crate) fn fire_at_once(
+    pub(crate) fn fire_batch(
         &mut self,
         times: usize,
         ports: &NodePorts,
@@ -236,7 +236,7 @@ impl<'a, A: Actor> Work<'a, A> {
         queues: &mut [Queue<A::Token>],
         outputs: &mut [Vec<A::Token>],
     )
-        requires { CanFireAtOnce A.steps (lists inputs.now) times ports.now.ins.channels.now ports.now.outs.channels.now
+        requires { CanFireBatch A.steps (lists inputs.now) times ports.now.ins.channels.now ports.now.outs.channels.now
             ports.now.ins.sizes.now ports.now.outs.sizes.now self.old queues.old outputs.old }
         ensures { AreFired A.steps (lists inputs.now) times ports.now.ins.channels.now ports.now.outs.channels.now
             ports.now.ins.sizes.now
@@ -261,21 +261,21 @@ impl<'a, A: Actor> Work<'a, A> {
                 state,
                 ..
             } => {
-                let firings = Firings {
+                let batch = Batch {
                     actor: *actor,
                     phase: *phase,
                     times,
                 };
-                fire_through(firings, state, ports, queues);
+                fire_through(batch, state, ports, queues);
             }
         }
     }
 
     /// Checks whether cycles of an actor can be batched through its blocks, if its channels are `ins` and `outs`. It
     /// must be at the beginning of a cycle, have no channel on both sides, and serve its ports in turn.
-    pub(crate) fn goes_by_many(&self, ins: &[usize], outs: &[usize], sizes: &Sizes) -> bool
+    pub(crate) fn can_batch_cycles(&self, ins: &[usize], outs: &[usize], sizes: &Sizes) -> bool
         requires { HasRows A.steps sizes.now self.now ins.now outs.now }
-        ensures { IsTrue result → GoesByMany A.steps sizes.now self.now ins.now outs.now }
+        ensures { IsTrue result → CanBatchCycles A.steps sizes.now self.now ins.now outs.now }
     {
         match self {
             Work::Inner { actor, phase, .. } => {
@@ -339,12 +339,12 @@ impl<'a, A: Actor> Work<'a, A> {
             lengthen(taken, all, filler);
             take_fronts(&ports.ins, times, size, taken, queues);
             let more = block_size(&ports.outs);
-            let firings = Firings {
+            let batch = Batch {
                 actor: *actor,
                 phase: *phase,
                 times: times * actor.cycle() as usize,
             };
-            fire_many_into(firings, state, taken, all, put, times * more);
+            fire_many_into(batch, state, taken, all, put, times * more);
             put_fronts(&ports.outs, times, more, put, queues);
         }
     }

@@ -1,10 +1,12 @@
 //! Faults of reading a command line.
 
 ghost use Rattle.std.specs.Prelude.{◌≡◌};
+ghost use Rattle.sdf_options.specs.Limits.{IsUsage};
 ghost use Rattle.sdf_options.specs.declared.fault.WordFault.TheVariants as fault;
 
+use clap::Command;
 use clap::error::ErrorKind;
-use std::alloc::{AllocError, AllocFailed};
+use std::alloc::{AllocError, AllocFailed, Global};
 use thiserror::Error;
 
 /// The reason why a command line was not read.
@@ -43,5 +45,16 @@ impl From<clap::Error> for WordFault {
             ErrorKind::OutOfMemory => WordFault::OutOfMemory,
             _ => WordFault::Usage(error),
         }
+    }
+}
+
+/// Returns the usage error with the message `text`.
+pub fn usage_error(alloc: Global, text: &str) -> WordFault
+    ensures { IsUsage result }
+{
+    let mut command = Command::new(alloc, "sdfw").override_usage("sdfw <COMMAND>");
+    match command.error(ErrorKind::InvalidValue, text) {
+        Ok(error) => WordFault::from(error),
+        Err(_) => WordFault::OutOfMemory,
     }
 }

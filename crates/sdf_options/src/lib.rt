@@ -9,7 +9,7 @@ mod options;
 pub mod plural;
 pub mod printable;
 
-pub use fault::WordFault;
+pub use fault::{WordFault, usage_error};
 pub use options::{
     Options, PLACEMENT_WORDS, PLACEMENTS, POLICIES, POLICY_WORDS, Placement, Policy, RUNNER_WORDS,
     RUNNERS, Runner,

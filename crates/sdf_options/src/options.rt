@@ -76,7 +76,8 @@ pub const RUNNER_WORDS: &[&str] = &["one", "rows", "rings"];
 
 pub static RUNNERS: [Runner; 3] = [Runner::One, Runner::Rows, Runner::Rings];
 
-/// The options of a schedule or a run. The type does not enforce the limits below: `plan` and `scheduled` test them.
+/// The options of a schedule or a run. The type does not enforce the limits below: `plan` and `design_schedule` test
+/// them.
 #[derive(Clone, Copy, Debug, PartialEq, Eq)]
 pub struct Options {
     /// Periods in a block, 1 to 64, or more in what `with_blocking` returns for a long block. The placement `spread`

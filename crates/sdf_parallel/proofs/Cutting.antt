@@ -11,9 +11,9 @@ use Rattle.std.specs.Prelude.{MatchResult}
 use Rattle.std.proofs.lemmas.List.Edits.{length-between}
 use Rattle.sdf_actor.specs.declared.sides.Lists.TheVariants.{Inputs}
 use Rattle.sdf_actor.specs.Nets.{Netlist}
-use Rattle.sdf_actor.specs.Rests.{AreJoined}
+use Rattle.sdf_actor.specs.NetStates.{AreJoined}
 use Rattle.sdf_actor.specs.Sides.{period_samples}
-use Rattle.sdf_queues.specs.Answer.{HasInputs, IsRunFault}
+use Rattle.sdf_queues.specs.RunResults.{HasInputs, IsRunFault}
 use Rattle.sdf_queues.specs.Feeds.{AreFull}
 use Rattle.sdf_queues.specs.declared.fault.RunFault.{RunFault}
 use Rattle.sdf_queues.specs.declared.fault.RunFault.TheVariants.{OutOfMemory, InputLength, NotHomed, Patience, NoWorker}

@@ -4,7 +4,7 @@ use Rattle.std.proofs.Common.{Some, sym, ap, ◌∙◌, arith, subst, ⊎_elim, 
 use Rattle.std.specs.Prelude.{min}
 use Rattle.std.proofs.lemmas.Bool.{cases_lt}
 use Rattle.std.proofs.lemmas.List.{length-replicate}
-use Rattle.sdf_actor.specs.declared.rest.NetState.{NetState}
+use Rattle.sdf_actor.specs.declared.net_state.NetState.{NetState}
 use Rattle.sdf_actor.specs.declared.sides.Lists.TheVariants.{Outputs}
 use Rattle.sdf_actor.specs.Sides.{list_count}
 use Rattle.sdf_actor.specs.Steps.{Steps}
@@ -12,7 +12,7 @@ use Rattle.sdf_queues.specs.Feeds.{GoesOnBy}
 use Rattle.sdf_queues.specs.Periods.{HasPeriod}
 use Rattle.sdf_parallel.specs.Cuts.{join}
 use Rattle.sdf_parallel.specs.declared.part.Split.{Split}
-use Rattle.sdf_parallel.specs.Parts.{AreStretches, IsFinished, IsSplit, IsPart, IsWarmedUp, HasParts, GoesOnInParts}
+use Rattle.sdf_parallel.specs.Parts.{AreStretches, IsStretch, IsSplit, IsPart, IsWarmedUp, HasParts, GoesOnInParts}
 use Rattle.sdf_parallel.specs.Parts.{read_by, end_of, part_count, none as no_part, more as one_part}
 use Rattle.sdf_parallel.specs.Parts.{first as first_stretch, next as next_stretch}
 use Rattle.sdf_parallel.proofs.Joining.{one_more, stretch_more, all_read, begins, ends, ends_last}
@@ -50,8 +50,8 @@ module _ {A S T M : Type 0} (s : Steps A S T) (inputs : List (List T))
   abbrev front : ℕ → List (List T)
   front to = read_by w.net.now q inputs 0 to
 
-  abbrev PartIo : NetState T S → ℕ → ℕ → M → NetState T S → Type 0
-  PartIo begin from to m last = IsFinished s w.net.now q inputs makes begin from to m last
+  abbrev Finishes : NetState T S → ℕ → ℕ → M → NetState T S → Type 0
+  Finishes begin from to m last = IsStretch s w.net.now q inputs makes begin from to m last
 
   abbrev Comes : ℕ → List M → NetState T S → Type 0
   Comes to made last = Reached s inputs makes w rest to made last
@@ -59,7 +59,7 @@ module _ {A S T M : Type 0} (s : Steps A S T) (inputs : List (List T))
   -- ---- a stretch more
 
   -- the first one of all
-  pub begun : (to : ℕ) (m : M) (last : NetState T S) → PartIo rest 0 to m last → Comes to (m ∷ []) last
+  pub begun : (to : ℕ) (m : M) (last : NetState T S) → Finishes rest 0 to m last → Comes to (m ∷ []) last
   begun to m last fin =
       let own : List (List T) = fin.outputs in
       let long : length (blank {T = T} lists) ≡ lists = length-replicate lists [] in
@@ -80,7 +80,8 @@ module _ {A S T M : Type 0} (s : Steps A S T) (inputs : List (List T))
       }
 
   module _ (at to : ℕ) (order : at ≤ to) (within : to ≤ w.periods) (made : List M) (b : NetState T S)
-      (before : Comes at made b) (begin : NetState T S) (m : M) (last : NetState T S) (fin : PartIo begin at to m last) where
+      (before : Comes at made b) (begin : NetState T S) (m : M) (last : NetState T S)
+      (fin : Finishes begin at to m last) where
     abbrev own : List (List T)
     own = fin.outputs
 
@@ -112,7 +113,7 @@ module _ {A S T M : Type 0} (s : Steps A S T) (inputs : List (List T))
   -- ---- the stretches of a part, behind what was made before it
 
   module _ (from : ℕ) (begin : NetState T S) (made : List M)
-      (base : (to : ℕ) (m : M) (last : NetState T S) → from ≤ to → to ≤ w.periods → PartIo begin from to m last →
+      (base : (to : ℕ) (m : M) (last : NetState T S) → from ≤ to → to ≤ w.periods → Finishes begin from to m last →
       Comes to (made ++ m ∷ []) last) where
     pub all_stretches : (to : ℕ) (more : List M) (last : NetState T S) → to ≤ w.periods →
         AreStretches s w.net.now q inputs makes begin from to more last → Comes to (made ++ more) last
@@ -145,8 +146,8 @@ module _ {A S T M : Type 0} (s : Steps A S T) (inputs : List (List T))
           let none : [] ≡ made = sym (before.none z) in
           all_stretches at part.begin made
           (λ to m last order short fin. subst (λ xs. Comes to (xs ++ m ∷ []) last) none
-          (begun to m last (subst (λ b. PartIo b 0 to m last) (part.first start)
-          (subst (λ k. PartIo part.begin k to m last) start fin))))
+          (begun to m last (subst (λ b. Finishes b 0 to m last) (part.first start)
+          (subst (λ k. Finishes part.begin k to m last) start fin))))
           to ms r (omega arith) part.stretches
 
       later_part : 0 < j → Comes to (made ++ ms) r

@@ -10,13 +10,13 @@ use Rattle.std.proofs.lemmas.Grind.{div_ceil_times}
 use Rattle.std.proofs.lemmas.List.{get_or_past}
 use Rattle.std.proofs.lemmas.Slice.{between_from_start}
 use Rattle.sdf_sched.specs.Period.{Schedule}
-use Rattle.sdf_actor.specs.declared.rest.NetState.{NetState}
+use Rattle.sdf_actor.specs.declared.net_state.NetState.{NetState}
 use Rattle.sdf_actor.specs.declared.sides.Lists.TheVariants.{Inputs}
 use Rattle.sdf_actor.specs.Nets.{Netlist}
-use Rattle.sdf_actor.specs.Rests.{AreJoined}
+use Rattle.sdf_actor.specs.NetStates.{AreJoined}
 use Rattle.sdf_actor.specs.Sides.{period_samples}
 use Rattle.sdf_actor.specs.Steps.{Steps}
-use Rattle.sdf_queues.specs.Answer.{HasInputs}
+use Rattle.sdf_queues.specs.RunResults.{HasInputs}
 use Rattle.sdf_queues.specs.Feeds.{AreFull, GoesOnBy}
 use Rattle.sdf_queues.specs.Periods.{HasPeriod}
 use Rattle.sdf_warm_up.specs.Laws.{ArePartsOf}
@@ -72,7 +72,8 @@ module _ {A S T : Type 0} (s : Steps A S T) (n : Netlist A T) (p : Schedule)
 
   -- a part more
   pub one_more : (at to : ℕ) → warm ≤ at → at ≤ to → to ≤ periods → (on next joined : List (List T))
-      (last begin end : NetState T S) → GoesOnBy s n q rest at (front at) on last → IsWarmedUp s n q inputs warm at begin →
+      (last begin end : NetState T S) → GoesOnBy s n q rest at (front at) on last →
+      IsWarmedUp s n q inputs warm at begin →
       GoesOnBy s n q begin (to - at) (read_by n q inputs at to) next end → AreJoined on next joined →
       length joined ≡ length on → GoesOnBy s n q rest to (front to) joined end
   one_more at to enough order within on next joined last begin end goes (made, short) late are many =

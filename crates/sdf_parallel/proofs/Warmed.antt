@@ -3,13 +3,13 @@ use Rattle.std.proofs.Common.{◌≡◌, ℕ, ◌+◌, ◌-◌, ◌≤◌, List,
 use Rattle.std.proofs.Common.{◌∙◌, ⊎_elim, arith, zero-mul}
 use Rattle.std.proofs.lemmas.Bool.{cases_lt}
 use Rattle.std.proofs.lemmas.List.{length-replicate, get_or-replicate, get_or_past}
-use Rattle.sdf_actor.specs.declared.rest.NetState.{NetState}
+use Rattle.sdf_actor.specs.declared.net_state.NetState.{NetState}
 use Rattle.sdf_actor.specs.declared.sides.Lists.TheVariants.{Outputs}
 use Rattle.sdf_actor.specs.Nets.{Netlist}
-use Rattle.sdf_actor.specs.Rests.{IsRest}
+use Rattle.sdf_actor.specs.NetStates.{IsNetState}
 use Rattle.sdf_actor.specs.Sides.{list_count}
 use Rattle.sdf_actor.specs.Steps.{Steps}
-use Rattle.sdf_queues.specs.Answer.{HasInputs, periods_of}
+use Rattle.sdf_queues.specs.RunResults.{HasInputs, periods_of}
 use Rattle.sdf_queues.specs.Feeds.{HasRun, AreFull, GoesOnBy}
 use Rattle.sdf_one.proofs.Theorems.{no_period_runs}
 use Rattle.sdf_parallel.specs.Parts.{read_by, IsWarmedUp}
@@ -27,12 +27,12 @@ blank_at {T = T} count e = ⊎_elim
 
 -- no period leaves what no firing leaves
 pub unfired : {A S T : Type 0} (s : Steps A S T) (n : Netlist A T) (q : List ℕ) (given : List (List T))
-    (first : NetState T S) → IsRest s n given (λ _. 0) first → IsRest s n given (periods_of q 0) first
-unfired s n q given first is = subst (λ k. IsRest s n given k first) (λ κ a. sym (zero-mul (get_or q a 0)) κ) is
+    (first : NetState T S) → IsNetState s n given (λ _. 0) first → IsNetState s n given (periods_of q 0) first
+unfired s n q given first is = subst (λ k. IsNetState s n given k first) (λ κ a. sym (zero-mul (get_or q a 0)) κ) is
 
 pub warmed : {A S T : Type 0} (s : Steps A S T) (n : Netlist A T) (q : List ℕ) (inputs : List (List T))
     (periods warm from : ℕ) → HasInputs n q periods inputs → AreFull n q periods inputs → warm ≤ from →
-    from ≤ periods → (first : NetState T S) → ((given : List (List T)) → IsRest s n given (λ _. 0) first) →
+    from ≤ periods → (first : NetState T S) → ((given : List (List T)) → IsNetState s n given (λ _. 0) first) →
     (on : List (List T)) (last : NetState T S) →
     GoesOnBy s n q first (from - (from - warm)) (read_by n q inputs (from - warm) from) on last →
     IsWarmedUp s n q inputs warm from last

@@ -1,6 +1,6 @@
 -- The laws of lists with others behind them.
 use Rattle.std.specs.Prelude.{◌≡◌, ◌≤◌, List, length}
-use Rattle.sdf_actor.specs.Rests.{AreJoined}
+use Rattle.sdf_actor.specs.NetStates.{AreJoined}
 use Rattle.sdf_parallel.specs.Cuts.{join}
 
 -- each list of `join` is a list followed by the list of the same number

@@ -5,13 +5,13 @@ use Rattle.std.specs.Int.{div_ceil}
 use Rattle.std.specs.List.{All}
 use Rattle.sdf_graph.specs.Rates.{rates}
 use Rattle.sdf_sched.specs.Period.{IsPeriodOf}
-use Rattle.sdf_actor.specs.declared.rest.NetState.{NetState}
+use Rattle.sdf_actor.specs.declared.net_state.NetState.{NetState}
 use Rattle.sdf_actor.specs.declared.sides.Lists.TheVariants.{Inputs, Outputs}
 use Rattle.sdf_actor.specs.Graphs.{graph_of}
 use Rattle.sdf_actor.specs.Nets.{Netlist}
 use Rattle.sdf_actor.specs.Sides.{list_count, period_samples}
 use Rattle.sdf_actor.specs.Steps.{Steps}
-use Rattle.sdf_queues.specs.Answer.{HasInputs, periods_of}
+use Rattle.sdf_queues.specs.RunResults.{HasInputs, periods_of}
 use Rattle.sdf_queues.specs.Feeds.{HasRun, AreFull, GoesOnBy}
 use Rattle.sdf_queues.specs.declared.fault.RunFault.{RunFault}
 use Rattle.sdf_queues.specs.declared.fault.RunFault.TheVariants.{OutOfMemory}
@@ -19,8 +19,8 @@ use Rattle.sdf_warm_up.specs.WarmUps.{WarmsIn}
 use Rattle.sdf_parallel.specs.Cuts.{cut, join}
 use Rattle.sdf_parallel.specs.declared.part.PartResult.{PartResult}
 use Rattle.sdf_parallel.specs.declared.part.Split.{Split}
-use Rattle.sdf_parallel.specs.declared.workers.FinishedPart.{FinishedPart}
-use Rattle.sdf_parallel.specs.declared.workers.Worker.{Worker}
+use Rattle.sdf_parallel.specs.declared.part_workers.FinishedPart.{FinishedPart}
+use Rattle.sdf_parallel.specs.declared.part_workers.Worker.{Worker}
 
 -- a schedule of the net, inputs that hold exactly the periods of the run, a warm-up, and parts that are no shorter than
 -- it
@@ -45,7 +45,7 @@ IsWarmedUp {A} {S} {T} s n q inputs warm from back =
     (made : List (List T)) × HasRun s n (read_by n q inputs (from - warm) from) (periods_of q warm) made back
 
 -- a run of the periods from `from` to `to` goes on from `begin`, and its outputs become `made`
-pub record IsFinished {A S T M : Type 0} (s : Steps A S T) (n : Netlist A T) (q : List ℕ) (inputs : List (List T))
+pub record IsStretch {A S T M : Type 0} (s : Steps A S T) (n : Netlist A T) (q : List ℕ) (inputs : List (List T))
     (makes : ℕ → List (List T) → M → Type 0) (begin : NetState T S) (from to : ℕ) (made : M) (last : NetState T S) :
     Type 0 where
   pub outputs : List (List T)
@@ -54,17 +54,19 @@ pub record IsFinished {A S T M : Type 0} (s : Steps A S T) (n : Netlist A T) (q 
 
 -- The stretches of a part, in order: each one goes on from what the one before it leaves.
 pub data AreStretches {A S T M : Type 0} (s : Steps A S T) (n : Netlist A T) (q : List ℕ) (inputs : List (List T))
-    (makes : ℕ → List (List T) → M → Type 0) (begin : NetState T S) (from : ℕ) : ℕ → List M → NetState T S → Type 0 where
-  first : (to : ℕ) (m : M) (last : NetState T S) → from ≤ to → IsFinished s n q inputs makes begin from to m last →
+    (makes : ℕ → List (List T) → M → Type 0) (begin : NetState T S) (from : ℕ) : ℕ → List M → NetState T S →
+    Type 0 where
+  first : (to : ℕ) (m : M) (last : NetState T S) → from ≤ to → IsStretch s n q inputs makes begin from to m last →
       AreStretches s n q inputs makes begin from to (m ∷ []) last
   next : (at to : ℕ) (made : List M) (m : M) (mid last : NetState T S) →
       AreStretches s n q inputs makes begin from at made mid → at ≤ to →
-      IsFinished s n q inputs makes mid at to m last →
+      IsStretch s n q inputs makes mid at to m last →
       AreStretches s n q inputs makes begin from to (made ++ m ∷ []) last
 
--- a part: the first one goes on from the rest, and each other one from what its warm-up leaves
+-- a part: the first one goes on from the net state `rest`, and each other one from what its warm-up leaves
 pub record IsPart {A S T M : Type 0} (s : Steps A S T) (n : Netlist A T) (q : List ℕ) (inputs : List (List T))
-    (makes : ℕ → List (List T) → M → Type 0) (rest : NetState T S) (warm from to : ℕ) (made : List M) (last : NetState T S) :
+    (makes : ℕ → List (List T) → M → Type 0) (rest : NetState T S) (warm from to : ℕ) (made : List M)
+    (last : NetState T S) :
     Type 0 where
   pub begin : NetState T S
   pub first : from ≡ 0 → begin ≡ rest
@@ -80,39 +82,39 @@ abbrev pub part_count : {A S T : Type 0} → Split A T S → ℕ
 part_count w = max (div_ceil w.periods w.size) 1
 
 -- the result of part i, or the fault
-abbrev pub IsMade : {A S T M : Type 0} → Steps A S T → List (List T) → (ℕ → List (List T) → M → Type 0) →
+abbrev pub IsResult : {A S T M : Type 0} → Steps A S T → List (List T) → (ℕ → List (List T) → M → Type 0) →
     Split A T S → NetState T S → ℕ → Result (PartResult M T S) RunFault → Type 0
-IsMade s inputs makes w rest i r =
+IsResult s inputs makes w rest i r =
     MatchResult r
     (λ m. IsPart s w.net.now w.period.now.repetitions inputs makes rest w.warm (i * w.size)
     (end_of w.size w.periods (i * w.size)) m.made.items m.rest)
     (λ fault. fault ≡ OutOfMemory)
 
 -- the results of the first parts, or their faults
-abbrev pub AreMade : {A S T M : Type 0} → Steps A S T → List (List T) → (ℕ → List (List T) → M → Type 0) →
+abbrev pub AreResults : {A S T M : Type 0} → Steps A S T → List (List T) → (ℕ → List (List T) → M → Type 0) →
     Split A T S → NetState T S → List (Result (PartResult M T S) RunFault) → Type 0
-AreMade {A} {S} {T} {M} s inputs makes w rest places =
+AreResults {A} {S} {T} {M} s inputs makes w rest places =
     (i : ℕ) (d : Result (PartResult M T S) RunFault) → i < length places →
-    IsMade s inputs makes w rest i (slice_index_or places i d)
+    IsResult s inputs makes w rest i (slice_index_or places i d)
 
 -- a part of the run, with its result
-abbrev pub IsDone : {A S T M : Type 0} → Steps A S T → List (List T) → (ℕ → List (List T) → M → Type 0) →
+abbrev pub IsFinishedPart : {A S T M : Type 0} → Steps A S T → List (List T) → (ℕ → List (List T) → M → Type 0) →
     Split A T S → NetState T S → FinishedPart M T S → Type 0
-IsDone s inputs makes w rest d = (d.number < part_count w) × IsMade s inputs makes w rest d.number d.made
+IsFinishedPart s inputs makes w rest d = (d.number < part_count w) × IsResult s inputs makes w rest d.number d.made
 
 -- the parts that a worker ran, with their results
-abbrev pub AreDone : {A S T M : Type 0} → Steps A S T → List (List T) → (ℕ → List (List T) → M → Type 0) →
+abbrev pub AreFinished : {A S T M : Type 0} → Steps A S T → List (List T) → (ℕ → List (List T) → M → Type 0) →
     Split A T S → NetState T S → List (FinishedPart M T S) → Type 0
-AreDone s inputs makes w rest done = All (IsDone s inputs makes w rest) done
+AreFinished s inputs makes w rest done = All (IsFinishedPart s inputs makes w rest) done
 
 -- the parts that all workers ran, with their results
-abbrev pub AllAreDone : {A S T M : Type 0} → Steps A S T → List (List T) → (ℕ → List (List T) → M → Type 0) →
+abbrev pub AllAreFinished : {A S T M : Type 0} → Steps A S T → List (List T) → (ℕ → List (List T) → M → Type 0) →
     Split A T S → NetState T S → List (Worker M T S) → Type 0
-AllAreDone {A} {S} {T} {M} s inputs makes w rest workers =
+AllAreFinished {A} {S} {T} {M} s inputs makes w rest workers =
     (i : ℕ) (d : Worker M T S) → i < length workers →
-    AreDone s inputs makes w rest (slice_index_or workers i d).done.items
+    AreFinished s inputs makes w rest (slice_index_or workers i d).done.items
 
--- What the outputs of stretches became, in order. A run goes on from the rest by the periods up to the end of each
+-- What the outputs of stretches became, in order. A run goes on from `rest` by the periods up to the end of each
 -- stretch. Its outputs are the outputs of the stretches before, joined with the stretch's own.
 pub data HasParts {A S T M : Type 0} (s : Steps A S T) (n : Netlist A T) (q : List ℕ) (inputs : List (List T))
     (makes : ℕ → List (List T) → M → Type 0) (rest : NetState T S) : ℕ → List (List T) → List M → Type 0 where
@@ -123,7 +125,7 @@ pub data HasParts {A S T M : Type 0} (s : Steps A S T) (n : Netlist A T) (q : Li
       makes (to - from) own m → GoesOnBy s n q rest to (read_by n q inputs 0 to) (join before own) last →
       HasParts s n q inputs makes rest to (join before own) (made ++ m ∷ [])
 
--- a run goes on from the rest by some periods, in stretches whose outputs became these
+-- a run goes on from a net state by some periods, in stretches whose outputs became these
 pub record GoesOnInParts {A S T M : Type 0} (s : Steps A S T) (n : Netlist A T) (q : List ℕ) (inputs : List (List T))
     (makes : ℕ → List (List T) → M → Type 0) (rest : NetState T S) (periods : ℕ) (made : List M) (last : NetState T S) :
     Type 0 where

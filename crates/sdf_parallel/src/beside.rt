@@ -24,7 +24,7 @@ pub(crate) fn for_each_beside<
     ensures each { ChangesEach F.Fn f.now s.old s.new }
     ensures meanwhile { G.step meanwhile.old result meanwhile.new }
 {
-    from_place(rt, f, 0, s, meanwhile)
+    for_each_from(rt, f, 0, s, meanwhile)
 }
 
 /// Calls `f` with the element `it`, whose number is `i`.
@@ -46,7 +46,7 @@ fn call_at<T, F: Fn(usize, &mut T)>(f: &F, i: usize, s: &mut [T])
 
 /// Calls `f` with each element of `s`, numbered from `i`, and `meanwhile` beside them.
 #[cycle(places)]
-fn from_place<R: Threads + Sync, T: Send, F: Fn(usize, &mut T) + Sync, G: FnMut() -> B, B>(
+fn for_each_from<R: Threads + Sync, T: Send, F: Fn(usize, &mut T) + Sync, G: FnMut() -> B, B>(
     rt: &R,
     f: &F,
     i: usize,
@@ -96,7 +96,7 @@ fn first_beside<R: Threads + Sync, T: Send, F: Fn(usize, &mut T) + Sync, G: FnMu
                 × AcceptsFrom F.Fn f.now (i + 1) others.now × G.pre meanwhile.now }
             ensures { ChangesFrom F.Fn f.entry.now (i + 1) others.entry.now others.exit.now
                 × G.step meanwhile.entry.now result meanwhile.exit.now }
-        { from_place(rt, f, i + 1, others, meanwhile) },
+        { for_each_from(rt, f, i + 1, others, meanwhile) },
     );
     done
 }

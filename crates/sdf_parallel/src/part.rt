@@ -2,18 +2,18 @@
 
 ghost use Rattle.std.specs.Prelude.{◌≡◌, ◌-◌, ◌≤◌, ◌<◌, ℕ, List, MatchResult};
 ghost use Rattle.sdf_actor.specs.Wires.{lists};
-ghost use Rattle.sdf_actor.specs.Rests.{IsRest};
-ghost use Rattle.sdf_queues.specs.Answer.{periods_of};
+ghost use Rattle.sdf_actor.specs.NetStates.{IsNetState};
+ghost use Rattle.sdf_queues.specs.RunResults.{periods_of};
 ghost use Rattle.sdf_queues.specs.Feeds.{GoesOnBy};
 ghost use Rattle.sdf_queues.specs.declared.fault.RunFault.TheVariants.{OutOfMemory};
 ghost use Rattle.sdf_warm_up.specs.Laws.{WasLeft};
-ghost use Rattle.sdf_parallel.specs.Parts.{AreStretches, IsSplit, IsWarmedUp, IsFinished, IsPart, end_of, part_count};
+ghost use Rattle.sdf_parallel.specs.Parts.{AreStretches, IsSplit, IsWarmedUp, IsStretch, IsPart, end_of, part_count};
 ghost use Rattle.sdf_parallel.specs.Parts.{read_by};
 
-use crate::ends::PartIo;
+use crate::part_io::PartIo;
 use sdf_actor::{Actor, Net, NetState};
-use sdf_queues::RunFault;
 use sdf_one::{RunInputs, SpareMemory, resume_one_in};
+use sdf_queues::RunFault;
 use sdf_sched::Period;
 use std::alloc::Global;
 use std::mem;
@@ -95,90 +95,90 @@ impl<M: Drop, T: Copy> Memory<M, T> {
 }
 
 /// Runs the periods of `stretch` from the state `begin`. Returns their output lists and the state after them.
-fn go_on<A: Actor, E: PartIo<A::Token>>(
+fn run_stretch<A: Actor, E: PartIo<A::Token>>(
     alloc: Global,
-    ends: &E,
+    io: &E,
     split: Split<'_, A>,
     begin: &NetState<A::Token, A::State>,
     stretch: Stretch,
     memory: &mut RunMemory<A::Token>,
 ) -> Result<(Vec<Vec<A::Token>>, NetState<A::Token, A::State>), RunFault>
-    requires split { IsSplit A.steps (E.inputs ends.now) split }
+    requires split { IsSplit A.steps (E.inputs io.now) split }
     requires begin { (first : List (List A.Token)) × (few : ℕ)
-        × IsRest A.steps split.net.now first (periods_of split.period.now.repetitions few) begin.now }
+        × IsNetState A.steps split.net.now first (periods_of split.period.now.repetitions few) begin.now }
     requires order { stretch.from ≤ stretch.to }
     requires within { stretch.to ≤ split.periods }
     ensures { let n = split.entry.net.now in let q = split.entry.period.now.repetitions in MatchResult result
         (λ r. GoesOnBy A.steps n q begin.now (stretch.to - stretch.from)
-        (read_by n q (E.inputs ends.now) stretch.from stretch.to) (lists r.0.items) r.1)
+        (read_by n q (E.inputs io.now) stretch.from stretch.to) (lists r.0.items) r.1)
         (λ fault. fault ≡ OutOfMemory) }
 {
     let samples = split.net.samples_in();
     let spares = mem::replace(&mut memory.inputs, Vec::new(alloc));
-    let inputs = ends.read(
+    let inputs = io.read(
         alloc,
         stretch.from as usize * samples,
         stretch.to as usize * samples,
         spares,
     )?;
-    let passage = RunInputs {
+    let run_inputs = RunInputs {
         net: split.net,
         period: split.period,
         periods: stretch.to - stretch.from,
         inputs: &inputs,
     };
-    let (ran, rest) = resume_one_in(alloc, passage, begin, &mut memory.spares)?;
+    let (ran, rest) = resume_one_in(alloc, run_inputs, begin, &mut memory.spares)?;
     memory.inputs = inputs;
     Ok((ran.outputs, rest))
 }
 
 /// Runs the warm-up before the period `from`, and returns the state in which it leaves the net.
-fn warmed_up<A: Actor, E: PartIo<A::Token>>(
+fn run_warm_up<A: Actor, E: PartIo<A::Token>>(
     alloc: Global,
-    ends: &E,
+    io: &E,
     split: Split<'_, A>,
     from: u32,
     memory: &mut RunMemory<A::Token>,
 ) -> Result<NetState<A::Token, A::State>, RunFault>
-    requires split { IsSplit A.steps (E.inputs ends.now) split }
+    requires split { IsSplit A.steps (E.inputs io.now) split }
     requires warm { split.warm ≤ from }
     requires within { from ≤ split.periods }
     ensures { MatchResult result
-        (IsWarmedUp A.steps split.entry.net.now split.entry.period.now.repetitions (E.inputs ends.now)
+        (IsWarmedUp A.steps split.entry.net.now split.entry.period.now.repetitions (E.inputs io.now)
         split.entry.warm from)
         (λ fault. fault ≡ OutOfMemory) }
 {
-    let first = split.net.first_rest(alloc)?;
+    let first = split.net.initial_state(alloc)?;
     let stretch = Stretch {
         from: from - split.warm,
         to: from,
     };
-    let (outputs, rest) = go_on(alloc, ends, split, &first, stretch, memory)?;
+    let (outputs, rest) = run_stretch(alloc, io, split, &first, stretch, memory)?;
     memory.spares.give_back(outputs);
     Ok(rest)
 }
 
 /// Runs a stretch of a part from the state `begin`, and returns what its outputs became and the state after it.
-fn finished<A: Actor, E: PartIo<A::Token>>(
+fn finish_stretch<A: Actor, E: PartIo<A::Token>>(
     alloc: Global,
-    ends: &E,
+    io: &E,
     split: Split<'_, A>,
     begin: &NetState<A::Token, A::State>,
     stretch: Stretch,
-    memory: &mut Memory<E::PartResult, A::Token>,
-) -> Result<(E::PartResult, NetState<A::Token, A::State>), RunFault>
-    requires split { IsSplit A.steps (E.inputs ends.now) split }
+    memory: &mut Memory<E::StretchResult, A::Token>,
+) -> Result<(E::StretchResult, NetState<A::Token, A::State>), RunFault>
+    requires split { IsSplit A.steps (E.inputs io.now) split }
     requires begin { WasLeft A.steps split.net.now split.period.now.repetitions begin.now }
     requires order { stretch.from ≤ stretch.to }
     requires within { stretch.to ≤ split.periods }
     ensures { let n = split.entry.net.now in let q = split.entry.period.now.repetitions in MatchResult result
-        (λ r. IsFinished A.steps n q (E.inputs ends.now) (E.makes ends.now) begin.now stretch.from stretch.to r.0 r.1
+        (λ r. IsStretch A.steps n q (E.inputs io.now) (E.makes io.now) begin.now stretch.from stretch.to r.0 r.1
         × WasLeft A.steps n q r.1)
         (λ fault. fault ≡ OutOfMemory) }
 {
-    let (outputs, rest) = go_on(alloc, ends, split, begin, stretch, &mut memory.own)?;
+    let (outputs, rest) = run_stretch(alloc, io, split, begin, stretch, &mut memory.own)?;
     let periods = stretch.to - stretch.from;
-    let made = ends.finish(alloc, periods, &outputs, memory.spares.pop())?;
+    let made = io.finish(alloc, periods, &outputs, memory.spares.pop())?;
     memory.own.spares.give_back(outputs);
     Ok((made, rest))
 }
@@ -186,24 +186,24 @@ fn finished<A: Actor, E: PartIo<A::Token>>(
 /// Runs the part at the period `from` from the state `begin`, one stretch after another.
 fn stretches<A: Actor, E: PartIo<A::Token>>(
     alloc: Global,
-    ends: &E,
+    io: &E,
     split: Split<'_, A>,
     begin: &NetState<A::Token, A::State>,
     from: u32,
-    memory: &mut Memory<E::PartResult, A::Token>,
-) -> Result<PartResult<E::PartResult, A::Token, A::State>, RunFault>
-    requires split { IsSplit A.steps (E.inputs ends.now) split }
+    memory: &mut Memory<E::StretchResult, A::Token>,
+) -> Result<PartResult<E::StretchResult, A::Token, A::State>, RunFault>
+    requires split { IsSplit A.steps (E.inputs io.now) split }
     requires begin { WasLeft A.steps split.net.now split.period.now.repetitions begin.now }
     requires within { from ≤ split.periods }
     ensures { let n = split.entry.net.now in let q = split.entry.period.now.repetitions in MatchResult result
-        (λ m. AreStretches A.steps n q (E.inputs ends.now) (E.makes ends.now) begin.now from
+        (λ m. AreStretches A.steps n q (E.inputs io.now) (E.makes io.now) begin.now from
         (end_of split.entry.size split.entry.periods from) m.made.items m.rest)
         (λ fault. fault ≡ OutOfMemory) }
 {
     let to = from + split.size.min(split.periods - from);
     let mut at = from + split.stretch.min(to - from);
     let first = Stretch { from, to: at };
-    let (made, mut rest) = finished(alloc, ends, split, begin, first, memory)?;
+    let (made, mut rest) = finish_stretch(alloc, io, split, begin, first, memory)?;
     let many = (to - from).div_ceil(split.stretch).max(1);
     let mut all = Vec::with_capacity(alloc, many as usize)?;
     all.push_reserved(made);
@@ -212,7 +212,7 @@ fn stretches<A: Actor, E: PartIo<A::Token>>(
             from: at,
             to: at + split.stretch.min(to - at),
         };
-        let (made, last) = finished(alloc, ends, split, &rest, next, memory)?;
+        let (made, last) = finish_stretch(alloc, io, split, &rest, next, memory)?;
         all.reserve(1)?;
         all.push_reserved(made);
         rest = last;
@@ -224,24 +224,24 @@ fn stretches<A: Actor, E: PartIo<A::Token>>(
 /// Runs the part that begins at the period `from`, after its warm-up unless it is the first part.
 pub(crate) fn part<A: Actor, E: PartIo<A::Token>>(
     alloc: Global,
-    ends: &E,
+    io: &E,
     split: Split<'_, A>,
     rest: &NetState<A::Token, A::State>,
     from: u32,
-    memory: &mut Memory<E::PartResult, A::Token>,
-) -> Result<PartResult<E::PartResult, A::Token, A::State>, RunFault>
-    requires split { IsSplit A.steps (E.inputs ends.now) split }
+    memory: &mut Memory<E::StretchResult, A::Token>,
+) -> Result<PartResult<E::StretchResult, A::Token, A::State>, RunFault>
+    requires split { IsSplit A.steps (E.inputs io.now) split }
     requires rest { WasLeft A.steps split.net.now split.period.now.repetitions rest.now }
     requires within { from ≤ split.periods }
     requires warm { 0 < from → split.warm ≤ from }
     ensures { let n = split.entry.net.now in let q = split.entry.period.now.repetitions in MatchResult result
-        (λ m. IsPart A.steps n q (E.inputs ends.now) (E.makes ends.now) rest.now split.entry.warm from
+        (λ m. IsPart A.steps n q (E.inputs io.now) (E.makes io.now) rest.now split.entry.warm from
         (end_of split.entry.size split.entry.periods from) m.made.items m.rest)
         (λ fault. fault ≡ OutOfMemory) }
 {
     if from == 0 {
-        return stretches(alloc, ends, split, rest, from, memory);
+        return stretches(alloc, io, split, rest, from, memory);
     }
-    let begin = warmed_up(alloc, ends, split, from, &mut memory.warming)?;
-    stretches(alloc, ends, split, &begin, from, memory)
+    let begin = run_warm_up(alloc, io, split, from, &mut memory.warming)?;
+    stretches(alloc, io, split, &begin, from, memory)
 }

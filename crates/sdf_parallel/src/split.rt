@@ -1,16 +1,16 @@
 //! Runs that are split in time.
 
 ghost use Rattle.std.specs.Prelude.{◌≡◌, ◌<◌, ℕ, List, length, slice_index_or, MatchResult, IfOk};
-ghost use Rattle.sdf_actor.specs.Rests.{IsRest};
-ghost use Rattle.sdf_queues.specs.Answer.{periods_of};
+ghost use Rattle.sdf_actor.specs.NetStates.{IsNetState};
+ghost use Rattle.sdf_queues.specs.RunResults.{periods_of};
 ghost use Rattle.sdf_queues.specs.declared.fault.RunFault.TheVariants.{OutOfMemory};
 ghost use Rattle.sdf_warm_up.specs.Laws.{WasLeft};
-ghost use Rattle.sdf_parallel.specs.Parts.{AllAreDone, AreDone, AreMade, IsSplit, part_count, GoesOnInParts};
+ghost use Rattle.sdf_parallel.specs.Parts.{AllAreFinished, AreFinished, AreResults, IsSplit, part_count, GoesOnInParts};
 
 use crate::beside::for_each_beside;
-use crate::ends::PartIo;
 use crate::part::{PartResult, Split};
-use crate::workers::{FinishedPart, PartQueue, PartWorkers, Worker, work};
+use crate::part_io::PartIo;
+use crate::part_workers::{FinishedPart, PartQueue, PartWorkers, Worker, work};
 use sdf_actor::{Actor, NetState};
 use sdf_queues::RunFault;
 use sdf_queues::laws::nets_have_periods;
@@ -21,12 +21,12 @@ use std::thread::Threads;
 /// Returns a place for the result of each part. Each holds `OutOfMemory` until a worker's result is put there.
 fn empty_places<A: Actor, E: PartIo<A::Token>>(
     alloc: Global,
-    ends: &E,
+    io: &E,
     split: Split<'_, A>,
     rest: &NetState<A::Token, A::State>,
-) -> Result<Vec<Result<PartResult<E::PartResult, A::Token, A::State>, RunFault>>, AllocError>
-    requires { IsSplit A.steps (E.inputs ends.now) split }
-    ensures made { IfOk result (λ v. AreMade A.steps (E.inputs ends.now) (E.makes ends.now) split.entry rest.now
+) -> Result<Vec<Result<PartResult<E::StretchResult, A::Token, A::State>, RunFault>>, AllocError>
+    requires { IsSplit A.steps (E.inputs io.now) split }
+    ensures made { IfOk result (λ v. AreResults A.steps (E.inputs io.now) (E.makes io.now) split.entry rest.now
         v.items) }
     ensures all { IfOk result (λ v. length v.items ≡ part_count split.entry) }
 {
@@ -39,16 +39,16 @@ fn empty_places<A: Actor, E: PartIo<A::Token>>(
 
 /// Moves the results in `done`, of one worker, to the places of their parts.
 fn place<A: Actor, E: PartIo<A::Token>>(
-    ends: &E,
+    io: &E,
     split: Split<'_, A>,
     rest: &NetState<A::Token, A::State>,
-    done: &mut Vec<FinishedPart<E::PartResult, A::Token, A::State>>,
-    places: &mut [Result<PartResult<E::PartResult, A::Token, A::State>, RunFault>],
+    done: &mut Vec<FinishedPart<E::StretchResult, A::Token, A::State>>,
+    places: &mut [Result<PartResult<E::StretchResult, A::Token, A::State>, RunFault>],
 )
-    requires done { AreDone A.steps (E.inputs ends.now) (E.makes ends.now) split rest.now done.old.items }
-    requires made { AreMade A.steps (E.inputs ends.now) (E.makes ends.now) split rest.now places.old }
+    requires done { AreFinished A.steps (E.inputs io.now) (E.makes io.now) split rest.now done.old.items }
+    requires made { AreResults A.steps (E.inputs io.now) (E.makes io.now) split rest.now places.old }
     requires all { length places.old ≡ part_count split }
-    ensures made { AreMade A.steps (E.inputs ends.now) (E.makes ends.now) split.entry rest.now places.new }
+    ensures made { AreResults A.steps (E.inputs io.now) (E.makes io.now) split.entry rest.now places.new }
     ensures count { length places.new ≡ length places.old }
 {
     for _ in 0..done.len() {
@@ -60,37 +60,37 @@ fn place<A: Actor, E: PartIo<A::Token>>(
 
 /// Moves the results of all workers to the places of their parts.
 fn place_all<A: Actor, E: PartIo<A::Token>>(
-    ends: &E,
+    io: &E,
     split: Split<'_, A>,
     rest: &NetState<A::Token, A::State>,
-    workers: &mut [Worker<E::PartResult, A::Token, A::State>],
-    places: &mut [Result<PartResult<E::PartResult, A::Token, A::State>, RunFault>],
+    workers: &mut [Worker<E::StretchResult, A::Token, A::State>],
+    places: &mut [Result<PartResult<E::StretchResult, A::Token, A::State>, RunFault>],
 )
-    requires done { AllAreDone A.steps (E.inputs ends.now) (E.makes ends.now) split rest.now workers.old }
-    requires made { AreMade A.steps (E.inputs ends.now) (E.makes ends.now) split rest.now places.old }
+    requires done { AllAreFinished A.steps (E.inputs io.now) (E.makes io.now) split rest.now workers.old }
+    requires made { AreResults A.steps (E.inputs io.now) (E.makes io.now) split rest.now places.old }
     requires all { length places.old ≡ part_count split }
-    ensures made { AreMade A.steps (E.inputs ends.now) (E.makes ends.now) split.entry rest.now places.new }
+    ensures made { AreResults A.steps (E.inputs io.now) (E.makes io.now) split.entry rest.now places.new }
     ensures count { length places.new ≡ length places.old }
 {
     for i in 0..workers.len() {
-        place(ends, split, rest, &mut workers[i].done, places);
+        place(io, split, rest, &mut workers[i].done, places);
     }
 }
 
 /// Takes out what the outputs of all stretches became, in order, and the state in which the last part leaves the net.
-fn taken<A: Actor, E: PartIo<A::Token>>(
+fn take_results<A: Actor, E: PartIo<A::Token>>(
     alloc: Global,
-    ends: &E,
+    io: &E,
     split: Split<'_, A>,
     rest: &NetState<A::Token, A::State>,
-    places: &mut [Result<PartResult<E::PartResult, A::Token, A::State>, RunFault>],
-) -> Result<(Vec<E::PartResult>, NetState<A::Token, A::State>), RunFault>
-    requires split { IsSplit A.steps (E.inputs ends.now) split }
-    requires made { AreMade A.steps (E.inputs ends.now) (E.makes ends.now) split rest.now places.old }
+    places: &mut [Result<PartResult<E::StretchResult, A::Token, A::State>, RunFault>],
+) -> Result<(Vec<E::StretchResult>, NetState<A::Token, A::State>), RunFault>
+    requires split { IsSplit A.steps (E.inputs io.now) split }
+    requires made { AreResults A.steps (E.inputs io.now) (E.makes io.now) split rest.now places.old }
     requires all { length places.old ≡ part_count split }
     ensures { MatchResult result
-        (λ r. GoesOnInParts A.steps split.entry.net.now split.entry.period.now.repetitions (E.inputs ends.now)
-        (E.makes ends.now) rest.now split.entry.periods r.0.items r.1)
+        (λ r. GoesOnInParts A.steps split.entry.net.now split.entry.period.now.repetitions (E.inputs io.now)
+        (E.makes io.now) rest.now split.entry.periods r.0.items r.1)
         (λ fault. fault ≡ OutOfMemory) }
 {
     nets_have_periods(split.net);
@@ -108,58 +108,58 @@ fn taken<A: Actor, E: PartIo<A::Token>>(
 /// Collects what the outputs of all stretches became, in order, and the state in which the last part leaves the net.
 fn gather<A: Actor, E: PartIo<A::Token>>(
     alloc: Global,
-    ends: &E,
+    io: &E,
     split: Split<'_, A>,
     rest: &NetState<A::Token, A::State>,
-    workers: &mut [Worker<E::PartResult, A::Token, A::State>],
-) -> Result<(Vec<E::PartResult>, NetState<A::Token, A::State>), RunFault>
-    requires split { IsSplit A.steps (E.inputs ends.now) split }
-    requires done { AllAreDone A.steps (E.inputs ends.now) (E.makes ends.now) split rest.now workers.old }
+    workers: &mut [Worker<E::StretchResult, A::Token, A::State>],
+) -> Result<(Vec<E::StretchResult>, NetState<A::Token, A::State>), RunFault>
+    requires split { IsSplit A.steps (E.inputs io.now) split }
+    requires done { AllAreFinished A.steps (E.inputs io.now) (E.makes io.now) split rest.now workers.old }
     ensures { MatchResult result
-        (λ r. GoesOnInParts A.steps split.entry.net.now split.entry.period.now.repetitions (E.inputs ends.now)
-        (E.makes ends.now) rest.now split.entry.periods r.0.items r.1)
+        (λ r. GoesOnInParts A.steps split.entry.net.now split.entry.period.now.repetitions (E.inputs io.now)
+        (E.makes io.now) rest.now split.entry.periods r.0.items r.1)
         (λ fault. fault ≡ OutOfMemory) }
 {
-    let mut places = empty_places(alloc, ends, split, rest)?;
-    place_all(ends, split, rest, workers, &mut places);
-    taken(alloc, ends, split, rest, &mut places)
+    let mut places = empty_places(alloc, io, split, rest)?;
+    place_all(io, split, rest, workers, &mut places);
+    take_results(alloc, io, split, rest, &mut places)
 }
 
 /// Runs all parts on `workers` in parallel, and `meanwhile` beside them. Returns the results of both.
 fn run_parts<R: Threads + Sync, A: Actor, E: PartIo<A::Token>, G: FnMut() -> B, B>(
     rt: &R,
     alloc: Global,
-    ends: &E,
+    io: &E,
     split: Split<'_, A>,
     rest: &NetState<A::Token, A::State>,
-    workers: &mut [Worker<E::PartResult, A::Token, A::State>],
+    workers: &mut [Worker<E::StretchResult, A::Token, A::State>],
     meanwhile: &mut G,
 ) -> (
-    Result<(Vec<E::PartResult>, NetState<A::Token, A::State>), RunFault>,
+    Result<(Vec<E::StretchResult>, NetState<A::Token, A::State>), RunFault>,
     B,
 )
-    requires split { IsSplit A.steps (E.inputs ends.now) split }
+    requires split { IsSplit A.steps (E.inputs io.now) split }
     requires rest { WasLeft A.steps split.net.now split.period.now.repetitions rest.now }
     requires meanwhile { G.pre meanwhile.old }
     ensures ran { MatchResult result.0
-        (λ r. GoesOnInParts A.steps split.entry.net.now split.entry.period.now.repetitions (E.inputs ends.now)
-        (E.makes ends.now) rest.now split.entry.periods r.0.items r.1)
+        (λ r. GoesOnInParts A.steps split.entry.net.now split.entry.period.now.repetitions (E.inputs io.now)
+        (E.makes io.now) rest.now split.entry.periods r.0.items r.1)
         (λ fault. fault ≡ OutOfMemory) }
     ensures meanwhile { G.step meanwhile.old result.1 meanwhile.new }
 {
-    let line = PartQueue::new();
+    let queue = PartQueue::new();
     let done = for_each_beside(
         rt,
         workers,
-        &|_: usize, worker: &mut Worker<E::PartResult, A::Token, A::State>|
-            requires { IsSplit A.steps (E.inputs ends.now) split
+        &|_: usize, worker: &mut Worker<E::StretchResult, A::Token, A::State>|
+            requires { IsSplit A.steps (E.inputs io.now) split
                 × WasLeft A.steps split.net.now split.period.now.repetitions rest.now }
-            ensures { AreDone A.steps (E.inputs ends.entry.now) (E.makes ends.entry.now) split.entry rest.entry.now
+            ensures { AreFinished A.steps (E.inputs io.entry.now) (E.makes io.entry.now) split.entry rest.entry.now
                 worker.exit.now.done.items }
-        { work(alloc, ends, split, rest, &line, worker) },
+        { work(alloc, io, split, rest, &queue, worker) },
         meanwhile,
     );
-    (gather(alloc, ends, split, rest, workers), done)
+    (gather(alloc, io, split, rest, workers), done)
 }
 
 /// Resumes a net from its state `rest` as `resume_one` does, in parts that up to `split.workers` workers run in
@@ -171,22 +171,22 @@ fn run_parts<R: Threads + Sync, A: Actor, E: PartIo<A::Token>, G: FnMut() -> B, 
 /// processor runs fewer. `meanwhile` is run once in this thread, even if memory is refused.
 pub fn resume_split<R: Threads + Sync, A: Actor, E: PartIo<A::Token>, G: FnMut() -> B, B>(
     rt: &R,
-    ends: &E,
+    io: &E,
     split: Split<'_, A>,
     rest: &NetState<A::Token, A::State>,
-    workers: &mut PartWorkers<E::PartResult, A::Token, A::State>,
+    workers: &mut PartWorkers<E::StretchResult, A::Token, A::State>,
     meanwhile: &mut G,
 ) -> (
-    Result<(Vec<E::PartResult>, NetState<A::Token, A::State>), RunFault>,
+    Result<(Vec<E::StretchResult>, NetState<A::Token, A::State>), RunFault>,
     B,
 )
-    requires split { IsSplit A.steps (E.inputs ends.now) split }
+    requires split { IsSplit A.steps (E.inputs io.now) split }
     requires rest { (first : List (List A.Token)) × (few : ℕ)
-        × IsRest A.steps split.net.now first (periods_of split.period.now.repetitions few) rest.now }
+        × IsNetState A.steps split.net.now first (periods_of split.period.now.repetitions few) rest.now }
     requires meanwhile { G.pre meanwhile.old }
     ensures ran { MatchResult result.0
-        (λ r. GoesOnInParts A.steps split.entry.net.now split.entry.period.now.repetitions (E.inputs ends.now)
-        (E.makes ends.now) rest.now split.entry.periods r.0.items r.1)
+        (λ r. GoesOnInParts A.steps split.entry.net.now split.entry.period.now.repetitions (E.inputs io.now)
+        (E.makes io.now) rest.now split.entry.periods r.0.items r.1)
         (λ fault. fault ≡ OutOfMemory) }
     ensures meanwhile { G.step meanwhile.old result.1 meanwhile.new }
 {
@@ -195,10 +195,10 @@ pub fn resume_split<R: Threads + Sync, A: Actor, E: PartIo<A::Token>, G: FnMut()
     let parts = split.count();
     let threads = parts.min(split.workers.max(1) as usize);
     let stretches = split.size.div_ceil(split.stretch) as usize;
-    match workers.take_on(threads, parts.div_ceil(threads).saturating_mul(stretches)) {
+    match workers.add_workers(threads, parts.div_ceil(threads).saturating_mul(stretches)) {
         Ok(()) => {
             let all = &mut workers.all[..threads];
-            run_parts(rt, alloc, ends, split, rest, all, meanwhile)
+            run_parts(rt, alloc, io, split, rest, all, meanwhile)
         }
         Err(refused) => (Err(refused.into()), meanwhile()),
     }

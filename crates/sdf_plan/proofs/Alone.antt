@@ -12,9 +12,9 @@ use Rattle.sdf_options.specs.declared.options.Policy.TheVariants.{Round}
 use Rattle.sdf_faults.specs.declared.fault.Fault.{Fault}
 use Rattle.sdf_faults.specs.declared.fault.Fault.TheVariants as fault
 use Rattle.sdf_plan.specs.declared.plan.Execution.TheVariants.{One, Parts}
-use Rattle.sdf_plan.specs.Paces.{one_thread, IsInParts}
+use Rattle.sdf_plan.specs.ParallelPlans.{one_thread, IsInParts}
 use Rattle.sdf_plan.specs.Plans.{PlanValue, ArePassed, IsPlanOf, IsPlanFault, IsScheduleBy, IsScheduleFault, Suits}
-use Rattle.sdf_plan.specs.Ways.{plan_by}
+use Rattle.sdf_plan.specs.Executions.{plan_by}
 
 passed : ArePassed one_thread
 passed = record { patience = tt; sizes = ((omega arith, omega arith), (omega arith, omega arith)) }
@@ -44,7 +44,7 @@ module _ (d : DesignValue) (s : Schedule) (by_policy : IsScheduleBy Round (graph
   is_in_parts m periods samples p made several warm_up read =
       subst (λ x. IsInParts d m x m periods samples) (sym made)
       (record {
-        alone = plan_by (One s 1);
+        on_one_thread = plan_by (One s 1);
         by_options = plan_of;
         plan = refl;
         all = refl;

@@ -2,7 +2,7 @@
 use Rattle.std.proofs.Common.{◌≡◌, ◌⊎◌, inl, inr, ℕ, List, map, length, slice_index, Result, Ok, Err, MatchResult}
 use Rattle.std.proofs.Common.{subst}
 use Rattle.std.specs.List.{range_with_len}
-use Rattle.sdf_graph.specs.Rates.{Shape, IsShape, rates}
+use Rattle.sdf_graph.specs.Rates.{GraphValue, IsShape, rates}
 use Rattle.sdf_graph.specs.Sequences.{IsPass, IsDeadlocked}
 use Rattle.sdf_graph.specs.Periods.{IsLeastPeriod}
 use Rattle.sdf_graph.proofs.Theorems.{graphs_are_sound, one_least_period}
@@ -19,7 +19,7 @@ use Rattle.sdf_faults.specs.declared.fault.Fault.TheVariants as fault
 use Rattle.sdf_plan.specs.Plans.{PlanValue, ArePassed, IsPlanOf, IsPlanFault, IsLive, Decides, IsStuckFault}
 use Rattle.sdf_plan.specs.Plans.{IsDeadlockOf, ProgressValue, progress_of}
 
-pub deadlock_of : (d : DesignValue) (g : Shape) (q : List ℕ) (stuck : Stuck) (actors : List ProgressValue) →
+pub deadlock_of : (d : DesignValue) (g : GraphValue) (q : List ℕ) (stuck : Stuck) (actors : List ProgressValue) →
     g ≡ graph_of kit_steps d.net → IsLeastPeriod (rates (graph_of kit_steps d.net)) q →
     IsStuckFault g q (Deadlock stuck) → actors ≡ map (progress_of d q stuck) (range_with_len 0 (length d.net.nodes)) →
     IsDeadlockOf d actors
@@ -44,7 +44,7 @@ module _ (d : DesignValue) (q : List ℕ)
   -- of each design some sequence of enabled firings completes the least period, or none does
   pub live_or_not : IsShape (graph_of kit_steps d.net) → IsLive d ⊎ (IsLive d → ⊥)
   live_or_not shape =
-      let graph : Shape = graph_of kit_steps d.net in
+      let graph : GraphValue = graph_of kit_steps d.net in
       go (period_or_deadlock (rates graph) (slice_index q) (graphs_are_sound graph shape))
     where
       go : ((w : List ℕ) × IsPass (rates (graph_of kit_steps d.net)) (slice_index q) w)

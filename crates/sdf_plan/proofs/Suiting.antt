@@ -2,7 +2,7 @@
 use Rattle.std.proofs.Common.{ℕ, Option, Some, None, Result, Ok, Err, MatchResult, sym, subst}
 use Rattle.std.specs.Prelude.{IfSome, IfOk}
 use Rattle.sdf_sched.specs.Period.{Schedule}
-use Rattle.sdf_prec.specs.Tables.{Tabled, IsTable}
+use Rattle.sdf_prec.specs.Tables.{TableValue, IsTable}
 use Rattle.sdf_prec.specs.BlockTables.{IsTableOf}
 use Rattle.sdf_file.specs.Designs.{DesignValue}
 use Rattle.sdf_faults.specs.declared.fault.Fault.{Fault}
@@ -16,14 +16,15 @@ use Rattle.sdf_plan.specs.Placements.{rates_of, firings_of, IsPlaced, IsTableBy}
 use Rattle.sdf_plan.specs.Plans.{PlanValue, IsPlanOf, IsPlanFault, IsTableFor, HasPatience}
 use Rattle.sdf_plan.specs.Plans.{patience_for, SuitsRunner, Suits}
 
-pub placed_table : (placement : Placement) (policy : Policy) (d : DesignValue) (j m : ℕ) (s : Schedule) (t : Tabled) →
+pub placed_table : (placement : Placement) (policy : Policy) (d : DesignValue) (j m : ℕ) (s : Schedule)
+    (t : TableValue) →
     IsPlaced placement policy d j m s t → IsTable (rates_of d) (firings_of j s) m t
 placed_table Hu policy d j m s t is = is.table
 placed_table Homed policy d j m s t is = is.table
 placed_table File policy d j m s t is = is.0
 placed_table Spread policy d j m s t is = is.table
 
-table_of : (d : DesignValue) (o : Options) (s : Schedule) (j : ℕ) (t : Tabled) → IsTableBy d o s j t →
+table_of : (d : DesignValue) (o : Options) (s : Schedule) (j : ℕ) (t : TableValue) → IsTableBy d o s j t →
     IsTableOf (rates_of d) s.repetitions j t
 table_of d o s j t is = record {
   width = o.workers;
@@ -33,7 +34,7 @@ table_of d o s j t is = record {
   table = placed_table o.placement o.policy d j o.workers s t is.placed;
 }
 
-table_suits : (runner : Runner) (d : DesignValue) (o : Options) (s : Schedule) (j : ℕ) (t : Option Tabled) →
+table_suits : (runner : Runner) (d : DesignValue) (o : Options) (s : Schedule) (j : ℕ) (t : Option TableValue) →
     IsTableFor runner d o s j t → IfSome t (IsTableOf (rates_of d) s.repetitions j)
 table_suits One d o s j t is = subst (λ x. IfSome x (IsTableOf (rates_of d) s.repetitions j)) (sym is) tt
 table_suits Rows d o s j (Some t) is = table_of d o s j t is
@@ -41,7 +42,7 @@ table_suits Rows d o s j None is = absurd is
 table_suits Rings d o s j (Some t) is = table_of d o s j t is.0
 table_suits Rings d o s j None is = absurd is
 
-homes_suit : (runner : Runner) (d : DesignValue) (o : Options) (s : Schedule) (j : ℕ) (t : Option Tabled) →
+homes_suit : (runner : Runner) (d : DesignValue) (o : Options) (s : Schedule) (j : ℕ) (t : Option TableValue) →
     IsTableFor runner d o s j t → IfSome t (SuitsRunner runner)
 homes_suit One d o s j t is = subst (λ x. IfSome x (SuitsRunner One)) (sym is) tt
 homes_suit Rows d o s j (Some t) is = tt

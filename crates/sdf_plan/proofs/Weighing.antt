@@ -8,7 +8,7 @@ use Rattle.std.proofs.lemmas.List.{get_or_past}
 use Rattle.std.proofs.lemmas.List.FromFn.{get_or-map-range_with_len, length-map-range_with_len}
 use Rattle.std.proofs.lemmas.List.FromFn.{map-range_with_len_more}
 use Rattle.std.proofs.lemmas.List.Sums.{get_or-le-sum_by}
-use Rattle.sdf_limits.specs.declared.TheConstants.{MOST_ACTORS, MOST_BLOCK, MOST_COST}
+use Rattle.sdf_limits.specs.declared.TheConstants.{MAX_ACTORS, MAX_BLOCK, MAX_COST}
 use Rattle.sdf_actor.specs.Nets.{node}
 use Rattle.sdf_actor.specs.declared.node.Node.{Node}
 use Rattle.sdf_actor.specs.declared.node.Node.TheVariants.{Source, Sink, Inner}
@@ -18,7 +18,7 @@ use Rattle.sdf_file.specs.Designs.{DesignValue, IsDesign}
 use Rattle.sdf_prec.specs.Costs.{IsCost}
 use Rattle.sdf_plan.specs.Placements.{rates_of}
 use Rattle.sdf_prec.specs.Spread.{AreLoads}
-use Rattle.sdf_plan.specs.Weights.{as_cost, load_of, firing_weight, weights_by}
+use Rattle.sdf_plan.specs.Weights.{clamp_cost, node_load, firing_weight, weights_by}
 
 -- one more weight
 pub one_more : (f : ℕ → ℕ) (n : ℕ) (xs : List ℕ) (x : ℕ) → xs ≡ map f (range_with_len 0 n) → x ≡ f n →
@@ -27,10 +27,10 @@ one_more f n xs x all one =
     ap (λ ys. ys ++ x ∷ []) all
     ∙ (ap (λ y. map f (range_with_len 0 n) ++ y ∷ []) one ∙ sym (map-range_with_len_more f 0 n n (omega arith)))
 
-is_cost : (weight : ℕ) → IsCost (as_cost weight)
+is_cost : (weight : ℕ) → IsCost (clamp_cost weight)
 is_cost weight = (omega arith, omega arith)
 
-load_is_cost : (x : Node Kit) → IsCost (load_of x)
+load_is_cost : (x : Node Kit) → IsCost (node_load x)
 load_is_cost (Source channel block) = is_cost _
 load_is_cost (Sink channel block) = is_cost _
 load_is_cost (Inner kit) = is_cost _
@@ -42,27 +42,27 @@ chosen false x y one other = other
 weight_is_cost : (d : DesignValue) (by_kind : Bool) (a : ℕ) → IsDesign d → a < length d.net.nodes →
     IsCost (firing_weight d by_kind a)
 weight_is_cost d by_kind a is known =
-    chosen by_kind (load_of (node d.net a)) (slice_index d.costs a) (load_is_cost (node d.net a))
+    chosen by_kind (node_load (node d.net a)) (slice_index d.costs a) (load_is_cost (node d.net a))
     (is.priced.each a known)
 
 -- some firings of some weight, both within their limits
-weighed : (q w : ℕ) → 0 < q → q ≤ MOST_BLOCK → IsCost w → (0 < q * w) × (q * w ≤ MOST_BLOCK * MOST_COST)
+weighed : (q w : ℕ) → 0 < q → q ≤ MAX_BLOCK → IsCost w → (0 < q * w) × (q * w ≤ MAX_BLOCK * MAX_COST)
 weighed q w some few cost =
     let one : 1 ≤ q = omega (arith, some) in
     let least : 1 * 1 ≤ q * w = mul-le-mul one cost.0 in
     (omega (arith, least), mul-le-mul few cost.1)
 
 module _ (d : DesignValue) (by_kind : Bool) (s : Schedule) (is : IsDesign d) (period : IsPeriodOf (rates_of d) s)
-    (few : length d.net.nodes ≤ MOST_ACTORS) where
+    (few : length d.net.nodes ≤ MAX_ACTORS) where
   abbrev weight : ℕ → ℕ
   weight a = slice_index s.repetitions a * firing_weight d by_kind a
 
   at : (a : ℕ) → a < length d.net.nodes → slice_index (weights_by d by_kind s.repetitions) a ≡ weight a
   at a known = get_or-map-range_with_len weight 0 (length d.net.nodes) a a 0 known (omega arith)
 
-  within : (a : ℕ) → a < length d.net.nodes → (0 < weight a) × (weight a ≤ MOST_BLOCK * MOST_COST)
+  within : (a : ℕ) → a < length d.net.nodes → (0 < weight a) × (weight a ≤ MAX_BLOCK * MAX_COST)
   within a known =
-      let firings : slice_index s.repetitions a ≤ MOST_BLOCK = omega (
+      let firings : slice_index s.repetitions a ≤ MAX_BLOCK = omega (
         arith,
         period.all,
         period.within,
@@ -72,8 +72,8 @@ module _ (d : DesignValue) (by_kind : Bool) (s : Schedule) (is : IsDesign d) (pe
       (weight_is_cost d by_kind a is known)
 
   small : (a : ℕ) → (a < length d.net.nodes) ⊎ (length d.net.nodes ≤ a) →
-      slice_index (weights_by d by_kind s.repetitions) a ≤ MOST_BLOCK * MOST_COST
-  small a (inl known) = subst (λ w. w ≤ MOST_BLOCK * MOST_COST) (sym (at a known)) (within a known).1
+      slice_index (weights_by d by_kind s.repetitions) a ≤ MAX_BLOCK * MAX_COST
+  small a (inl known) = subst (λ w. w ≤ MAX_BLOCK * MAX_COST) (sym (at a known)) (within a known).1
   small a (inr past) =
       let none : slice_index (weights_by d by_kind s.repetitions) a ≡ 0 =
       get_or_past (weights_by d by_kind s.repetitions) a 0

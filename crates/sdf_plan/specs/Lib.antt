@@ -1,6 +1,6 @@
 pub mod Weights
 pub mod Placements
 pub mod Plans
-pub mod Ways
-pub mod Paces
+pub mod Executions
+pub mod ParallelPlans
 pub mod Schedules

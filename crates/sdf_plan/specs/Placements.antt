@@ -10,7 +10,7 @@ use Rattle.sdf_prec.specs.Blocks.{block, IsSizeFault as IsBlockSizeFault}
 use Rattle.sdf_prec.specs.ByHomes.{AreByHomes, AreRunsByHomes, IsHomesFault}
 use Rattle.sdf_prec.specs.HuTables.{IsHuTable}
 use Rattle.sdf_prec.specs.Long.{IsLongest, IsLongSize, IsSpreadFault, IsSpreadTable}
-use Rattle.sdf_prec.specs.Tables.{Tabled, IsTable}
+use Rattle.sdf_prec.specs.Tables.{TableValue, IsTable}
 use Rattle.sdf_file.specs.Designs.{DesignValue}
 use Rattle.sdf_options.specs.declared.options.Options.{Options}
 use Rattle.sdf_options.specs.declared.options.Placement.{Placement}
@@ -36,14 +36,14 @@ firings_of j s = slice_index (block j s.repetitions)
 
 -- one firing a row at the homes of the design: the period's order j times, or by the policy of runs the whole block in
 -- runs
-abbrev pub AreAtHome : Policy → DesignValue → ℕ → ℕ → Schedule → Tabled → Type 0
+abbrev pub AreAtHome : Policy → DesignValue → ℕ → ℕ → Schedule → TableValue → Type 0
 AreAtHome Round d j m s t = AreByHomes d.homes m (repeated j s.order) t.rows
 AreAtHome Lean d j m s t = AreByHomes d.homes m (repeated j s.order) t.rows
 AreAtHome Runs d j m s t = AreRunsByHomes (rates_of d) (firings_of j s) d.homes m t.rows
 
 -- the table by a placement for blocks of j periods and m workers: by Hu's rule with the costs of the design, free or
 -- homed; or one firing a row, at the homes of the design, or at the homes by which its weight is spread
-abbrev pub IsPlaced : Placement → Policy → DesignValue → ℕ → ℕ → Schedule → Tabled → Type 0
+abbrev pub IsPlaced : Placement → Policy → DesignValue → ℕ → ℕ → Schedule → TableValue → Type 0
 IsPlaced Hu policy d j m s t = IsHuTable (rates_of d) (firings_of j s) (slice_index d.costs) m false t
 IsPlaced Homed policy d j m s t = IsHuTable (rates_of d) (firings_of j s) (slice_index d.costs) m true t
 IsPlaced File policy d j m s t = IsTable (rates_of d) (firings_of j s) m t × AreAtHome policy d j m s t
@@ -57,6 +57,6 @@ IsPlaceFault File d j m s f = IsHomesFault j m s.repetitions d.homes f
 IsPlaceFault Spread d j m s f = IsSpreadFault j m s.repetitions f
 
 -- the table of a design's period for blocks of j periods by options
-pub record IsTableBy (d : DesignValue) (o : Options) (s : Schedule) (j : ℕ) (t : Tabled) : Type 0 where
+pub record IsTableBy (d : DesignValue) (o : Options) (s : Schedule) (j : ℕ) (t : TableValue) : Type 0 where
   pub size : IsLongSize j o.workers s.repetitions
   pub placed : IsPlaced o.placement o.policy d j o.workers s t

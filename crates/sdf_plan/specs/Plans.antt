@@ -2,8 +2,8 @@
 use Rattle.std.specs.Prelude.{◌≡◌, ◌≢◌, ◌⊎◌, ℕ, ℤ, ◌≤◌, ◌==◌, List, [], map, length, Option, option_map, Result, Ok}
 use Rattle.std.specs.Prelude.{Err, slice_index, slice_index_or, find, Some, None, IfSome, string_bytes}
 use Rattle.std.specs.List.{range_with_len}
-use Rattle.sdf_limits.specs.declared.TheConstants.{MOST_BLOCKING, MOST_PATIENCE, MOST_WORKERS}
-use Rattle.sdf_graph.specs.Rates.{Shape, rates}
+use Rattle.sdf_limits.specs.declared.TheConstants.{MAX_BLOCKING, MAX_PATIENCE, MAX_WORKERS}
+use Rattle.sdf_graph.specs.Rates.{GraphValue, rates}
 use Rattle.sdf_graph.specs.Sequences.{IsPass, IsDeadlocked}
 use Rattle.sdf_graph.specs.Periods.{IsLeastPeriod}
 use Rattle.sdf_actor.specs.Graphs.{graph_of}
@@ -23,7 +23,7 @@ use Rattle.sdf_sched.specs.declared.fault.SchedFault.{SchedFault}
 use Rattle.sdf_sched.specs.declared.fault.SchedFault.TheVariants as sched
 use Rattle.sdf_prec.specs.declared.fault.PrecFault.{PrecFault}
 use Rattle.sdf_prec.specs.declared.fault.PrecFault.TheVariants as prec
-use Rattle.sdf_prec.specs.Tables.{Tabled, IsHomed}
+use Rattle.sdf_prec.specs.Tables.{TableValue, IsHomed}
 use Rattle.sdf_file.specs.Designs.{DesignValue}
 use Rattle.sdf_options.specs.declared.options.Options.{Options}
 use Rattle.sdf_options.specs.declared.options.Policy.{Policy}
@@ -44,30 +44,30 @@ pub record PlanValue : Type 0 where
   pub patience : ℕ
   pub parts : ℕ
   pub period : Schedule
-  pub table : Option Tabled
+  pub table : Option TableValue
 
 -- a policy gives this order of a period's firings; rounds and runs begin at actor 0
-abbrev pub IsOrderBy : Policy → Shape → (ℕ → ℕ) → List ℕ → Type 0
+abbrev pub IsOrderBy : Policy → GraphValue → (ℕ → ℕ) → List ℕ → Type 0
 IsOrderBy policies.Round g q order = (turn : ℕ) × IsPicked IsRoundChoice g q 0 order turn
 IsOrderBy policies.Lean g q order = IsPicked {P = Lean} IsLeanChoice g q (record {}) order (record {})
 IsOrderBy policies.Runs g q order = (last : ℕ) × IsPicked IsRunsChoice g q 0 order last
 
 -- one period of a graph by a policy
-pub record IsScheduleBy (policy : Policy) (g : Shape) (s : Schedule) : Type 0 where
+pub record IsScheduleBy (policy : Policy) (g : GraphValue) (s : Schedule) : Type 0 where
   pub period : IsPeriodOf (rates g) s
   pub order : IsOrderBy policy g (slice_index s.repetitions) s.order
 
 -- a graph with least repetition vector q is deadlocked, and this is where a schedule stopped
-abbrev pub IsStuckFault : Shape → List ℕ → SchedFault → Type 0
+abbrev pub IsStuckFault : GraphValue → List ℕ → SchedFault → Type 0
 IsStuckFault g q sched.OutOfMemory = Unit {0}
 IsStuckFault g q (sched.Deadlock s) =
     IsDeadlocked (rates g) (slice_index q) × ((w : List ℕ) × IsStuckAt (rates g) (slice_index q) w s)
 
 abbrev pub IsBlocking : ℕ → Type 0
-IsBlocking blocking = (1 ≤ blocking) × (blocking ≤ MOST_BLOCKING)
+IsBlocking blocking = (1 ≤ blocking) × (blocking ≤ MAX_BLOCKING)
 
 abbrev pub IsWorkers : ℕ → Type 0
-IsWorkers workers = (1 ≤ workers) × (workers ≤ MOST_WORKERS)
+IsWorkers workers = (1 ≤ workers) × (workers ≤ MAX_WORKERS)
 
 -- the numbers of the options are within their limits
 abbrev pub AreSizes : Options → Type 0
@@ -81,7 +81,7 @@ IsSizeFault o f = ⊥
 
 -- the spin limit of workers over rings is not above the greatest one. Other runners have no spin limit
 abbrev pub HasPatience : Runner → ℕ → Type 0
-HasPatience Rings patience = patience ≤ MOST_PATIENCE
+HasPatience Rings patience = patience ≤ MAX_PATIENCE
 HasPatience runner patience = Unit {0}
 
 -- the options pass the tests that look at them alone
@@ -98,7 +98,7 @@ IsOptionFault o f = ⊥
 
 -- The runner on one thread has no table. The other runners have the table of the placement; over rings each actor has a
 -- home in it.
-abbrev pub IsTableFor : Runner → DesignValue → Options → Schedule → ℕ → Option Tabled → Type 0
+abbrev pub IsTableFor : Runner → DesignValue → Options → Schedule → ℕ → Option TableValue → Type 0
 IsTableFor One d o s j t = t ≡ None
 IsTableFor Rows d o s j (Some t) = IsTableBy d o s j t
 IsTableFor Rings d o s j (Some t) = IsTableBy d o s j t × IsHomed t
@@ -132,7 +132,7 @@ pub record IsPlanOf (d : DesignValue) (o : Options) (p : PlanValue) : Type 0 whe
   pub by_placement : IsTableFor o.runner d o p.period p.blocking p.table
 
 -- a runner over rings needs a home for each actor
-abbrev pub SuitsRunner : Runner → Tabled → Type 0
+abbrev pub SuitsRunner : Runner → TableValue → Type 0
 SuitsRunner Rings t = IsHomed t
 SuitsRunner runner t = Unit {0}
 
@@ -205,7 +205,7 @@ abbrev pub IsTableFault : DesignValue → Options → Schedule → ℕ → Fault
 IsTableFault d o s j OutOfMemory = Unit {0}
 IsTableFault d o s j (Table f) = (o.runner ≢ One) × IsPlaceFault o.placement d j o.workers s f
     × (f ≡ prec.OutOfMemory → ⊥)
-IsTableFault d o s j NotHomed = (o.runner ≡ Rings) × ((t : Tabled) × IsTableBy d o s j t × (IsHomed t → ⊥))
+IsTableFault d o s j NotHomed = (o.runner ≡ Rings) × ((t : TableValue) × IsTableBy d o s j t × (IsHomed t → ⊥))
 IsTableFault d o s j f = ⊥
 
 -- the table of the placement has an actor without a home
@@ -215,7 +215,7 @@ pub record IsScattered (d : DesignValue) (o : Options) : Type 0 where
   pub by_policy : IsScheduleBy o.policy (graph_of kit_steps d.net) period
   pub periods : ℕ
   pub blocking : ArePeriodsOf d o period periods
-  pub table : Tabled
+  pub table : TableValue
   pub by_placement : IsTableBy d o period periods table
   pub scattered : IsHomed table → ⊥
 

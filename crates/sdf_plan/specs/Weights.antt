@@ -2,7 +2,7 @@
 use Rattle.std.specs.Prelude.{ℕ, ◌+◌, ◌*◌, Bool, ◌==◌, min, max, if◌then◌else◌, List, length, map}
 use Rattle.std.specs.Prelude.{slice_index}
 use Rattle.std.specs.List.{list_all, range_with_len}
-use Rattle.sdf_limits.specs.declared.TheConstants.{MOST_COST}
+use Rattle.sdf_limits.specs.declared.TheConstants.{MAX_COST}
 use Rattle.sdf_actor.specs.Nets.{node}
 use Rattle.sdf_actor.specs.declared.node.Node.{Node}
 use Rattle.sdf_actor.specs.declared.node.Node.TheVariants.{Source, Sink, Inner}
@@ -15,21 +15,21 @@ use Rattle.sdf_file.specs.Designs.{DesignValue}
 use Rattle.sdf_plan.specs.declared.weights.TheConstants.{SAMPLE_WEIGHT}
 
 -- the samples that a firing moves at all ports of a side
-abbrev pub moved_by : PortRates → ℕ
-moved_by (Every ports rate) = ports * rate
-moved_by (InTurn ports rate) = rate
+abbrev pub samples_moved : PortRates → ℕ
+samples_moved (Every ports rate) = ports * rate
+samples_moved (InTurn ports rate) = rate
 
 -- a weight within the limits of a cost
-abbrev pub as_cost : ℕ → ℕ
-as_cost weight = max 1 (min MOST_COST weight)
+abbrev pub clamp_cost : ℕ → ℕ
+clamp_cost weight = max 1 (min MAX_COST weight)
 
 -- the weight of a firing of a node: 1 for each product, and SAMPLE_WEIGHT for each sample that it moves
-abbrev pub load_of : Node Kit → ℕ
-load_of (Source channel block) = as_cost (SAMPLE_WEIGHT * block)
-load_of (Sink channel block) = as_cost (SAMPLE_WEIGHT * block)
-load_of (Inner kit) =
-    as_cost (products_of kit
-    + SAMPLE_WEIGHT * (moved_by (behaviour kit).ports.inputs + moved_by (behaviour kit).ports.outputs))
+abbrev pub node_load : Node Kit → ℕ
+node_load (Source channel block) = clamp_cost (SAMPLE_WEIGHT * block)
+node_load (Sink channel block) = clamp_cost (SAMPLE_WEIGHT * block)
+node_load (Inner kit) =
+    clamp_cost (products_of kit
+    + SAMPLE_WEIGHT * (samples_moved (behaviour kit).ports.inputs + samples_moved (behaviour kit).ports.outputs))
 
 -- the design gives no costs: each is 1, which is also the value of an absent key `cost`
 abbrev pub is_free_of_costs : DesignValue → Bool
@@ -37,7 +37,7 @@ is_free_of_costs d = list_all (λ cost. cost == 1) d.costs
 
 -- the weight of a firing of actor a: by its node, or its cost
 abbrev pub firing_weight : DesignValue → Bool → ℕ → ℕ
-firing_weight d by_kind a = if by_kind then load_of (node d.net a) else slice_index d.costs a
+firing_weight d by_kind a = if by_kind then node_load (node d.net a) else slice_index d.costs a
 
 -- the weight of each actor's firings in a period
 abbrev pub weights_by : DesignValue → Bool → List ℕ → List ℕ

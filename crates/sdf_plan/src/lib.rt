@@ -4,7 +4,7 @@
 //! design. `sdf_sched` orders the firings of a period, and `sdf_prec` makes the table of a block, which workers follow.
 //! `sdf_warm_up` finds the warm-up of a part, and `sdf_faults` has the faults of a plan. No call of this crate runs a
 //! net. Begin at `planning`; then `parallel` and `schedule`. The definitions are in `specs/Plans.antt`,
-//! `specs/Placements.antt`, `specs/Paces.antt` and `specs/Schedules.antt`.
+//! `specs/Placements.antt`, `specs/ParallelPlans.antt` and `specs/Schedules.antt`.
 #![tactic(auto)]
 
 pub mod costs;
@@ -15,4 +15,4 @@ pub mod planning;
 pub mod schedule;
 mod weights;
 
-pub use plan::{Plan, Execution};
+pub use plan::{Execution, Plan};

@@ -5,7 +5,7 @@ ghost use Rattle.sdf_actor.specs.Graphs.{graph_of};
 ghost use Rattle.sdf_kit.specs.Kit.{kit_steps};
 ghost use Rattle.sdf_warm_up.specs.Warm.{IsLeast};
 ghost use Rattle.sdf_warm_up.specs.WarmUps.{WarmsIn};
-ghost use Rattle.sdf_plan.specs.Paces.{one_thread, IsPaced};
+ghost use Rattle.sdf_plan.specs.ParallelPlans.{one_thread, IsParallelPlan};
 ghost use Rattle.sdf_options.specs.declared.options.Policy.TheVariants.{Round};
 ghost use Rattle.sdf_plan.specs.Plans.{IsPlanFault, IsScheduleBy, IsWorkers, Suits};
 
@@ -13,9 +13,9 @@ use crate::plan::Plan;
 use crate::planning::period_by;
 use sdf_faults::Fault;
 use sdf_file::Design;
-use sdf_warm_up::warm_up::warm_up;
 use sdf_options::Policy;
 use sdf_sched::Period;
+use sdf_warm_up::warm_up::warm_up;
 use std::alloc::Global;
 
 /// The way in which a design is run by several workers, or the reason why one thread runs it.
@@ -49,7 +49,7 @@ fn by_parts(design: &Design, workers: usize, periods: u32, period: Period) -> Pa
     requires warm_up { IsLeast (WarmsIn kit_steps design.now.net period.repetitions) periods }
     requires workers { IsWorkers workers }
     requires several { 2 ≤ workers }
-    ensures answers { IsPaced design.now workers result.plan result.pace }
+    ensures answers { IsParallelPlan design.now workers result.plan result.pace }
     ensures suits { Suits design.now.net result.plan }
 {
     let samples = u64::from(periods) * design.net().samples_in() as u64;
@@ -71,7 +71,7 @@ pub fn parallel_plan(alloc: Global, design: &Design, workers: usize) -> Result<P
     requires { IsWorkers workers }
 
     // The plan and its pace, or the fault, are right for the design.
-    ensures answers { MatchResult result (λ p. IsPaced design.now workers p.plan p.pace)
+    ensures answers { MatchResult result (λ p. IsParallelPlan design.now workers p.plan p.pace)
         (IsPlanFault design.now one_thread) }
 
     // The plan suits the design's net.
@@ -80,14 +80,14 @@ pub fn parallel_plan(alloc: Global, design: &Design, workers: usize) -> Result<P
     let period = period_by(alloc, design, Policy::Round)?;
     if workers == 1 {
         return Ok(ParallelPlan {
-            plan: Plan::alone(period),
+            plan: Plan::on_one_thread(period),
             pace: Pace::Alone,
         });
     }
     match warm_up(alloc, design.net())? {
         Some(periods) => Ok(by_parts(design, workers, periods, period)),
         None => Ok(ParallelPlan {
-            plan: Plan::alone(period),
+            plan: Plan::on_one_thread(period),
             pace: Pace::Lasting,
         }),
     }

@@ -9,8 +9,8 @@ use crate::weights::weights;
 use sdf_file::Design;
 use sdf_options::{Options, Placement, Policy};
 use sdf_prec::hu::hu;
-use sdf_prec::long::long_block;
-use sdf_prec::{PrecFault, Table, Columns};
+use sdf_prec::long::long_blocking;
+use sdf_prec::{Columns, PrecFault, Table};
 use sdf_sched::Period;
 use std::alloc::Global;
 
@@ -21,22 +21,22 @@ pub(crate) fn blocking_by(design: &Design, options: &Options, period: &Period) -
     ensures { ArePeriodsOf design.now options.now period.now result }
 {
     match options.placement {
-        Placement::Spread => long_block(design.net().graph(), period.repetitions()),
+        Placement::Spread => long_blocking(design.net().graph(), period.repetitions()),
         Placement::Hu | Placement::Homed | Placement::File => options.blocking,
     }
 }
 
-/// Makes the table of a block of `periods` periods by the placement of `options`.
+/// Makes the table of a block of `blocking` periods by the placement of `options`.
 pub(crate) fn table_by(
     alloc: Global,
     design: &Design,
     period: &Period,
     options: &Options,
-    periods: u32,
+    blocking: u32,
 ) -> Result<Table, PrecFault>
     requires { IsPeriodOf (rates_of design.now) period.now }
-    ensures { MatchResult result (IsTableBy design.now options.now period.now periods)
-        (IsPlaceFault options.now.placement design.now periods options.now.workers period.now) }
+    ensures { MatchResult result (IsTableBy design.now options.now period.now blocking)
+        (IsPlaceFault options.now.placement design.now blocking options.now.workers period.now) }
 {
     let graph = design.net().graph();
     let workers = options.workers;
@@ -48,7 +48,7 @@ pub(crate) fn table_by(
                 alloc,
                 graph,
                 period,
-                periods,
+                blocking,
                 team,
                 &firing_costs(alloc, design)?,
             )
@@ -58,7 +58,7 @@ pub(crate) fn table_by(
                 alloc,
                 graph,
                 period,
-                periods,
+                blocking,
                 workers,
                 design.homes(),
             ),
@@ -66,14 +66,14 @@ pub(crate) fn table_by(
                 alloc,
                 graph,
                 period,
-                periods,
+                blocking,
                 workers,
                 design.homes(),
             ),
         },
         Placement::Spread => {
             let weights = weights(alloc, design, period)?;
-            Table::spread(alloc, graph, period, periods, workers, &weights)
+            Table::spread(alloc, graph, period, blocking, workers, &weights)
         }
     }
 }

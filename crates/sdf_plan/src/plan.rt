@@ -8,7 +8,7 @@ ghost use Rattle.sdf_prec.specs.BlockTables.{IsBlockTableOf};
 ghost use Rattle.sdf_kit.specs.declared.kit.Kit.{Kit};
 ghost use Rattle.sdf_kit.specs.Kit.{kit_steps};
 ghost use Rattle.sdf_plan.specs.declared.plan.Execution.TheVariants.{One, Parts};
-ghost use Rattle.sdf_plan.specs.Ways.{plan_by, HasBlockTable};
+ghost use Rattle.sdf_plan.specs.Executions.{plan_by, HasBlockTable};
 ghost use Rattle.sdf_plan.specs.Plans.{Suits};
 
 use sdf_options::Runner;
@@ -16,7 +16,7 @@ use sdf_prec::BlockTable;
 use sdf_sched::Period;
 use std::marker::Model;
 
-/// A way to run a design: the runner, and what it follows.
+/// An execution, or way to run a design: the runner, and what it follows.
 #[derive(Drop)]
 pub enum Execution {
     /// On one thread, by the order of `period`. A block has `blocking` periods.
@@ -46,7 +46,7 @@ pub struct Plan {
 }
 
 impl Model for Plan {
-    ghost use Rattle.sdf_plan.specs.Ways.{plan_by};
+    ghost use Rattle.sdf_plan.specs.Executions.{plan_by};
     ghost use Rattle.sdf_plan.specs.Plans.{PlanValue};
 
     ghost Value = { PlanValue };
@@ -54,7 +54,7 @@ impl Model for Plan {
     ghost view = { λ p. plan_by p.way };
 }
 
-/// Not derived: a derived drop is expanded, with each way, wherever a plan may be dropped.
+/// Not derived: a derived drop is expanded, with each variant, wherever a plan may be dropped.
 impl Drop for Plan {
     fn drop(self) {
         let Plan { way: _ } = self;
@@ -70,7 +70,7 @@ impl Plan {
     }
 
     /// Makes the plan that runs a design on one thread by the order of `period`, in blocks of one period.
-    pub(crate) fn alone(period: Period) -> Plan
+    pub(crate) fn on_one_thread(period: Period) -> Plan
         ensures { result ≡ plan_by (One period 1) }
     {
         Plan::new(Execution::One {
@@ -79,7 +79,8 @@ impl Plan {
         })
     }
 
-    /// Makes the plan that runs up to `parts` parts of the sound in parallel, each as `alone` runs the whole sound.
+    /// Makes the plan that runs up to `parts` parts of the sound in parallel, each as `on_one_thread` runs the whole
+    /// sound.
     pub(crate) fn in_parts(period: Period, parts: u32) -> Plan
         ensures { result ≡ plan_by (Parts period 1 parts) }
     {
@@ -103,7 +104,7 @@ impl Plan {
     {
         match &self.way {
             Execution::One { blocking, .. } | Execution::Parts { blocking, .. } => *blocking,
-            Execution::Rows(table) | Execution::Rings { table, .. } => table.factor,
+            Execution::Rows(table) | Execution::Rings { table, .. } => table.blocking,
         }
     }
 

@@ -11,14 +11,14 @@ ghost use Rattle.sdf_plan.specs.Placements.{rates_of, IsPlaceFault, IsTableBy};
 ghost use Rattle.sdf_plan.specs.Plans.{AreSizes, IsSizeFault, ArePassed, IsOptionFault, IsPlanOf, IsPlanFault};
 ghost use Rattle.sdf_plan.specs.Plans.{IsRunBy, IsTableFault, Suits, Decides, IsScheduleBy, IsStuckFault};
 ghost use Rattle.sdf_plan.specs.Plans.{IsScheduleFault, progress_of, progress_view, short_of};
-ghost use Rattle.sdf_plan.specs.Ways.{plan_by};
+ghost use Rattle.sdf_plan.specs.Executions.{plan_by};
 
 use crate::placement::{blocking_by, table_by};
-use crate::plan::{Plan, Execution};
+use crate::plan::{Execution, Plan};
 use sdf_faults::{Fault, Progress, Stalled};
 use sdf_file::Design;
 use sdf_graph::{Graph, Repetitions};
-use sdf_limits::{MOST_BLOCKING, MOST_PATIENCE, MOST_WORKERS};
+use sdf_limits::{MAX_BLOCKING, MAX_PATIENCE, MAX_WORKERS};
 use sdf_options::{Options, Policy, Runner};
 use sdf_prec::{BlockTable, PrecFault};
 use sdf_sched::class_s::class_s;
@@ -115,10 +115,10 @@ pub fn period_by(alloc: Global, design: &Design, policy: Policy) -> Result<Perio
 pub(crate) fn size_fault(options: &Options) -> Option<Fault>
     ensures { MatchOption result (AreSizes options.now) (IsSizeFault options.now) }
 {
-    if options.blocking < 1 || options.blocking > MOST_BLOCKING {
+    if options.blocking < 1 || options.blocking > MAX_BLOCKING {
         return Some(Fault::BlockingFactor);
     }
-    if options.workers < 1 || options.workers > MOST_WORKERS {
+    if options.workers < 1 || options.workers > MAX_WORKERS {
         return Some(Fault::WorkerCount);
     }
     None
@@ -128,53 +128,50 @@ pub(crate) fn size_fault(options: &Options) -> Option<Fault>
 fn option_fault(options: &Options) -> Option<Fault>
     ensures { MatchOption result (ArePassed options.now) (IsOptionFault options.now) }
 {
-    if options.runner == Runner::Rings && options.patience > MOST_PATIENCE {
+    if options.runner == Runner::Rings && options.patience > MAX_PATIENCE {
         return Some(Fault::Patience);
     }
     size_fault(options)
 }
 
-/// Makes the table of a block of `periods` periods by the placement.
+/// Makes the table of a block of `blocking` periods by the placement.
 fn block_table(
     alloc: Global,
     design: &Design,
     period: Period,
     options: &Options,
-    periods: u32,
+    blocking: u32,
 ) -> Result<BlockTable, PrecFault>
     requires { IsPeriodOf (rates_of design.now) period }
     ensures { MatchResult result
-        (λ t. (t.period ≡ period) × (t.factor ≡ periods) × IsTableBy design.now options.now period periods t.table)
-        (IsPlaceFault options.now.placement design.now periods options.now.workers period) }
+        (λ t. (t.period ≡ period) × (t.blocking ≡ blocking) × IsTableBy design.now options.now period blocking t.table)
+        (IsPlaceFault options.now.placement design.now blocking options.now.workers period) }
 {
-    let table = table_by(alloc, design, &period, options, periods)?;
+    let table = table_by(alloc, design, &period, options, blocking)?;
     Ok(BlockTable {
         period,
-        factor: periods,
+        blocking,
         table,
     })
 }
 
-/// Returns the way in which the runner of the options runs a design, for blocks of `periods` periods.
-fn way_for(
+/// Returns the execution of a design by the runner of the options, for blocks of `blocking` periods.
+fn execution_for(
     alloc: Global,
     design: &Design,
     period: Period,
     options: &Options,
-    periods: u32,
+    blocking: u32,
 ) -> Result<Execution, Fault>
     requires { IsPeriodOf (rates_of design.now) period }
-    ensures { MatchResult result (λ way. IsRunBy design.now options.now period periods (plan_by way))
-        (IsTableFault design.now options.now period periods) }
+    ensures { MatchResult result (λ way. IsRunBy design.now options.now period blocking (plan_by way))
+        (IsTableFault design.now options.now period blocking) }
 {
     match options.runner {
-        Runner::One => Ok(Execution::One {
-            period,
-            blocking: periods,
-        }),
-        Runner::Rows => Ok(Execution::Rows(block_table(alloc, design, period, options, periods)?)),
+        Runner::One => Ok(Execution::One { period, blocking }),
+        Runner::Rows => Ok(Execution::Rows(block_table(alloc, design, period, options, blocking)?)),
         Runner::Rings => {
-            let table = block_table(alloc, design, period, options, periods)?;
+            let table = block_table(alloc, design, period, options, blocking)?;
             if !table.table.homed() {
                 return Err(Fault::NotHomed);
             }
@@ -188,7 +185,7 @@ fn way_for(
 
 /// Runs the tests in their order, then makes the plan.
 #[tactic(auto, using(crate::proofs::Tabling::untabled))]
-fn planned(alloc: Global, design: &Design, options: &Options) -> Result<Plan, Fault>
+fn make_plan(alloc: Global, design: &Design, options: &Options) -> Result<Plan, Fault>
     ensures { MatchResult result (IsPlanOf design.now options.now) (IsPlanFault design.now options.now) }
 {
     if let Some(fault) = option_fault(options) {
@@ -196,7 +193,7 @@ fn planned(alloc: Global, design: &Design, options: &Options) -> Result<Plan, Fa
     }
     let period = period_by(alloc, design, options.policy)?;
     let blocking = blocking_by(design, options, &period);
-    Ok(Plan::new(way_for(alloc, design, period, options, blocking)?))
+    Ok(Plan::new(execution_for(alloc, design, period, options, blocking)?))
 }
 
 /// Plans a run of `design` by `options`, or returns the first test that fails.
@@ -218,5 +215,5 @@ pub fn plan(alloc: Global, design: &Design, options: &Options) -> Result<Plan, F
 {
     // Its contract says that the net has a least period, which the clause `decides` needs.
     let _ = design.net().repetitions();
-    planned(alloc, design, options)
+    make_plan(alloc, design, options)
 }

@@ -7,7 +7,7 @@ ghost use Rattle.sdf_prec.specs.Tables.{IsTable};
 ghost use Rattle.sdf_plan.specs.Placements.{rates_of, firings_of};
 ghost use Rattle.sdf_prec.specs.Long.{IsLongSize};
 ghost use Rattle.sdf_plan.specs.Plans.{AreSizes, IsScheduleBy};
-ghost use Rattle.sdf_plan.specs.Schedules.{IsScheduled, IsShowFault};
+ghost use Rattle.sdf_plan.specs.Schedules.{IsDesignSchedule, IsDesignScheduleFault};
 
 use crate::placement::{blocking_by, table_by};
 use crate::planning::{period_by, size_fault};
@@ -22,7 +22,7 @@ use std::alloc::Global;
 #[derive(Drop)]
 pub struct Block {
     /// Periods in the block.
-    pub periods: u32,
+    pub blocking: u32,
     pub table: Table,
 }
 
@@ -37,15 +37,19 @@ pub struct DesignSchedule {
 ///
 /// The tests in order: the blocking factor and the workers are within their limits; the design has a schedule; a block
 /// is not too long; with the placement `file`, each actor has a home among the workers.
-pub fn scheduled(alloc: Global, design: &Design, options: &Options) -> Result<DesignSchedule, Fault>
+pub fn design_schedule(
+    alloc: Global,
+    design: &Design,
+    options: &Options,
+) -> Result<DesignSchedule, Fault>
     ensures answers { MatchResult result
-        (λ s. IsScheduled design.now options.now s.block.periods s.period s.block.table)
-        (IsShowFault design.now options.now) }
+        (λ s. IsDesignSchedule design.now options.now s.block.blocking s.period s.block.table)
+        (IsDesignScheduleFault design.now options.now) }
 
     // The table is a table of the block.
-    ensures table { IfOk result (λ s. IsTable (rates_of design.now) (firings_of s.block.periods s.period)
+    ensures table { IfOk result (λ s. IsTable (rates_of design.now) (firings_of s.block.blocking s.period)
         options.now.workers s.block.table) }
-    ensures size { IfOk result (λ s. IsLongSize s.block.periods options.now.workers s.period.repetitions) }
+    ensures size { IfOk result (λ s. IsLongSize s.block.blocking options.now.workers s.period.repetitions) }
 {
     if let Some(fault) = size_fault(options) {
         return Err(fault);
@@ -65,15 +69,15 @@ pub fn tabled(
 ) -> Result<Block, Fault>
     requires sizes { AreSizes options.now }
     requires by_policy { IsScheduleBy options.now.policy (graph_of kit_steps design.now.net) period.now }
-    ensures answers { MatchResult result (λ b. IsScheduled design.now options.now b.periods period.now b.table)
-        (IsShowFault design.now options.now) }
+    ensures answers { MatchResult result (λ b. IsDesignSchedule design.now options.now b.blocking period.now b.table)
+        (IsDesignScheduleFault design.now options.now) }
 
     // The table is a table of the block.
-    ensures table { IfOk result (λ b. IsTable (rates_of design.now) (firings_of b.periods period.now)
+    ensures table { IfOk result (λ b. IsTable (rates_of design.now) (firings_of b.blocking period.now)
         options.now.workers b.table) }
-    ensures size { IfOk result (λ b. IsLongSize b.periods options.now.workers period.now.repetitions) }
+    ensures size { IfOk result (λ b. IsLongSize b.blocking options.now.workers period.now.repetitions) }
 {
-    let periods = blocking_by(design, options, period);
-    let table = table_by(alloc, design, period, options, periods)?;
-    Ok(Block { periods, table })
+    let blocking = blocking_by(design, options, period);
+    let table = table_by(alloc, design, period, options, blocking)?;
+    Ok(Block { blocking, table })
 }

@@ -2,19 +2,19 @@
 
 ghost use Rattle.std.specs.Prelude.{◌≡◌, ◌≤◌, ◌<◌, ◌^◌, ◌*◌, ℕ, length, map, slice_index, IfOk};
 ghost use Rattle.std.specs.List.{range_with_len};
-ghost use Rattle.sdf_limits.specs.declared.TheConstants.{MOST_BLOCK, MOST_COST, MOST_PORTS};
+ghost use Rattle.sdf_limits.specs.declared.TheConstants.{MAX_BLOCK, MAX_COST, MAX_PORTS};
 ghost use Rattle.sdf_actor.specs.Nets.{node};
 ghost use Rattle.sdf_kit.specs.Ports.{ArePortRates};
 ghost use Rattle.sdf_sched.specs.Period.{IsPeriodOf};
 ghost use Rattle.sdf_plan.specs.Placements.{rates_of};
-ghost use Rattle.sdf_plan.specs.Weights.{moved_by, as_cost, load_of, is_free_of_costs};
+ghost use Rattle.sdf_plan.specs.Weights.{samples_moved, clamp_cost, node_load, is_free_of_costs};
 ghost use Rattle.sdf_plan.specs.Weights.{firing_weight, weights_by, weights_of};
 ghost use Rattle.sdf_prec.specs.Spread.{AreLoads};
 
 use sdf_actor::Node;
 use sdf_file::Design;
 use sdf_kit::{Kit, PortRates};
-use sdf_limits::MOST_COST;
+use sdf_limits::MAX_COST;
 use sdf_sched::Period;
 use std::alloc::{AllocError, Global};
 
@@ -22,9 +22,9 @@ use std::alloc::{AllocError, Global};
 pub const SAMPLE_WEIGHT: u64 = 32;
 
 /// Returns the samples that a firing moves at all ports of `side`.
-fn moved_by(side: PortRates) -> u64
+fn samples_moved(side: PortRates) -> u64
     requires { ArePortRates side }
-    ensures is { result ≡ moved_by side }
+    ensures is { result ≡ samples_moved side }
     ensures few { result < 2 ^ 37 }
 {
     match side {
@@ -34,26 +34,26 @@ fn moved_by(side: PortRates) -> u64
 }
 
 /// Clamps `weight` to the limits of a cost.
-fn as_cost(weight: u64) -> u64
-    ensures is { result ≡ as_cost weight }
-    ensures few { result ≤ MOST_COST }
+fn clamp_cost(weight: u64) -> u64
+    ensures is { result ≡ clamp_cost weight }
+    ensures few { result ≤ MAX_COST }
 {
-    weight.min(u64::from(MOST_COST)).max(1)
+    weight.min(u64::from(MAX_COST)).max(1)
 }
 
 /// Returns the weight of a firing of `node`, by its products and the samples that it moves.
-fn load_of(node: &Node<Kit>) -> u64
-    ensures is { result ≡ load_of node.now }
-    ensures few { result ≤ MOST_COST }
+fn node_load(node: &Node<Kit>) -> u64
+    ensures is { result ≡ node_load node.now }
+    ensures few { result ≤ MAX_COST }
 {
     match node {
         Node::Source { block, .. } | Node::Sink { block, .. } => {
-            as_cost(SAMPLE_WEIGHT * u64::from(*block))
+            clamp_cost(SAMPLE_WEIGHT * u64::from(*block))
         }
         Node::Inner(kit) => {
             let ports = kit.ports();
-            let moved = moved_by(ports.inputs) + moved_by(ports.outputs);
-            as_cost(kit.products() + SAMPLE_WEIGHT * moved)
+            let moved = samples_moved(ports.inputs) + samples_moved(ports.outputs);
+            clamp_cost(kit.products() + SAMPLE_WEIGHT * moved)
         }
     }
 }
@@ -69,11 +69,11 @@ fn is_free_of_costs(design: &Design) -> bool
 fn firing_weight(design: &Design, by_kind: bool, actor: usize) -> u64
     requires known { actor < length design.now.net.nodes }
     ensures is { result ≡ firing_weight design.now by_kind actor }
-    ensures few { result ≤ MOST_COST }
+    ensures few { result ≤ MAX_COST }
 {
     let net = design.net();
     if by_kind {
-        load_of(net.node(actor))
+        node_load(net.node(actor))
     } else {
         u64::from(design.costs()[actor])
     }

@@ -7,7 +7,7 @@ use Rattle.sdf_prec.specs.declared.fault.PrecFault.{PrecFault}
 use Rattle.sdf_prec.specs.declared.fault.PrecFault.TheVariants.{OutOfMemory, BlockingFactor, BlockTooLong}
 use Rattle.sdf_prec.specs.Blocks.{IsBlocking, IsWorkers, IsBlockFault, IsLengthFault, IsSizeFault}
 use Rattle.sdf_prec.specs.Levels.{IsLevel}
-use Rattle.sdf_prec.specs.Tables.{firings, row, Tabled, IsValid, IsExact, IsOfBlock}
+use Rattle.sdf_prec.specs.Tables.{firings, row, TableValue, IsValid, IsExact, IsOfBlock}
 use Rattle.sdf_prec.specs.TimedRows.{Timed, cells_of, AreHuRows}
 use Rattle.sdf_prec.specs.HuTables.{IsHuTable}
 use Rattle.sdf_prec.proofs.Ends.{row_of}
@@ -17,7 +17,7 @@ some_firing [] none = absurd (none refl)
 some_firing (f ∷ fs) none = omega arith
 
 pub hu_table : (r : Rates) (n cost : ℕ → ℕ) (level : Firing → ℕ) (width : ℕ) (homed : Bool)
-    (rows : List (List (Option Firing))) (t : Tabled) → AreHuRows r n cost level width homed rows →
+    (rows : List (List (Option Firing))) (t : TableValue) → AreHuRows r n cost level width homed rows →
     IsValid r n rows → t.rows ≡ rows → IsExact r t → ((f : Firing) → IsOfBlock r n f → IsLevel r n cost f (level f)) →
     IsHuTable r n cost width homed t
 hu_table r n cost level width homed rows t (past, is, are) valid same exact levels = record {

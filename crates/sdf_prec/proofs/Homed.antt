@@ -8,7 +8,7 @@ use Rattle.sdf_graph.specs.Rates.{Rates}
 use Rattle.sdf_graph.specs.Sequences.{times, IsPass}
 use Rattle.sdf_prec.specs.declared.firing.Firing.{Firing}
 use Rattle.sdf_prec.specs.Blocks.{block}
-use Rattle.sdf_prec.specs.Tables.{cell, cell_of, Tabled, home_in, IsHome, IsExact, IsHomed}
+use Rattle.sdf_prec.specs.Tables.{cell, cell_of, TableValue, home_in, IsHome, IsExact, IsHomed}
 use Rattle.sdf_prec.specs.ByHomes.{HasHome, AreByHomes, firing_at}
 use Rattle.sdf_prec.proofs.Next.{place_of}
 use Rattle.sdf_prec.proofs.Periods.{block_at}
@@ -46,7 +46,8 @@ block_fires j q a some fires =
     omega (arith, block_at j q a, least)
 
 module _ (r : Rates) (n : ℕ → ℕ) (w : List ℕ) (pass : IsPass r n w) (homes : List (Option ℕ))
-    (m : ℕ) (homed : (a : ℕ) → a < r.actors → HasHome homes m a) (t : Tabled) (by : AreByHomes homes m w t.rows) where
+    (m : ℕ) (homed : (a : ℕ) → a < r.actors → HasHome homes m a) (t : TableValue)
+    (by : AreByHomes homes m w t.rows) where
   -- a firing stands in its actor's home
   at_home : (i k : ℕ) (f : Firing) → cell t.rows i k ≡ Some f → get_or homes f.actor None ≡ Some k
   at_home i k f is =

@@ -4,13 +4,13 @@ use Rattle.std.proofs.Common.{arith, Option, Some, None, MatchOption}
 use Rattle.std.proofs.lemmas.List.{take_all, get_or_past}
 use Rattle.std.proofs.lemmas.List.Sums.{sum_by_more_le}
 use Rattle.std.proofs.lemmas.Bool.{cases_lt}
-use Rattle.sdf_graph.specs.Rates.{Rates, IsSound, Shape, IsShape, rates}
+use Rattle.sdf_graph.specs.Rates.{Rates, IsSound, GraphValue, IsShape, rates}
 use Rattle.sdf_prec.specs.Blocks.{block}
 use Rattle.sdf_prec.specs.declared.firing.Firing.{Firing}
 use Rattle.sdf_prec.specs.declared.fault.PrecFault.{PrecFault}
 use Rattle.sdf_prec.specs.declared.fault.PrecFault.TheVariants.{FiringMissing, TooEarly}
 use Rattle.sdf_prec.specs.Tables.{firing, firings, row, order, Stands, IsOfBlock, IsValid}
-use Rattle.sdf_prec.specs.Numbers.{Numbered, InBlock, number}
+use Rattle.sdf_prec.specs.Numbers.{NumbersValue, InBlock, number}
 use Rattle.sdf_prec.specs.Seen.{AreFresh, AreMarked, IsMarkedBy, IsCellsFault, IsLateAt}
 use Rattle.sdf_prec.specs.Refusals.{before, AreNarrow, IsFresh, IsBefore, IsInTime, IsEarlier, CellsPass, AllPass}
 use Rattle.sdf_prec.specs.Refusals.{IsAtCell, StandsFirst}
@@ -65,7 +65,8 @@ module _ (r : Rates) (n : List ℕ) (each : length n ≡ r.actors) (width : ℕ)
       go (inr unknown) = subst (StandsFirst r (λ a. get_or n a 0) width rows) (sym (fault.1 unknown))
           (at.column, cell_at, λ b. unknown (in_block f b))
 
-  module _ (s : Numbered) (same : s.firings ≡ n) (fs : List Firing) (m : AreMarked width rows (length rows) s fs) where
+  module _ (s : NumbersValue) (same : s.firings ≡ n) (fs : List Firing)
+      (m : AreMarked width rows (length rows) s fs) where
     whole : fs ≡ order rows
     whole = m.order_is ∙ ap order (take_all (length rows) rows (omega arith))
 
@@ -135,7 +136,7 @@ module _ (r : Rates) (n : List ℕ) (each : length n ≡ r.actors) (width : ℕ)
       )
 
 -- rows of which no test fails are valid
-pub valid_if_none : (g : Shape) → IsShape g → IsSound (rates g) →
+pub valid_if_none : (g : GraphValue) → IsShape g → IsSound (rates g) →
     (reps : List ℕ) (j width : ℕ) (o : Option PrecFault) (given rows : List (List (Option Firing))) (n : List ℕ) →
     o ≡ None → given ≡ rows → n ≡ block j reps → MatchOption o (AllPass (rates g) (λ a. get_or n a 0) width given)
     (StandsFirst (rates g) (λ a. get_or n a 0) width given) →

@@ -5,14 +5,14 @@ use Rattle.std.proofs.lemmas.List.{get_or_past}
 use Rattle.std.proofs.lemmas.Option.{none-some}
 use Rattle.std.proofs.lemmas.Bool.{cases_lt}
 use Rattle.std.proofs.lemmas.List.Sums.{sum_by-cons}
-use Rattle.sdf_limits.specs.declared.TheConstants.{MOST_BLOCK, MOST_COST}
+use Rattle.sdf_limits.specs.declared.TheConstants.{MAX_BLOCK, MAX_COST}
 use Rattle.sdf_graph.specs.Rates.{Rates}
 use Rattle.sdf_graph.proofs.Theorems.{lists_sum_within}
 use Rattle.sdf_prec.specs.declared.firing.Firing.{Firing}
 use Rattle.sdf_prec.specs.TimedRows.{Timed}
 use Rattle.sdf_prec.specs.Floor.{AreEnded, AreStarted, IsNextEnd, IsFloor}
 use Rattle.sdf_prec.proofs.Floors.{IsNextTime, behind, column_known}
-use Rattle.sdf_prec.proofs.Crews.{sum_less}
+use Rattle.sdf_prec.proofs.SimulationLaws.{sum_less}
 
 pub within_sum : (xs : List ℕ) (a : ℕ) → get_or xs a 0 ≤ sum xs
 within_sum [] a = omega arith
@@ -32,19 +32,19 @@ module _ {r : Rates} {cost : ℕ → ℕ} {width : ℕ} {past : List Timed} {now
       at a (inr h) = omega (arith, get_or_past fired a 0 (omega arith))
 
   -- so an actor can end one more
-  pub room_left : sum n ≤ MOST_BLOCK → (a : ℕ) → get_or fired a 0 + 1 < 2 ^ 32
+  pub room_left : sum n ≤ MAX_BLOCK → (a : ℕ) → get_or fired a 0 + 1 < 2 ^ 32
   room_left few a = omega (arith, few_ended, within_sum fired a, few)
 
 -- the ends of a row that starts now
 pub soon_then : {cost : ℕ → ℕ} {now : ℕ} {cells : List (Option Firing)}
     {started whose until started' whose' until' : ℕ → ℕ} →
     AreStarted cost now (length cells) cells started whose until started' whose' until' →
-    ((j : ℕ) (f : Firing) → get_or cells j None ≡ Some f → cost f.actor ≤ MOST_COST) →
-    ((j : ℕ) → until j ≤ now + MOST_COST) → (j : ℕ) → until' j ≤ now + MOST_COST
+    ((j : ℕ) (f : Firing) → get_or cells j None ≡ Some f → cost f.actor ≤ MAX_COST) →
+    ((j : ℕ) → until j ≤ now + MAX_COST) → (j : ℕ) → until' j ≤ now + MAX_COST
 soon_then {now = now} {cells = cells} {until' = until'} b small soon j =
     go (get_or cells j None) (λ _. get_or cells j None)
   where
-    go : (o : Option Firing) → get_or cells j None ≡ o → until' j ≤ now + MOST_COST
+    go : (o : Option Firing) → get_or cells j None ≡ o → until' j ≤ now + MAX_COST
     go None e =
         let same = (b.columns j (λ f l is. none-some f (sym e ∙ is))).1 in
         omega (arith, soon j)
@@ -70,9 +70,9 @@ module _ {now next : ℕ} (ends : List ℕ) {old new : List ℕ} {whose : ℕ �
   shift_sum all = sum_less old new (whose at.1.0) (sym all) rises
       (omega (arith, ended.through at.1.0 at.1.1 at.1.2))
 
-  pub shift_early : length new ≡ length old → now ≤ MOST_COST * sum old →
-      ((j : ℕ) → get_or ends j 0 ≤ now + MOST_COST) →
-      (next ≤ MOST_COST * sum new) × ((j : ℕ) → get_or ends j 0 ≤ next + MOST_COST)
+  pub shift_early : length new ≡ length old → now ≤ MAX_COST * sum old →
+      ((j : ℕ) → get_or ends j 0 ≤ now + MAX_COST) →
+      (next ≤ MAX_COST * sum new) × ((j : ℕ) → get_or ends j 0 ≤ next + MAX_COST)
   shift_early all early soon =
       let more = shift_sum all in
       let x = at.1 in

@@ -1,4 +1,4 @@
--- Where actors stand, cell by cell.
+-- The home columns of actors, cell by cell.
 use Rattle.std.proofs.Common.{◌≡◌, ℕ, ◌+◌, ◌≤◌, ◌<◌, List, length, get_or, set, replicate, cond, eqb, sym, ap, ◌∙◌}
 use Rattle.std.proofs.Common.{subst, inl, inr, ◌⊎◌, ◌↔◌, arith, rules, refl, Option, Some, None}
 use Rattle.std.proofs.lemmas.List.{get_or-set_same, get_or-set_other, get_or_past, get_or-replicate, length-set}
@@ -8,7 +8,7 @@ use Rattle.sdf_prec.specs.declared.firing.Firing.{Firing}
 use Rattle.sdf_prec.specs.declared.table.homes.HomeColumns.{HomeColumns}
 use Rattle.sdf_prec.specs.declared.table.homes.HomeColumns.TheVariants.{Nowhere, In, Apart}
 use Rattle.sdf_prec.specs.Tables.{row, cell, IsHome}
-use Rattle.sdf_prec.specs.Homes.{IsStanding, also, home_of, IsAmong, standing_of, AreStanding}
+use Rattle.sdf_prec.specs.Homes.{IsHomeColumns, with_column, home_of, IsAmong, home_columns_of, AreHomeColumns}
 
 none_some : {X : Type 0} {x : X} → None ≡ Some x → ⊥
 none_some e = search rules
@@ -31,14 +31,15 @@ row_within rows k m f e = go (cases_lt k (length rows))
     go (inl l) = l
     go (inr past) = absurd (none_some (ap (λ cells. get_or cells m None) (sym (get_or_past rows k _ past)) ∙ e))
 
-standing_same : (P Q : ℕ → Type 0) (s : HomeColumns) → ((m : ℕ) → P m → Q m) → ((m : ℕ) → Q m → P m) → IsStanding P s →
-    IsStanding Q s
+standing_same : (P Q : ℕ → Type 0) (s : HomeColumns) → ((m : ℕ) → P m → Q m) → ((m : ℕ) → Q m → P m) →
+    IsHomeColumns P s →
+    IsHomeColumns Q s
 standing_same P Q Nowhere to from none = λ m q. none m (from m q)
 standing_same P Q (In j) to from (p, only) = (to j p, λ m q. only m (from m q))
 standing_same P Q Apart to from (j, m, p, q, ne) = (j, m, to j p, to m q, ne)
 
 standing_more : (P Q : ℕ → Type 0) (s : HomeColumns) (j : ℕ) → ((m : ℕ) → P m → Q m) → Q j →
-    ((m : ℕ) → Q m → P m ⊎ (m ≡ j)) → IsStanding P s → IsStanding Q (also s j)
+    ((m : ℕ) → Q m → P m ⊎ (m ≡ j)) → IsHomeColumns P s → IsHomeColumns Q (with_column s j)
 standing_more P Q Nowhere j to q from none = (q, λ m h. one m (from m h))
   where
     one : (m : ℕ) → P m ⊎ (m ≡ j) → m ≡ j
@@ -50,7 +51,7 @@ standing_more P Q (In i) j to q from (p, only) = go (cases_eq i j)
     one e m (inl h) = only m h
     one e m (inr h) = h ∙ sym e
 
-    go : (i ≡ j) ⊎ (i ≡ j → ⊥) → IsStanding Q (cond (eqb i j) (In i) Apart)
+    go : (i ≡ j) ⊎ (i ≡ j → ⊥) → IsHomeColumns Q (cond (eqb i j) (In i) Apart)
     go (inl e) = rw (eq-eqb i j e) (to i p, λ m h. one e m (from m h))
     go (inr ne) = rw (ne_eqb i j ne) (i, j, to i p, q, ne)
 standing_more P Q Apart j to q from (i, m, p, h, ne) = (i, m, to i p, to m h, ne)
@@ -86,21 +87,22 @@ module _ (rows : List (List (Option Firing))) (i j a : ℕ) where
       go (inr ne) = (k, f, is, its, inl (omega arith))
 
 -- before the first cell
-pub standing_none : (rows : List (List (Option Firing))) (n : ℕ) → AreStanding rows 0 0 (replicate n Nowhere)
-standing_none rows n a l = subst (IsStanding (IsAmong rows 0 0 a))
+pub standing_none : (rows : List (List (Option Firing))) (n : ℕ) → AreHomeColumns rows 0 0 (replicate n Nowhere)
+standing_none rows n a l = subst (IsHomeColumns (IsAmong rows 0 0 a))
     (sym (get_or-replicate n a Nowhere Nowhere (omega (arith, length-replicate n Nowhere)))) (λ m h. none m h)
   where
     none : (m : ℕ) → IsAmong rows 0 0 a m → ⊥
     none m (k, f, is, its, inl low) = omega arith
     none m (k, f, is, its, inr (e, low)) = omega arith
 
-module _ (rows : List (List (Option Firing))) (i j : ℕ) (all : List HomeColumns) (are : AreStanding rows i j all) where
+module _ (rows : List (List (Option Firing))) (i j : ℕ) (all : List HomeColumns)
+    (are : AreHomeColumns rows i j all) where
   pub standing_some : (f : Firing) → cell rows i j ≡ Some f → f.actor < length all →
-      AreStanding rows i (j + 1) (set all f.actor (also (standing_of all f.actor) j))
+      AreHomeColumns rows i (j + 1) (set all f.actor (with_column (home_columns_of all f.actor) j))
   standing_some f is known a l = go (cases_eq a f.actor)
     where
       new : HomeColumns
-      new = also (standing_of all f.actor) j
+      new = with_column (home_columns_of all f.actor) j
 
       here : a ≡ f.actor → (m : ℕ) → IsAmong rows i (j + 1) a m → IsAmong rows i j a m ⊎ (m ≡ j)
       here e m h = pick (among_last rows i j a m h)
@@ -119,22 +121,24 @@ module _ (rows : List (List (Option Firing))) (i j : ℕ) (all : List HomeColumn
           pick (inr (same, (g, held, its))) = absurd (ne
               (sym its ∙ ap (λ (h : Firing). h.actor) (some_is (sym held ∙ is))))
 
-      go : (a ≡ f.actor) ⊎ (a ≡ f.actor → ⊥) → IsStanding (IsAmong rows i (j + 1) a)
-          (standing_of (set all f.actor new) a)
+      go : (a ≡ f.actor) ⊎ (a ≡ f.actor → ⊥) → IsHomeColumns (IsAmong rows i (j + 1) a)
+          (home_columns_of (set all f.actor new) a)
       go (inl e) =
-          let at : standing_of (set all f.actor new) a ≡ also (standing_of all a) j =
-          ap (standing_of (set all f.actor new)) e ∙ (get_or-set_same all f.actor new Nowhere known
-          ∙ ap (λ b. also (standing_of all b) j) (sym e)) in
-          subst (IsStanding (IsAmong rows i (j + 1) a)) (sym at)
-          (standing_more (IsAmong rows i j a) (IsAmong rows i (j + 1) a) (standing_of all a) j (among_rises rows i j a)
+          let at : home_columns_of (set all f.actor new) a ≡ with_column (home_columns_of all a) j =
+          ap (home_columns_of (set all f.actor new)) e ∙ (get_or-set_same all f.actor new Nowhere known
+          ∙ ap (λ b. with_column (home_columns_of all b) j) (sym e)) in
+          subst (IsHomeColumns (IsAmong rows i (j + 1) a)) (sym at)
+          (standing_more (IsAmong rows i j a) (IsAmong rows i (j + 1) a) (home_columns_of all a) j
+          (among_rises rows i j a)
           (i, f, is, sym e, inr (refl, omega arith)) (here e) (are a (omega (arith, length-set all f.actor new))))
       go (inr ne) =
-          subst (IsStanding (IsAmong rows i (j + 1) a)) (sym (get_or-set_other all f.actor a new Nowhere ne))
-          (standing_same (IsAmong rows i j a) (IsAmong rows i (j + 1) a) (standing_of all a) (among_rises rows i j a)
+          subst (IsHomeColumns (IsAmong rows i (j + 1) a)) (sym (get_or-set_other all f.actor a new Nowhere ne))
+          (standing_same (IsAmong rows i j a) (IsAmong rows i (j + 1) a) (home_columns_of all a)
+          (among_rises rows i j a)
           (other ne) (are a (omega (arith, length-set all f.actor new))))
 
-  pub standing_skip : cell rows i j ≡ None → AreStanding rows i (j + 1) all
-  standing_skip none a l = standing_same (IsAmong rows i j a) (IsAmong rows i (j + 1) a) (standing_of all a)
+  pub standing_skip : cell rows i j ≡ None → AreHomeColumns rows i (j + 1) all
+  standing_skip none a l = standing_same (IsAmong rows i j a) (IsAmong rows i (j + 1) a) (home_columns_of all a)
       (among_rises rows i j a) (λ m h. pick m (among_last rows i j a m h)) (are a l)
     where
       pick : (m : ℕ) → IsAmong rows i j a m ⊎ ((m ≡ j) × ((g : Firing) × (cell rows i j ≡ Some g) × (g.actor ≡ a))) →
@@ -142,19 +146,19 @@ module _ (rows : List (List (Option Firing))) (i j : ℕ) (all : List HomeColumn
       pick m (inl old) = old
       pick m (inr (same, (g, held, its))) = absurd (none_some (sym none ∙ held))
 
-  pub standing_row : length (row rows i) ≤ j → AreStanding rows (i + 1) 0 all
-  standing_row past a l = standing_same (IsAmong rows i j a) (IsAmong rows (i + 1) 0 a) (standing_of all a)
+  pub standing_row : length (row rows i) ≤ j → AreHomeColumns rows (i + 1) 0 all
+  standing_row past a l = standing_same (IsAmong rows i j a) (IsAmong rows (i + 1) 0 a) (home_columns_of all a)
       (among_on rows i j a past) (among_off rows i j a past) (are a l)
 
 -- after the last one
 pub standing_all : (rows : List (List (Option Firing))) (a j : ℕ) (s : HomeColumns) →
-    IsStanding (IsAmong rows (length rows) 0 a) s → (home_of s ≡ Some j) ↔ IsHome rows a j
+    IsHomeColumns (IsAmong rows (length rows) 0 a) s → (home_of s ≡ Some j) ↔ IsHome rows a j
 standing_all rows a j s are = (there s are, back s are)
   where
     among : (i m : ℕ) (f : Firing) → cell rows i m ≡ Some f → f.actor ≡ a → IsAmong rows (length rows) 0 a m
     among i m f is its = (i, f, is, its, inl (row_within rows i m f is))
 
-    there : (s : HomeColumns) → IsStanding (IsAmong rows (length rows) 0 a) s → home_of s ≡ Some j → IsHome rows a j
+    there : (s : HomeColumns) → IsHomeColumns (IsAmong rows (length rows) 0 a) s → home_of s ≡ Some j → IsHome rows a j
     there Nowhere none e = absurd (none_some e)
     there (In i) (at, only) e =
         let same : i ≡ j = some_is e in
@@ -164,7 +168,7 @@ standing_all rows a j s are = (there s are, back s are)
         }
     there Apart x e = absurd (none_some e)
 
-    back : (s : HomeColumns) → IsStanding (IsAmong rows (length rows) 0 a) s → IsHome rows a j → home_of s ≡ Some j
+    back : (s : HomeColumns) → IsHomeColumns (IsAmong rows (length rows) 0 a) s → IsHome rows a j → home_of s ≡ Some j
     back Nowhere none home = let at = home.some in absurd (none j (among at.0 j at.1 at.3 at.4))
     back (In i) (at, only) home = ap Some (home.all at.0 i at.1 at.2 at.3)
     back Apart (i, m, at, too, ne) home = absurd (ne

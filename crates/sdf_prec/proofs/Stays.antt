@@ -3,12 +3,12 @@ use Rattle.std.proofs.Common.{◌≡◌, ℕ, ◌+◌, ◌≤◌, ◌<◌, ◌�
 use Rattle.std.proofs.Common.{subst, ◌∙◌}
 use Rattle.std.proofs.lemmas.Bool.{cases_lt, cases_order}
 use Rattle.sdf_graph.specs.Rates.{Rates}
-use Rattle.sdf_prec.specs.Spread.{IsFedByLast, MayPart, IsFirst, IsPast, share, AreSpread}
+use Rattle.sdf_prec.specs.Spread.{IsFedByLast, MayPart, IsStretchStart, IsStretchEnd, share, AreSpread}
 use Rattle.sdf_prec.specs.Stays.{LoopsStay, FedStay}
 
 module _ (r : Rates) (low high : ℕ) (order : low ≤ high)
     (whole : (k : ℕ) → low < k → k ≤ high → MayPart r k → ⊥) where
-  first_same : (f g : ℕ) → IsFirst r low f → IsFirst r high g → f ≡ g
+  first_same : (f g : ℕ) → IsStretchStart r low f → IsStretchStart r high g → f ≡ g
   first_same f g here there = go (cases_order f g)
     where
       within : g ≤ low
@@ -23,7 +23,7 @@ module _ (r : Rates) (low high : ℕ) (order : low ≤ high)
       go (inr (inl l)) = absurd (here.last g l within there.parts)
       go (inr (inr l)) = absurd (there.last f l (omega (arith, here.within)) here.parts)
 
-  past_same : (p q : ℕ) → IsPast r low p → IsPast r high q → p ≡ q
+  past_same : (p q : ℕ) → IsStretchEnd r low p → IsStretchEnd r high q → p ≡ q
   past_same p q here there = go (cases_order p q)
     where
       over : high < p

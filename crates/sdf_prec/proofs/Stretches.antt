@@ -7,7 +7,7 @@ use Rattle.std.proofs.lemmas.List.{get_or_push, get_or_append_left, length_push}
 use Rattle.sdf_graph.specs.Rates.{Rates, IsSound, sum_to}
 use Rattle.sdf_graph.proofs.Theorems.{sums_rise}
 use Rattle.sdf_prec.specs.ByHomes.{HasHome}
-use Rattle.sdf_prec.specs.Spread.{AreLoads, MayPart, IsFirst, IsPast, share, AreSpread}
+use Rattle.sdf_prec.specs.Spread.{AreLoads, MayPart, IsStretchStart, IsStretchEnd, share, AreSpread}
 
 -- stretches may part before the first actor and behind the last
 pub parts_first : (r : Rates) → MayPart r 0
@@ -57,12 +57,12 @@ spread_homed r weights m homes loads some spread a l =
 
 -- the home of one actor more
 pub one_home_more : (r : Rates) (weights : List ℕ) (m : ℕ) (homes : List (Option ℕ)) (i : ℕ) → length homes ≡ i →
-    ((a : ℕ) → a < i → (first : ℕ) × (past : ℕ) × IsFirst r a first × IsPast r a past
+    ((a : ℕ) → a < i → (first : ℕ) × (past : ℕ) × IsStretchStart r a first × IsStretchEnd r a past
     × (get_or homes a None ≡ Some (share weights m first past))) →
-    (first past j : ℕ) → IsFirst r i first → IsPast r i past → j ≡ share weights m first past →
+    (first past j : ℕ) → IsStretchStart r i first → IsStretchEnd r i past → j ≡ share weights m first past →
     record {
       all : length (homes ++ Some j ∷ []) ≡ i + 1;
-      each : (a : ℕ) → a < i + 1 → (first : ℕ) × (past : ℕ) × IsFirst r a first × IsPast r a past
+      each : (a : ℕ) → a < i + 1 → (first : ℕ) × (past : ℕ) × IsStretchStart r a first × IsStretchEnd r a past
           × (get_or (homes ++ Some j ∷ []) a None ≡ Some (share weights m first past));
     }
 one_home_more r weights m homes i long each first past j begins ends is = record {
@@ -70,7 +70,8 @@ one_home_more r weights m homes i long each first past j begins ends is = record
   each = λ a l. go a l (cases_lt a i);
 }
   where
-    go : (a : ℕ) → a < i + 1 → (a < i) ⊎ (i ≤ a) → (first : ℕ) × (past : ℕ) × IsFirst r a first × IsPast r a past
+    go : (a : ℕ) → a < i + 1 → (a < i) ⊎ (i ≤ a) →
+        (first : ℕ) × (past : ℕ) × IsStretchStart r a first × IsStretchEnd r a past
         × (get_or (homes ++ Some j ∷ []) a None ≡ Some (share weights m first past))
     go a l (inl low) = let old = each a low in
         (old.0, old.1, old.2, old.3, get_or_append_left homes (Some j ∷ []) None a (omega arith) ∙ old.4)
@@ -78,7 +79,7 @@ one_home_more r weights m homes i long each first past j begins ends is = record
         let same : i ≡ a = omega arith in (
           first,
           past,
-          subst (λ k. IsFirst r k first) same begins,
-          subst (λ k. IsPast r k past) same ends,
+          subst (λ k. IsStretchStart r k first) same begins,
+          subst (λ k. IsStretchEnd r k past) same ends,
           get_or_push homes (Some j) None a (long ∙ same) ∙ ap (λ k. Some k) is,
         )

@@ -1,11 +1,11 @@
 -- Long blocks, and their tables with homes from weights.
 use Rattle.std.specs.Prelude.{◌≡◌, ℕ, ◌*◌, ◌<◌, ◌≤◌, ◌⊎◌, List, slice_index, Option}
 use Rattle.sdf_graph.specs.Rates.{Rates}
-use Rattle.sdf_prec.specs.declared.long.TheConstants.{MOST_MOVED}
+use Rattle.sdf_prec.specs.declared.long.TheConstants.{MAX_MOVED}
 use Rattle.sdf_prec.specs.declared.fault.PrecFault.{PrecFault}
 use Rattle.sdf_prec.specs.declared.fault.PrecFault.TheVariants.{OutOfMemory, BlockingFactor, WorkerCount, BlockTooLong}
 use Rattle.sdf_prec.specs.Blocks.{block, IsWorkers, IsShort}
-use Rattle.sdf_prec.specs.Tables.{Tabled, IsTable, IsHomed}
+use Rattle.sdf_prec.specs.Tables.{TableValue, IsTable, IsHomed}
 use Rattle.sdf_prec.specs.ByHomes.{AreRunsByHomes}
 use Rattle.sdf_prec.specs.Spread.{AreSpread}
 
@@ -13,9 +13,9 @@ use Rattle.sdf_prec.specs.Spread.{AreSpread}
 abbrev pub moved : Rates → List ℕ → ℕ → ℕ
 moved r q c = r.produced c (slice_index q (r.source c))
 
--- j periods with the repetition vector q keep within MOST_MOVED samples on each channel and the firings of a block
+-- j periods with the repetition vector q keep within MAX_MOVED samples on each channel and the firings of a block
 pub record IsWithinLong (r : Rates) (q : List ℕ) (j : ℕ) : Type 0 where
-  pub moves : (c : ℕ) → c < r.channels → j * moved r q c ≤ MOST_MOVED
+  pub moves : (c : ℕ) → c < r.channels → j * moved r q c ≤ MAX_MOVED
   pub short : IsShort j q
 
 -- the greatest number of periods within these limits, or 1 if a single period passes them
@@ -39,7 +39,7 @@ IsSpreadFault j m reps BlockTooLong = (1 ≤ j) × IsWorkers m × (IsShort j rep
 IsSpreadFault j m reps _ = ⊥
 
 -- the table of j periods in runs, each actor at home with the worker of its stretch
-pub record IsSpreadTable (r : Rates) (q : List ℕ) (j m : ℕ) (weights : List ℕ) (t : Tabled) : Type 0 where
+pub record IsSpreadTable (r : Rates) (q : List ℕ) (j m : ℕ) (weights : List ℕ) (t : TableValue) : Type 0 where
   pub size : IsLongSize j m q
   pub table : IsTable r (slice_index (block j q)) m t
   pub homed : IsHomed t

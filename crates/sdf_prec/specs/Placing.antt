@@ -1,7 +1,7 @@
 -- Firings of a queue placed one after the other.
 use Rattle.std.specs.Prelude.{◌≡◌, ℕ, ◌*◌, ◌≤◌, ◌<◌, ◌⊎◌, ◌↔◌, List, length, slice_index, slice_index_or, Option, Some}
 use Rattle.std.specs.Prelude.{None}
-use Rattle.sdf_limits.specs.declared.TheConstants.{MOST_ACTORS, MOST_BLOCK, MOST_COST}
+use Rattle.sdf_limits.specs.declared.TheConstants.{MAX_ACTORS, MAX_BLOCK, MAX_COST}
 use Rattle.sdf_prec.specs.declared.firing.Firing.{Firing}
 use Rattle.sdf_prec.specs.Tables.{firing, cell_of}
 use Rattle.sdf_prec.specs.Trying.{load, IsLeast, IsHomeFor, IsPlaced}
@@ -9,8 +9,8 @@ use Rattle.sdf_prec.specs.Trying.{load, IsLeast, IsHomeFor, IsPlaced}
 -- a weight for each actor that `homes` lists: the cost of all its firings
 pub record AreWeights (weights : List ℕ) (homes : List (Option ℕ)) : Type 0 where
   pub all : length weights ≡ length homes
-  pub few : length homes ≤ MOST_ACTORS
-  pub small : (a : ℕ) → a < length homes → slice_index weights a ≤ MOST_BLOCK * MOST_COST
+  pub few : length homes ≤ MAX_ACTORS
+  pub small : (a : ℕ) → a < length homes → slice_index weights a ≤ MAX_BLOCK * MAX_COST
 
 -- the load of each column by these lists
 abbrev pub load_by : List ℕ → List (Option ℕ) → ℕ → ℕ

@@ -1,15 +1,15 @@
 -- Homes by weight: each worker has consecutive actors in file order.
 use Rattle.std.specs.Prelude.{◌≡◌, ℕ, ◌+◌, ◌*◌, ◌/◌, ◌<◌, ◌≤◌, List, length, slice_index, slice_index_or, Option, Some}
 use Rattle.std.specs.Prelude.{None}
-use Rattle.sdf_limits.specs.declared.TheConstants.{MOST_ACTORS, MOST_BLOCK, MOST_COST}
+use Rattle.sdf_limits.specs.declared.TheConstants.{MAX_ACTORS, MAX_BLOCK, MAX_COST}
 use Rattle.sdf_graph.specs.Rates.{Rates, sum_to}
 
 -- the weight of all firings of each actor in a period
 pub record AreLoads (actors : ℕ) (weights : List ℕ) : Type 0 where
   pub all : length weights ≡ actors
-  pub few : actors ≤ MOST_ACTORS
+  pub few : actors ≤ MAX_ACTORS
   pub some : (a : ℕ) → a < actors → 0 < slice_index weights a
-  pub small : (a : ℕ) → slice_index weights a ≤ MOST_BLOCK * MOST_COST
+  pub small : (a : ℕ) → slice_index weights a ≤ MAX_BLOCK * MAX_COST
 
 -- the weight of the first k actors
 abbrev pub weight_to : List ℕ → ℕ → ℕ
@@ -31,13 +31,13 @@ pub record MayPart (r : Rates) (k : ℕ) : Type 0 where
   pub fed : IsFedByLast r k → ⊥
 
 -- the place at which the stretch of actor a begins: the last place up to a at which actors may part
-pub record IsFirst (r : Rates) (a first : ℕ) : Type 0 where
+pub record IsStretchStart (r : Rates) (a first : ℕ) : Type 0 where
   pub within : first ≤ a
   pub parts : MayPart r first
   pub last : (k : ℕ) → first < k → k ≤ a → MayPart r k → ⊥
 
 -- the place at which the next stretch begins: the first place behind a at which actors may part, or the end
-pub record IsPast (r : Rates) (a past : ℕ) : Type 0 where
+pub record IsStretchEnd (r : Rates) (a past : ℕ) : Type 0 where
   pub behind : a < past
   pub within : past ≤ r.actors
   pub parts : MayPart r past
@@ -51,5 +51,5 @@ share weights m first past =
 -- the home of each actor is the worker of its stretch
 pub record AreSpread (r : Rates) (weights : List ℕ) (m : ℕ) (homes : List (Option ℕ)) : Type 0 where
   pub all : length homes ≡ r.actors
-  pub each : (a : ℕ) → a < r.actors → (first : ℕ) × (past : ℕ) × IsFirst r a first × IsPast r a past
+  pub each : (a : ℕ) → a < r.actors → (first : ℕ) × (past : ℕ) × IsStretchStart r a first × IsStretchEnd r a past
       × (slice_index_or homes a None ≡ Some (share weights m first past))

@@ -12,5 +12,5 @@ abbrev pub has_firing : List (Option Firing) → Bool
 has_firing cells = nat_lt 0 (length (firings cells))
 
 -- the rows in which a firing stands, filled up
-abbrev pub tidied : ℕ → List (List (Option Firing)) → List (List (Option Firing))
-tidied width rows = map (filled width) (filter has_firing rows)
+abbrev pub tidy_rows : ℕ → List (List (Option Firing)) → List (List (Option Firing))
+tidy_rows width rows = map (filled width) (filter has_firing rows)

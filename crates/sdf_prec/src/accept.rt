@@ -1,4 +1,7 @@
 //! Tables from given rows.
+//!
+//! The rows are tested first: `cells` tests the width of rows and the cells in them, `missing` finds firings in no row,
+//! and `late` finds firings that wait for one in no earlier row.
 
 pub(crate) mod cells;
 pub(crate) mod late;
@@ -13,17 +16,17 @@ ghost use Rattle.sdf_prec.specs.Blocks.{block};
 ghost use Rattle.sdf_prec.specs.Refusals.{AllPass, StandsFirst};
 ghost use Rattle.sdf_prec.specs.Accepting.{IsSize, IsAccepted, IsTableFault};
 
-use crate::block::{block_firings, size_fault};
 use crate::accept::cells::mark_rows;
-use crate::fault::PrecFault;
-use crate::firing::Firing;
 use crate::accept::late::first_late_in;
 use crate::accept::missing::first_missing;
+use crate::block::{block_firings, size_fault};
+use crate::fault::PrecFault;
+use crate::firing::Firing;
 use crate::numbers::Numbers;
 use crate::table::Table;
-use crate::table::tidy::tidied;
+use crate::table::tidy::tidy_rows;
 use sdf_graph::Graph;
-use sdf_limits::MOST_BLOCK;
+use sdf_limits::MAX_BLOCK;
 use std::alloc::{AllocError, Global};
 
 /// Returns the fault of the first test that `rows` fail, for a block in which the actors fire `firings` times each.
@@ -35,7 +38,7 @@ fn rows_fault(
     rows: &[Vec<Option<Firing>>],
 ) -> Result<Option<PrecFault>, AllocError>
     requires each { length firings.items ≡ graph.now.actors }
-    requires few { sum firings.items ≤ MOST_BLOCK }
+    requires few { sum firings.items ≤ MAX_BLOCK }
     requires enough { (c : ℕ) → c < length graph.now.channels →
         (rates graph.now).consumed c (slice_index firings.items ((rates graph.now).target c)) ≤
         (rates graph.now).initial c + (rates graph.now).produced c
@@ -56,8 +59,8 @@ fn rows_fault(
 }
 
 impl Table {
-    /// Makes the table with these rows, for `m` workers and a block of `j` periods in which the actors fire `reps`
-    /// times each. Shorter rows are filled up, and rows without a firing are left out.
+    /// Makes the table with these rows, for `m` workers and a block of `blocking` periods in which the actors fire
+    /// `reps` times each. Shorter rows are filled up, and rows without a firing are left out.
     ///
     /// It errs with the first fault in this order:
     /// 1. `BlockingFactor`, `WorkerCount`, `BlockTooLong`;
@@ -68,25 +71,26 @@ impl Table {
         alloc: Global,
         graph: &Graph,
         reps: &[u32],
-        j: u32,
+        blocking: u32,
         m: usize,
         rows: Vec<Vec<Option<Firing>>>,
     ) -> Result<Table, PrecFault>
         requires { IsPeriodVector (rates graph.now) reps.now }
         ensures { let given : List (List (Option Firing)) = map (λ r. r.items) rows.items in
             MatchResult result
-            (λ t. IsSize j m reps.now × IsAccepted (rates graph.now) (slice_index (block j reps.now)) m given t)
-            (IsTableFault (rates graph.now) j m reps.now given) }
+            (λ t. IsSize blocking m reps.now × IsAccepted (rates graph.now)
+            (slice_index (block blocking reps.now)) m given t)
+            (IsTableFault (rates graph.now) blocking m reps.now given) }
     {
         graph.channels();
-        if let Some(fault) = size_fault(j, m, reps) {
+        if let Some(fault) = size_fault(blocking, m, reps) {
             return Err(fault);
         }
-        let firings = block_firings(alloc, j, reps)?;
+        let firings = block_firings(alloc, blocking, reps)?;
         if let Some(fault) = rows_fault(alloc, graph, firings, m, &rows)? {
             return Err(fault);
         }
-        let kept = tidied(alloc, m, &rows)?;
+        let kept = tidy_rows(alloc, m, &rows)?;
         let table = Table::of_rows(alloc, graph, kept)?;
         Ok(table)
     }

@@ -9,6 +9,6 @@ use sdf_sched::Period;
 pub struct BlockTable {
     pub period: Period,
     /// Periods in a block.
-    pub factor: u32,
+    pub blocking: u32,
     pub table: Table,
 }

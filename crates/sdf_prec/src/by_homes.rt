@@ -13,10 +13,10 @@ ghost use Rattle.sdf_prec.specs.ByHomes.{HasHome, IsBadHome, AreByHomes, AreRuns
 use crate::block::{block_firings, block_order, size_fault};
 use crate::fault::PrecFault;
 use crate::firing::Firing;
-use crate::table::rows::Rows;
 use crate::table::Table;
+use crate::table::rows::Rows;
 use sdf_graph::Graph;
-use sdf_limits::MOST_BLOCK;
+use sdf_limits::MAX_BLOCK;
 use sdf_sched::class_s::class_s_of;
 use sdf_sched::{Period, Runs};
 use std::alloc::{AllocError, Global};
@@ -49,7 +49,7 @@ fn bad_home(homes: &[Option<usize>], m: usize, actors: usize) -> Option<usize>
 /// Returns the home of `actor`, or 0 if it does not have one.
 fn home_of(homes: &[Option<usize>], actor: usize) -> usize
     requires { actor < length homes.now }
-    ensures { (j : ℕ) → slice_index_or homes.now actor None ≡ Some j → result ≡ j }
+    ensures { (blocking : ℕ) → slice_index_or homes.now actor None ≡ Some blocking → result ≡ blocking }
 {
     homes[actor].unwrap_or(0)
 }
@@ -63,7 +63,7 @@ fn rows_of(
     homes: &[Option<usize>],
 ) -> Result<Rows, AllocError>
     requires known { (p : ℕ) → p < length order.now → slice_index order.now p < actors }
-    requires few { length order.now ≤ MOST_BLOCK }
+    requires few { length order.now ≤ MAX_BLOCK }
     requires homed { (a : ℕ) → a < actors → HasHome homes.now m a }
     ensures { IfOk result (λ rows. AreByHomes homes.now m order.now rows.rows) }
 {
@@ -83,13 +83,13 @@ fn rows_of(
 }
 
 /// Returns the reason why there is no table with these homes: its size, or an actor without a home below `m`.
-fn homes_fault(j: u32, m: usize, reps: &[u32], homes: &[Option<usize>]) -> Option<PrecFault>
+fn homes_fault(blocking: u32, m: usize, reps: &[u32], homes: &[Option<usize>]) -> Option<PrecFault>
     requires few { length reps.now < 2 ^ 20 }
     ensures { MatchOption result
-        (IsSize j m reps.now × ((a : ℕ) → a < length reps.now → HasHome homes.now m a))
-        (IsHomesFault j m reps.now homes.now) }
+        (IsSize blocking m reps.now × ((a : ℕ) → a < length reps.now → HasHome homes.now m a))
+        (IsHomesFault blocking m reps.now homes.now) }
 {
-    if let Some(fault) = size_fault(j, m, reps) {
+    if let Some(fault) = size_fault(blocking, m, reps) {
         return Some(fault);
     }
     match bad_home(homes, m, reps.len()) {
@@ -99,15 +99,15 @@ fn homes_fault(j: u32, m: usize, reps: &[u32], homes: &[Option<usize>]) -> Optio
 }
 
 /// Returns the table of `order`, with one firing in each row, in its actor's home.
-fn by_order(
+fn table_by_order(
     alloc: Global,
     graph: &Graph,
     order: &[usize],
     m: usize,
     homes: &[Option<usize>],
 ) -> Result<Table, AllocError>
-    requires pass { (n : ℕ → ℕ) × IsPass (rates graph.now) n order.now × ((a : ℕ) → n a ≤ MOST_BLOCK) }
-    requires few { length order.now ≤ MOST_BLOCK }
+    requires pass { (n : ℕ → ℕ) × IsPass (rates graph.now) n order.now × ((a : ℕ) → n a ≤ MAX_BLOCK) }
+    requires few { length order.now ≤ MAX_BLOCK }
     requires homed { (a : ℕ) → a < graph.now.actors → HasHome homes.now m a }
     ensures table { IfOk result (λ t. (n : ℕ → ℕ) → IsPass (rates graph.now) n order.now →
         IsTable (rates graph.now) n m t) }
@@ -118,34 +118,35 @@ fn by_order(
     Ok(table)
 }
 
-/// Returns the table of the firings of `j` periods in the order of `Runs`, one in each row, in its actor's home.
+/// Returns the table of the firings of `blocking` periods in the order of `Runs`, one in each row, in its actor's home.
 pub(crate) fn in_runs(
     alloc: Global,
     graph: &Graph,
     period: &Period,
-    j: u32,
+    blocking: u32,
     m: usize,
     homes: &[Option<usize>],
 ) -> Result<Table, AllocError>
     requires period { IsPeriodOf (rates graph.now) period.now }
-    requires some { 1 ≤ j }
-    requires short { IsShort j period.now.repetitions }
+    requires some { 1 ≤ blocking }
+    requires short { IsShort blocking period.now.repetitions }
     requires homed { (a : ℕ) → a < graph.now.actors → HasHome homes.now m a }
-    ensures table { IfOk result (IsTable (rates graph.now) (slice_index (block j period.now.repetitions)) m) }
+    ensures table { IfOk result (IsTable (rates graph.now) (slice_index (block blocking period.now.repetitions)) m) }
     ensures homed { IfOk result IsHomed }
-    ensures runs { IfOk result (λ t. AreRunsByHomes (rates graph.now) (slice_index (block j period.now.repetitions))
+    ensures runs { IfOk result (λ t. AreRunsByHomes (rates graph.now)
+        (slice_index (block blocking period.now.repetitions))
         homes.now m t.rows) }
 {
     graph.channels();
-    let firings = block_firings(alloc, j, period.repetitions())?;
+    let firings = block_firings(alloc, blocking, period.repetitions())?;
     let order = class_s_of(alloc, graph, &firings, &mut Runs::new())?;
-    let table = by_order(alloc, graph, &order, m, homes)?;
+    let table = table_by_order(alloc, graph, &order, m, homes)?;
     Ok(table)
 }
 
 impl Table {
-    /// Makes the table of the order of `period`, `j` times, for `m` workers. Each row has one firing, in its actor's
-    /// home.
+    /// Makes the table of the order of `period`, `blocking` times, for `m` workers. Each row has one firing, in its
+    /// actor's home.
     ///
     /// It errs with the first of `BlockingFactor`, `WorkerCount`, `BlockTooLong` and `BadHome`. `BadHome` has the
     /// lowest actor without a home among the `m` columns.
@@ -153,50 +154,51 @@ impl Table {
         alloc: Global,
         graph: &Graph,
         period: &Period,
-        j: u32,
+        blocking: u32,
         m: usize,
         homes: &[Option<usize>],
     ) -> Result<Table, PrecFault>
         requires { IsPeriodOf (rates graph.now) period.now }
         ensures { MatchResult result
-            (λ t. IsSize j m period.now.repetitions ×
-            IsTable (rates graph.now) (slice_index (block j period.now.repetitions)) m t ×
-            AreByHomes homes.now m (repeated j period.now.order) t.rows)
-            (IsHomesFault j m period.now.repetitions homes.now) }
+            (λ t. IsSize blocking m period.now.repetitions ×
+            IsTable (rates graph.now) (slice_index (block blocking period.now.repetitions)) m t ×
+            AreByHomes homes.now m (repeated blocking period.now.order) t.rows)
+            (IsHomesFault blocking m period.now.repetitions homes.now) }
     {
         graph.channels();
-        if let Some(fault) = homes_fault(j, m, period.repetitions(), homes) {
+        if let Some(fault) = homes_fault(blocking, m, period.repetitions(), homes) {
             return Err(fault);
         }
-        let order = block_order(alloc, j, period.order())?;
-        let table = by_order(alloc, graph, &order, m, homes)?;
+        let order = block_order(alloc, blocking, period.order())?;
+        let table = table_by_order(alloc, graph, &order, m, homes)?;
         Ok(table)
     }
 
-    /// Makes the table of the firings of `j` periods in runs, for `m` workers. An actor fires on while it is runnable
-    /// in the block, and then the next runnable one in file order. Each row has one firing, in its actor's home.
+    /// Makes the table of the firings of `blocking` periods in runs, for `m` workers. An actor fires on while it is
+    /// runnable in the block, and then the next runnable one in file order. Each row has one firing, in its actor's
+    /// home.
     ///
     /// It errs like `by_homes`.
     pub fn by_homes_in_runs(
         alloc: Global,
         graph: &Graph,
         period: &Period,
-        j: u32,
+        blocking: u32,
         m: usize,
         homes: &[Option<usize>],
     ) -> Result<Table, PrecFault>
         requires { IsPeriodOf (rates graph.now) period.now }
         ensures { MatchResult result
-            (λ t. IsSize j m period.now.repetitions ×
-            IsTable (rates graph.now) (slice_index (block j period.now.repetitions)) m t ×
-            AreRunsByHomes (rates graph.now) (slice_index (block j period.now.repetitions)) homes.now m t.rows)
-            (IsHomesFault j m period.now.repetitions homes.now) }
+            (λ t. IsSize blocking m period.now.repetitions ×
+            IsTable (rates graph.now) (slice_index (block blocking period.now.repetitions)) m t ×
+            AreRunsByHomes (rates graph.now) (slice_index (block blocking period.now.repetitions)) homes.now m t.rows)
+            (IsHomesFault blocking m period.now.repetitions homes.now) }
     {
         graph.channels();
-        if let Some(fault) = homes_fault(j, m, period.repetitions(), homes) {
+        if let Some(fault) = homes_fault(blocking, m, period.repetitions(), homes) {
             return Err(fault);
         }
-        let table = in_runs(alloc, graph, period, j, m, homes)?;
+        let table = in_runs(alloc, graph, period, blocking, m, homes)?;
         Ok(table)
     }
 }

@@ -1,12 +1,13 @@
 //! Homes from the weights of actors: each worker has consecutive actors in file order.
 
 ghost use Rattle.std.specs.Prelude.{◌≡◌, ℕ, ◌≤◌, ◌<◌, ◌*◌, ◌↔◌, length, IfOk, IsTrue};
-ghost use Rattle.sdf_limits.specs.declared.TheConstants.{MOST_BLOCK, MOST_COST};
+ghost use Rattle.sdf_limits.specs.declared.TheConstants.{MAX_BLOCK, MAX_COST};
 ghost use Rattle.sdf_graph.specs.Rates.{rates};
 ghost use Rattle.sdf_prec.specs.Blocks.{IsWorkers};
 ghost use Rattle.sdf_prec.specs.ByHomes.{HasHome};
-ghost use Rattle.sdf_prec.specs.Spread.{AreLoads, AreSpread, weight_to, LeadsBack, IsFedByLast, MayPart, IsFirst};
-ghost use Rattle.sdf_prec.specs.Spread.{IsPast, share};
+ghost use Rattle.sdf_prec.specs.Spread.{AreLoads, AreSpread, weight_to, LeadsBack, IsFedByLast, MayPart};
+ghost use Rattle.sdf_prec.specs.Spread.{IsStretchStart};
+ghost use Rattle.sdf_prec.specs.Spread.{IsStretchEnd, share};
 
 use sdf_graph::Graph;
 use std::alloc::{AllocError, Global};
@@ -47,8 +48,8 @@ fn may_part(graph: &Graph, k: usize) -> bool
 }
 
 /// Returns the place at which the stretch of `actor` begins.
-fn first_of(graph: &Graph, actor: usize) -> usize
-    ensures { IsFirst (rates graph.now) actor result }
+fn stretch_start(graph: &Graph, actor: usize) -> usize
+    ensures { IsStretchStart (rates graph.now) actor result }
 {
     for back in 0..actor {
         if may_part(graph, actor - back) {
@@ -59,9 +60,9 @@ fn first_of(graph: &Graph, actor: usize) -> usize
 }
 
 /// Returns the place at which the next stretch begins.
-fn past_of(graph: &Graph, actor: usize) -> usize
+fn stretch_end(graph: &Graph, actor: usize) -> usize
     requires { actor < graph.now.actors }
-    ensures { IsPast (rates graph.now) actor result }
+    ensures { IsStretchEnd (rates graph.now) actor result }
 {
     let actors = graph.actors();
     for k in actor + 1..actors {
@@ -77,7 +78,7 @@ fn weight_to(weights: &[u64], actors: usize) -> u64
     requires weights { AreLoads (length weights.now) weights.now }
     requires known { actors ≤ length weights.now }
     ensures is { result ≡ weight_to weights.now actors }
-    ensures small { result ≤ MOST_BLOCK * MOST_COST * actors }
+    ensures small { result ≤ MAX_BLOCK * MAX_COST * actors }
 {
     let mut weight = 0;
     for actor in 0..actors {
@@ -118,8 +119,8 @@ pub fn spread(
 {
     let mut homes = Vec::new(alloc);
     for actor in 0..graph.actors() {
-        let first = first_of(graph, actor);
-        let past = past_of(graph, actor);
+        let first = stretch_start(graph, actor);
+        let past = stretch_end(graph, actor);
         homes.push(Some(share(weights, m, first, past)))?;
     }
     Ok(homes)

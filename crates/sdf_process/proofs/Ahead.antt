@@ -4,17 +4,17 @@ use Rattle.std.proofs.Common.{Vec, append-nil, false, refl, sym, ap, ◌∙◌, 
 use Rattle.std.specs.Io.KnownBytes.{Appends}
 use Rattle.std.proofs.Math.Nat.{mul-le-mul_right}
 use Rattle.sdf_actor.specs.Wires.{lists as items_of}
-use Rattle.sdf_actor.specs.declared.rest.NetState.{NetState}
+use Rattle.sdf_actor.specs.declared.net_state.NetState.{NetState}
 use Rattle.sdf_wav.specs.Canonical.{sample_bytes}
 use Rattle.sdf_wav.specs.Device.{AppendsFront, ReaderState, WriterState, one_more}
-use Rattle.sdf_wav.specs.PiecesIn.{Reading, sound_read}
-use Rattle.sdf_wav.specs.PiecesOut.{Owed}
+use Rattle.sdf_wav.specs.PiecesIn.{ContentInValue, sound_read}
+use Rattle.sdf_wav.specs.PiecesOut.{ContentOutValue}
 use Rattle.sdf_faults.specs.declared.fault.Fault.{Fault}
 use Rattle.sdf_faults.specs.declared.fault.Fault.TheVariants.{Write}
 use Rattle.sdf_process.specs.declared.io_rates.IoRates.{IoRates}
 use Rattle.sdf_process.specs.declared.flow.Flow.{Flow}
 use Rattle.sdf_process.specs.Flows.{CameTo, CanFlow, Flows, IsAhead, Progress, Start, StreamsFrom, blocks_on}
-use Rattle.sdf_process.specs.Flows.{exchange_in, reading_in, samples_run}
+use Rattle.sdf_process.specs.Flows.{io_rates_in, reading_in, samples_run}
 use Rattle.sdf_process.specs.Output.{in_turn, periods_for}
 use Rattle.sdf_process.specs.Streams.{AreWhole, Makes, StandsAt, CanPut}
 use Rattle.sdf_process.proofs.Came.{came_to}
@@ -42,23 +42,24 @@ none_ahead b g f none flows = record {
       ∙ ap (λ (y : List ℕ). record { samples = g.samples; blocks = g.blocks + 0; bytes = y; left = g.left })
       (sym (append-nil g.bytes) ∙ ap (λ (l : List (List ℤ)). g.bytes ++ sample_bytes (in_turn l)) (sym none));
   came = flows.came;
-  whole = subst (AreWhole (exchange_in b).outputs (0 * b.blocking * (exchange_in b).made)) (sym none)
-      (no_frames (exchange_in b).outputs (0 * b.blocking * (exchange_in b).made)
-      (let z : 0 * b.blocking * (exchange_in b).made ≡ 0 = omega arith in z));
+  whole = subst (AreWhole (io_rates_in b).outputs (0 * b.blocking * (io_rates_in b).made)) (sym none)
+      (no_frames (io_rates_in b).outputs (0 * b.blocking * (io_rates_in b).made)
+      (let z : 0 * b.blocking * (io_rates_in b).made ≡ 0 = omega arith in z));
 }
 
 -- whole frames can be written, if no fewer are owed
-pub can_put : {Z : Type 0} (o : Owed) (channels frames : ℕ) (made ps : List (Vec ℤ Z)) → o.channels ≡ channels →
+pub can_put : {Z : Type 0} (o : ContentOutValue) (channels frames : ℕ) (made ps : List (Vec ℤ Z)) →
+    o.channels ≡ channels →
     ps ≡ made → AreWhole channels frames (items_of made) → frames ≤ o.missing → CanPut o (items_of ps)
 can_put {Z} o channels frames made ps same is whole fewer = (frames, rw (is, same) whole, fewer)
 
 module _ (b : Start) (can : CanFlow b) (g : Progress) (f : Flow) {r : ReaderState} {w : WriterState}
     (ahead : IsAhead b g f r w) where
-  abbrev c : Reading
+  abbrev c : ContentInValue
   c = reading_in b
 
   abbrev x : IoRates
-  x = exchange_in b
+  x = io_rates_in b
 
   abbrev here : Flows b ahead.before f.left f.source f.output r w
   here = ahead.flows
@@ -88,10 +89,10 @@ module _ (b : Start) (can : CanFlow b) (g : Progress) (f : Flow) {r : ReaderStat
       (periods_fit ((ahead.before.blocks + ahead.more) * b.blocking) x.taken b.frames can.taken fit) in
       let parts : (ahead.before.blocks + ahead.more) * b.blocking * x.made ≡
       ahead.before.blocks * b.blocking * x.made + ahead.more * b.blocking * x.made = omega arith in
-      omega (arith, less, parts, ap (λ (y : Owed). y.missing) here.owed, can.owed)
+      omega (arith, less, parts, ap (λ (y : ContentOutValue). y.missing) here.owed, can.owed)
 
   channels_are : f.output.channels ≡ x.outputs
-  channels_are = ap (λ (y : Owed). y.channels) here.owed
+  channels_are = ap (λ (y : ContentOutValue). y.channels) here.owed
 
   all_frames : length (in_turn made) ≡ ahead.more * b.blocking * x.made * f.output.channels
   all_frames = ahead.whole.all ∙ ap (λ (k : ℕ). ahead.more * b.blocking * x.made * k) (sym channels_are)
@@ -106,7 +107,8 @@ module _ (b : Start) (can : CanFlow b) (g : Progress) (f : Flow) {r : ReaderStat
   frames_of ps is = rw is all_frames
 
   -- they are written
-  pub wrote : (w' : WriterState) (o : Owed) → Appends w.contents w'.contents bytes → w'.failures ≡ w.failures →
+  pub wrote : (w' : WriterState) (o : ContentOutValue) → Appends w.contents w'.contents bytes →
+      w'.failures ≡ w.failures →
       o ≡ record f.output { missing = f.output.missing - ahead.more * b.blocking * x.made } →
       Flows b g f.left f.source o r w'
   wrote w' o puts fine owed = subst (λ (z : Progress). Flows b z f.left f.source o r w') (sym ahead.is)
@@ -117,7 +119,8 @@ module _ (b : Start) (can : CanFlow b) (g : Progress) (f : Flow) {r : ReaderStat
         within = here.within;
         count = here.count;
         written = appends_join b.writer.contents w.contents w'.contents ahead.before.bytes bytes here.written puts;
-        owed = owed ∙ ap (λ (y : Owed). record y { missing = y.missing - ahead.more * b.blocking * x.made }) here.owed
+        owed = owed ∙ ap (λ (y : ContentOutValue). record y
+            { missing = y.missing - ahead.more * b.blocking * x.made }) here.owed
             ∙ ap (λ (k : ℕ). record { channels = x.outputs; missing = k; spent = false })
             (less_twice b.owed (ahead.before.blocks * b.blocking * x.made) (ahead.more * b.blocking * x.made)
             ((ahead.before.blocks + ahead.more) * b.blocking * x.made) (omega arith));
@@ -168,7 +171,7 @@ module _ (b : Start) (can : CanFlow b) (g : Progress) (f : Flow) {r : ReaderStat
 pub made_ahead : (b : Start) (g : Progress) (f : Flow) {r : ReaderState} {w : WriterState} (blocks frames : ℕ)
     (left : Option (NetState ℤ (List ℤ))) → Flows b g f.left f.source f.output r w →
     Makes b.net b.period b.blocking (sound_read (reading_in b) g.samples) g.blocks blocks frames g.bytes
-    (items_of f.made.items) left → frames ≡ blocks * b.blocking * (exchange_in b).made →
+    (items_of f.made.items) left → frames ≡ blocks * b.blocking * (io_rates_in b).made →
     samples_run b (g.blocks + blocks) ≤ length g.samples →
     IsAhead b (blocks_on g blocks (sample_bytes (in_turn (items_of f.made.items))) left) f r w
 made_ahead b g f blocks frames left flows makes all there = record {
@@ -179,11 +182,11 @@ made_ahead b g f blocks frames left flows makes all there = record {
   came = record {
     stands = subst (λ (k : ℕ). StandsAt b.net b.period b.blocking (sound_read (reading_in b) g.samples)
         (g.blocks + blocks) k (g.bytes ++ sample_bytes (in_turn (items_of f.made.items))) left)
-        (ap (λ (k : ℕ). g.blocks * b.blocking * (exchange_in b).made + k) all
-        ∙ (let z : g.blocks * b.blocking * (exchange_in b).made + blocks * b.blocking * (exchange_in b).made ≡
-        (g.blocks + blocks) * b.blocking * (exchange_in b).made = omega arith in z))
+        (ap (λ (k : ℕ). g.blocks * b.blocking * (io_rates_in b).made + k) all
+        ∙ (let z : g.blocks * b.blocking * (io_rates_in b).made + blocks * b.blocking * (io_rates_in b).made ≡
+        (g.blocks + blocks) * b.blocking * (io_rates_in b).made = omega arith in z))
         makes.stands;
     there = there;
   };
-  whole = subst (λ (k : ℕ). AreWhole (exchange_in b).outputs k (items_of f.made.items)) all makes.whole;
+  whole = subst (λ (k : ℕ). AreWhole (io_rates_in b).outputs k (items_of f.made.items)) all makes.whole;
 }

@@ -4,9 +4,9 @@ use Rattle.std.proofs.Common.{length, map, take, Option, Some, None, refl, sym, 
 use Rattle.std.proofs.Math.Nat.{div-mul-le_self, mod-eq-sub-div-mul}
 use Rattle.std.proofs.lemmas.Bool.{cases_lt, lt-ltb}
 use Rattle.std.proofs.lemmas.Nat.{le-div}
-use Rattle.sdf_actor.specs.declared.rest.NetState.{NetState}
+use Rattle.sdf_actor.specs.declared.net_state.NetState.{NetState}
 use Rattle.sdf_actor.specs.Nets.{Netlist}
-use Rattle.sdf_queues.specs.Answer.{AreOutputs, periods_of as firings}
+use Rattle.sdf_queues.specs.RunResults.{AreOutputs, periods_of as firings}
 use Rattle.sdf_queues.specs.Laws.{RunsGoOn}
 use Rattle.sdf_queues.specs.Periods.{HasPeriod}
 use Rattle.sdf_kit.specs.declared.kit.Kit.{Kit}
@@ -14,14 +14,14 @@ use Rattle.sdf_kit.specs.Kit.{kit_steps}
 use Rattle.sdf_sched.specs.Period.{Schedule}
 use Rattle.sdf_wav.specs.Device.{ReaderState, WriterState}
 use Rattle.sdf_wav.specs.Canonical.{sample_bytes}
-use Rattle.sdf_wav.specs.PiecesIn.{Reading, IsReading, IsWithin, sound_read}
+use Rattle.sdf_wav.specs.PiecesIn.{ContentInValue, IsReading, IsWithin, sound_read}
 use Rattle.sdf_wav.specs.Sound.{Sound}
 use Rattle.sdf_process.specs.declared.io_rates.StreamInfo.{StreamInfo}
 use Rattle.sdf_process.specs.declared.io_rates.IoRates.{IoRates}
 use Rattle.sdf_faults.specs.declared.fault.Fault.{Fault}
 use Rattle.sdf_faults.specs.declared.fault.Fault.TheVariants.{ChannelsMissing, OutOfMemory}
 use Rattle.sdf_process.specs.declared.source.Source.{Source}
-use Rattle.sdf_process.specs.Output.{announced_fault, exchange_of, interleaved, lists_to}
+use Rattle.sdf_process.specs.Output.{info_fault, io_rates_of, interleaved, lists_to}
 use Rattle.sdf_process.specs.Sources.{TakesAll}
 use Rattle.sdf_process.specs.Streams.{IsStream, StandsAt, StandsWhole, Streams}
 use Rattle.sdf_process.proofs.Pieced.{outputs_of}
@@ -33,47 +33,48 @@ use Rattle.sdf_process.proofs.Taken.{takes_none, takes_refused}
 -- ---- what was written of the frames of a sound
 
 module _ (runs : RunsGoOn kit_steps) (n : Netlist Kit ℤ) (p : Schedule) (has : HasPeriod kit_steps n p) (j : ℕ) where
-  abbrev exchange : IoRates
-  exchange = exchange_of n p.repetitions
+  abbrev io : IoRates
+  io = io_rates_of n p.repetitions
 
   -- the frames of some periods are those of a run of these periods
   pub stood : (s : Sound) (blocks frames periods : ℕ) (bytes : List ℕ) (v : Option (NetState ℤ (List ℤ))) →
-      StandsAt n p j s blocks frames bytes v → periods ≤ blocks * j → frames ≡ periods * exchange.made →
-      (lists : List (List ℤ)) × AreOutputs kit_steps n (lists_to periods exchange s) (firings p.repetitions periods)
-      lists × (bytes ≡ sample_bytes (interleaved (periods * exchange.made) lists))
+      StandsAt n p j s blocks frames bytes v → periods ≤ blocks * j → frames ≡ periods * io.made →
+      (lists : List (List ℤ)) × AreOutputs kit_steps n (lists_to periods io s) (firings p.repetitions periods)
+      lists × (bytes ≡ sample_bytes (interleaved (periods * io.made) lists))
   stood s blocks frames periods bytes v at less same = (
-    map (take (periods * exchange.made)) at.made,
-    runs n p periods (blocks * j) (lists_to periods exchange s) (lists_to (blocks * j) exchange s) at.made has less
-        (are_inputs n p.repetitions s periods) (begin periods (blocks * j) exchange s less)
-        (outputs_of n (lists_to (blocks * j) exchange s) (firings p.repetitions (blocks * j)) at.made at.rest at.run),
+    map (take (periods * io.made)) at.made,
+    runs n p periods (blocks * j) (lists_to periods io s) (lists_to (blocks * j) io s) at.made has less
+        (are_inputs n p.repetitions s periods) (begin periods (blocks * j) io s less)
+        (outputs_of n (lists_to (blocks * j) io s) (firings p.repetitions (blocks * j)) at.made at.rest at.run),
     at.bytes_are ∙ (ap (λ (k : ℕ). sample_bytes (interleaved k at.made)) same
-        ∙ ap sample_bytes (sym (interleaved_cut at.made (periods * exchange.made)))),
+        ∙ ap sample_bytes (sym (interleaved_cut at.made (periods * io.made)))),
   )
 
   -- so far the run came
-  pub came_to : (c : Reading) (samples : List ℤ) (blocks : ℕ) (bytes : List ℕ) (v : Option (NetState ℤ (List ℤ))) →
-      2 * length samples ≤ c.size → 0 < c.channels → blocks * j * exchange.taken * c.channels ≤ length samples →
+  pub came_to : (c : ContentInValue) (samples : List ℤ) (blocks : ℕ) (bytes : List ℕ)
+      (v : Option (NetState ℤ (List ℤ))) →
+      2 * length samples ≤ c.size → 0 < c.channels → blocks * j * io.taken * c.channels ≤ length samples →
       StandsWhole n p j (sound_read c samples) blocks bytes v → IsStream n p.repetitions c samples (blocks * j) bytes
   came_to c samples blocks bytes v within one there at = record {
     within = within;
-    are_read = inl (le-div (blocks * j * exchange.taken) (length samples) c.channels one there);
-    are_frames = inr (stood (sound_read c samples) blocks (blocks * j * exchange.made) (blocks * j) bytes v at
+    are_read = inl (le-div (blocks * j * io.taken) (length samples) c.channels one there);
+    are_frames = inr (stood (sound_read c samples) blocks (blocks * j * io.made) (blocks * j) bytes v at
         (omega arith) refl);
   }
 
--- ---- what is announced
+-- ---- the stream info
 
--- the output of what is announced reads channels that are there
-pub allowed_lower : (x : IoRates) (a : StreamInfo) → announced_fault x a ≡ None → x.inputs ≤ a.channels
+-- the output of a sound with this stream info reads channels that are there
+pub allowed_lower : (x : IoRates) (a : StreamInfo) → info_fault x a ≡ None → x.inputs ≤ a.channels
 allowed_lower x a is = go (cases_lt a.channels x.inputs)
   where
     go : (a.channels < x.inputs) ⊎ (x.inputs ≤ a.channels) → x.inputs ≤ a.channels
     go (inl less) =
-        let lacking : announced_fault x a ≡ Some ChannelsMissing = rw (lt-ltb a.channels x.inputs less) refl in
+        let lacking : info_fault x a ≡ Some ChannelsMissing = rw (lt-ltb a.channels x.inputs less) refl in
         absurd (let no : Some ChannelsMissing ≡ None = sym lacking ∙ is in cc)
     go (inr there) = there
 
-pub whole_size : (c : Reading) (frames : ℕ) → IsReading c → (known : c.size ≢ 0xFFFFFFFF) →
+pub whole_size : (c : ContentInValue) (frames : ℕ) → IsReading c → (known : c.size ≢ 0xFFFFFFFF) →
     frames ≡ c.size / (2 * c.channels) → 2 * (frames * c.channels) ≡ c.size
 whole_size c frames is known same = go is.within
   where

@@ -7,7 +7,8 @@ use Rattle.sdf_wav.specs.Sound.{Sound, sound_of}
 use Rattle.sdf_wav.specs.Canonical.{Writes}
 use Rattle.sdf_wav.specs.Device.{ReaderState, WriterState, failures_after}
 use Rattle.sdf_wav.specs.Fault.{HasFault}
-use Rattle.sdf_wav.specs.PiecesIn.{Reading, AnswersBy, IsEnded, IsPiece, IsReading, IsReadTo, IsSizedFault, IsWithin}
+use Rattle.sdf_wav.specs.PiecesIn.{ContentInValue, AnswersBy, IsEnded, IsPiece, IsReading, IsReadTo, IsSizedFault}
+use Rattle.sdf_wav.specs.PiecesIn.{IsWithin}
 use Rattle.sdf_wav.specs.PiecesIn.{next_at}
 use Rattle.sdf_wav.specs.PiecesOut.{file_header, start_fault}
 use Rattle.sdf_wav.specs.declared.fault.FormatFault.{FormatFault}
@@ -15,7 +16,7 @@ use Rattle.sdf_wav.specs.declared.fault.WavFault.{WavFault}
 use Rattle.sdf_wav.specs.declared.fault.WavFault.TheVariants as wav
 use Rattle.sdf_faults.specs.declared.fault.Fault.{Fault}
 use Rattle.sdf_faults.specs.Faults.{of_wav}
-use Rattle.sdf_process.specs.Stages.{PutsHeader, ReadsContent}
+use Rattle.sdf_process.specs.Stages.{PutsBytes, ReadsContent}
 use Rattle.sdf_process.proofs.Sounds.{sound_is}
 
 -- a header that may be written fails by its writer alone
@@ -24,7 +25,7 @@ pub begin_failed : {X : Type 0} (w w' : WriterState) (rate channels frames : ℕ
     Writes {X = Unit {0}} w.contents w'.contents (start_fault rate channels frames)
     (file_header rate channels frames) (Err e) →
     w'.failures ≡ failures_after {X = Unit {0}} (Err e) w.failures → IsErrAnd r (λ f. f ≡ of_wav e) →
-    PutsHeader w w' (file_header rate channels frames) r
+    PutsBytes w w' (file_header rate channels frames) r
 begin_failed w w' rate channels frames wav.Write (Err f) allowed written counted is =
     (is, written.1, counted)
 begin_failed w w' rate channels frames (wav.Format g) (Err f) allowed written counted is =
@@ -38,7 +39,7 @@ pub begin_failed_as : {X : Type 0} (w w' : WriterState) (rate r channels frames 
     (x : Result X Fault) → r ≡ rate → f ≡ frames → start_fault rate channels frames ≡ None →
     Writes {X = Unit {0}} w.contents w'.contents (start_fault r channels f) (file_header r channels f) (Err e) →
     w'.failures ≡ failures_after {X = Unit {0}} (Err e) w.failures → IsErrAnd x (λ g. g ≡ of_wav e) →
-    PutsHeader w w' (file_header rate channels frames) x
+    PutsBytes w w' (file_header rate channels frames) x
 begin_failed_as w w' rate r channels frames f e x same_rate same_frames allowed written counted is =
     let here = subst (λ (z : ℕ). Writes {X = Unit {0}} w.contents w'.contents (start_fault z channels f)
     (file_header z channels f) (Err e)) same_rate written in
@@ -48,8 +49,8 @@ begin_failed_as w w' rate r channels frames f e x same_rate same_frames allowed 
     (Err e)) same_frames here) counted is
 
 -- the content of an opened input failed
-pub content_failed : (r r' : ReaderState) (c : Reading) (frames : ℕ) →
-    ((input : List ℕ) (d : Reading) (before : List ℤ) (bytes : List ℕ) (many : ℕ) (f : FormatFault) →
+pub content_failed : (r r' : ReaderState) (c : ContentInValue) (frames : ℕ) →
+    ((input : List ℕ) (d : ContentInValue) (before : List ℤ) (bytes : List ℕ) (many : ℕ) (f : FormatFault) →
     IsReadTo input d before bytes → next_at d many bytes ≡ Err f → HasFault input f) →
     (e : WavFault) (x : Result Sound Fault) → AnswersBy {X = Unit {0}} {Y = List ℤ} (λ x. []) r.remaining r'.remaining
     (next_at c frames)
@@ -71,13 +72,13 @@ content_failed r r' c frames falls (wav.Format g) (Err f) said counted cut is =
 content_failed r r' c frames falls wav.Write (Err f) said counted cut is = absurd said
 content_failed r r' c frames falls e (Ok x) said counted cut is = absurd is
 
-few_samples : (r : Reading) (samples : ℕ) → IsReading r → IsWithin (2 * r.channels) r.size r.gone →
+few_samples : (r : ContentInValue) (samples : ℕ) → IsReading r → IsWithin (2 * r.channels) r.size r.gone →
     2 * samples ≤ r.gone → samples < 18446744073709551615 * r.channels
 few_samples r samples is (inl (known, sized, le)) less = omega (arith, is.size_fits, is.one_channel)
 few_samples r samples is (inr (unknown, fits)) less = omega (arith, is.one_channel)
 
 -- no content has more
-pub few_read : (c : Reading) (samples : ℕ) → c.gone ≡ 0 → (last : Reading) →
+pub few_read : (c : ContentInValue) (samples : ℕ) → c.gone ≡ 0 → (last : ContentInValue) →
     last ≡ record c { gone = c.gone + 2 * samples } → IsReading last → 2 * samples ≤ 0xFFFFFFFF
 few_read c samples gone last goes is = go (subst IsReading goes is)
   where
@@ -94,19 +95,19 @@ all_sized frames channels size samples e one fits is =
     ap (λ (z : ℕ). 2 * (z * channels)) (sym e) in omega arith
 
 -- it was read whole
-module _ {Z : Type 0} (r r' : ReaderState) (c : Reading) (frames : ℕ)
+module _ {Z : Type 0} (r r' : ReaderState) (c : ContentInValue) (frames : ℕ)
     (all : frames ≡ 18446744073709551615) (gone : c.gone ≡ 0)
-    (on : (input : List ℕ) (d : Reading) (before : List ℤ) (bytes : List ℕ) (many : ℕ) (samples : List ℤ)
+    (on : (input : List ℕ) (d : ContentInValue) (before : List ℤ) (bytes : List ℕ) (many : ℕ) (samples : List ℤ)
     (rest : List ℕ) → IsReadTo input d before bytes
     → next_at d many bytes ≡ Ok (samples, rest) → IsReadTo input (record d { gone = d.gone + 2 * length samples })
     (before ++ samples) rest)
-    (few : (input : List ℕ) (d : Reading) (before : List ℤ) (bytes : List ℕ) (many : ℕ) (samples : List ℤ)
+    (few : (input : List ℕ) (d : ContentInValue) (before : List ℤ) (bytes : List ℕ) (many : ℕ) (samples : List ℤ)
     (rest : List ℕ) → IsReadTo input d before bytes
     → next_at d many bytes ≡ Ok (samples, rest) → length samples < many * d.channels →
     IsEnded (record d { gone = d.gone + 2 * length samples }) rest)
     (v : Vec ℤ Z) (said : AnswersBy {X = Vec ℤ Z} (λ (x : Vec ℤ Z). x.items) r.remaining r'.remaining
     (next_at c frames) (Ok v))
-    (counted : r'.failures ≡ r.failures) (piece : IsPiece c frames (length v.items)) (last : Reading)
+    (counted : r'.failures ≡ r.failures) (piece : IsPiece c frames (length v.items)) (last : ContentInValue)
     (goes : last ≡ record c { gone = c.gone + 2 * length v.items }) (is : IsReading last) where
   here : IsReading (record c { gone = c.gone + 2 * length v.items })
   here = subst IsReading goes is

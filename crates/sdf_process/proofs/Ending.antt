@@ -3,19 +3,19 @@ use Rattle.std.proofs.Common.{◌≡◌, inl, inr, Result, Ok, Err, ℕ, ◌+◌
 use Rattle.std.proofs.Common.{Option, refl, sym, ap, ◌∙◌, subst, arith}
 use Rattle.std.specs.Io.KnownBytes.{Appends}
 use Rattle.std.proofs.Math.Nat.{mul-div_left, mul-le-mul_left, mul-le-mul_right}
-use Rattle.sdf_actor.specs.declared.rest.NetState.{NetState}
+use Rattle.sdf_actor.specs.declared.net_state.NetState.{NetState}
 use Rattle.sdf_wav.specs.Canonical.{sample_bytes}
 use Rattle.sdf_wav.specs.Device.{ReaderState, WriterState, one_more}
-use Rattle.sdf_wav.specs.PiecesIn.{Reading, sound_read}
-use Rattle.sdf_wav.specs.PiecesOut.{Owed}
+use Rattle.sdf_wav.specs.PiecesIn.{ContentInValue, sound_read}
+use Rattle.sdf_wav.specs.PiecesOut.{ContentOutValue}
 use Rattle.sdf_wav.specs.Sound.{Sound}
 use Rattle.sdf_faults.specs.declared.fault.Fault.{Fault}
 use Rattle.sdf_process.specs.declared.io_rates.IoRates.{IoRates}
 use Rattle.sdf_process.specs.declared.source.Source.{Source}
-use Rattle.sdf_process.specs.Flows.{CanFlow, Flows, Progress, Start, StreamsFrom, exchange_in, reading_in}
+use Rattle.sdf_process.specs.Flows.{CanFlow, Flows, Progress, Start, StreamsFrom, io_rates_in, reading_in}
 use Rattle.sdf_process.specs.Output.{in_turn, periods_for, periods_of}
 use Rattle.sdf_process.specs.Sources.{TakesAll}
-use Rattle.sdf_process.specs.Stages.{PutsHeader}
+use Rattle.sdf_process.specs.Stages.{PutsBytes}
 use Rattle.sdf_process.specs.Streams.{Makes, StandsAt}
 use Rattle.sdf_process.proofs.Came.{stood}
 use Rattle.sdf_process.proofs.Flowing.{within_size}
@@ -23,14 +23,14 @@ use Rattle.sdf_process.proofs.Outcomes.{appends_join, front_join}
 use Rattle.sdf_process.proofs.Sizes.{below_by, cancel, periods_fit}
 use Rattle.sdf_process.proofs.Taken.{takes_whole}
 
-module _ (b : Start) (can : CanFlow b) (g : Progress) {unread : ℕ} {source : Source} {o : Owed}
+module _ (b : Start) (can : CanFlow b) (g : Progress) {unread : ℕ} {source : Source} {o : ContentOutValue}
     {r : ReaderState} {w : WriterState} (here : Flows b g unread source o r w)
     (end : unread ≡ 0) where
-  abbrev c : Reading
+  abbrev c : ContentInValue
   c = reading_in b
 
   abbrev x : IoRates
-  x = exchange_in b
+  x = io_rates_in b
 
   abbrev j : ℕ
   j = b.blocking
@@ -45,8 +45,8 @@ module _ (b : Start) (can : CanFlow b) (g : Progress) {unread : ℕ} {source : S
   size_there : 2 * length g.samples ≡ c.size
   size_there = omega (arith, all_there, can.size)
 
-  heard : TakesAll b.source b.reader r (Ok sound)
-  heard = takes_whole b.source g.samples b.reader r can.unread can.known size_there here.takes here.reader
+  decoded : TakesAll b.source b.reader r (Ok sound)
+  decoded = takes_whole b.source g.samples b.reader r can.unread can.known size_there here.takes here.reader
 
   periods_are : periods_of x sound ≡ periods_for x b.frames
   periods_are = ap (periods_for x)
@@ -60,12 +60,13 @@ module _ (b : Start) (can : CanFlow b) (g : Progress) {unread : ℕ} {source : S
 
   -- what is missing fills the output up
   pub filled : g.blocks * j * x.made + o.missing ≡ periods_for x b.frames * x.made
-  filled = omega (arith, few_periods, ap (λ (y : Owed). y.missing) here.owed, can.owed)
+  filled = omega (arith, few_periods, ap (λ (y : ContentOutValue). y.missing) here.owed, can.owed)
 
   -- and is short
   pub missing_short : o.missing ≤ 2147483629
   missing_short =
-      let less : o.missing * 1 ≤ b.owed * x.outputs = fewer (omega (arith, ap (λ (y : Owed). y.missing) here.owed)) in
+      let less : o.missing * 1 ≤ b.owed * x.outputs =
+      fewer (omega (arith, ap (λ (y : ContentOutValue). y.missing) here.owed)) in
       omega (arith, less, can.short)
     where
       fewer : o.missing ≤ b.owed → o.missing * 1 ≤ b.owed * x.outputs
@@ -82,7 +83,7 @@ module _ (b : Start) (can : CanFlow b) (g : Progress) {unread : ℕ} {source : S
       let s = stood can.runs b.net b.period can.has j sound blocks many (periods_of x sound) bytes v at
       (subst (λ (k : ℕ). k ≤ blocks * j) (sym periods_are) less)
       (same ∙ ap (λ (k : ℕ). k * x.made) (sym periods_are)) in
-      (sound, heard, (s.0, s.1, subst (Appends b.writer.contents w'.contents) s.2 written, fine))
+      (sound, decoded, (s.0, s.1, subst (Appends b.writer.contents w'.contents) s.2 written, fine))
 
   -- nothing is missing
   pub ended_whole : o.missing ≡ 0 → StreamsFrom b r w (Ok tt)
@@ -133,7 +134,7 @@ module _ (b : Start) (can : CanFlow b) (g : Progress) {unread : ℕ} {source : S
     -- their frames are written, or a front of them
     pub ended : (made : List (List ℤ)) (v : Option (NetState ℤ (List ℤ))) →
         Makes b.net b.period j sound g.blocks blocks o.missing g.bytes made v → (w' : WriterState)
-        (result : Result (Unit {0}) Fault) → PutsHeader w w' (sample_bytes (in_turn made)) result →
+        (result : Result (Unit {0}) Fault) → PutsBytes w w' (sample_bytes (in_turn made)) result →
         StreamsFrom b r w' result
     ended made v makes w' (Ok y) (written, fine) =
         ended_by (g.blocks + blocks) (g.blocks * j * x.made + o.missing) (g.bytes ++ sample_bytes (in_turn made)) v

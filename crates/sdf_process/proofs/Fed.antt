@@ -6,15 +6,15 @@ use Rattle.std.proofs.Math.Nat.{mul-div_left, mul-le-mul_left}
 use Rattle.std.proofs.lemmas.List.FromFn.{length-map-range_with_len}
 use Rattle.sdf_actor.specs.declared.sides.Lists.TheVariants.{Inputs, Outputs}
 use Rattle.sdf_actor.specs.Nets.{Netlist}
-use Rattle.sdf_actor.specs.Rests.{AreJoined}
+use Rattle.sdf_actor.specs.NetStates.{AreJoined}
 use Rattle.sdf_actor.specs.Sides.{list_count, period_samples}
-use Rattle.sdf_queues.specs.Answer.{HasInputs, periods_of as firings}
+use Rattle.sdf_queues.specs.RunResults.{HasInputs, periods_of as firings}
 use Rattle.sdf_queues.specs.Feeds.{AreFull, HasRun}
 use Rattle.sdf_queues.specs.declared.fault.RunFault.{RunFault}
 use Rattle.sdf_queues.specs.declared.fault.RunFault.TheVariants as run
 use Rattle.sdf_kit.specs.declared.kit.Kit.{Kit}
 use Rattle.sdf_kit.specs.Kit.{kit_steps}
-use Rattle.sdf_prec.specs.Tables.{Tabled}
+use Rattle.sdf_prec.specs.Tables.{TableValue}
 use Rattle.sdf_run.specs.Sessions.{SessionValue, AreBlocks, AreNone, FeedsBlocks, HasFed, IsFeedFault, IsLive}
 use Rattle.sdf_run.specs.Sessions.{IsModeFault, MayRun, StandsAfter}
 use Rattle.sdf_run.specs.declared.mode.Mode.{Mode}
@@ -27,7 +27,7 @@ use Rattle.sdf_process.specs.declared.io_rates.IoRates.{IoRates}
 use Rattle.sdf_process.specs.declared.portion.Portion.{Portion}
 use Rattle.sdf_faults.specs.declared.fault.Fault.TheVariants.{OutOfMemory}
 use Rattle.sdf_faults.specs.Faults.{of_run}
-use Rattle.sdf_process.specs.Output.{channel_samples, exchange_of, interleaved, lists_from, lists_to}
+use Rattle.sdf_process.specs.Output.{channel_samples, io_rates_of, interleaved, lists_from, lists_to}
 use Rattle.sdf_process.specs.Streams.{CanRun, FeedsBy, Follows, Makes, StandsAt}
 use Rattle.sdf_process.proofs.Pieced.{AreRun, blank, blank_at, blank_long, blocks_made, one_list}
 use Rattle.sdf_process.proofs.Played.{from_at, lists_full, lists_joined, lists_long}
@@ -36,14 +36,14 @@ use Rattle.sdf_process.proofs.Sizes.{positive}
 
 -- the lists of so many blocks are blocks
 pub blocks_given : (v : SessionValue Kit (List ℤ) ℤ) (blocks : ℕ) (x : IoRates) (s : Sound) →
-    x ≡ exchange_of v.net v.period.repetitions → blocks ≤ 4294967295 →
-    FeedsBlocks v blocks (lists_from 0 (blocks * v.factor) x s)
+    x ≡ io_rates_of v.net v.period.repetitions → blocks ≤ 4294967295 →
+    FeedsBlocks v blocks (lists_from 0 (blocks * v.blocking) x s)
 blocks_given v blocks x s same few = record {
   few = few;
   count = length-map-range_with_len _ 0 x.inputs ∙ ap (λ (y : IoRates). y.inputs) same;
   each = λ e here.
-      let taken : blocks * v.factor * x.taken ≡ blocks * (v.factor * x.taken) = omega arith in
-      from_at 0 (blocks * v.factor) x s e here ∙ (taken ∙ ap (λ (y : IoRates). blocks * (v.factor * y.taken)) same);
+      let taken : blocks * v.blocking * x.taken ≡ blocks * (v.blocking * x.taken) = omega arith in
+      from_at 0 (blocks * v.blocking) x s e here ∙ (taken ∙ ap (λ (y : IoRates). blocks * (v.blocking * y.taken)) same);
 }
 
 -- so memory alone may be refused
@@ -73,27 +73,27 @@ feeds_still n p j v by w blocks given on rounds fed = record {
   live = (fed.rest, ap (λ (z : SessionValue Kit (List ℤ) ℤ). z.rest) fed.now);
   net = ap (λ (z : SessionValue Kit (List ℤ) ℤ). z.net) fed.now ∙ by.net;
   period = ap (λ (z : SessionValue Kit (List ℤ) ℤ). z.period) fed.now ∙ by.period;
-  factor = ap (λ (z : SessionValue Kit (List ℤ) ℤ). z.factor) fed.now ∙ by.factor;
+  blocking = ap (λ (z : SessionValue Kit (List ℤ) ℤ). z.blocking) fed.now ∙ by.blocking;
 }
 
 -- what was run, in the names of a session's net, period and blocks, and back
 module _ (n : Netlist Kit ℤ) (p : Schedule) (j : ℕ) (v : SessionValue Kit (List ℤ) ℤ) (by : FeedsBy n p j v)
     (P : Netlist Kit ℤ → Schedule → ℕ → Type 0) where
-  pub to_session : P n p j → P v.net v.period v.factor
-  to_session h = subst (λ (m : Netlist Kit ℤ). P m v.period v.factor) (sym by.net)
-      (subst (λ (y : Schedule). P n y v.factor) (sym by.period) (subst (P n p) (sym by.factor) h))
+  pub to_session : P n p j → P v.net v.period v.blocking
+  to_session h = subst (λ (m : Netlist Kit ℤ). P m v.period v.blocking) (sym by.net)
+      (subst (λ (y : Schedule). P n y v.blocking) (sym by.period) (subst (P n p) (sym by.blocking) h))
 
-  pub from_session : P v.net v.period v.factor → P n p j
-  from_session h = subst (P n p) by.factor (subst (λ (y : Schedule). P n y v.factor) by.period
-      (subst (λ (m : Netlist Kit ℤ). P m v.period v.factor) by.net h))
+  pub from_session : P v.net v.period v.blocking → P n p j
+  from_session h = subst (P n p) by.blocking (subst (λ (y : Schedule). P n y v.blocking) by.period
+      (subst (λ (m : Netlist Kit ℤ). P m v.period v.blocking) by.net h))
 
 -- a session stands after what was run
 pub session_stands : (n : Netlist Kit ℤ) (p : Schedule) (j : ℕ) (v : SessionValue Kit (List ℤ) ℤ) →
     FeedsBy n p j v → (s : Sound) (blocks frames : ℕ) (bytes : List ℕ)
     (at : StandsAt n p j s blocks frames bytes v.rest) →
-    StandsAfter kit_steps v blocks (lists_to (blocks * j) (exchange_of n p.repetitions) s) at.made
+    StandsAfter kit_steps v blocks (lists_to (blocks * j) (io_rates_of n p.repetitions) s) at.made
 session_stands n p j v by s blocks frames bytes at =
-    let fed = lists_to (blocks * j) (exchange_of n p.repetitions) s in
+    let fed = lists_to (blocks * j) (io_rates_of n p.repetitions) s in
     record {
       given = to_session n p j v by (λ m y k. HasInputs m y.repetitions (blocks * k) fed)
           (are_inputs n p.repetitions s (blocks * j));
@@ -110,12 +110,12 @@ session_stands n p j v by s blocks frames bytes at =
 module _ (n : Netlist Kit ℤ) (p : Schedule) (j : ℕ) (v : SessionValue Kit (List ℤ) ℤ) (by : FeedsBy n p j v)
     (y : Portion) (can : CanRun n p j y) (blocks : ℕ) (periods : y.periods ≡ blocks * j)
     (inputs : List (List ℤ))
-    (given : inputs ≡ lists_from 0 y.periods y.exchange y.input.now) where
+    (given : inputs ≡ lists_from 0 y.periods y.io y.input.now) where
   abbrev x : IoRates
-  x = exchange_of n p.repetitions
+  x = io_rates_of n p.repetitions
 
-  exchange_is : x ≡ exchange_of v.net v.period.repetitions
-  exchange_is = to_session n p j v by (λ m z k. x ≡ exchange_of m z.repetitions) refl
+  exchange_is : x ≡ io_rates_of v.net v.period.repetitions
+  exchange_is = to_session n p j v by (λ m z k. x ≡ io_rates_of m z.repetitions) refl
 
   few_blocks : blocks ≤ 4294967295
   few_blocks =
@@ -123,12 +123,12 @@ module _ (n : Netlist Kit ℤ) (p : Schedule) (j : ℕ) (v : SessionValue Kit (L
       omega (arith, more, periods, y.fits)
 
   inputs_are : inputs ≡ lists_from 0 (blocks * j) x y.input.now
-  inputs_are = given ∙ (ap (λ (k : ℕ). lists_from 0 k y.exchange y.input.now) periods
-      ∙ ap (λ (e : IoRates). lists_from 0 (blocks * j) e y.input.now) can.exchange)
+  inputs_are = given ∙ (ap (λ (k : ℕ). lists_from 0 k y.io y.input.now) periods
+      ∙ ap (λ (e : IoRates). lists_from 0 (blocks * j) e y.input.now) can.io)
 
   blocks_fed : FeedsBlocks v blocks inputs
   blocks_fed = subst (FeedsBlocks v blocks)
-      (sym (inputs_are ∙ ap (λ (k : ℕ). lists_from 0 (blocks * k) x y.input.now) (sym by.factor)))
+      (sym (inputs_are ∙ ap (λ (k : ℕ). lists_from 0 (blocks * k) x y.input.now) (sym by.blocking)))
       (blocks_given v blocks x y.input.now exchange_is few_blocks)
 
   -- memory alone may be refused
@@ -141,16 +141,16 @@ module _ (n : Netlist Kit ℤ) (p : Schedule) (j : ℕ) (v : SessionValue Kit (L
     some_inputs = subst (λ (m : Netlist Kit ℤ). 0 < list_count Inputs m.nodes) (sym by.net)
         (omega (arith, can.has.accepted.1.lists.input))
 
-    some_samples : 0 < v.factor * period_samples v.net.nodes Inputs v.period.repetitions
+    some_samples : 0 < v.blocking * period_samples v.net.nodes Inputs v.period.repetitions
     some_samples =
-        positive v.factor (period_samples v.net.nodes Inputs v.period.repetitions)
-        (subst (λ (k : ℕ). 0 < k) (sym by.factor) can.some)
-        (subst (λ (z : IoRates). 0 < z.taken) (can.exchange ∙ exchange_is) y.limits.some_taken)
+        positive v.blocking (period_samples v.net.nodes Inputs v.period.repetitions)
+        (subst (λ (k : ℕ). 0 < k) (sym by.blocking) can.some)
+        (subst (λ (z : IoRates). 0 < z.taken) (can.io ∙ exchange_is) y.limits.some_taken)
 
     fed : HasFed kit_steps v w blocks inputs on rounds
     fed = subst (λ (b : ℕ). HasFed kit_steps v w b inputs on rounds)
         (same_blocks (list_count Inputs v.net.nodes)
-        (v.factor * period_samples v.net.nodes Inputs v.period.repetitions) found.0 blocks
+        (v.blocking * period_samples v.net.nodes Inputs v.period.repetitions) found.0 blocks
         inputs some_inputs some_samples found.1.whole blocks_fed) found.1
 
     -- frames of what was fed
@@ -172,7 +172,7 @@ module _ (n : Netlist Kit ℤ) (p : Schedule) (j : ℕ) (v : SessionValue Kit (L
             ∙ (let z : few * j + blocks * j ≡ (few + blocks) * j = omega arith in z)
 
         next : lists_from (few * j) y.periods x s ≡ inputs
-        next = follows.lists ∙ (ap (λ (e : IoRates). lists_from 0 y.periods e y.input.now) (sym can.exchange)
+        next = follows.lists ∙ (ap (λ (e : IoRates). lists_from 0 y.periods e y.input.now) (sym can.io)
             ∙ sym given)
 
         after_both : StandsAfter kit_steps w (few + blocks) (lists_to ((few + blocks) * j) x s)
@@ -200,7 +200,7 @@ module _ (n : Netlist Kit ℤ) (p : Schedule) (j : ℕ) (v : SessionValue Kit (L
 -- ---- a session that was fed nothing
 
 -- a table that can be run so is not refused, so memory alone may be
-pub opened_refused : (t : Tabled) (mode : Mode) → MayRun t mode → (e : RunFault) → IsModeFault t mode e →
+pub opened_refused : (t : TableValue) (mode : Mode) → MayRun t mode → (e : RunFault) → IsModeFault t mode e →
     of_run e ≡ OutOfMemory
 opened_refused t mode may run.OutOfMemory why = refl
 opened_refused t Rows may run.InputLength why = absurd why
@@ -216,15 +216,20 @@ opened_refused t (Rings patience) may run.SessionFailed why = absurd why
 
 -- it stands after nothing
 pub stands_first : (n : Netlist Kit ℤ) (p : Schedule) (j : ℕ) (v : SessionValue Kit (List ℤ) ℤ) → v.net ≡ n →
-    v.period ≡ p → v.factor ≡ j →
+    v.period ≡ p → v.blocking ≡ j →
     ((fed made : List (List ℤ)) → AreNone (list_count Inputs n.nodes) fed → AreNone (list_count Outputs n.nodes) made →
     StandsAfter kit_steps v 0 fed made) → (s : Sound) → StandsAt n p j s 0 0 [] v.rest
-stands_first n p j v net period factor stands s = record {
+stands_first n p j v net period blocking stands s = record {
   made = blank (list_count Outputs n.nodes);
   rest = after.rest;
   held = after.held;
-  run = from_session n p j v (record { live = (after.rest, after.held); net = net; period = period; factor = factor })
-      (λ m y k. HasRun kit_steps m (lists_to (0 * j) (exchange_of n p.repetitions) s) (firings y.repetitions (0 * k))
+  run = from_session n p j v (record {
+    live = (after.rest, after.held);
+    net = net;
+    period = period;
+    blocking = blocking;
+  })
+      (λ m y k. HasRun kit_steps m (lists_to (0 * j) (io_rates_of n p.repetitions) s) (firings y.repetitions (0 * k))
       (blank (list_count Outputs n.nodes)) after.rest) after.run;
   bytes_are = refl;
 }
@@ -234,15 +239,15 @@ stands_first n p j v net period factor stands s = record {
     none_at a (suc k) zero = refl
     none_at a (suc k) (suc e) = none_at (a + 1) k e
 
-    after : StandsAfter kit_steps v 0 (lists_to (0 * j) (exchange_of n p.repetitions) s)
+    after : StandsAfter kit_steps v 0 (lists_to (0 * j) (io_rates_of n p.repetitions) s)
         (blank (list_count Outputs n.nodes))
-    after = stands (lists_to (0 * j) (exchange_of n p.repetitions) s) (blank (list_count Outputs n.nodes))
+    after = stands (lists_to (0 * j) (io_rates_of n p.repetitions) s) (blank (list_count Outputs n.nodes))
         (record {
-          count = length-map-range_with_len (channel_samples s (0 * j * (exchange_of n p.repetitions).taken)) 0
-              (exchange_of n p.repetitions).inputs;
+          count = length-map-range_with_len (channel_samples s (0 * j * (io_rates_of n p.repetitions).taken)) 0
+              (io_rates_of n p.repetitions).inputs;
           each = λ e. ap (λ (k : ℕ). get_or (map (channel_samples s k)
-              (range_with_len 0 (exchange_of n p.repetitions).inputs)) e [])
-              (let z : 0 * j * (exchange_of n p.repetitions).taken ≡ 0 = omega arith in z)
-              ∙ none_at 0 (exchange_of n p.repetitions).inputs e;
+              (range_with_len 0 (io_rates_of n p.repetitions).inputs)) e [])
+              (let z : 0 * j * (io_rates_of n p.repetitions).taken ≡ 0 = omega arith in z)
+              ∙ none_at 0 (io_rates_of n p.repetitions).inputs e;
         })
         (record { count = blank_long (list_count Outputs n.nodes); each = blank_at (list_count Outputs n.nodes) })

@@ -4,26 +4,26 @@ use Rattle.std.proofs.Common.{sym, ap, ◌∙◌, subst, arith}
 use Rattle.std.proofs.Math.Nat.{mul-le-mul_right}
 use Rattle.std.proofs.lemmas.List.{length-append}
 use Rattle.sdf_wav.specs.Device.{ReaderState, WriterState}
-use Rattle.sdf_wav.specs.PiecesIn.{Reading}
-use Rattle.sdf_wav.specs.PiecesOut.{Owed}
+use Rattle.sdf_wav.specs.PiecesIn.{ContentInValue}
+use Rattle.sdf_wav.specs.PiecesOut.{ContentOutValue}
 use Rattle.sdf_faults.specs.declared.fault.Fault.{Fault}
 use Rattle.sdf_faults.specs.declared.fault.Fault.TheVariants.{OutOfMemory}
 use Rattle.sdf_process.specs.declared.io_rates.IoRates.{IoRates}
 use Rattle.sdf_process.specs.declared.source.Source.{Source}
-use Rattle.sdf_process.specs.Flows.{CanFlow, Flows, Progress, Start, StreamsFrom, exchange_in, reading_in, samples_on}
+use Rattle.sdf_process.specs.Flows.{CanFlow, Flows, Progress, Start, StreamsFrom, io_rates_in, reading_in, samples_on}
 use Rattle.sdf_process.specs.Sources.{reading_of, TakesAll, TakesMore}
 use Rattle.sdf_process.specs.Streams.{IsStream}
 use Rattle.sdf_process.proofs.Came.{came_to}
 use Rattle.sdf_process.proofs.Streamed.{stands_on}
 use Rattle.sdf_process.proofs.Taken.{reading_behind, takes_refused}
 
-module _ (b : Start) (can : CanFlow b) (g : Progress) {unread : ℕ} {source : Source} {o : Owed}
+module _ (b : Start) (can : CanFlow b) (g : Progress) {unread : ℕ} {source : Source} {o : ContentOutValue}
     {r : ReaderState} {w : WriterState} (here : Flows b g unread source o r w) where
-  abbrev c : Reading
+  abbrev c : ContentInValue
   c = reading_in b
 
   abbrev x : IoRates
-  x = exchange_in b
+  x = io_rates_in b
 
   behind_here : reading_of source ≡ record c { gone = c.gone + 2 * length g.samples }
   behind_here = ap reading_of here.source_is ∙ reading_behind b.source g.samples
@@ -43,17 +43,17 @@ module _ (b : Start) (can : CanFlow b) (g : Progress) {unread : ℕ} {source : S
       omega (arith, here.within, less) in z) in
       let split : (b.frames - unread + many) * c.channels ≡ (b.frames - unread) * c.channels + many * c.channels =
       omega arith in
-      subst (λ (y : Reading). y.gone + 2 * (many * y.channels) ≤ y.size) (sym behind_here)
+      subst (λ (y : ContentInValue). y.gone + 2 * (many * y.channels) ≤ y.size) (sym behind_here)
       (omega (arith, can.unread, here.count, can.size, fits, split))
 
   pub unspoilt_here : (reading_of source).fault ≡ None
-  unspoilt_here = ap (λ (y : Reading). y.fault) behind_here ∙ can.unspoilt
+  unspoilt_here = ap (λ (y : ContentInValue). y.fault) behind_here ∙ can.unspoilt
 
   pub sized : (reading_of source).size ≢ 0xFFFFFFFF
-  sized is = can.known (sym (ap (λ (y : Reading). y.size) behind_here) ∙ is)
+  sized is = can.known (sym (ap (λ (y : ContentInValue). y.size) behind_here) ∙ is)
 
   pub short_size : (reading_of source).size ≤ 0xFFFFFFFF
-  short_size = subst (λ (y : Reading). y.size ≤ 0xFFFFFFFF) (sym behind_here) can.fits
+  short_size = subst (λ (y : ContentInValue). y.size ≤ 0xFFFFFFFF) (sym behind_here) can.fits
 
   pub came_here : IsStream b.net b.period.repetitions c g.samples (g.blocks * b.blocking) g.bytes
   came_here = came_to can.runs b.net b.period can.has b.blocking c g.samples g.blocks g.bytes g.left within_size can.one

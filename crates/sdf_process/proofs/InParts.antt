@@ -6,11 +6,11 @@ use Rattle.std.proofs.Math.Nat.{mul-le-mul_right, zero-mul}
 use Rattle.std.proofs.lemmas.Bool.{cases_lt}
 use Rattle.std.proofs.lemmas.List.{get_or_append_left, get_or-append-add, map-append}
 use Rattle.std.proofs.lemmas.List.FromFn.{length-map-range_with_len, take-map-range_with_len}
-use Rattle.sdf_actor.specs.declared.rest.NetState.{NetState}
+use Rattle.sdf_actor.specs.declared.net_state.NetState.{NetState}
 use Rattle.sdf_actor.specs.Nets.{Netlist}
-use Rattle.sdf_actor.specs.Rests.{AreJoined}
+use Rattle.sdf_actor.specs.NetStates.{AreJoined}
 use Rattle.sdf_actor.specs.Wires.{lists as items_of}
-use Rattle.sdf_queues.specs.Answer.{periods_of as firings}
+use Rattle.sdf_queues.specs.RunResults.{periods_of as firings}
 use Rattle.sdf_queues.specs.Feeds.{GoesOnBy, HasRun}
 use Rattle.sdf_queues.specs.Periods.{HasPeriod}
 use Rattle.sdf_kit.specs.declared.kit.Kit.{Kit}
@@ -22,7 +22,7 @@ use Rattle.sdf_parallel.specs.Parts.{none as no_part, more as one_part}
 use Rattle.sdf_parallel.proofs.Theorems.{joined_is, joined_long}
 use Rattle.sdf_wav.specs.Sound.{Sound}
 use Rattle.sdf_process.specs.declared.io_rates.IoRates.{IoRates}
-use Rattle.sdf_process.specs.Output.{exchange_of, channel_samples_from, in_turn, interleaved, lists_from, lists_to}
+use Rattle.sdf_process.specs.Output.{io_rates_of, channel_samples_from, in_turn, interleaved, lists_from, lists_to}
 use Rattle.sdf_process.specs.Output.{sample}
 use Rattle.sdf_process.specs.Streams.{AreWhole}
 use Rattle.sdf_process.proofs.Played.{AllLong, frames_on_join, from_at, lists_full, lists_joined, made_long}
@@ -115,14 +115,14 @@ whole_more outputs xs y each (k, is) i l = go (cases_lt i (length xs))
 
 module _ (n : Netlist Kit ℤ) (p : Schedule)
     (has : HasPeriod kit_steps n p) (s : Sound) (at many : ℕ) (made : List (List ℤ)) (rest : NetState ℤ (List ℤ))
-    (run : HasRun kit_steps n (lists_to at (exchange_of n p.repetitions) s) (firings p.repetitions at) made rest)
-    (input : Sound) (given : lists_from at many (exchange_of n p.repetitions) s ≡
-    lists_from 0 many (exchange_of n p.repetitions) input) where
+    (run : HasRun kit_steps n (lists_to at (io_rates_of n p.repetitions) s) (firings p.repetitions at) made rest)
+    (input : Sound) (given : lists_from at many (io_rates_of n p.repetitions) s ≡
+    lists_from 0 many (io_rates_of n p.repetitions) input) where
   abbrev q : List ℕ
   q = p.repetitions
 
   abbrev x : IoRates
-  x = exchange_of n p.repetitions
+  x = io_rates_of n p.repetitions
 
   abbrev inputs : List (List ℤ)
   inputs = lists_from at many x s

@@ -9,7 +9,7 @@ use Rattle.sdf_process.specs.declared.flow.Flow.{Flow}
 use Rattle.sdf_process.specs.declared.portion.Portion.{Portion}
 use Rattle.sdf_process.specs.declared.runner.PieceRunner.{PieceRunner}
 use Rattle.sdf_process.specs.declared.streaming.Stream.{Stream}
-use Rattle.sdf_process.specs.Flows.{IsUnderWay, Progress, Start, Writes, exchange_in, reading_in}
+use Rattle.sdf_process.specs.Flows.{IsUnderWay, Progress, Start, Writes, io_rates_in, reading_in}
 use Rattle.sdf_process.specs.Streams.{CanRunNext, Follows, Makes, RunsNext, left_by}
 use Rattle.sdf_process.proofs.Ending.{last_short, single}
 use Rattle.sdf_process.proofs.Steps.{blocks_missing, can_run_on}
@@ -17,13 +17,13 @@ use Rattle.sdf_process.proofs.Streamed.{kept_follows, writes_last}
 
 module _ (b : Start) (g : Progress) (t : Stream) {r : ReaderState} {w w' : WriterState} (under : IsUnderWay b g t r w)
     (f : Flow) (writes : Writes b g t.flow f r w') (none : t.flow.left ≡ 0) (frames blocks : ℕ)
-    (count : frames ≡ f.output.missing) (are : blocks ≡ div_ceil frames (t.blocking * t.exchange.made)) where
+    (count : frames ≡ f.output.missing) (are : blocks ≡ div_ceil frames (t.blocking * t.io.made)) where
   pub all_taken : f.left ≡ 0
   all_taken = writes.left ∙ none
 
   -- they hold all frames that are missing, and none of them is too many
-  pub just_enough : (f.output.missing ≤ blocks * (b.blocking * (exchange_in b).made))
-      × (blocks * (b.blocking * (exchange_in b).made) < f.output.missing + b.blocking * (exchange_in b).made)
+  pub just_enough : (f.output.missing ≤ blocks * (b.blocking * (io_rates_in b).made))
+      × (blocks * (b.blocking * (io_rates_in b).made) < f.output.missing + b.blocking * (io_rates_in b).made)
   just_enough = blocks_missing b t under.ready f.output frames blocks count are
 
   pub few_periods : blocks * t.blocking ≤ 4294967295
@@ -33,7 +33,7 @@ module _ (b : Start) (g : Progress) (t : Stream) {r : ReaderState} {w w' : Write
     ap (λ z. blocks * z) under.ready.blocking,
   )
 
-  module _ (y : Portion) (exchange : y.exchange ≡ t.exchange) (periods : y.periods ≡ blocks * t.blocking)
+  module _ (y : Portion) (io : y.io ≡ t.io) (periods : y.periods ≡ blocks * t.blocking)
       (channels : y.input.now.channels ≡ t.channels) (samples : y.input.now.samples ≡ f.kept.items) where
     follows : Follows b.net b.period b.blocking (sound_read (reading_in b) g.samples) g.blocks blocks g.bytes
         (left_by t.runner) y
@@ -48,14 +48,14 @@ module _ (b : Start) (g : Progress) (t : Stream) {r : ReaderState} {w w' : Write
       period = b.period;
       blocking = b.blocking;
       goes = under.ready.goes;
-      can = can_run_on b t under.ready y exchange;
+      can = can_run_on b t under.ready y io;
       follows = (sound_read (reading_in b) g.samples, g.blocks, blocks, g.bytes, follows);
-      all = writes_last b.net b.period b.blocking t.runner under.ready.goes (y.periods * y.exchange.made) y.frames
+      all = writes_last b.net b.period b.blocking t.runner under.ready.goes (y.periods * y.io.made) y.frames
           (λ one. is ∙ (count ∙ (single b under.ready.can g writes.flows all_taken blocks just_enough.0
           just_enough.1 one
-          ∙ (sym (ap (λ z. blocks * z * (exchange_in b).made) under.ready.blocking)
-          ∙ (sym (ap (λ (x : IoRates). blocks * t.blocking * x.made) (exchange ∙ under.ready.exchange))
-          ∙ sym (ap (λ z. z * y.exchange.made) periods))))));
+          ∙ (sym (ap (λ z. blocks * z * (io_rates_in b).made) under.ready.blocking)
+          ∙ (sym (ap (λ (x : IoRates). blocks * t.blocking * x.made) (io ∙ under.ready.io))
+          ∙ sym (ap (λ z. z * y.io.made) periods))))));
     }
 
     -- and makes what is missing
@@ -64,4 +64,4 @@ module _ (b : Start) (g : Progress) (t : Stream) {r : ReaderState} {w w' : Write
         (left_by v)
     last_made v made runs = (runs b.net b.period b.blocking (sound_read (reading_in b) g.samples)
         g.blocks blocks g.bytes
-        under.ready.goes (can_run_on b t under.ready y exchange) follows).0
+        under.ready.goes (can_run_on b t under.ready y io) follows).0

@@ -29,4 +29,4 @@ mod Starting
 mod Steps
 mod Ending
 mod LastBlocks
-mod Ways
+mod Executions

@@ -12,7 +12,7 @@ use Rattle.sdf_process.specs.declared.io_rates.StreamInfo.{StreamInfo}
 use Rattle.sdf_process.specs.declared.io_rates.IoRates.{IoRates}
 use Rattle.sdf_faults.specs.declared.fault.Fault.{Fault}
 use Rattle.sdf_faults.specs.declared.fault.Fault.TheVariants as fault
-use Rattle.sdf_process.specs.Output.{announced_fault, frames_for, rate_for}
+use Rattle.sdf_process.specs.Output.{info_fault, frames_for, rate_for}
 use Rattle.sdf_process.specs.Run.{IsFromOutside, Refuses, WritesFile}
 
 -- bytes that are not touched stay as they were
@@ -68,7 +68,7 @@ of_output false true o e is = inr (inl (let same : Some fault.RateNotWhole ≡ S
 of_output false false (Some g) e is = inr (inr (g, let same : Some (fault.Wav g) ≡ Some e = is in cc))
 of_output false false None e is = absurd (let none : None ≡ Some e = is in cc)
 
-pub fault_of_announced : (x : IoRates) (a : StreamInfo) (e : Fault) → announced_fault x a ≡ Some e → IsOfOutput e
+pub fault_of_announced : (x : IoRates) (a : StreamInfo) (e : Fault) → info_fault x a ≡ Some e → IsOfOutput e
 fault_of_announced x a e is =
     of_output (nat_lt a.channels x.inputs) (not (eqb (a.rate * x.made % x.taken) 0))
     (size_fault (rate_for x a.rate) x.outputs (frames_for x a.frames * x.outputs)) e is

@@ -16,11 +16,11 @@ use Rattle.sdf_sched.specs.Period.{Schedule, IsPeriodOf}
 use Rattle.sdf_actor.specs.Graphs.{graph_of}
 use Rattle.sdf_actor.specs.Laws.{HistoryIsUnique}
 use Rattle.sdf_kit.specs.Kit.{kit_steps}
-use Rattle.sdf_queues.specs.Answer.{AreOutputs, periods_of as firings}
+use Rattle.sdf_queues.specs.RunResults.{AreOutputs, periods_of as firings}
 use Rattle.sdf_wav.specs.Sound.{Sound}
 use Rattle.sdf_wav.proofs.Theorems.{one_sound}
 use Rattle.sdf_file.specs.Designs.{DesignValue}
-use Rattle.sdf_process.specs.Output.{exchange_of, periods_of, input_lists, output_of}
+use Rattle.sdf_process.specs.Output.{io_rates_of, periods_of, input_lists, output_of}
 use Rattle.sdf_process.specs.Run.{IsOutput, HasOutput}
 use Rattle.sdf_process.specs.Laws.{OneOutput}
 
@@ -78,7 +78,7 @@ module _ (d : DesignValue) (net : IsNet kit_steps d.net) (shape : IsShape (graph
     -- of one sound
     same_output : (s x y : Sound) → IsOutput d.net p.repetitions s x → IsOutput d.net p.repetitions s y → x ≡ y
     same_output s x y of_x of_y =
-        let e = exchange_of d.net p.repetitions in
+        let e = io_rates_of d.net p.repetitions in
         let ins = input_lists e s in
         let k = firings p.repetitions (periods_of e s) in
         of_x.output

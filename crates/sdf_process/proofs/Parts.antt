@@ -4,7 +4,7 @@ use Rattle.std.proofs.Common.{refl, sym, ap, ◌∙◌, arith}
 use Rattle.std.specs.List.{range_with_len}
 use Rattle.std.proofs.Math.Nat.{mul-le-mul_right}
 use Rattle.std.proofs.lemmas.List.{get_or_append_left, get_or-drop}
-use Rattle.sdf_wav.specs.PiecesIn.{Reading, sound_read}
+use Rattle.sdf_wav.specs.PiecesIn.{ContentInValue, sound_read}
 use Rattle.sdf_wav.specs.Sound.{Sound}
 use Rattle.sdf_process.specs.declared.io_rates.IoRates.{IoRates}
 use Rattle.sdf_process.specs.Output.{sample, channel_samples, channel_samples_from, lists_to, lists_from}
@@ -29,7 +29,7 @@ place_before i e n k less here =
     omega (arith, more, here)
 
 -- what is read on changes no sample before
-pub lists_stay : (periods : ℕ) (x : IoRates) (c : Reading) (xs ys : List ℤ) → x.inputs ≤ c.channels →
+pub lists_stay : (periods : ℕ) (x : IoRates) (c : ContentInValue) (xs ys : List ℤ) → x.inputs ≤ c.channels →
     periods * x.taken * c.channels ≤ length xs →
     lists_to periods x (sound_read c (xs ++ ys)) ≡ lists_to periods x (sound_read c xs)
 lists_stay periods x c xs ys lower there =

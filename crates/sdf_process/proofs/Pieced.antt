@@ -1,12 +1,12 @@
 -- What a run that goes on makes of the next blocks of a sound, behind what it made before.
 use Rattle.std.proofs.Common.{◌≡◌, ℕ, zero, suc, ◌+◌, ◌*◌, ◌<◌, ℤ, List, [], ◌∷◌, ◌++◌}
 use Rattle.std.proofs.Common.{length, get_or, Option, Some, refl, sym, ap, ◌∙◌, subst, arith}
-use Rattle.sdf_actor.specs.declared.rest.NetState.{NetState}
+use Rattle.sdf_actor.specs.declared.net_state.NetState.{NetState}
 use Rattle.sdf_actor.specs.declared.sides.Lists.TheVariants.{Inputs, Outputs}
 use Rattle.sdf_actor.specs.Nets.{Netlist, IsNet}
-use Rattle.sdf_actor.specs.Rests.{AreJoined, IsRest}
+use Rattle.sdf_actor.specs.NetStates.{AreJoined, IsNetState}
 use Rattle.sdf_actor.specs.Sides.{list_count}
-use Rattle.sdf_queues.specs.Answer.{AreOutputs, HasInputs, periods_of as firings}
+use Rattle.sdf_queues.specs.RunResults.{AreOutputs, HasInputs, periods_of as firings}
 use Rattle.sdf_queues.specs.Feeds.{GoesOnBy, HasRun}
 use Rattle.sdf_queues.specs.Periods.{HasPeriod}
 use Rattle.sdf_queues.proofs.Theorems.{nothing_runs}
@@ -20,7 +20,7 @@ use Rattle.sdf_wav.specs.Sound.{Sound}
 use Rattle.sdf_process.specs.declared.io_rates.IoRates.{IoRates}
 use Rattle.sdf_process.specs.declared.player.Player.{Player}
 use Rattle.sdf_process.specs.declared.portion.Portion.{Portion}
-use Rattle.sdf_process.specs.Output.{exchange_of, in_turn, interleaved, lists_from, lists_to}
+use Rattle.sdf_process.specs.Output.{io_rates_of, in_turn, interleaved, lists_from, lists_to}
 use Rattle.sdf_process.specs.Streams.{AreWhole, Follows, Makes, PlaysBy, StandsAt, StandsWhole, StaysPlayer}
 use Rattle.sdf_process.proofs.InTurn.{in_turn_more}
 use Rattle.sdf_process.proofs.Played.{frames_on_join, lists_full, lists_joined, made_long}
@@ -50,27 +50,27 @@ blank_long (suc k) = ap suc (blank_long k)
 
 -- nothing was run
 pub first_stands : (n : Netlist Kit ℤ) (p : Schedule) (rest : NetState ℤ (List ℤ)) →
-    IsNet kit_steps n → 0 < list_count Inputs n.nodes → 0 < (exchange_of n p.repetitions).taken →
-    ((inputs : List (List ℤ)) → IsRest kit_steps n inputs (λ _. 0) rest) → (s : Sound) →
+    IsNet kit_steps n → 0 < list_count Inputs n.nodes → 0 < (io_rates_of n p.repetitions).taken →
+    ((inputs : List (List ℤ)) → IsNetState kit_steps n inputs (λ _. 0) rest) → (s : Sound) →
     StandsAt n p 1 s 0 0 [] (Some rest)
 first_stands n p rest good some sized first s = record {
   made = blank (list_count Outputs n.nodes);
   rest = rest;
   held = refl;
-  run = nothing_runs kit_steps n p.repetitions (0 * 1) (lists_to (0 * 1) (exchange_of n p.repetitions) s)
+  run = nothing_runs kit_steps n p.repetitions (0 * 1) (lists_to (0 * 1) (io_rates_of n p.repetitions) s)
       (blank (list_count Outputs n.nodes)) rest good given (omega (arith, given.count, some)) sized empty
       (blank_long (list_count Outputs n.nodes)) (λ e l. blank_at (list_count Outputs n.nodes) e)
-      (first (lists_to (0 * 1) (exchange_of n p.repetitions) s));
+      (first (lists_to (0 * 1) (io_rates_of n p.repetitions) s));
   bytes_are = refl;
 }
   where
-    given : HasInputs n p.repetitions (0 * 1) (lists_to (0 * 1) (exchange_of n p.repetitions) s)
+    given : HasInputs n p.repetitions (0 * 1) (lists_to (0 * 1) (io_rates_of n p.repetitions) s)
     given = are_inputs n p.repetitions s (0 * 1)
 
-    empty : length (get_or (lists_to (0 * 1) (exchange_of n p.repetitions) s) 0 []) ≡ 0
+    empty : length (get_or (lists_to (0 * 1) (io_rates_of n p.repetitions) s) 0 []) ≡ 0
     empty = omega (
       arith,
-      list_length (0 * 1) (exchange_of n p.repetitions) s 0 (omega (arith, given.count, some)),
+      list_length (0 * 1) (io_rates_of n p.repetitions) s 0 (omega (arith, given.count, some)),
     )
 
 -- ---- the next blocks
@@ -80,14 +80,16 @@ pub record AreRun (n : Netlist Kit ℤ) (p : Schedule) (j : ℕ) (s : Sound) (fe
     (left : Option (NetState ℤ (List ℤ))) (on : List (List ℤ)) (last : NetState ℤ (List ℤ)) : Type 0 where
   pub stands : StandsWhole n p j s few bytes left
   pub count : length on ≡ list_count Outputs n.nodes
-  pub run : HasRun kit_steps n (lists_to ((few + blocks) * j) (exchange_of n p.repetitions) s)
+  pub run : HasRun kit_steps n (lists_to ((few + blocks) * j) (io_rates_of n p.repetitions) s)
       (firings p.repetitions ((few + blocks) * j)) (join stands.made on) last
 
 module _ {n : Netlist Kit ℤ} {p : Schedule} {j : ℕ} {s : Sound} {few blocks : ℕ} {bytes : List ℕ}
-    {left : Option (NetState ℤ (List ℤ))} {on : List (List ℤ)} {last : NetState ℤ (List ℤ)} (has : HasPeriod kit_steps n p)
-    (are : AreRun n p j s few blocks bytes left on last) (now : Option (NetState ℤ (List ℤ))) (is : now ≡ Some last) where
+    {left : Option (NetState ℤ (List ℤ))} {on : List (List ℤ)} {last : NetState ℤ (List ℤ)}
+    (has : HasPeriod kit_steps n p)
+    (are : AreRun n p j s few blocks bytes left on last) (now : Option (NetState ℤ (List ℤ)))
+    (is : now ≡ Some last) where
   abbrev x : IoRates
-  x = exchange_of n p.repetitions
+  x = io_rates_of n p.repetitions
 
   abbrev made : List (List ℤ)
   made = are.stands.made
@@ -160,18 +162,18 @@ plays_still n p j v w by (net, period, cut) = record {
 -- what it holds is what the run before left
 pub held_is : {n : Netlist Kit ℤ} {p : Schedule} {j : ℕ} {s : Sound} {few frames : ℕ} {bytes : List ℕ}
     {rest : NetState ℤ (List ℤ)} (at : StandsAt n p j s few frames bytes (Some rest)) →
-    HasRun kit_steps n (lists_to (few * j) (exchange_of n p.repetitions) s) (firings p.repetitions (few * j)) at.made
+    HasRun kit_steps n (lists_to (few * j) (io_rates_of n p.repetitions) s) (firings p.repetitions (few * j)) at.made
     rest
 held_is {n} {p} {j} {s} {few} {frames} {bytes} {rest} at =
-    subst (HasRun kit_steps n (lists_to (few * j) (exchange_of n p.repetitions) s)
+    subst (HasRun kit_steps n (lists_to (few * j) (io_rates_of n p.repetitions) s)
     (firings p.repetitions (few * j)) at.made) (sym (some_same rest at.rest at.held)) at.run
 
--- it goes on by what the portion's own exchange reads
-pub portion_as : (n : Netlist Kit ℤ) (p : Schedule) (y : Portion) → y.exchange ≡ exchange_of n p.repetitions →
+-- it goes on by what the portion's own I/O rates read
+pub portion_as : (n : Netlist Kit ℤ) (p : Schedule) (y : Portion) → y.io ≡ io_rates_of n p.repetitions →
     (rest : NetState ℤ (List ℤ)) (on : List (List ℤ)) (last : NetState ℤ (List ℤ)) →
-    GoesOnBy kit_steps n p.repetitions rest y.periods (lists_from 0 y.periods y.exchange y.input.now) on last →
+    GoesOnBy kit_steps n p.repetitions rest y.periods (lists_from 0 y.periods y.io y.input.now) on last →
     GoesOnBy kit_steps n p.repetitions rest y.periods
-    (lists_from 0 y.periods (exchange_of n p.repetitions) y.input.now) on last
+    (lists_from 0 y.periods (io_rates_of n p.repetitions) y.input.now) on last
 portion_as n p y is rest on last goes =
     subst (λ (x : IoRates). GoesOnBy kit_steps n p.repetitions rest y.periods (lists_from 0 y.periods x y.input.now) on
     last) is goes
@@ -180,10 +182,10 @@ portion_as n p y is rest on last goes =
 module _ {n : Netlist Kit ℤ} {p : Schedule} {j : ℕ} {s : Sound} {few blocks : ℕ} {bytes : List ℕ}
     {rest last : NetState ℤ (List ℤ)} {y : Portion} {on : List (List ℤ)}
     (follows : Follows n p j s few blocks bytes (Some rest) y)
-    (goes : GoesOnBy kit_steps n p.repetitions rest y.periods (lists_from 0 y.periods (exchange_of n p.repetitions)
+    (goes : GoesOnBy kit_steps n p.repetitions rest y.periods (lists_from 0 y.periods (io_rates_of n p.repetitions)
     y.input.now) on last) where
   abbrev e : IoRates
-  e = exchange_of n p.repetitions
+  e = io_rates_of n p.repetitions
 
   abbrev before : List (List ℤ)
   before = follows.stands.made

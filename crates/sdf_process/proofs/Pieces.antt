@@ -8,16 +8,16 @@ use Rattle.std.proofs.Math.Nat.{mul-div_cancel, mul-le-mul_right, mul-mod_left}
 use Rattle.std.proofs.lemmas.List.Concat.{flat_map-cons}
 use Rattle.sdf_wav.specs.Canonical.{sample_bytes}
 use Rattle.sdf_wav.specs.Device.{WriterState, failures_after, one_more, ReaderState}
-use Rattle.sdf_wav.specs.PiecesOut.{Owed, Puts}
+use Rattle.sdf_wav.specs.PiecesOut.{ContentOutValue, Puts}
 use Rattle.sdf_wav.specs.declared.fault.WavFault.{WavFault}
 use Rattle.sdf_wav.specs.declared.fault.WavFault.TheVariants as wav
 use Rattle.sdf_faults.specs.declared.fault.Fault.{Fault}
 use Rattle.sdf_faults.specs.Faults.{of_wav}
 use Rattle.sdf_process.specs.Output.{frame, interleaved_from}
-use Rattle.sdf_process.specs.Stages.{PutsHeader, RunsOn}
+use Rattle.sdf_process.specs.Stages.{PutsBytes, RunsOn}
 use Rattle.sdf_process.proofs.Outcomes.{front_join}
 use Rattle.sdf_process.proofs.Texts.{bytes_append}
-use Rattle.sdf_wav.specs.PiecesIn.{Reading}
+use Rattle.sdf_wav.specs.PiecesIn.{ContentInValue}
 use Rattle.sdf_actor.specs.Nets.{Netlist}
 use Rattle.sdf_kit.specs.declared.kit.Kit.{Kit}
 use Rattle.sdf_process.specs.Run.{IsRun}
@@ -49,7 +49,7 @@ module _ (w w1 w2 : WriterState) (xs here rest all : List ℤ)
   pub put_stopped : {X : Type 0} (e : WavFault) (r : Result X Fault) →
       Puts {X = Unit {0}} w1.contents w2.contents (sample_bytes here) (Err e) →
       w2.failures ≡ failures_after {X = Unit {0}} (Err e) w1.failures →
-      IsErrAnd r (λ f. f ≡ of_wav e) → PutsHeader w w2 (sample_bytes all) r
+      IsErrAnd r (λ f. f ≡ of_wav e) → PutsBytes w w2 (sample_bytes all) r
   put_stopped wav.Write (Err f) puts failed is =
       let f = front_join w.contents w1.contents w2.contents (sample_bytes xs) (sample_bytes here) before puts in
       let more = sample_bytes rest in
@@ -81,7 +81,7 @@ fewer_missing n k m samples channels is same less =
     subst (λ (z : ℕ). samples ≤ m * z) (sym same) (subst (λ (z : ℕ). z ≤ m * k) (sym is) (mul-le-mul_right k less))
 
 -- what is owed behind so many frames
-pub owed_on : (o p : Owed) (at end k samples : ℕ) → p ≡ record o { missing = o.missing - at } →
+pub owed_on : (o p : ContentOutValue) (at end k samples : ℕ) → p ≡ record o { missing = o.missing - at } →
     samples ≡ (end - at) * k → o.channels ≡ k → 1 ≤ k → at ≤ end →
     record p { missing = p.missing - samples / p.channels } ≡ record o { missing = o.missing - end }
 owed_on o p at end k samples is count same some less =
@@ -90,7 +90,7 @@ owed_on o p at end k samples is count same some less =
     let left : o.missing - at - samples / o.channels ≡ o.missing - end =
     ap (λ (z : ℕ). o.missing - at - z) here ∙ (let e : o.missing - at - (end - at) ≡ o.missing - end =
     omega arith in e) in
-    ap (λ (z : Owed). record z { missing = z.missing - samples / z.channels }) is
+    ap (λ (z : ContentOutValue). record z { missing = z.missing - samples / z.channels }) is
     ∙ ap (λ (m : ℕ). record o { missing = m }) left
 
 -- ---- what the last stage wrote
@@ -107,7 +107,7 @@ run_fails P f (Err e) is p = subst (λ (z : Fault). P (Err z)) (sym is) p
 run_fails P f (Ok x) is p = absurd is
 
 -- the stages behind an opening failed
-pub stage_fails : {n : Netlist Kit ℤ} {q : List ℕ} {c : Reading} {opened r' : ReaderState} {w w' : WriterState}
+pub stage_fails : {n : Netlist Kit ℤ} {q : List ℕ} {c : ContentInValue} {opened r' : ReaderState} {w w' : WriterState}
     (f : Fault) (result : Result (Unit {0}) Fault) → IsErrAnd result (λ e. e ≡ f) →
     RunsOn n q c opened r' w w' (Err f) → RunsOn n q c opened r' w w' result
 stage_fails {n} {q} {c} {opened} {r'} {w} {w'} f result is runs = λ r o.

@@ -11,10 +11,10 @@ use Rattle.std.proofs.lemmas.List.FromFn.{length-map-range_with_len, get_or-map-
 use Rattle.sdf_actor.specs.declared.node.Node.TheVariants.{Sink}
 use Rattle.sdf_actor.specs.declared.sides.Lists.TheVariants.{Outputs}
 use Rattle.sdf_actor.specs.Nets.{Netlist, node, wire, wiring, consumed_at, inputs_of, to_port}
-use Rattle.sdf_actor.specs.Rests.{AreJoined}
+use Rattle.sdf_actor.specs.NetStates.{AreJoined}
 use Rattle.sdf_actor.specs.Sides.{period_samples}
 use Rattle.sdf_actor.specs.Steps.{Steps}
-use Rattle.sdf_queues.specs.Answer.{AreOutputs, HasInputs, IsRunFault, periods_of as firings}
+use Rattle.sdf_queues.specs.RunResults.{AreOutputs, HasInputs, IsRunFault, periods_of as firings}
 use Rattle.sdf_queues.specs.declared.fault.RunFault.{RunFault}
 use Rattle.sdf_queues.specs.declared.fault.RunFault.TheVariants.{OutOfMemory}
 use Rattle.sdf_queues.specs.Feeds.{AreFull}
@@ -26,7 +26,7 @@ use Rattle.sdf_actor.proofs.Theorems.{ports_have_channels}
 use Rattle.sdf_queues.proofs.Theorems.{nets_can_run}
 use Rattle.sdf_wav.specs.Sound.{Sound}
 use Rattle.sdf_process.specs.declared.io_rates.IoRates.{IoRates}
-use Rattle.sdf_process.specs.Output.{exchange_of, sample, channel_samples, channel_samples_from, frame, interleaved}
+use Rattle.sdf_process.specs.Output.{io_rates_of, sample, channel_samples, channel_samples_from, frame, interleaved}
 use Rattle.sdf_process.specs.Output.{interleaved_from, lists_to, lists_from}
 use Rattle.sdf_process.proofs.Outputs.{sink_of}
 use Rattle.sdf_process.proofs.Pieces.{frames_joined}
@@ -86,8 +86,8 @@ lists_long few more x s = length-map-range_with_len (channel_samples s ((few + m
 
 -- each is as long as its periods
 pub lists_full : (n : Netlist Kit ℤ) (q : List ℕ) (periods : ℕ) (s : Sound) →
-    AreFull n q periods (lists_to periods (exchange_of n q) s)
-lists_full n q periods s e l = list_length periods (exchange_of n q) s e l
+    AreFull n q periods (lists_to periods (io_rates_of n q) s)
+lists_full n q periods s e l = list_length periods (io_rates_of n q) s e l
 
 module _ (few more : ℕ) (x : IoRates) (s : Sound) where
   pub from_at : (e : ℕ) → e < length (lists_from few more x s) →
@@ -101,21 +101,21 @@ module _ (few more : ℕ) (x : IoRates) (s : Sound) where
 
 -- so are those of a piece
 pub piece_given : (n : Netlist Kit ℤ) (q : List ℕ) (s : Sound) (few more : ℕ) →
-    HasInputs n q more (lists_from few more (exchange_of n q) s)
+    HasInputs n q more (lists_from few more (io_rates_of n q) s)
 piece_given n q s few more = record {
-  count = length-map-range_with_len (channel_samples_from s (few * (exchange_of n q).taken)
-      (more * (exchange_of n q).taken)) 0 (exchange_of n q).inputs;
-  even = λ e l. from_at few more (exchange_of n q) s e l
-      ∙ sym (from_at few more (exchange_of n q) s 0 (omega (arith, l)));
-  enough = λ e l. omega (arith, from_at few more (exchange_of n q) s e l);
+  count = length-map-range_with_len (channel_samples_from s (few * (io_rates_of n q).taken)
+      (more * (io_rates_of n q).taken)) 0 (io_rates_of n q).inputs;
+  even = λ e l. from_at few more (io_rates_of n q) s e l
+      ∙ sym (from_at few more (io_rates_of n q) s 0 (omega (arith, l)));
+  enough = λ e l. omega (arith, from_at few more (io_rates_of n q) s e l);
 }
 
 pub piece_full : (n : Netlist Kit ℤ) (q : List ℕ) (s : Sound) (few more : ℕ) →
-    AreFull n q more (lists_from few more (exchange_of n q) s)
-piece_full n q s few more e l = from_at few more (exchange_of n q) s e l
+    AreFull n q more (lists_from few more (io_rates_of n q) s)
+piece_full n q s few more e l = from_at few more (io_rates_of n q) s e l
 
 -- so a piece fails by memory alone
-pub piece_refused : {X : Type 0} (n : Netlist Kit ℤ) (q : List ℕ) (s : Sound) (x : IoRates) → x ≡ exchange_of n q →
+pub piece_refused : {X : Type 0} (n : Netlist Kit ℤ) (q : List ℕ) (s : Sound) (x : IoRates) → x ≡ io_rates_of n q →
     (at many : ℕ) (inputs : List (List ℤ)) → inputs ≡ lists_from at many x s →
     (e : RunFault) (r : Result X RunFault) → IsRunFault n q many inputs e → IsErrAnd r (λ f. f ≡ e) →
     IfErr r (λ f. f ≡ OutOfMemory)

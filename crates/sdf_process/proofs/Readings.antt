@@ -5,7 +5,7 @@ use Rattle.std.specs.Prelude.{IsErrAnd}
 use Rattle.std.proofs.lemmas.List.{length-append}
 use Rattle.sdf_wav.specs.Device.{Known, LosesFront, ReaderState, failures_after, one_more}
 use Rattle.sdf_wav.specs.Fault.{HasFault}
-use Rattle.sdf_wav.specs.PiecesIn.{Reading, AnswersBy, IsPiece, IsReadTo, IsSizedFault, next_at}
+use Rattle.sdf_wav.specs.PiecesIn.{ContentInValue, AnswersBy, IsPiece, IsReadTo, IsSizedFault, next_at}
 use Rattle.sdf_wav.specs.declared.fault.FormatFault.{FormatFault}
 use Rattle.sdf_wav.specs.declared.fault.WavFault.{WavFault}
 use Rattle.sdf_wav.specs.declared.fault.WavFault.TheVariants as wav
@@ -15,7 +15,8 @@ use Rattle.sdf_process.specs.Stages.{ReadsContent}
 use Rattle.sdf_process.specs.Sources.{ReadsBy, ReadsMore}
 use Rattle.sdf_process.proofs.Outcomes.{lost_twice}
 
-module _ (c now : Reading) (before : List ℤ) (here : now ≡ record c { gone = c.gone + 2 * length before }) (frames : ℕ)
+module _ (c now : ContentInValue) (before : List ℤ)
+    (here : now ≡ record c { gone = c.gone + 2 * length before }) (frames : ℕ)
     (r r1 r2 : ReaderState) (reads : ReadsBy c before r.remaining r1.remaining)
     (counted : r1.failures ≡ r.failures) where
   both_lost : Known r1.remaining r2.remaining LosesFront → Known r.remaining r2.remaining LosesFront
@@ -26,11 +27,11 @@ module _ (c now : Reading) (before : List ℤ) (here : now ≡ record c { gone =
 
   stood_there : (input bytes left : List ℕ) → IsReadTo input (record c { gone = c.gone + 2 * length before }) before
       left → IsReadTo input now before left
-  stood_there input bytes left is = subst (λ (y : Reading). IsReadTo input y before left) (sym here) is
+  stood_there input bytes left is = subst (λ (y : ContentInValue). IsReadTo input y before left) (sym here) is
 
   -- it failed
   pub more_failed : {Y : Type 0} (e : WavFault) (x : Result Y Fault) (P : Y → Type 0) →
-      ((input : List ℕ) (d : Reading) (first : List ℤ) (bytes : List ℕ) (many : ℕ) (f : FormatFault) →
+      ((input : List ℕ) (d : ContentInValue) (first : List ℤ) (bytes : List ℕ) (many : ℕ) (f : FormatFault) →
       IsReadTo input d first bytes → next_at d many bytes ≡ Err f → HasFault input f) →
       AnswersBy {X = Unit {0}} {Y = List ℤ} (λ x. []) r1.remaining r2.remaining (next_at now frames) (Err e) →
       r2.failures ≡ failures_after {X = Unit {0}} (Err e) r1.failures → IsSizedFault e →
@@ -59,7 +60,7 @@ module _ (c now : Reading) (before : List ℤ) (here : now ≡ record c { gone =
   more_failed e (Ok y) P falls said same cut is = absurd is
 
   -- some more was read
-  pub more_read : ((input : List ℕ) (d : Reading) (first : List ℤ) (bytes : List ℕ) (many : ℕ) (samples : List ℤ)
+  pub more_read : ((input : List ℕ) (d : ContentInValue) (first : List ℤ) (bytes : List ℕ) (many : ℕ) (samples : List ℤ)
       (rest : List ℕ) → IsReadTo input d first bytes
       → next_at d many bytes ≡ Ok (samples, rest) →
       IsReadTo input (record d { gone = d.gone + 2 * length samples }) (first ++ samples) rest) →
@@ -67,19 +68,19 @@ module _ (c now : Reading) (before : List ℤ) (here : now ≡ record c { gone =
       (λ input left. (next_at now frames input ≡ Ok (samples, left))
       × LosesFront input left) → r2.failures ≡ r1.failures → IsPiece now frames (length samples) →
       now.size ≢ 0xFFFFFFFF →
-      now.gone + 2 * (frames * now.channels) ≤ now.size → (last : Reading) →
+      now.gone + 2 * (frames * now.channels) ≤ now.size → (last : ContentInValue) →
       last ≡ record now { gone = now.gone + 2 * length samples } → all ≡ kept ++ samples →
       ReadsMore c before frames kept r r2 last (Ok all)
   more_read on samples kept all said same piece sized enough last goes joined = (
     samples,
     joined,
-    count ∙ ap (λ (y : Reading). frames * y.channels) here,
+    count ∙ ap (λ (y : ContentInValue). frames * y.channels) here,
     record {
       at = λ bytes known. let y = reads.at bytes known in let z = said.at y.0 y.1 in (
         z.0,
         z.1,
         (
-          (λ input q. subst (λ (d : Reading). IsReadTo input d (before ++ samples) z.0) there
+          (λ input q. subst (λ (d : ContentInValue). IsReadTo input d (before ++ samples) z.0) there
               (on input now before y.0 frames samples z.0 (stood_there input bytes y.0 (y.2.0 input q)) z.2.0)),
           lost_twice bytes y.0 z.0 y.2.1 z.2.1,
         ),
@@ -94,7 +95,7 @@ module _ (c now : Reading) (before : List ℤ) (here : now ≡ record c { gone =
 
       there : record now { gone = now.gone + 2 * length samples } ≡
           record c { gone = c.gone + 2 * length (before ++ samples) }
-      there = ap (λ (y : Reading). record y { gone = y.gone + 2 * length samples }) here
+      there = ap (λ (y : ContentInValue). record y { gone = y.gone + 2 * length samples }) here
           ∙ ap (λ (k : ℕ). record c { gone = k }) (let z : c.gone + 2 * length before + 2 * length samples ≡
           c.gone + 2 * length (before ++ samples) = omega (arith, length-append before samples) in z)
 

@@ -10,7 +10,7 @@ use Rattle.sdf_wav.specs.Canonical.{IsCanonical}
 use Rattle.sdf_wav.specs.Grammar.{IsWav}
 use Rattle.sdf_wav.specs.Fault.{HasFault}
 use Rattle.sdf_wav.specs.Device.{AppendsFront, Known, LosesFront, ReaderState, WriterState, failures_after, one_more}
-use Rattle.sdf_wav.specs.PiecesIn.{Reading, Opens, IsReadTo, AnswersOpening}
+use Rattle.sdf_wav.specs.PiecesIn.{ContentInValue, Opens, IsReadTo, AnswersOpening}
 use Rattle.sdf_wav.specs.declared.fault.FormatFault.{FormatFault}
 use Rattle.sdf_wav.specs.declared.fault.FormatFault.TheVariants.{Truncated}
 use Rattle.sdf_wav.specs.declared.fault.WavFault.{WavFault}
@@ -22,8 +22,8 @@ use Rattle.sdf_faults.specs.declared.fault.Fault.{Fault}
 use Rattle.sdf_faults.specs.declared.fault.Fault.TheVariants.{OutOfMemory, Wav, Read, Write, ChannelsMissing}
 use Rattle.sdf_faults.specs.declared.fault.Fault.TheVariants.{RateNotWhole}
 use Rattle.sdf_faults.specs.Faults.{of_wav}
-use Rattle.sdf_process.specs.Output.{announced_by, announced_fault, exchange_of, output_fault}
-use Rattle.sdf_process.specs.Run.{Announces, announced_size, HasOutputFault, Handles, IsAllowed, IsFromOutside, IsRun}
+use Rattle.sdf_process.specs.Output.{info_of, info_fault, io_rates_of, output_fault}
+use Rattle.sdf_process.specs.Run.{Announces, size_info, HasOutputFault, Handles, IsAllowed, IsFromOutside, IsRun}
 use Rattle.sdf_process.specs.Run.{IsText, IsUnsized, ReadsAnnounced, ReadsInto, Refuses, Runs, WhereKnown, WritesFile}
 use Rattle.sdf_process.specs.Run.{WritesSome}
 use Rattle.sdf_process.proofs.Outcomes.{IsOfOutput, fault_of_announced, keeps_same, kept, refuses_outside}
@@ -56,7 +56,7 @@ from_outside : (n : Netlist Kit ℤ) (q : List ℕ) (r r' : ReaderState) (w w' :
     Handles {X = Unit {0}} r r' w w' (Err f) → IsRun n q r r' w w' (Err f)
 from_outside n q r r' w w' f outside runs devices = record {
   runs = runs;
-  accepts = λ input s rest known wav. refuses_outside (output_fault (exchange_of n q) s) f outside;
+  accepts = λ input s rest known wav. refuses_outside (output_fault (io_rates_of n q) s) f outside;
   foresees = λ input g size rest e known o sized why. inr outside;
   refuses = λ input g known has allowed. inr outside;
   devices = devices;
@@ -115,11 +115,11 @@ module _ (n : Netlist Kit ℤ) (q : List ℕ) (r r' : ReaderState) (w : WriterSt
       (record { at = λ input known. let y = said.at input known in (y.0, y.1, (y.2.0.has, y.2.1)) }) counted
   unopened wav.Write said counted = absurd said
 
--- ---- there is no output of what is announced
+-- ---- there is no output for the stream info
 
--- what is announced of an input that was read as far as it takes to know it
+-- the stream info of an input that was read as far as it takes to know it
 pub record AnnouncedAt (a : StreamInfo) (input left : List ℕ) : Type 0 where
-  pub reading : Reading
+  pub reading : ContentInValue
   pub samples : List ℤ
   pub read : IsReadTo input reading samples left
   pub announces : Announces reading samples left a
@@ -134,19 +134,19 @@ some_no_none x e = cc
 module _ (n : Netlist Kit ℤ) (q : List ℕ) (r r' : ReaderState) (w : WriterState) (a : StreamInfo)
     (at : Known r.remaining r'.remaining (AnnouncedAt a)) (counted : r'.failures ≡ r.failures)
     (sounds : (input : List ℕ) (s : Sound) (rest : List ℕ) → r.remaining ≡ Some input → IsWav input s rest →
-    announced_by s ≡ a)
+    info_of s ≡ a)
     (sizes : (input : List ℕ) (f : Format) (size : ℕ) (rest : List ℕ) → r.remaining ≡ Some input →
     Opens input f size rest →
-    size ≢ 0xFFFFFFFF → announced_size f size ≡ a) where
+    size ≢ 0xFFFFFFFF → size_info f size ≡ a) where
   stands : Known r.remaining r'.remaining ReadsAnnounced
   stands = record {
     at = λ input known. let y = at.at input known in
         (y.0, y.1, (y.2.reading, y.2.samples, y.2.read, y.2.least));
   }
 
-  module _ (g : Fault) (why : announced_fault (exchange_of n q) a ≡ Some g)
+  module _ (g : Fault) (why : info_fault (io_rates_of n q) a ≡ Some g)
       (no_fault : (input : List ℕ) (f : FormatFault) → r.remaining ≡ Some input → HasFault input f →
-      IsAllowed (exchange_of n q) input → ⊥) where
+      IsAllowed (io_rates_of n q) input → ⊥) where
     has : (input : List ℕ) → r.remaining ≡ Some input → HasOutputFault n q input g
     has input known =
         let y = at.at input known in
@@ -154,34 +154,34 @@ module _ (n : Netlist Kit ℤ) (q : List ℕ) (r r' : ReaderState) (w : WriterSt
           reading = y.2.reading;
           samples = y.2.samples;
           rest = y.0;
-          announced = a;
+          info = a;
           read = y.2.read;
           announces = y.2.announces;
           fault = why;
         }
 
     accepts_it : (input : List ℕ) (s : Sound) (rest : List ℕ) → r.remaining ≡ Some input → IsWav input s rest →
-        Refuses (output_fault (exchange_of n q) s) (Err g)
+        Refuses (output_fault (io_rates_of n q) s) (Err g)
     accepts_it input s rest known is =
-        subst (λ o. Refuses o (Err g)) (sym (ap (announced_fault (exchange_of n q)) (sounds input s rest known is)
+        subst (λ o. Refuses o (Err g)) (sym (ap (info_fault (io_rates_of n q)) (sounds input s rest known is)
         ∙ why)) (inl refl)
 
     foresees_it : (input : List ℕ) (f : Format) (size : ℕ) (rest : List ℕ) (e : Fault) → r.remaining ≡ Some input →
         Opens input f size rest → size ≢ 0xFFFFFFFF →
-        announced_fault (exchange_of n q) (announced_size f size) ≡ Some e → Refuses (Some e) (Err g)
+        info_fault (io_rates_of n q) (size_info f size) ≡ Some e → Refuses (Some e) (Err g)
     foresees_it input f size rest e known o sized is =
-        inl (some_same g e (sym why ∙ (sym (ap (announced_fault (exchange_of n q))
+        inl (some_same g e (sym why ∙ (sym (ap (info_fault (io_rates_of n q))
         (sizes input f size rest known o sized)) ∙ is)))
 
     refuses_it : (input : List ℕ) (f : FormatFault) → r.remaining ≡ Some input → HasFault input f →
-        IsAllowed (exchange_of n q) input → Refuses (Some (Wav f)) (Err g)
+        IsAllowed (io_rates_of n q) input → Refuses (Some (Wav f)) (Err g)
     refuses_it input f known has allowed = absurd (no_fault input f known has allowed)
 
     abbrev Refused : Fault → Type 0
     Refused e = g ≡ e → IsRun n q r r' w w (Err e)
 
     pub refused : IsRun n q r r' w w (Err g)
-    refused = go (fault_of_announced (exchange_of n q) a g why)
+    refused = go (fault_of_announced (io_rates_of n q) a g why)
       where
         run : (e : Fault) → g ≡ e → ((input : List ℕ) → r.remaining ≡ Some input → HasOutputFault n q input e →
             Runs n q input w.contents w.contents (Err e)) → Handles {X = Unit {0}} r r' w w (Err e) →
@@ -190,7 +190,7 @@ module _ (n : Netlist Kit ℤ) (q : List ℕ) (r r' : ReaderState) (w : WriterSt
             subst (λ (f : Fault). IsRun n q r r' w w (Err f)) (sym same)
             (record {
               runs = λ input known. runs input known (subst (HasOutputFault n q input) same (has input known));
-              accepts = λ input s rest known is. subst (λ (f : Fault). Refuses (output_fault (exchange_of n q) s)
+              accepts = λ input s rest known is. subst (λ (f : Fault). Refuses (output_fault (io_rates_of n q) s)
                   (Err f)) same (accepts_it input s rest known is);
               foresees = λ input f size rest h known o sized is. subst (λ (y : Fault). Refuses (Some h) (Err y)) same
                   (foresees_it input f size rest h known o sized is);
@@ -270,7 +270,7 @@ module _ (n : Netlist Kit ℤ) (q : List ℕ) (r r' : ReaderState) (w w' : Write
   -- the content is cut off
   pub content_cut : (g : FormatFault) → g ≡ Truncated → Appends w.contents w'.contents text →
       Known r.remaining r'.remaining (λ input rest. HasFault input g × LosesFront input rest) →
-      ((input : List ℕ) → r.remaining ≡ Some input → IsAllowed (exchange_of n q) input) → r'.failures ≡ r.failures →
+      ((input : List ℕ) → r.remaining ≡ Some input → IsAllowed (io_rates_of n q) input) → r'.failures ≡ r.failures →
       w'.failures ≡ w.failures →
       IsRun n q r r' w w' (Err (Wav g))
   content_cut g cut written has allowed counted fine = record {

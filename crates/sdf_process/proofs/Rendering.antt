@@ -10,13 +10,13 @@ use Rattle.std.proofs.lemmas.List.Concat.{flat_map-cons}
 use Rattle.std.proofs.lemmas.List.FromFn.{length-map-range_with_len, get_or-map-range_with_len, take-map-range_with_len}
 use Rattle.sdf_actor.specs.Nets.{Netlist}
 use Rattle.sdf_kit.specs.declared.kit.Kit.{Kit}
-use Rattle.sdf_queues.specs.Answer.{HasInputs, IsRunFault}
+use Rattle.sdf_queues.specs.RunResults.{HasInputs, IsRunFault}
 use Rattle.sdf_queues.specs.Laws.{Begin}
 use Rattle.sdf_queues.specs.declared.fault.RunFault.{RunFault}
 use Rattle.sdf_queues.specs.declared.fault.RunFault.TheVariants as run
 use Rattle.sdf_wav.specs.Sound.{Sound}
 use Rattle.sdf_process.specs.declared.io_rates.IoRates.{IoRates}
-use Rattle.sdf_process.specs.Output.{exchange_of, sample, channel_samples, lists_to, frame, interleaved}
+use Rattle.sdf_process.specs.Output.{io_rates_of, sample, channel_samples, lists_to, frame, interleaved}
 
 -- ---- what the runners are given
 
@@ -36,12 +36,12 @@ list_length periods x s e here =
     ∙ length-map-range_with_len (sample s e) 0 (periods * x.taken)
 
 pub are_inputs : (n : Netlist Kit ℤ) (q : List ℕ) (s : Sound) (periods : ℕ) →
-    HasInputs n q periods (lists_to periods (exchange_of n q) s)
+    HasInputs n q periods (lists_to periods (io_rates_of n q) s)
 are_inputs n q s periods = record {
-  count = count_of periods (exchange_of n q) s;
-  even = λ e here. list_length periods (exchange_of n q) s e here
-      ∙ sym (list_length periods (exchange_of n q) s 0 (omega (arith, here)));
-  enough = λ e here. omega (arith, list_length periods (exchange_of n q) s e here);
+  count = count_of periods (io_rates_of n q) s;
+  even = λ e here. list_length periods (io_rates_of n q) s e here
+      ∙ sym (list_length periods (io_rates_of n q) s 0 (omega (arith, here)));
+  enough = λ e here. omega (arith, list_length periods (io_rates_of n q) s e here);
 }
 
 -- those of fewer periods begin those of more

@@ -3,7 +3,7 @@ use Rattle.std.proofs.Common.{◌≡◌, ℕ, ◌+◌, ◌-◌, ◌*◌, ◌/◌
 use Rattle.std.proofs.Math.Nat.{mul_assoc, mul-div_left, mul-le-mul_left, mul-le-mul_right, div-mul-le_self}
 use Rattle.std.proofs.lemmas.Nat.{div_below, le-div}
 use Rattle.std.proofs.lemmas.Bool.{cases_lt, lt-ltb, le-ltb}
-use Rattle.sdf_limits.specs.declared.TheConstants.{MOST_PERIOD, MOST_RATE}
+use Rattle.sdf_limits.specs.declared.TheConstants.{MAX_PERIOD, MAX_RATE}
 
 -- p is above n / k exactly where p * k is above n
 pub lt_divided : (n k p : ℕ) → 0 < k → nat_lt (n / k) p ≡ nat_lt n (p * k)
@@ -30,7 +30,7 @@ data_too_long periods made outputs some =
     ∙ ap (λ x. nat_lt 4294967259 (2 * x)) (sym (mul_assoc periods made outputs))
 
 -- the frames of so many periods behind so many
-pub frames_fit : (at periods taken : ℕ) → at ≤ 4294967295 → periods ≤ 4294967295 → taken ≤ MOST_RATE * MOST_PERIOD →
+pub frames_fit : (at periods taken : ℕ) → at ≤ 4294967295 → periods ≤ 4294967295 → taken ≤ MAX_RATE * MAX_PERIOD →
     at * taken + periods * taken < 576460752303423488
 frames_fit at periods taken few more small =
     let one : at * taken ≤ 4294967295 * taken = mul-le-mul_right taken few in
@@ -92,7 +92,7 @@ positive a b l m = let z : 1 * b ≤ a * b = mul-le-mul_right b l in omega (arit
 -- ---- blocks of what is kept
 
 module _ (j taken made f channels len : ℕ) (some_j : 0 < j) (some_taken : 0 < taken)
-    (few_made : made ≤ MOST_RATE * MOST_PERIOD)
+    (few_made : made ≤ MAX_RATE * MAX_PERIOD)
     (same : f ≡ channels) (one : 1 ≤ channels) (few : len ≤ 4294967295) where
   some_f : 0 < f
   some_f = omega (arith, one, same)

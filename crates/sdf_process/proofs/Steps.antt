@@ -10,8 +10,8 @@ use Rattle.std.proofs.lemmas.List.{drop-drop, length-append, length-drop}
 use Rattle.sdf_actor.specs.Wires.{lists as items_of}
 use Rattle.sdf_wav.specs.Device.{ReaderState, WriterState}
 use Rattle.sdf_wav.specs.Canonical.{sample_bytes}
-use Rattle.sdf_wav.specs.PiecesIn.{Reading, sound_read}
-use Rattle.sdf_wav.specs.PiecesOut.{Owed}
+use Rattle.sdf_wav.specs.PiecesIn.{ContentInValue, sound_read}
+use Rattle.sdf_wav.specs.PiecesOut.{ContentOutValue}
 use Rattle.sdf_faults.specs.declared.fault.Fault.{Fault}
 use Rattle.sdf_process.specs.declared.io_rates.IoRates.{IoRates}
 use Rattle.sdf_process.specs.declared.flow.Flow.{Flow}
@@ -20,9 +20,9 @@ use Rattle.sdf_process.specs.declared.runner.PieceRunner.{PieceRunner}
 use Rattle.sdf_process.specs.declared.streaming.Stream.{Stream}
 use Rattle.sdf_process.specs.Flows.{Flows, GoesOn, IsAhead, IsReady, IsStep, IsUnderWay, Progress, Start, Turns}
 use Rattle.sdf_process.specs.Flows.{blocks_on}
-use Rattle.sdf_process.specs.Flows.{exchange_in, reading_in, samples_on, samples_run}
+use Rattle.sdf_process.specs.Flows.{io_rates_in, reading_in, samples_on, samples_run}
 use Rattle.sdf_process.specs.Output.{in_turn}
-use Rattle.sdf_process.specs.Streams.{CanRun, CanRunNext, GoesBy, Makes, RunsNext, is_cut, left_by}
+use Rattle.sdf_process.specs.Streams.{CanRun, CanRunNext, GoesBy, Makes, RunsNext, is_in_parts, left_by}
 use Rattle.sdf_process.proofs.Ahead.{made_ahead, none_ahead, none_left}
 use Rattle.sdf_process.proofs.Flowing.{within_size}
 use Rattle.sdf_process.proofs.Sizes.{frames_small, minus, periods_small, positive}
@@ -40,11 +40,12 @@ where_ok (Ok x) P Q E go h = go x h
 where_ok (Err e) P Q E go h = tt
 
 -- a run that is ready is so with another runner of its net, and another flow
-pub ready_on : (b : Start) (t : Stream) → IsReady b t → (v : PieceRunner) (f : Flow) → GoesBy b.net b.period b.blocking v →
-    f.most ≡ t.flow.most → (is_cut v ≡ false → items_of f.made.items ≡ []) → IsReady b (record {
+pub ready_on : (b : Start) (t : Stream) → IsReady b t → (v : PieceRunner) (f : Flow) →
+    GoesBy b.net b.period b.blocking v →
+    f.most ≡ t.flow.most → (is_in_parts v ≡ false → items_of f.made.items ≡ []) → IsReady b (record {
       runner = v;
       flow = f;
-      exchange = t.exchange;
+      io = t.io;
       blocking = t.blocking;
       rate = t.rate;
       channels = t.channels;
@@ -56,7 +57,7 @@ ready_on b t ready v f goes most waits = record {
   channels = ready.channels;
   few_channels = ready.few_channels;
   some_rate = ready.some_rate;
-  exchange = ready.exchange;
+  io = ready.io;
   limits = ready.limits;
   piece = subst (λ (k : ℕ). 0 < k) (sym most) ready.piece;
   waits = waits;
@@ -88,7 +89,7 @@ pub goes_by_pieces : (b : Start) (t : Stream) {r : ReaderState} {w : WriterState
         spare = t.flow.spare;
         output = t.flow.output;
       };
-      exchange = t.exchange;
+      io = t.io;
       blocking = t.blocking;
       rate = t.rate;
       channels = t.channels;
@@ -103,7 +104,7 @@ goes_by_pieces b t most some (g, under) = (
       channels = under.ready.channels;
       few_channels = under.ready.few_channels;
       some_rate = under.ready.some_rate;
-      exchange = under.ready.exchange;
+      io = under.ready.io;
       limits = under.ready.limits;
       piece = some;
       waits = under.ready.waits;
@@ -117,7 +118,7 @@ goes_by_pieces b t most some (g, under) = (
 module _ (b : Start) (g : Progress) (blocks : ℕ) (t : Stream) (y : Portion) {r : ReaderState} {w : WriterState}
     (step : IsStep b g blocks t y r w) where
   can_run : CanRun b.net b.period b.blocking y
-  can_run = record { has = step.ready.can.has; some = step.ready.can.some; exchange = step.next.exchange }
+  can_run = record { has = step.ready.can.has; some = step.ready.can.some; io = step.next.io }
 
   -- its runner can run the portion
   pub can_next : CanRunNext t.runner y
@@ -128,12 +129,12 @@ module _ (b : Start) (g : Progress) (blocks : ℕ) (t : Stream) (y : Portion) {r
     goes = step.ready.goes;
     can = can_run;
     follows = (sound_read (reading_in b) g.samples, g.blocks, blocks, g.bytes, step.next.follows);
-    all = writes_whole t.runner (y.periods * y.exchange.made) y.frames step.next.frames;
+    all = writes_whole t.runner (y.periods * y.io.made) y.frames step.next.frames;
   }
 
-  all_frames : y.frames ≡ blocks * b.blocking * (exchange_in b).made
-  all_frames = step.next.frames ∙ (ap (λ (k : ℕ). k * y.exchange.made) step.next.follows.periods
-      ∙ ap (λ (x : _). blocks * b.blocking * x.made) step.next.exchange)
+  all_frames : y.frames ≡ blocks * b.blocking * (io_rates_in b).made
+  all_frames = step.next.frames ∙ (ap (λ (k : ℕ). k * y.io.made) step.next.follows.periods
+      ∙ ap (λ (x : _). blocks * b.blocking * x.made) step.next.io)
 
   module _ (v : PieceRunner) (made : List (List ℤ)) (runs : RunsNext t.runner v y made) where
     ran : Makes b.net b.period b.blocking (sound_read (reading_in b) g.samples) g.blocks blocks y.frames g.bytes made
@@ -162,7 +163,7 @@ module _ (b : Start) (g : Progress) (blocks : ℕ) (t : Stream) (y : Portion) {r
         f.most ≡ t.flow.most → Turns b on f f' r' w' → GoesOn b (record {
           runner = v;
           flow = f';
-          exchange = t.exchange;
+          io = t.io;
           blocking = t.blocking;
           rate = t.rate;
           channels = t.channels;
@@ -180,12 +181,12 @@ module _ (b : Start) (g : Progress) (blocks : ℕ) (t : Stream) (y : Portion) {r
     )
 
     -- the frames before were written meanwhile, and more was taken
-    pub beside_on : is_cut v ≡ true → (f f' : Flow) {r' : ReaderState} {w' : WriterState} →
+    pub beside_on : is_in_parts v ≡ true → (f f' : Flow) {r' : ReaderState} {w' : WriterState} →
         Turns b g t.flow f r' w' → items_of f'.made.items ≡ made → f'.left ≡ f.left →
         f'.source ≡ f.source → f'.output ≡ f.output → f'.kept ≡ f.kept → f'.most ≡ f.most → GoesOn b (record {
           runner = v;
           flow = f';
-          exchange = t.exchange;
+          io = t.io;
           blocking = t.blocking;
           rate = t.rate;
           channels = t.channels;
@@ -200,7 +201,7 @@ module _ (b : Start) (g : Progress) (blocks : ℕ) (t : Stream) (y : Portion) {r
         subst (λ (l : List (List ℤ)). Makes b.net b.period b.blocking (sound_read (reading_in b) g'.samples) g.blocks
         blocks y.frames g.bytes l (left_by v)) (sym is) (record {
           stands = stands_on b.net b.period b.blocking (reading_in b) g.samples more (g.blocks + blocks)
-              (g.blocks * b.blocking * (exchange_in b).made + y.frames) (g.bytes ++ sample_bytes (in_turn made))
+              (g.blocks * b.blocking * (io_rates_in b).made + y.frames) (g.bytes ++ sample_bytes (in_turn made))
               (left_by v) step.ready.can.lower step.next.there ran.0.stands;
           whole = ran.0.whole;
         }) in
@@ -221,15 +222,16 @@ module _ (b : Start) (g : Progress) (blocks : ℕ) (t : Stream) (y : Portion) {r
 -- ---- what is missing
 
 -- blocks that hold all frames that are missing, and not one too many
-pub blocks_missing : (b : Start) (t : Stream) → IsReady b t → (o : Owed) (frames blocks : ℕ) → frames ≡ o.missing →
-    blocks ≡ div_ceil frames (t.blocking * t.exchange.made) →
-    (o.missing ≤ blocks * (b.blocking * (exchange_in b).made))
-    × (blocks * (b.blocking * (exchange_in b).made) < o.missing + b.blocking * (exchange_in b).made)
+pub blocks_missing : (b : Start) (t : Stream) → IsReady b t → (o : ContentOutValue) (frames blocks : ℕ) →
+    frames ≡ o.missing →
+    blocks ≡ div_ceil frames (t.blocking * t.io.made) →
+    (o.missing ≤ blocks * (b.blocking * (io_rates_in b).made))
+    × (blocks * (b.blocking * (io_rates_in b).made) < o.missing + b.blocking * (io_rates_in b).made)
 blocks_missing b t ready o frames blocks count is =
-    let k : ℕ = t.blocking * t.exchange.made in
-    let x = exchange_in b in
-    let same : k ≡ b.blocking * x.made = ap (λ z. z * t.exchange.made) ready.blocking
-    ∙ ap (λ (y : IoRates). b.blocking * y.made) ready.exchange in
+    let k : ℕ = t.blocking * t.io.made in
+    let x = io_rates_in b in
+    let same : k ≡ b.blocking * x.made = ap (λ z. z * t.io.made) ready.blocking
+    ∙ ap (λ (y : IoRates). b.blocking * y.made) ready.io in
     let times = subst (λ z. (frames ≤ z * k) × (z * k < frames + k)) (sym is)
     (div_ceil_times frames k (omega (arith, same, positive b.blocking x.made ready.can.some ready.can.made))) in
     let size = ap (λ z. blocks * z) same in
@@ -239,11 +241,11 @@ blocks_missing b t ready o frames blocks count is =
 
 module _ (b : Start) (g : Progress) (t : Stream) {r : ReaderState} {w : WriterState}
     (under : IsUnderWay b g t r w) where
-  abbrev c : Reading
+  abbrev c : ContentInValue
   c = reading_in b
 
   abbrev x : IoRates
-  x = exchange_in b
+  x = io_rates_in b
 
   samples_are : length g.samples ≡ (b.frames - t.flow.left) * c.channels
   samples_are = ap (λ (z : Progress). length z.samples) under.ahead.is ∙ under.ahead.flows.count
@@ -270,16 +272,16 @@ module _ (b : Start) (g : Progress) (t : Stream) {r : ReaderState} {w : WriterSt
   -- its whole blocks have few periods, which make few frames
   module _ (f len : ℕ) (same : f ≡ t.channels) (long : len ≡ length t.flow.kept.items) where
     abbrev blocks : ℕ
-    blocks = len / (t.blocking * t.exchange.taken * f)
+    blocks = len / (t.blocking * t.io.taken * f)
 
     pub periods_few : blocks * t.blocking ≤ 4294967295
-    periods_few = periods_small t.blocking t.exchange.taken t.exchange.made f t.channels len
+    periods_few = periods_small t.blocking t.io.taken t.io.made f t.channels len
         (omega (arith, under.ready.blocking, under.ready.can.some)) under.ready.limits.some_taken
         under.ready.limits.few_made same (omega (arith, under.ready.channels, under.ready.can.one))
         (omega (arith, long, kept_few))
 
-    pub frames_few : blocks * t.blocking * t.exchange.made ≤ 288230376084602880
-    frames_few = frames_small t.blocking t.exchange.taken t.exchange.made f t.channels len
+    pub frames_few : blocks * t.blocking * t.io.made ≤ 288230376084602880
+    frames_few = frames_small t.blocking t.io.taken t.io.made f t.channels len
         (omega (arith, under.ready.blocking, under.ready.can.some)) under.ready.limits.some_taken
         under.ready.limits.few_made same (omega (arith, under.ready.channels, under.ready.can.one))
         (omega (arith, long, kept_few))
@@ -289,7 +291,7 @@ module _ (b : Start) (g : Progress) (t : Stream) {r : ReaderState} {w : WriterSt
       Turns b g t.flow f r' w' → GoesOn b (record {
         runner = t.runner;
         flow = f;
-        exchange = t.exchange;
+        io = t.io;
         blocking = t.blocking;
         rate = t.rate;
         channels = t.channels;
@@ -307,9 +309,9 @@ module _ (b : Start) (g : Progress) (t : Stream) {r : ReaderState} {w : WriterSt
 
   -- a block of it
   pub block_is : (f : ℕ) → f ≡ t.channels →
-      t.blocking * t.exchange.taken * f ≡ b.blocking * x.taken * c.channels
-  block_is f same = ap (λ z. z * t.exchange.taken * f) under.ready.blocking
-      ∙ (ap (λ (y : IoRates). b.blocking * y.taken * f) under.ready.exchange
+      t.blocking * t.io.taken * f ≡ b.blocking * x.taken * c.channels
+  block_is f same = ap (λ z. z * t.io.taken * f) under.ready.blocking
+      ∙ (ap (λ (y : IoRates). b.blocking * y.taken * f) under.ready.io
       ∙ ap (λ z. b.blocking * x.taken * z) (same ∙ under.ready.channels))
 
   -- whole blocks of it
@@ -324,20 +326,20 @@ module _ (b : Start) (g : Progress) (t : Stream) {r : ReaderState} {w : WriterSt
     there_more = omega (arith, past, some, kept_long, under.ahead.came.there)
 
     pub step_by : (v : PieceRunner) (f : Flow) (y : Portion) (rest : List ℤ) → left_by v ≡ left_by t.runner →
-        GoesBy b.net b.period b.blocking v → is_cut v ≡ is_cut t.runner → f.left ≡ t.flow.left →
+        GoesBy b.net b.period b.blocking v → is_in_parts v ≡ is_in_parts t.runner → f.left ≡ t.flow.left →
         f.source ≡ t.flow.source →
         f.output ≡ t.flow.output → f.made ≡ t.flow.made → f.most ≡ t.flow.most →
-        f.kept.items ≡ drop (blocks * k) t.flow.kept.items → y.exchange ≡ t.exchange →
-        y.periods ≡ blocks * b.blocking → y.frames ≡ y.periods * y.exchange.made →
+        f.kept.items ≡ drop (blocks * k) t.flow.kept.items → y.io ≡ t.io →
+        y.periods ≡ blocks * b.blocking → y.frames ≡ y.periods * y.io.made →
         y.input.now.channels ≡ t.channels → y.input.now.samples ≡ t.flow.kept.items → IsStep b g blocks (record {
           runner = v;
           flow = f;
-          exchange = t.exchange;
+          io = t.io;
           blocking = t.blocking;
           rate = t.rate;
           channels = t.channels;
         }) y r w
-    step_by v f y rest same goes still left source output made most kept exchange periods frames channels samples =
+    step_by v f y rest same goes still left source output made most kept io periods frames channels samples =
         record {
           ready = ready_on b t under.ready v f goes most
               (λ one. ap (λ (z : _). items_of z.items) made ∙ under.ready.waits (sym still ∙ one));
@@ -345,7 +347,7 @@ module _ (b : Start) (g : Progress) (t : Stream) {r : ReaderState} {w : WriterSt
           next = record {
             follows = kept_follows b g (left_by v) under.ahead.came (same ∙ under.left) y blocks periods
                 (channels ∙ under.ready.channels) (samples ∙ under.kept);
-            exchange = exchange ∙ under.ready.exchange;
+            io = io ∙ under.ready.io;
             frames = frames;
             there = there_more;
           };
@@ -354,11 +356,11 @@ module _ (b : Start) (g : Progress) (t : Stream) {r : ReaderState} {w : WriterSt
         }
 
 -- inputs are read
-pub some_inputs : (b : Start) (t : Stream) → IsReady b t → 0 < t.exchange.inputs
-some_inputs b t ready = subst (λ (y : IoRates). 0 < y.inputs) (sym ready.exchange)
+pub some_inputs : (b : Start) (t : Stream) → IsReady b t → 0 < t.io.inputs
+some_inputs b t ready = subst (λ (y : IoRates). 0 < y.inputs) (sym ready.io)
     (omega (arith, ready.can.has.accepted.1.lists.input))
 
 -- the net can be run on a portion
-pub can_run_on : (b : Start) (t : Stream) → IsReady b t → (y : Portion) → y.exchange ≡ t.exchange →
+pub can_run_on : (b : Start) (t : Stream) → IsReady b t → (y : Portion) → y.io ≡ t.io →
     CanRun b.net b.period b.blocking y
-can_run_on b t ready y same = record { has = ready.can.has; some = ready.can.some; exchange = same ∙ ready.exchange }
+can_run_on b t ready y same = record { has = ready.can.has; some = ready.can.some; io = same ∙ ready.io }

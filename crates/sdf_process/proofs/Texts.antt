@@ -7,13 +7,13 @@ use Rattle.sdf_actor.specs.Nets.{Netlist}
 use Rattle.sdf_kit.specs.declared.kit.Kit.{Kit}
 use Rattle.sdf_wav.specs.Sound.{Sound}
 use Rattle.sdf_wav.specs.Canonical.{header, sample_bytes, write_fault, IsCanonical}
-use Rattle.sdf_wav.specs.PiecesOut.{file_header, Owed}
+use Rattle.sdf_wav.specs.PiecesOut.{file_header, ContentOutValue}
 use Rattle.sdf_wav.proofs.Theorems.{files_are_canonical, puts_join}
 use Rattle.sdf_process.specs.declared.io_rates.StreamInfo.{StreamInfo}
 use Rattle.sdf_process.specs.declared.io_rates.IoRates.{IoRates}
 use Rattle.sdf_process.specs.declared.io_rates.OutputSize.{OutputSize}
-use Rattle.sdf_process.specs.Output.{exchange_of, interleaved, output_header, rate_for, IsExchange, IsExtent}
-use Rattle.sdf_process.specs.Output.{announced_fault}
+use Rattle.sdf_process.specs.Output.{io_rates_of, interleaved, output_header, rate_for, AreIoRates, IsOutputSize}
+use Rattle.sdf_process.specs.Output.{info_fault}
 use Rattle.sdf_process.specs.Run.{AreFrames}
 use Rattle.sdf_process.proofs.Refusals.{Begins}
 use Rattle.sdf_process.proofs.Sounds.{length-interleaved, size_fits}
@@ -23,14 +23,14 @@ pub bytes_append : (xs ys : List ℤ) → sample_bytes (xs ++ ys) ≡ sample_byt
 bytes_append xs ys = sym (puts_join (Some []) (Some (sample_bytes xs)) (Some (sample_bytes xs ++ sample_bytes ys))
     xs ys refl refl)
 
--- the header that is written is that of the output of what is announced
-pub header_is : (x : IoRates) (a : StreamInfo) (e : OutputSize) → IsExtent x a e →
+-- the header that is written is that of the output of a sound with this stream info
+pub header_is : (x : IoRates) (a : StreamInfo) (e : OutputSize) → IsOutputSize x a e →
     file_header e.rate x.outputs (e.periods * x.made) ≡ output_header x a
 header_is x a e is = ap (λ (r : ℕ). file_header r x.outputs (e.periods * x.made)) is.rate
     ∙ ap (λ (p : ℕ). file_header (rate_for x a.rate) x.outputs (p * x.made)) is.periods
 
-module _ (x : IoRates) (a : StreamInfo) (e : OutputSize) (limits : IsExchange x)
-    (is : IsExtent x a e) where
+module _ (x : IoRates) (a : StreamInfo) (e : OutputSize) (limits : AreIoRates x)
+    (is : IsOutputSize x a e) where
   abbrev frames : ℕ
   frames = e.periods * x.made
 
@@ -73,14 +73,14 @@ module _ (x : IoRates) (a : StreamInfo) (e : OutputSize) (limits : IsExchange x)
 
 -- the frames of some periods behind the header
 pub text_begins : (n : Netlist Kit ℤ) (q : List ℕ) (a : StreamInfo) (e : OutputSize) →
-    IsExchange (exchange_of n q) → IsExtent (exchange_of n q) a e →
+    AreIoRates (io_rates_of n q) → IsOutputSize (io_rates_of n q) a e →
     (s : Sound) (periods : ℕ) (bytes : List ℕ) → periods ≤ e.periods → AreFrames n q s periods bytes →
-    Begins (output_header (exchange_of n q) a ++ bytes)
+    Begins (output_header (io_rates_of n q) a ++ bytes)
 text_begins n q a e limits is s periods bytes few (inl (none, no_bytes)) =
-    subst (λ (b : List ℕ). Begins (output_header (exchange_of n q) a ++ b)) (sym no_bytes)
-    (begins_of (exchange_of n q) a e limits is [] (omega arith))
+    subst (λ (b : List ℕ). Begins (output_header (io_rates_of n q) a ++ b)) (sym no_bytes)
+    (begins_of (io_rates_of n q) a e limits is [] (omega arith))
 text_begins n q a e limits is s periods bytes few (inr (lists, made, same)) =
-    let x = exchange_of n q in
+    let x = io_rates_of n q in
     let frames = interleaved (periods * x.made) lists in
     let long : length frames ≡ periods * x.made * x.outputs =
     length-interleaved (periods * x.made) lists ∙ ap (λ (k : ℕ). periods * x.made * k) made.count in
@@ -89,19 +89,20 @@ text_begins n q a e limits is s periods bytes few (inr (lists, made, same)) =
     subst (λ (b : List ℕ). Begins (output_header x a ++ b)) (sym same)
     (begins_of x a e limits is frames (subst (λ (k : ℕ). k ≤ e.periods * x.made * x.outputs) (sym long) fewer))
 
--- ---- what is said of an exchange that is the net's
+-- ---- what is said of I/O rates that are the net's
 
-pub extent_as : {x y : IoRates} {a b : StreamInfo} {e : OutputSize} → x ≡ y → a ≡ b → IsExtent x a e → IsExtent y b e
-extent_as {x} {y} {a} {b} {e} same told is =
-    subst (λ (z : IoRates). IsExtent z b e) same (subst (λ (z : StreamInfo). IsExtent x z e) told is)
+pub output_size_as : {x y : IoRates} {a b : StreamInfo} {e : OutputSize} → x ≡ y → a ≡ b → IsOutputSize x a e →
+    IsOutputSize y b e
+output_size_as {x} {y} {a} {b} {e} same told is =
+    subst (λ (z : IoRates). IsOutputSize z b e) same (subst (λ (z : StreamInfo). IsOutputSize x z e) told is)
 
-pub fault_as : {x y : IoRates} {a b : StreamInfo} {f : Fault} → x ≡ y → a ≡ b → announced_fault x a ≡ Some f →
-    announced_fault y b ≡ Some f
+pub fault_as : {x y : IoRates} {a b : StreamInfo} {f : Fault} → x ≡ y → a ≡ b → info_fault x a ≡ Some f →
+    info_fault y b ≡ Some f
 fault_as {x} {y} {a} {b} {f} same told is =
-    subst (λ (z : IoRates). announced_fault z b ≡ Some f) same
-    (subst (λ (z : StreamInfo). announced_fault x z ≡ Some f) told is)
+    subst (λ (z : IoRates). info_fault z b ≡ Some f) same
+    (subst (λ (z : StreamInfo). info_fault x z ≡ Some f) told is)
 
-pub owed_as : {x y : IoRates} {o : Owed} (e : OutputSize) → x ≡ y →
+pub owed_as : {x y : IoRates} {o : ContentOutValue} (e : OutputSize) → x ≡ y →
     o ≡ record { channels = x.outputs; missing = e.periods * x.made; spent = false } →
     o ≡ record { channels = y.outputs; missing = e.periods * y.made; spent = false }
 owed_as e same is =

@@ -7,32 +7,33 @@ use Rattle.sdf_kit.specs.declared.kit.Kit.{Kit}
 use Rattle.sdf_wav.specs.Sound.{Sound}
 use Rattle.sdf_wav.specs.Grammar.{IsWav}
 use Rattle.sdf_wav.specs.Device.{AppendsFront, Known, LosesFront, ReaderState, WriterState, one_more}
-use Rattle.sdf_wav.specs.PiecesIn.{Reading, IsEnded, known_frames}
-use Rattle.sdf_wav.specs.PiecesOut.{Owed, file_header}
+use Rattle.sdf_wav.specs.PiecesIn.{ContentInValue, IsEnded, known_frames}
+use Rattle.sdf_wav.specs.PiecesOut.{ContentOutValue, file_header}
 use Rattle.sdf_wav.proofs.Theorems.{not_both, one_sound}
 use Rattle.sdf_process.specs.declared.io_rates.IoRates.{IoRates}
 use Rattle.sdf_process.specs.declared.io_rates.OutputSize.{OutputSize}
 use Rattle.sdf_faults.specs.declared.fault.Fault.{Fault}
-use Rattle.sdf_process.specs.Output.{announced_by, announced_fault, exchange_of, output_header, IsExchange, IsExtent}
+use Rattle.sdf_process.specs.Output.{info_of, info_fault, io_rates_of, output_header, AreIoRates, IsOutputSize}
 use Rattle.sdf_process.specs.Run.{IsRun, IsText, IsUnsized, Announces}
-use Rattle.sdf_process.specs.Stages.{Hears, IsHeard, IsOpened, ReadsContent, PutsHeader}
+use Rattle.sdf_process.specs.Stages.{Decodes, IsDecoded, IsOpened, ReadsContent, PutsBytes}
 use Rattle.sdf_process.proofs.Refusals.{AnnouncedAt, refused, writer_failed, unheard_by_memory, unheard_by_reader}
 use Rattle.sdf_process.proofs.Refusals.{unheard_by_fault}
 use Rattle.sdf_process.proofs.Texts.{header_is, text_begins}
 use Rattle.sdf_process.proofs.Finished.{wav_of_heard}
 use Rattle.sdf_process.proofs.Opened.{content_has, frames_unknown, heard_here, lost, owed_is, same_start}
 
-module _ (n : Netlist Kit ℤ) (q : List ℕ) (limits : IsExchange (exchange_of n q)) (r mid : ReaderState) (c : Reading)
+module _ (n : Netlist Kit ℤ) (q : List ℕ) (limits : AreIoRates (io_rates_of n q)) (r mid : ReaderState)
+    (c : ContentInValue)
     (opened : IsOpened r mid c) (is : known_frames c ≡ None) where
   abbrev x : IoRates
-  x = exchange_of n q
+  x = io_rates_of n q
 
   abbrev Fails : (r' : ReaderState) (w w' : WriterState) → Fault → Type 0
   Fails r' w w' f = IsRun n q r r' w w' (Err f)
 
   unsized : (input : List ℕ) → r.remaining ≡ Some input → IsUnsized input
   unsized input known f size rest o =
-      sym (ap (λ (z : Reading). z.size) (same_start r mid c opened input f size rest known o))
+      sym (ap (λ (z : ContentInValue). z.size) (same_start r mid c opened input f size rest known o))
       ∙ frames_unknown c.size c.channels is
 
   pub content_failed_behind : (r' : ReaderState) (w : WriterState) (f : Fault) → ReadsContent c mid r' (Err f) →
@@ -48,21 +49,21 @@ module _ (n : Netlist Kit ℤ) (q : List ℕ) (limits : IsExchange (exchange_of 
       (unheard_by_fault n q r r' w unsized reads.0 (content_has r mid c opened reads.0 r' reads.2)
       (reads.3 ∙ opened.counted))
 
-  -- the sound was heard, and its output is not begun
+  -- the sound was decoded, and its output is not opened
   module _ (r' : ReaderState) (s : Sound) (reads : ReadsContent c mid r' (Ok s)) where
     announces_it : (rest : List ℕ) → IsEnded (record c { gone = c.gone + 2 * length s.samples }) rest →
-        Announces (record c { gone = c.gone + 2 * length s.samples }) s.samples rest (announced_by s)
+        Announces (record c { gone = c.gone + 2 * length s.samples }) s.samples rest (info_of s)
     announces_it rest ended =
         (reads.2, reads.3, inr (is, ended, ap (λ (z : ℕ). length s.samples / z) reads.3))
 
-    heard_whole : Known r.remaining r'.remaining (λ input rest. IsHeard input s rest × LosesFront input rest)
+    heard_whole : Known r.remaining r'.remaining (λ input rest. IsDecoded input s rest × LosesFront input rest)
     heard_whole = heard_here r mid c opened r' s reads announces_it
 
     no_more : (rest : List ℕ) → IsEnded (record c { gone = c.gone + 2 * length s.samples }) rest → rest ≡ []
     no_more rest (inl (known, end)) = absurd (known (frames_unknown c.size c.channels is))
     no_more rest (inr (unknown, none)) = none
 
-    at_end : Known r.remaining r'.remaining (AnnouncedAt (announced_by s))
+    at_end : Known r.remaining r'.remaining (AnnouncedAt (info_of s))
     at_end = record {
       at = λ input known. let y = opened.answers.at input known in let z = reads.0.at y.0 y.1 in let h =
           z.2.0 input y.2.0 in (
@@ -81,18 +82,18 @@ module _ (n : Netlist Kit ℤ) (q : List ℕ) (limits : IsExchange (exchange_of 
     is_wav : (input : List ℕ) (known : r.remaining ≡ Some input) → (rest : List ℕ) × IsWav input s rest
     is_wav input known = let y = heard_whole.at input known in (y.0, wav_of_heard input s y.0 y.2.0)
 
-    pub refused_behind : (w : WriterState) (g : Fault) → announced_fault x (announced_by s) ≡ Some g → Fails r' w w g
+    pub refused_behind : (w : WriterState) (g : Fault) → info_fault x (info_of s) ≡ Some g → Fails r' w w g
     refused_behind w g why =
-        refused n q r r' w (announced_by s) at_end (reads.1 ∙ opened.counted)
+        refused n q r r' w (info_of s) at_end (reads.1 ∙ opened.counted)
         (λ input t rest known wav. let y = is_wav input known in
-        ap announced_by (one_sound input t s rest y.0 wav y.1).0)
+        ap info_of (one_sound input t s rest y.0 wav y.1).0)
         (λ input f size rest known o filled. absurd (filled (unsized input known f size rest o)))
         g why
         (λ input f known has allowed. let y = is_wav input known in not_both input s y.0 f y.1 has)
 
-    module _ (e : OutputSize) (extent : IsExtent x (announced_by s) e) where
+    module _ (e : OutputSize) (output_size : IsOutputSize x (info_of s) e) where
       abbrev text : List ℕ
-      text = output_header x (announced_by s) ++ []
+      text = output_header x (info_of s) ++ []
 
       is_text : (input : List ℕ) → r.remaining ≡ Some input → IsText n q input text
       is_text input known =
@@ -101,42 +102,42 @@ module _ (n : Netlist Kit ℤ) (q : List ℕ) (limits : IsExchange (exchange_of 
             reading = y.2.0.reading;
             samples = s.samples;
             rest = y.0;
-            announced = announced_by s;
+            info = info_of s;
             periods = 0;
             frames = [];
             read = y.2.0.read;
             announces = y.2.0.announces;
-            is_allowed = extent.is_allowed;
+            is_allowed = output_size.is_allowed;
             are_read = inl (omega arith);
             are_frames = inl (refl, refl);
             text_is = refl;
           }
 
       pub header_failed_behind : (w w' : WriterState) (f : Fault) →
-          PutsHeader {X = Unit {0}} w w' (file_header e.rate x.outputs (e.periods * x.made)) (Err f) →
+          PutsBytes {X = Unit {0}} w w' (file_header e.rate x.outputs (e.periods * x.made)) (Err f) →
           Fails r' w w' f
       header_failed_behind w w' f puts =
           subst (Fails r' w w') (sym puts.0)
           (writer_failed n q r r' w w' text is_text
-          (text_begins n q (announced_by s) e limits extent s 0 [] (omega arith) (inl (refl, refl)))
-          (subst (AppendsFront w.contents w'.contents) (header_is x (announced_by s) e extent
-          ∙ sym (append-nil (output_header x (announced_by s)))) puts.1)
+          (text_begins n q (info_of s) e limits output_size s 0 [] (omega arith) (inl (refl, refl)))
+          (subst (AppendsFront w.contents w'.contents) (header_is x (info_of s) e output_size
+          ∙ sym (append-nil (output_header x (info_of s)))) puts.1)
           (record {
             at = λ input known. let y = heard_whole.at input known in
                 (y.0, y.1, (y.2.0.reading, s.samples, y.2.0.read));
           }) (reads.1 ∙ opened.counted) puts.2)
 
-      pub heard_behind : (w w' : WriterState) (o : Owed) →
+      pub heard_behind : (w w' : WriterState) (o : ContentOutValue) →
           Appends w.contents w'.contents (file_header e.rate x.outputs (e.periods * x.made)) →
           w'.failures ≡ w.failures →
           o ≡ record { channels = x.outputs; missing = e.periods * x.made; spent = false } →
-          Hears x r r' w w' s e o
+          Decodes x r r' w w' s e o
       heard_behind w w' o written fine owed = record {
-        heard = heard_whole;
+        decoded = heard_whole;
         allowed = λ input known f size rest opens filled. absurd (filled (unsized input known f size rest opens));
-        extent = extent;
-        header = subst (Appends w.contents w'.contents) (header_is x (announced_by s) e extent) written;
-        owed = owed_is x s e o extent owed;
+        output_size = output_size;
+        header = subst (Appends w.contents w'.contents) (header_is x (info_of s) e output_size) written;
+        owed = owed_is x s e o output_size owed;
         reader = reads.1 ∙ opened.counted;
         writer = fine;
       }

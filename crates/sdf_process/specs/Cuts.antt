@@ -1,9 +1,9 @@
--- The cut of a sound in time: the number of periods that are run at once, and the number of their parts.
+-- The sizes of the pieces and parts into which a sound is cut in time, in periods.
 use Rattle.std.specs.Prelude.{◌≡◌, ℕ, ◌*◌, ◌/◌, ◌-◌, ◌^◌, Option, None, Some, max, min}
 use Rattle.std.specs.Int.{div_ceil}
 use Rattle.sdf_warm_up.specs.Warm.{IsLeast}
 use Rattle.sdf_parallel.specs.Sizes.{IsPartSize}
-use Rattle.sdf_process.specs.declared.part_sizes.PartSizes.{PartSizes}
+use Rattle.sdf_process.specs.declared.part_sizes.Partition.{Partition}
 use Rattle.sdf_process.specs.declared.part_sizes.TheConstants.{FIRST_SHARE, PART, PIECE}
 use Rattle.sdf_process.specs.declared.io_rates.IoRates.{IoRates}
 
@@ -13,7 +13,7 @@ periods_in frames x = max 1 (frames / max x.taken x.made)
 
 -- The periods of a piece. On one thread: the periods in PIECE frames. In parts: for each worker the periods in `share`
 -- frames, or eight warm-ups if these are longer. (At most the greatest number of 32 bits.)
-abbrev pub IsPieceSize : ℕ → IoRates → Option PartSizes → ℕ → Type 0
+abbrev pub IsPieceSize : ℕ → IoRates → Option Partition → ℕ → Type 0
 IsPieceSize share x None periods = periods ≡ periods_in PIECE x
 IsPieceSize share x (Some c) periods =
     (each : ℕ) × IsLeast (IsPartSize (periods_in share x) 1 c.warm) each ×
@@ -21,7 +21,7 @@ IsPieceSize share x (Some c) periods =
 
 -- The periods of a part if this many are run at once. An equal share of them for each worker is cut into the most parts
 -- that each have the periods in PART frames, and 32 warm-ups; or it is one part, of at least eight warm-ups.
-abbrev pub IsPartOf : IoRates → PartSizes → ℕ → ℕ → Type 0
+abbrev pub IsPartOf : IoRates → Partition → ℕ → ℕ → Type 0
 IsPartOf x c periods size =
     let share = div_ceil periods (max 1 c.parts) in
     let least = max (periods_in PART x) (min (c.warm * 32) (2 ^ 32 - 1)) in
@@ -34,7 +34,7 @@ periods_making frames x = min (div_ceil frames x.made) (2 ^ 32 - 1)
 -- The most parts that are run at once if this many frames are made: one for each worker, or the parts of the first
 -- piece, or of all periods, if these are fewer. (A last period that is not whole is run alone, so there may be one part
 -- fewer.)
-abbrev pub AreAtOnce : IoRates → PartSizes → ℕ → ℕ → Type 0
+abbrev pub AreAtOnce : IoRates → Partition → ℕ → ℕ → Type 0
 AreAtOnce x c frames parts =
     (piece : ℕ) × IsPieceSize FIRST_SHARE x (Some c) piece × (size : ℕ) ×
     IsPartOf x c (min piece (periods_making frames x)) size ×

@@ -2,10 +2,10 @@
 use Rattle.std.specs.Prelude.{◌≡◌, ◌≢◌, ℕ, ◌+◌, ◌-◌, ◌*◌, ◌<◌, ◌≤◌, min, ℤ, List, [], ◌++◌, length, drop, Option, None}
 use Rattle.std.specs.Prelude.{Result, Err, IfOk, MatchResult, false}
 use Rattle.std.specs.Io.KnownBytes.{Appends}
-use Rattle.sdf_limits.specs.declared.TheConstants.{MOST_BLOCK}
+use Rattle.sdf_limits.specs.declared.TheConstants.{MAX_BLOCK}
 use Rattle.sdf_actor.specs.Nets.{Netlist}
 use Rattle.sdf_actor.specs.Wires.{lists as items_of}
-use Rattle.sdf_actor.specs.declared.rest.NetState.{NetState}
+use Rattle.sdf_actor.specs.declared.net_state.NetState.{NetState}
 use Rattle.sdf_queues.specs.Laws.{RunsGoOn}
 use Rattle.sdf_queues.specs.Periods.{HasPeriod}
 use Rattle.sdf_kit.specs.declared.kit.Kit.{Kit}
@@ -13,9 +13,9 @@ use Rattle.sdf_kit.specs.Kit.{kit_steps}
 use Rattle.sdf_sched.specs.Period.{Schedule}
 use Rattle.sdf_wav.specs.Canonical.{sample_bytes}
 use Rattle.sdf_wav.specs.Device.{ReaderState, WriterState}
-use Rattle.sdf_wav.specs.PiecesIn.{Reading, sound_read}
-use Rattle.sdf_wav.specs.PiecesOut.{Owed}
-use Rattle.sdf_wav.specs.declared.wav.TheConstants.{MOST_CHANNELS}
+use Rattle.sdf_wav.specs.PiecesIn.{ContentInValue, sound_read}
+use Rattle.sdf_wav.specs.PiecesOut.{ContentOutValue}
+use Rattle.sdf_wav.specs.declared.wav.TheConstants.{MAX_CHANNELS}
 use Rattle.sdf_faults.specs.declared.fault.Fault.{Fault}
 use Rattle.sdf_process.specs.declared.opened_output.OpenedOutput.{OpenedOutput}
 use Rattle.sdf_process.specs.declared.io_rates.IoRates.{IoRates}
@@ -24,9 +24,9 @@ use Rattle.sdf_process.specs.declared.portion.Portion.{Portion}
 use Rattle.sdf_process.specs.declared.source.Source.{Source}
 use Rattle.sdf_process.specs.declared.streaming.Opened.{Opened}
 use Rattle.sdf_process.specs.declared.streaming.Stream.{Stream}
-use Rattle.sdf_process.specs.Output.{exchange_of, in_turn, periods_for, IsExchange}
+use Rattle.sdf_process.specs.Output.{io_rates_of, in_turn, periods_for, AreIoRates}
 use Rattle.sdf_process.specs.Sources.{reading_of, source_behind, Takes}
-use Rattle.sdf_process.specs.Streams.{AreWhole, Follows, GoesBy, StandsWhole, Streams, is_cut, left_by}
+use Rattle.sdf_process.specs.Streams.{AreWhole, Follows, GoesBy, StandsWhole, Streams, is_in_parts, left_by}
 
 -- The start of a run: its net, a period, and the number of periods in a block; the source of its sound, the number of
 -- frames that this has, and the number of frames that are owed for it; the reader and the writer.
@@ -52,11 +52,11 @@ start_of t b r w = record {
   writer = w;
 }
 
-abbrev pub reading_in : Start → Reading
+abbrev pub reading_in : Start → ContentInValue
 reading_in b = reading_of b.source
 
-abbrev pub exchange_in : Start → IoRates
-exchange_in b = exchange_of b.net b.period.repetitions
+abbrev pub io_rates_in : Start → IoRates
+io_rates_in b = io_rates_of b.net b.period.repetitions
 
 -- the result of a run with this start, which leaves the devices in these states
 abbrev pub StreamsFrom : Start → ReaderState → WriterState → Result (Unit {0}) Fault → Type 0
@@ -69,17 +69,17 @@ pub record CanFlow (b : Start) : Type 0 where
   pub unread : (reading_in b).gone ≡ 0
   pub unspoilt : (reading_in b).fault ≡ None
   pub one : 0 < (reading_in b).channels
-  pub lower : (exchange_in b).inputs ≤ (reading_in b).channels
+  pub lower : (io_rates_in b).inputs ≤ (reading_in b).channels
   pub size : 2 * (b.frames * (reading_in b).channels) ≡ (reading_in b).size
   pub known : (reading_in b).size ≢ 0xFFFFFFFF
   pub fits : (reading_in b).size ≤ 0xFFFFFFFF
   pub some : 0 < b.blocking
-  pub few : b.blocking ≤ MOST_BLOCK
-  pub taken : 0 < (exchange_in b).taken
-  pub made : 0 < (exchange_in b).made
-  pub outputs : 0 < (exchange_in b).outputs
-  pub owed : b.owed ≡ periods_for (exchange_in b) b.frames * (exchange_in b).made
-  pub short : 2 * (b.owed * (exchange_in b).outputs) ≤ 4294967259
+  pub few : b.blocking ≤ MAX_BLOCK
+  pub taken : 0 < (io_rates_in b).taken
+  pub made : 0 < (io_rates_in b).made
+  pub outputs : 0 < (io_rates_in b).outputs
+  pub owed : b.owed ≡ periods_for (io_rates_in b) b.frames * (io_rates_in b).made
+  pub short : 2 * (b.owed * (io_rates_in b).outputs) ≤ 4294967259
 
 -- The progress of a run: the samples that were taken, the blocks of them that were run, the bytes of the frames that
 -- these make, and the net state that they leave.
@@ -91,7 +91,7 @@ pub record Progress : Type 0 where
 
 -- the number of samples that this many blocks take
 abbrev pub samples_run : Start → ℕ → ℕ
-samples_run b blocks = blocks * b.blocking * (exchange_in b).taken * (reading_in b).channels
+samples_run b blocks = blocks * b.blocking * (io_rates_in b).taken * (reading_in b).channels
 
 -- the run made this progress
 pub record CameTo (b : Start) (g : Progress) : Type 0 where
@@ -99,7 +99,7 @@ pub record CameTo (b : Start) (g : Progress) : Type 0 where
   pub there : samples_run b g.blocks ≤ length g.samples
 
 -- All frames that were made so far are written. `unread` frames are still to be taken, and o is what is owed.
-pub record Flows (b : Start) (g : Progress) (unread : ℕ) (source : Source) (o : Owed) (r : ReaderState)
+pub record Flows (b : Start) (g : Progress) (unread : ℕ) (source : Source) (o : ContentOutValue) (r : ReaderState)
     (w : WriterState) : Type 0 where
   pub came : CameTo b g
   pub takes : Takes b.source g.samples b.reader.remaining r.remaining
@@ -108,8 +108,8 @@ pub record Flows (b : Start) (g : Progress) (unread : ℕ) (source : Source) (o 
   pub count : length g.samples ≡ (b.frames - unread) * (reading_in b).channels
   pub written : Appends b.writer.contents w.contents g.bytes
   pub owed : o ≡ record {
-    channels = (exchange_in b).outputs;
-    missing = b.owed - g.blocks * b.blocking * (exchange_in b).made;
+    channels = (io_rates_in b).outputs;
+    missing = b.owed - g.blocks * b.blocking * (io_rates_in b).made;
     spent = false;
   }
   pub reader : r.failures ≡ b.reader.failures
@@ -127,7 +127,7 @@ pub record IsAhead (b : Start) (g : Progress) (f : Flow) (r : ReaderState) (w : 
   pub more : ℕ
   pub is : g ≡ blocks_on before more (sample_bytes (in_turn (items_of f.made.items))) g.left
   pub came : CameTo b g
-  pub whole : AreWhole (exchange_in b).outputs (more * b.blocking * (exchange_in b).made) (items_of f.made.items)
+  pub whole : AreWhole (io_rates_in b).outputs (more * b.blocking * (io_rates_in b).made) (items_of f.made.items)
 
 -- the progress g, after these samples more were taken
 abbrev pub samples_on : Progress → List ℤ → Progress
@@ -177,13 +177,13 @@ pub record IsReady (b : Start) (t : Stream) : Type 0 where
   pub goes : GoesBy b.net b.period b.blocking t.runner
   pub blocking : t.blocking ≡ b.blocking
   pub channels : t.channels ≡ (reading_in b).channels
-  pub few_channels : t.channels ≤ MOST_CHANNELS
+  pub few_channels : t.channels ≤ MAX_CHANNELS
   pub some_rate : 1 ≤ t.rate
-  pub exchange : t.exchange ≡ exchange_in b
-  pub limits : IsExchange t.exchange
+  pub io : t.io ≡ io_rates_in b
+  pub limits : AreIoRates t.io
   pub piece : 0 < t.flow.most
   -- frames wait to be written only while parts are run
-  pub waits : is_cut t.runner ≡ false → items_of t.flow.made.items ≡ []
+  pub waits : is_in_parts t.runner ≡ false → items_of t.flow.made.items ≡ []
 
 -- the run made this progress, and keeps the samples behind it
 pub record IsUnderWay (b : Start) (g : Progress) (t : Stream) (r : ReaderState) (w : WriterState) : Type 0 where
@@ -211,8 +211,8 @@ TakesMost f f' result = IfOk result (λ x. f'.left ≡ f.left - min f.most f.lef
 pub record IsNext (b : Start) (g : Progress) (blocks : ℕ) (t : Stream) (y : Portion) : Type 0 where
   pub follows : Follows b.net b.period b.blocking (sound_read (reading_in b) g.samples) g.blocks blocks g.bytes
       (left_by t.runner) y
-  pub exchange : y.exchange ≡ exchange_in b
-  pub frames : y.frames ≡ y.periods * y.exchange.made
+  pub io : y.io ≡ io_rates_in b
+  pub frames : y.frames ≡ y.periods * y.io.made
   pub there : samples_run b (g.blocks + blocks) ≤ length g.samples
 
 -- a run whose kept samples are those behind the portion

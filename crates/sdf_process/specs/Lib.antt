@@ -3,7 +3,7 @@ pub mod Cuts
 pub mod Run
 pub mod Stages
 pub mod Sources
-pub mod Tasks
+pub mod PlannedNets
 pub mod Streams
 pub mod Flows
 pub mod Laws

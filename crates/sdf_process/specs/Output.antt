@@ -3,11 +3,11 @@ use Rattle.std.specs.Prelude.{◌≡◌, ℕ, ◌+◌, ◌-◌, ◌*◌, ◌/◌
 use Rattle.std.specs.Prelude.{map, option_map, slice_index_or, Option, Some, None}
 use Rattle.std.specs.Int.{w16, saturate_signed}
 use Rattle.std.specs.List.{flat_map, range_with_len}
-use Rattle.sdf_limits.specs.declared.TheConstants.{MOST_PERIOD, MOST_RATE}
+use Rattle.sdf_limits.specs.declared.TheConstants.{MAX_PERIOD, MAX_RATE}
 use Rattle.sdf_wav.specs.Sound.{Sound, frames_of}
 use Rattle.sdf_wav.specs.Canonical.{size_fault}
 use Rattle.sdf_wav.specs.PiecesOut.{file_header}
-use Rattle.sdf_wav.specs.declared.wav.TheConstants.{MOST_CHANNELS}
+use Rattle.sdf_wav.specs.declared.wav.TheConstants.{MAX_CHANNELS}
 use Rattle.sdf_actor.specs.Nets.{Netlist}
 use Rattle.sdf_actor.specs.Sides.{list_count, period_samples}
 use Rattle.sdf_actor.specs.declared.sides.Lists.TheVariants.{Inputs, Outputs}
@@ -17,9 +17,9 @@ use Rattle.sdf_process.specs.declared.io_rates.OutputSize.{OutputSize}
 use Rattle.sdf_faults.specs.declared.fault.Fault.{Fault}
 use Rattle.sdf_faults.specs.declared.fault.Fault.TheVariants.{Wav, ChannelsMissing, RateNotWhole}
 
--- what a net with least repetition vector q exchanges with files in a period
-abbrev pub exchange_of : {A : Type 0} → Netlist A ℤ → List ℕ → IoRates
-exchange_of n q = record {
+-- the I/O rates of a net with least repetition vector q: what it exchanges with files in a period
+abbrev pub io_rates_of : {A : Type 0} → Netlist A ℤ → List ℕ → IoRates
+io_rates_of n q = record {
   inputs = list_count Inputs n.nodes;
   outputs = list_count Outputs n.nodes;
   taken = period_samples n.nodes Inputs q;
@@ -27,8 +27,8 @@ exchange_of n q = record {
 }
 
 -- the stream info of a sound: what is known of it before its samples are read
-abbrev pub announced_by : Sound → StreamInfo
-announced_by s = record { rate = s.rate; channels = s.channels; frames = frames_of s }
+abbrev pub info_of : Sound → StreamInfo
+info_of s = record { rate = s.rate; channels = s.channels; frames = frames_of s }
 
 -- the number of periods that it takes to read this many frames
 abbrev pub periods_for : IoRates → ℕ → ℕ
@@ -42,9 +42,9 @@ rate_for x rate = rate * x.made / x.taken
 abbrev pub frames_for : IoRates → ℕ → ℕ
 frames_for x frames = periods_for x frames * x.made
 
--- the reason why there is no output of what is announced, if there is none
-abbrev pub announced_fault : IoRates → StreamInfo → Option Fault
-announced_fault x a =
+-- the reason why a sound with this stream info has no output, if it has none
+abbrev pub info_fault : IoRates → StreamInfo → Option Fault
+info_fault x a =
     if nat_lt a.channels x.inputs then Some ChannelsMissing
     else (if not (a.rate * x.made % x.taken == 0) then Some RateNotWhole
     else option_map Wav (size_fault (rate_for x a.rate) x.outputs (frames_for x a.frames * x.outputs)))
@@ -60,9 +60,9 @@ abbrev pub output_frames : IoRates → Sound → ℕ
 output_frames x s = frames_for x (frames_of s)
 
 abbrev pub output_fault : IoRates → Sound → Option Fault
-output_fault x s = announced_fault x (announced_by s)
+output_fault x s = info_fault x (info_of s)
 
--- the header of the output of what is announced
+-- the header of the output of a sound with this stream info
 abbrev pub output_header : IoRates → StreamInfo → List ℕ
 output_header x a = file_header (rate_for x a.rate) x.outputs (frames_for x a.frames)
 
@@ -112,19 +112,19 @@ output_of x s lists = record {
   samples = interleaved (output_frames x s) lists;
 }
 
--- what is true of a net's exchange with files
-pub record IsExchange (x : IoRates) : Type 0 where
+-- what is true of a net's I/O rates
+pub record AreIoRates (x : IoRates) : Type 0 where
   pub some_taken : 0 < x.taken
   pub some_made : 0 < x.made
-  pub few_taken : x.taken ≤ MOST_RATE * MOST_PERIOD
-  pub few_made : x.made ≤ MOST_RATE * MOST_PERIOD
-  pub few_inputs : x.inputs ≤ MOST_CHANNELS
+  pub few_taken : x.taken ≤ MAX_RATE * MAX_PERIOD
+  pub few_made : x.made ≤ MAX_RATE * MAX_PERIOD
+  pub few_inputs : x.inputs ≤ MAX_CHANNELS
   pub one_output : 1 ≤ x.outputs
-  pub few_outputs : x.outputs ≤ MOST_CHANNELS
+  pub few_outputs : x.outputs ≤ MAX_CHANNELS
 
--- the rate and the length of the output of what is announced, if there is one
-pub record IsExtent (x : IoRates) (a : StreamInfo) (e : OutputSize) : Type 0 where
-  pub is_allowed : announced_fault x a ≡ None
+-- the size of the output of a sound with this stream info: its rate and its length, if there is an output
+pub record IsOutputSize (x : IoRates) (a : StreamInfo) (e : OutputSize) : Type 0 where
+  pub is_allowed : info_fault x a ≡ None
   pub rate : e.rate ≡ rate_for x a.rate
   pub periods : e.periods ≡ periods_for x a.frames
   pub some_rate : 0 < e.rate

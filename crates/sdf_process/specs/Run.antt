@@ -3,7 +3,7 @@ use Rattle.std.specs.Prelude.{◌≡◌, ◌≢◌, ℕ, ◌*◌, ◌/◌, ◌�
 use Rattle.std.specs.Prelude.{IfErr}
 use Rattle.std.specs.Io.KnownBytes.{Appends, Keeps}
 use Rattle.sdf_actor.specs.Nets.{Netlist}
-use Rattle.sdf_queues.specs.Answer.{AreOutputs, periods_of as firings}
+use Rattle.sdf_queues.specs.RunResults.{AreOutputs, periods_of as firings}
 use Rattle.sdf_kit.specs.declared.kit.Kit.{Kit}
 use Rattle.sdf_kit.specs.Kit.{kit_steps}
 use Rattle.sdf_wav.specs.Sound.{Sound, frames_of}
@@ -11,9 +11,9 @@ use Rattle.sdf_wav.specs.Grammar.{IsWav}
 use Rattle.sdf_wav.specs.Fault.{HasFault}
 use Rattle.sdf_wav.specs.Device.{AppendsFront, Known, LosesFront, one_more, ReaderState, WriterState}
 use Rattle.sdf_wav.specs.Canonical.{canonical_wav, sample_bytes, IsCanonical}
-use Rattle.sdf_process.specs.Output.{exchange_of, announced_fault, output_header, periods_of, lists_to, input_lists}
+use Rattle.sdf_process.specs.Output.{io_rates_of, info_fault, output_header, periods_of, lists_to, input_lists}
 use Rattle.sdf_process.specs.Output.{interleaved, output_of, output_fault}
-use Rattle.sdf_wav.specs.PiecesIn.{Reading, Opens, IsReadTo, IsEnded, sound_read, known_frames}
+use Rattle.sdf_wav.specs.PiecesIn.{ContentInValue, Opens, IsReadTo, IsEnded, sound_read, known_frames}
 use Rattle.sdf_wav.specs.declared.fault.FormatFault.{FormatFault}
 use Rattle.sdf_wav.specs.declared.fault.FormatFault.TheVariants.{Truncated}
 use Rattle.sdf_wav.specs.declared.format.Format.{Format}
@@ -27,51 +27,51 @@ use Rattle.sdf_faults.specs.declared.fault.Fault.TheVariants.{RateNotWhole}
 -- histories of the periods that it takes to read the input. By the law of histories there is only one
 pub record IsOutput (n : Netlist Kit ℤ) (q : List ℕ) (s out : Sound) : Type 0 where
   pub lists : List (List ℤ)
-  pub are_outputs : AreOutputs kit_steps n (input_lists (exchange_of n q) s)
-      (firings q (periods_of (exchange_of n q) s)) lists
-  pub output : out ≡ output_of (exchange_of n q) s lists
+  pub are_outputs : AreOutputs kit_steps n (input_lists (io_rates_of n q) s)
+      (firings q (periods_of (io_rates_of n q) s)) lists
+  pub output : out ≡ output_of (io_rates_of n q) s lists
 
 -- the input begins with a WAV file, and there is an output of it
 pub record HasOutput (n : Netlist Kit ℤ) (q : List ℕ) (input : List ℕ) (out : Sound) : Type 0 where
   pub sound : Sound
   pub rest : List ℕ
   pub is_wav : IsWav input sound rest
-  pub is_allowed : output_fault (exchange_of n q) sound ≡ None
+  pub is_allowed : output_fault (io_rates_of n q) sound ≡ None
   pub is_output : IsOutput n q sound out
 
--- What is announced of a content that was read this far: the frames by the size of its data or, if that was not filled
+-- The stream info of a content that was read this far: the frames by the size of its data or, if that was not filled
 -- in, the frames that there are once nothing of it is left.
-abbrev pub Announces : Reading → List ℤ → List ℕ → StreamInfo → Type 0
+abbrev pub Announces : ContentInValue → List ℤ → List ℕ → StreamInfo → Type 0
 Announces r samples rest a =
     (a.rate ≡ r.rate) × (a.channels ≡ r.channels)
     × ((known_frames r ≡ Some a.frames) ⊎ ((known_frames r ≡ None) × IsEnded r rest
     × (a.frames ≡ frames_of (sound_read r samples))))
 
--- what the size of data announces, if it was filled in
-abbrev pub announced_size : Format → ℕ → StreamInfo
-announced_size f size = record { rate = f.rate; channels = f.channels; frames = size / (2 * f.channels) }
+-- the stream info by the size of data, if it was filled in
+abbrev pub size_info : Format → ℕ → StreamInfo
+size_info f size = record { rate = f.rate; channels = f.channels; frames = size / (2 * f.channels) }
 
 -- the size of the data of an input was never filled in, if the input opens
 abbrev pub IsUnsized : List ℕ → Type 0
 IsUnsized input = (f : Format) (size : ℕ) (rest : List ℕ) → Opens input f size rest → size ≡ 0xFFFFFFFF
 
--- there is an output of what the size of the data announces, if the input opens and the size was filled in
+-- there is an output for the stream info by the size of the data, if the input opens and the size was filled in
 abbrev pub IsAllowed : IoRates → List ℕ → Type 0
 IsAllowed x input = (f : Format) (size : ℕ) (rest : List ℕ) → Opens input f size rest → size ≢ 0xFFFFFFFF →
-    announced_fault x (announced_size f size) ≡ None
+    info_fault x (size_info f size) ≡ None
 
--- there is no output of what the input announces
+-- there is no output for the stream info of the input
 pub record HasOutputFault (n : Netlist Kit ℤ) (q : List ℕ) (input : List ℕ) (f : Fault) : Type 0 where
-  pub reading : Reading
+  pub reading : ContentInValue
   pub samples : List ℤ
   pub rest : List ℕ
-  pub announced : StreamInfo
+  pub info : StreamInfo
   pub read : IsReadTo input reading samples rest
-  pub announces : Announces reading samples rest announced
-  pub fault : announced_fault (exchange_of n q) announced ≡ Some f
+  pub announces : Announces reading samples rest info
+  pub fault : info_fault (io_rates_of n q) info ≡ Some f
 
 -- this many whole periods were read of a content, the last one filled up with zeros once nothing is left
-abbrev pub AreRead : IoRates → Reading → List ℤ → List ℕ → ℕ → Type 0
+abbrev pub AreRead : IoRates → ContentInValue → List ℤ → List ℕ → ℕ → Type 0
 AreRead x r samples rest periods =
     (periods * x.taken ≤ frames_of (sound_read r samples))
     ⊎ (IsEnded r rest × (periods ≤ periods_of x (sound_read r samples)))
@@ -81,24 +81,24 @@ AreRead x r samples rest periods =
 abbrev pub AreFrames : Netlist Kit ℤ → List ℕ → Sound → ℕ → List ℕ → Type 0
 AreFrames n q s periods bytes =
     ((periods ≡ 0) × (bytes ≡ []))
-    ⊎ ((lists : List (List ℤ)) × AreOutputs kit_steps n (lists_to periods (exchange_of n q) s) (firings q periods) lists
-    × (bytes ≡ sample_bytes (interleaved (periods * (exchange_of n q).made) lists)))
+    ⊎ ((lists : List (List ℤ)) × AreOutputs kit_steps n (lists_to periods (io_rates_of n q) s) (firings q periods) lists
+    × (bytes ≡ sample_bytes (interleaved (periods * (io_rates_of n q).made) lists)))
 
--- What a run may have written of an input by now: the header of the output, by what is announced, and behind it the
+-- What a run may have written of an input by now: the header of the output, by the stream info, and behind it the
 -- frames of whole periods that were read.
 pub record IsText (n : Netlist Kit ℤ) (q : List ℕ) (input text : List ℕ) : Type 0 where
-  pub reading : Reading
+  pub reading : ContentInValue
   pub samples : List ℤ
   pub rest : List ℕ
-  pub announced : StreamInfo
+  pub info : StreamInfo
   pub periods : ℕ
   pub frames : List ℕ
   pub read : IsReadTo input reading samples rest
-  pub announces : Announces reading samples rest announced
-  pub is_allowed : announced_fault (exchange_of n q) announced ≡ None
-  pub are_read : AreRead (exchange_of n q) reading samples rest periods
+  pub announces : Announces reading samples rest info
+  pub is_allowed : info_fault (io_rates_of n q) info ≡ None
+  pub are_read : AreRead (io_rates_of n q) reading samples rest periods
   pub are_frames : AreFrames n q (sound_read reading samples) periods frames
-  pub text_is : text ≡ output_header (exchange_of n q) announced ++ frames
+  pub text_is : text ≡ output_header (io_rates_of n q) info ++ frames
 
 -- a text of a run was written whole; `WritesFront`: a front of one was written
 abbrev pub WritesText : Netlist Kit ℤ → List ℕ → List ℕ → Option (List ℕ) → Option (List ℕ) → Type 0
@@ -141,13 +141,13 @@ ReadsFile input left = (s : Sound) × IsWav input s left
 
 -- the input was read as far as some frames of its content, and exactly what is behind these is left
 abbrev pub ReadsInto : List ℕ → List ℕ → Type 0
-ReadsInto input left = (r : Reading) × (samples : List ℤ) × IsReadTo input r samples left
+ReadsInto input left = (r : ContentInValue) × (samples : List ℤ) × IsReadTo input r samples left
 
 -- the input was read as far as it takes to know its number of frames: not into its content if the size of the data was
 -- filled in, otherwise to its end
 abbrev pub ReadsAnnounced : List ℕ → List ℕ → Type 0
 ReadsAnnounced input left =
-    (r : Reading) × (samples : List ℤ) × IsReadTo input r samples left
+    (r : ContentInValue) × (samples : List ℤ) × IsReadTo input r samples left
     × ((r.size ≢ 0xFFFFFFFF → r.gone ≡ 0) × (r.size ≡ 0xFFFFFFFF → left ≡ []))
 
 -- the input has this fault and lost a front, or the fault is of its output
@@ -221,12 +221,12 @@ pub record IsRun (n : Netlist Kit ℤ) (q : List ℕ) (r r' : ReaderState) (w w'
   pub runs : WhereKnown r.remaining (λ input. Runs n q input w.contents w'.contents result)
   -- for a WAV file the result is Ok, or the fault of its output, unless memory or a device failed
   pub accepts : (input : List ℕ) (s : Sound) (rest : List ℕ) → r.remaining ≡ Some input → IsWav input s rest →
-      Refuses (output_fault (exchange_of n q) s) result
+      Refuses (output_fault (io_rates_of n q) s) result
   -- the output's fault comes first if the size of the data says how long it would be, otherwise a fault of the input
   pub foresees : (input : List ℕ) (f : Format) (size : ℕ) (rest : List ℕ) (e : Fault) → r.remaining ≡ Some input →
       Opens input f size rest → size ≢ 0xFFFFFFFF →
-      announced_fault (exchange_of n q) (announced_size f size) ≡ Some e → Refuses (Some e) result
+      info_fault (io_rates_of n q) (size_info f size) ≡ Some e → Refuses (Some e) result
   pub refuses : (input : List ℕ) (f : FormatFault) → r.remaining ≡ Some input → HasFault input f →
-      IsAllowed (exchange_of n q) input → Refuses (Some (Wav f)) result
+      IsAllowed (io_rates_of n q) input → Refuses (Some (Wav f)) result
   -- the devices
   pub devices : Handles r r' w w' result

@@ -6,9 +6,9 @@ use Rattle.sdf_graph.specs.Rates.{rates}
 use Rattle.sdf_actor.specs.Graphs.{graph_of}
 use Rattle.sdf_actor.specs.Nets.{Netlist}
 use Rattle.sdf_actor.specs.Sides.{list_count}
-use Rattle.sdf_actor.specs.declared.rest.NetState.{NetState}
+use Rattle.sdf_actor.specs.declared.net_state.NetState.{NetState}
 use Rattle.sdf_actor.specs.declared.sides.Lists.TheVariants.{Inputs, Outputs}
-use Rattle.sdf_queues.specs.Answer.{periods_of as firings}
+use Rattle.sdf_queues.specs.RunResults.{periods_of as firings}
 use Rattle.sdf_queues.specs.Feeds.{HasRun}
 use Rattle.sdf_queues.specs.Periods.{HasPeriod}
 use Rattle.sdf_kit.specs.declared.kit.Kit.{Kit}
@@ -18,10 +18,10 @@ use Rattle.sdf_prec.specs.Blocks.{IsShort}
 use Rattle.sdf_sched.specs.Period.{Schedule, IsPeriodOf}
 use Rattle.sdf_wav.specs.Canonical.{sample_bytes}
 use Rattle.sdf_wav.specs.Device.{AppendsFront, one_more, ReaderState, WriterState}
-use Rattle.sdf_wav.specs.PiecesIn.{Reading, sound_read}
-use Rattle.sdf_wav.specs.PiecesOut.{Owed}
+use Rattle.sdf_wav.specs.PiecesIn.{ContentInValue, sound_read}
+use Rattle.sdf_wav.specs.PiecesOut.{ContentOutValue}
 use Rattle.sdf_wav.specs.Sound.{Sound, frames_of}
-use Rattle.sdf_wav.specs.declared.wav.TheConstants.{MOST_CHANNELS}
+use Rattle.sdf_wav.specs.declared.wav.TheConstants.{MAX_CHANNELS}
 use Rattle.sdf_faults.specs.declared.fault.Fault.{Fault}
 use Rattle.sdf_faults.specs.declared.fault.Fault.TheVariants.{Write}
 use Rattle.sdf_process.specs.declared.player.Player.{Player}
@@ -30,11 +30,11 @@ use Rattle.sdf_process.specs.declared.source.Source.{Source}
 use Rattle.sdf_process.specs.declared.streaming.Opened.{Opened}
 use Rattle.sdf_process.specs.declared.runner.PieceRunner.{PieceRunner}
 use Rattle.sdf_process.specs.declared.runner.PieceRunner.TheVariants as runner
-use Rattle.sdf_process.specs.Output.{exchange_of, in_turn, interleaved, lists_from, lists_to, periods_of}
+use Rattle.sdf_process.specs.Output.{io_rates_of, in_turn, interleaved, lists_from, lists_to, periods_of}
 use Rattle.sdf_process.specs.Run.{AreFrames}
 use Rattle.sdf_process.specs.Sources.{reading_of, Takes, TakesAll}
 use Rattle.sdf_process.specs.Stages.{PutsOutput}
-use Rattle.sdf_process.specs.Tasks.{IsPlayer, cut_by}
+use Rattle.sdf_process.specs.PlannedNets.{IsPlayer, partition_by}
 
 -- Net n ran the first blocks of j periods of a sound: this is the net state that the run left, and these are the bytes
 -- of the first frames that it made.
@@ -43,14 +43,14 @@ pub record StandsAt (n : Netlist Kit ℤ) (p : Schedule) (j : ℕ) (s : Sound) (
   pub made : List (List ℤ)
   pub rest : NetState ℤ (List ℤ)
   pub held : left ≡ Some rest
-  pub run : HasRun kit_steps n (lists_to (blocks * j) (exchange_of n p.repetitions) s)
+  pub run : HasRun kit_steps n (lists_to (blocks * j) (io_rates_of n p.repetitions) s)
       (firings p.repetitions (blocks * j)) made rest
   pub bytes_are : bytes ≡ sample_bytes (interleaved frames made)
 
 -- the bytes are of all frames that the run made
 abbrev pub StandsWhole : Netlist Kit ℤ → Schedule → ℕ → Sound → ℕ → List ℕ → Option (NetState ℤ (List ℤ)) → Type 0
 StandsWhole n p j s blocks bytes left =
-    StandsAt n p j s blocks (blocks * j * (exchange_of n p.repetitions).made) bytes left
+    StandsAt n p j s blocks (blocks * j * (io_rates_of n p.repetitions).made) bytes left
 
 -- ---- the session or player of a run
 
@@ -59,7 +59,7 @@ pub record FeedsBy (n : Netlist Kit ℤ) (p : Schedule) (j : ℕ) (v : SessionVa
   pub live : IsLive v
   pub net : v.net ≡ n
   pub period : v.period ≡ p
-  pub factor : v.factor ≡ j
+  pub blocking : v.blocking ≡ j
 
 -- a player of net n, whose blocks are single periods
 pub record PlaysBy (n : Netlist Kit ℤ) (p : Schedule) (j : ℕ) (v : Player) : Type 0 where
@@ -78,9 +78,9 @@ left_by (runner.Session v) = v.rest
 left_by (runner.Player v) = Some v.rest
 
 -- the runner runs parts in parallel, while frames are written and taken
-abbrev pub is_cut : PieceRunner → Bool
-is_cut (runner.Session v) = false
-is_cut (runner.Player v) = is_some (cut_by v.manner)
+abbrev pub is_in_parts : PieceRunner → Bool
+is_in_parts (runner.Session v) = false
+is_in_parts (runner.Player v) = is_some (partition_by v.manner)
 
 -- all frames that a player makes are written
 abbrev pub WritesOf : PieceRunner → ℕ → ℕ → Type 0
@@ -92,8 +92,8 @@ pub record Follows (n : Netlist Kit ℤ) (p : Schedule) (j : ℕ) (s : Sound) (f
     (left : Option (NetState ℤ (List ℤ))) (y : Portion) : Type 0 where
   pub stands : StandsWhole n p j s few bytes left
   pub periods : y.periods ≡ blocks * j
-  pub lists : lists_from (few * j) y.periods (exchange_of n p.repetitions) s ≡
-      lists_from 0 y.periods (exchange_of n p.repetitions) y.input.now
+  pub lists : lists_from (few * j) y.periods (io_rates_of n p.repetitions) s ≡
+      lists_from 0 y.periods (io_rates_of n p.repetitions) y.input.now
 
 abbrev pub IsFollowed : Netlist Kit ℤ → Schedule → ℕ → Option (NetState ℤ (List ℤ)) → Portion → Type 0
 IsFollowed n p j left y =
@@ -103,7 +103,7 @@ IsFollowed n p j left y =
 pub record CanRun (n : Netlist Kit ℤ) (p : Schedule) (j : ℕ) (y : Portion) : Type 0 where
   pub has : HasPeriod kit_steps n p
   pub some : 0 < j
-  pub exchange : y.exchange ≡ exchange_of n p.repetitions
+  pub io : y.io ≡ io_rates_of n p.repetitions
 
 -- lists of whole frames of this many channels, with this many frames in all
 pub record AreWhole (channels frames : ℕ) (made : List (List ℤ)) : Type 0 where
@@ -111,25 +111,25 @@ pub record AreWhole (channels frames : ℕ) (made : List (List ℤ)) : Type 0 wh
   pub all : length (in_turn made) ≡ frames * channels
 
 -- lists of whole frames, no more than are owed
-abbrev pub CanPut : Owed → List (List ℤ) → Type 0
+abbrev pub CanPut : ContentOutValue → List (List ℤ) → Type 0
 CanPut o made = (frames : ℕ) × AreWhole o.channels frames made × (frames ≤ o.missing)
 
 -- The next blocks were run behind the first `few`, and these are the first frames that they made.
 pub record Makes (n : Netlist Kit ℤ) (p : Schedule) (j : ℕ) (s : Sound) (few blocks frames : ℕ) (bytes : List ℕ)
     (made : List (List ℤ)) (left : Option (NetState ℤ (List ℤ))) : Type 0 where
-  pub stands : StandsAt n p j s (few + blocks) (few * j * (exchange_of n p.repetitions).made + frames)
+  pub stands : StandsAt n p j s (few + blocks) (few * j * (io_rates_of n p.repetitions).made + frames)
       (bytes ++ sample_bytes (in_turn made)) left
-  pub whole : AreWhole (exchange_of n p.repetitions).outputs frames made
+  pub whole : AreWhole (io_rates_of n p.repetitions).outputs frames made
 
--- the player plays the same net by the same period, cut in the same way
+-- the player plays the same net by the same period, with the same partition
 abbrev pub StaysPlayer : Player → Player → Type 0
-StaysPlayer v w = (w.net ≡ v.net) × (w.period ≡ v.period) × (cut_by w.manner ≡ cut_by v.manner)
+StaysPlayer v w = (w.net ≡ v.net) × (w.period ≡ v.period) × (partition_by w.manner ≡ partition_by v.manner)
 
 -- a run that was not fed yet
 pub record IsOpened (t : Opened) : Type 0 where
   pub period : IsPeriodOf (rates (graph_of kit_steps t.net.now)) t.period.now
-  pub inputs : list_count Inputs t.net.now.nodes ≤ MOST_CHANNELS
-  pub outputs : list_count Outputs t.net.now.nodes ≤ MOST_CHANNELS
+  pub inputs : list_count Inputs t.net.now.nodes ≤ MAX_CHANNELS
+  pub outputs : list_count Outputs t.net.now.nodes ≤ MAX_CHANNELS
   pub goes : GoesBy t.net.now t.period.now t.blocking t.runner
   pub stands : (s : Sound) → StandsAt t.net.now t.period.now t.blocking s 0 0 [] (left_by t.runner)
   pub some : 0 < t.blocking
@@ -147,7 +147,7 @@ pub record CanRunNext (v : PieceRunner) (y : Portion) : Type 0 where
   pub goes : GoesBy net period blocking v
   pub can : CanRun net period blocking y
   pub follows : IsFollowed net period blocking (left_by v) y
-  pub all : WritesOf v (y.periods * y.exchange.made) y.frames
+  pub all : WritesOf v (y.periods * y.io.made) y.frames
 
 -- the runner ran the portion: whatever sound it ran, it made these frames of its next blocks
 abbrev pub RunsNext : PieceRunner → PieceRunner → Portion → List (List ℤ) → Type 0
@@ -158,7 +158,7 @@ RunsNext v now y made = (n : Netlist Kit ℤ) (p : Schedule) (j : ℕ) (s : Soun
 -- only the memory of the runner changes
 abbrev pub StaysRunner : PieceRunner → PieceRunner → Type 0
 StaysRunner v w = (left_by w ≡ left_by v) × ((n : Netlist Kit ℤ) (p : Schedule) (j : ℕ) → GoesBy n p j v →
-    GoesBy n p j w) × (is_cut w ≡ is_cut v)
+    GoesBy n p j w) × (is_in_parts w ≡ is_in_parts v)
 
 -- a session ran the portion: whatever sound it ran, it made these frames of its next blocks
 abbrev pub FeedsNext : SessionValue Kit (List ℤ) ℤ → SessionValue Kit (List ℤ) ℤ → Portion → List (List ℤ) → Type 0
@@ -171,7 +171,8 @@ abbrev pub CanPlay : Netlist Kit ℤ → Schedule → NetState ℤ (List ℤ) �
 CanPlay n p rest y = (j : ℕ) × CanRun n p j y × IsFollowed n p j (Some rest) y
 
 -- a net played the portion: whatever sound it played, it made these frames of the next blocks, and left this state
-abbrev pub Plays : Netlist Kit ℤ → Schedule → NetState ℤ (List ℤ) → NetState ℤ (List ℤ) → Portion → List (List ℤ) → Type 0
+abbrev pub Plays : Netlist Kit ℤ → Schedule → NetState ℤ (List ℤ) → NetState ℤ (List ℤ) → Portion → List (List ℤ) →
+    Type 0
 Plays n p rest last y made = (j : ℕ) (s : Sound) (few blocks : ℕ) (bytes : List ℕ) →
     Follows n p j s few blocks bytes (Some rest) y → Makes n p j s few blocks y.frames bytes made (Some last)
 
@@ -184,11 +185,11 @@ PlaysNext v now y made = Plays v.net.now v.period.now v.rest now.rest y made
 
 -- A run that reads and writes as it goes came this far: these samples were read, and these are the bytes of the frames
 -- that it made of the first `periods` periods of them.
-pub record IsStream (n : Netlist Kit ℤ) (q : List ℕ) (c : Reading) (samples : List ℤ) (periods : ℕ)
+pub record IsStream (n : Netlist Kit ℤ) (q : List ℕ) (c : ContentInValue) (samples : List ℤ) (periods : ℕ)
     (frames : List ℕ) : Type 0 where
   pub within : 2 * length samples ≤ c.size
-  pub are_read : (periods * (exchange_of n q).taken ≤ frames_of (sound_read c samples))
-      ⊎ ((2 * length samples ≡ c.size) × (periods ≤ periods_of (exchange_of n q) (sound_read c samples)))
+  pub are_read : (periods * (io_rates_of n q).taken ≤ frames_of (sound_read c samples))
+      ⊎ ((2 * length samples ≡ c.size) × (periods ≤ periods_of (io_rates_of n q) (sound_read c samples)))
   pub are_frames : AreFrames n q (sound_read c samples) periods frames
 
 -- The whole sound was taken from the source and its whole output written; or the writer failed among the frames of what

@@ -1,13 +1,13 @@
 //! The input and output of a run: the frames of a source, and the frames that are made of them.
 
 ghost use Rattle.std.specs.Prelude.{◌≡◌, ◌≤◌, ◌%◌, length, MatchResult, Err};
-ghost use Rattle.sdf_wav.specs.declared.wav.TheConstants.{MOST_CHANNELS};
+ghost use Rattle.sdf_wav.specs.declared.wav.TheConstants.{MAX_CHANNELS};
 ghost use Rattle.sdf_wav.specs.Device.{ReaderState, WriterState};
 ghost use Rattle.sdf_process.specs.Flows.{CanFlow, CanTurn, Flows, IsAhead, Progress, Start, StreamsFrom, TakesNext};
 ghost use Rattle.sdf_process.specs.Flows.{TurnsAll, Writes};
 
-use crate::writing::put_in_turn;
 use crate::source::Source;
+use crate::writing::put_in_turn;
 use sdf_faults::Fault;
 use sdf_wav::{ContentOut, Reader, Wav, Writer};
 use std::alloc::Global;
@@ -35,7 +35,7 @@ impl Flow {
     pub(crate) fn take_kept(&mut self, alloc: Global, rate: u32, channels: u16) -> Wav
         requires rate { 1 ≤ rate }
         requires one { 1 ≤ channels }
-        requires few { channels ≤ MOST_CHANNELS }
+        requires few { channels ≤ MAX_CHANNELS }
         requires whole { length self.old.kept.items % channels ≡ 0 }
         ensures sound { result ≡ record { rate = rate; channels = channels; samples = self.old.kept.items } }
         ensures stays { self.new ≡ record self.old { kept = self.new.kept } }
@@ -77,7 +77,7 @@ impl Flow {
     }
 
     /// Writes the frames that were made, and takes the next ones.
-    pub(crate) fn turn<R: Reader, W: Writer>(
+    pub(crate) fn write_and_take<R: Reader, W: Writer>(
         &mut self,
         alloc: Global,
         reader: &mut R,

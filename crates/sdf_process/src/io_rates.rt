@@ -9,13 +9,13 @@ ghost use Rattle.sdf_actor.specs.Graphs.{graph_of};
 ghost use Rattle.sdf_actor.specs.NetFaults.{WasAccepted};
 ghost use Rattle.sdf_actor.specs.Sides.{list_count};
 ghost use Rattle.sdf_kit.specs.Kit.{kit_steps};
-ghost use Rattle.sdf_process.specs.Output.{exchange_of, announced_by, announced_fault, periods_for};
-ghost use Rattle.sdf_process.specs.Output.{IsExchange, IsExtent};
+ghost use Rattle.sdf_process.specs.Output.{io_rates_of, info_of, info_fault, periods_for};
+ghost use Rattle.sdf_process.specs.Output.{AreIoRates, IsOutputSize};
 
 use sdf_actor::Net;
 use sdf_faults::Fault;
 use sdf_kit::Kit;
-use sdf_wav::{FormatFault, MOST_BYTES_A_SECOND, MOST_CHANNELS, MOST_DATA_BYTES, Wav};
+use sdf_wav::{FormatFault, MAX_BYTES_A_SECOND, MAX_CHANNELS, MAX_DATA_BYTES, Wav};
 
 /// The channels and samples that a net moves in a period.
 #[derive(Clone, Copy)]
@@ -40,8 +40,8 @@ pub(crate) struct StreamInfo {
 
 impl StreamInfo {
     /// Returns the stream info of `input`.
-    pub(crate) fn by(input: &Wav) -> StreamInfo
-        ensures { result ≡ announced_by input.now }
+    pub(crate) fn of_sound(input: &Wav) -> StreamInfo
+        ensures { result ≡ info_of input.now }
     {
         StreamInfo {
             rate: input.rate(),
@@ -61,11 +61,11 @@ pub(crate) struct OutputSize {
 impl IoRates {
     /// Returns what `net`, with at most eight inputs and at most eight outputs, exchanges in a period.
     pub(crate) fn of_net(net: &Net<Kit>) -> IoRates
-        requires inputs { list_count Inputs net.now.nodes ≤ MOST_CHANNELS }
-        requires outputs { list_count Outputs net.now.nodes ≤ MOST_CHANNELS }
+        requires inputs { list_count Inputs net.now.nodes ≤ MAX_CHANNELS }
+        requires outputs { list_count Outputs net.now.nodes ≤ MAX_CHANNELS }
         ensures value { (q : List ℕ) → IsLeastPeriod (rates (graph_of kit_steps net.now)) q →
-            result ≡ exchange_of net.now q }
-        ensures limits { IsExchange result }
+            result ≡ io_rates_of net.now q }
+        ensures limits { AreIoRates result }
         ensures accepted { WasAccepted kit_steps net.now }
     {
         IoRates {
@@ -78,7 +78,7 @@ impl IoRates {
 
     /// Returns the number of periods that it takes to read `frames` frames.
     fn periods(self, frames: usize) -> usize
-        requires { IsExchange self }
+        requires { AreIoRates self }
         ensures { result ≡ periods_for self frames }
     {
         frames.div_ceil(self.taken)
@@ -86,31 +86,31 @@ impl IoRates {
 
     /// Returns whether the output data of `periods` periods would exceed 4,294,967,259 bytes.
     fn is_too_long(self, periods: usize) -> bool
-        requires { IsExchange self }
+        requires { AreIoRates self }
         ensures { result ≡ nat_lt 4294967259 (2 * (periods * self.made * self.outputs)) }
     {
-        periods > MOST_DATA_BYTES as usize / 2 / (self.made * self.outputs)
+        periods > MAX_DATA_BYTES as usize / 2 / (self.made * self.outputs)
     }
 
     /// Returns the rate and the length of the output, or the reason why there can't be one.
-    pub(crate) fn extent(self, announced: StreamInfo) -> Result<OutputSize, Fault>
-        requires limits { IsExchange self }
-        requires rate { 1 ≤ announced.rate }
-        ensures { MatchResult result (IsExtent self announced) (λ e. announced_fault self announced ≡ Some e) }
+    pub(crate) fn output_size(self, info: StreamInfo) -> Result<OutputSize, Fault>
+        requires limits { AreIoRates self }
+        requires rate { 1 ≤ info.rate }
+        ensures { MatchResult result (IsOutputSize self info) (λ e. info_fault self info ≡ Some e) }
     {
-        if usize::from(announced.channels) < self.inputs {
+        if usize::from(info.channels) < self.inputs {
             return Err(Fault::ChannelsMissing);
         }
-        let made = u64::from(announced.rate) * self.made as u64;
+        let made = u64::from(info.rate) * self.made as u64;
         let taken = self.taken as u64;
         if !made.is_multiple_of(taken) {
             return Err(Fault::RateNotWhole);
         }
         let rate = made / taken;
-        if rate * (2 * self.outputs as u64) > MOST_BYTES_A_SECOND {
+        if rate * (2 * self.outputs as u64) > MAX_BYTES_A_SECOND {
             return Err(Fault::Wav(FormatFault::RateTooLarge));
         }
-        let periods = self.periods(announced.frames);
+        let periods = self.periods(info.frames);
         if self.is_too_long(periods) {
             return Err(Fault::Wav(FormatFault::TooLong));
         }

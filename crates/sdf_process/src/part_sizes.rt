@@ -1,4 +1,4 @@
-//! The cut of a sound in time, into pieces and parts.
+//! The sizes of the pieces and parts into which a sound is cut in time.
 
 ghost use Rattle.std.specs.Prelude.{◌≡◌, ◌<◌, ◌≤◌, ℕ, List, max};
 ghost use Rattle.sdf_graph.specs.Periods.{IsLeastPeriod};
@@ -6,7 +6,7 @@ ghost use Rattle.sdf_graph.specs.Rates.{rates};
 ghost use Rattle.sdf_actor.specs.Graphs.{graph_of};
 ghost use Rattle.sdf_kit.specs.Kit.{kit_steps};
 ghost use Rattle.sdf_process.specs.Cuts.{AreAtOnce, IsPartOf, IsPieceSize, periods_in};
-ghost use Rattle.sdf_process.specs.Output.{IsExchange, exchange_of};
+ghost use Rattle.sdf_process.specs.Output.{AreIoRates, io_rates_of};
 
 use crate::io_rates::IoRates;
 use sdf_file::Design;
@@ -31,48 +31,48 @@ const PART: usize = 16_384;
 /// periods is then run twice.
 const WARM_UPS: u32 = 32;
 
-/// The cut of a piece in time: the most parts that are run in parallel, and the periods of warm-up before a part.
+/// A partition of a piece: the most parts that are run in parallel, and the periods of warm-up before each.
 #[derive(Clone, Copy)]
-pub(crate) struct PartSizes {
+pub(crate) struct Partition {
     pub(crate) parts: u32,
     pub(crate) warm: u32,
 }
 
 /// Returns the number of periods that fit into `frames` frames, or 1 if none does.
-pub(crate) fn periods_in(frames: usize, exchange: IoRates) -> u32
-    requires limits { IsExchange exchange }
+pub(crate) fn periods_in(frames: usize, io: IoRates) -> u32
+    requires limits { AreIoRates io }
     requires few { frames < 4294967296 }
-    ensures { result ≡ periods_in frames exchange }
+    ensures { result ≡ periods_in frames io }
 {
-    (frames / exchange.taken.max(exchange.made)).max(1) as u32
+    (frames / io.taken.max(io.made)).max(1) as u32
 }
 
-impl PartSizes {
+impl Partition {
     /// Returns the number of periods of a part, if `periods` periods are run in parallel parts.
-    pub(crate) fn part_of(self, exchange: IoRates, periods: u32) -> u32
-        requires { IsExchange exchange }
-        ensures part { IsPartOf exchange self periods result }
+    pub(crate) fn part_of(self, io: IoRates, periods: u32) -> u32
+        requires { AreIoRates io }
+        ensures part { IsPartOf io self periods result }
         ensures long { self.warm ≤ result }
     {
         let share = periods.div_ceil(self.parts.max(1));
-        let least = periods_in(PART, exchange).max(self.warm.saturating_mul(WARM_UPS));
+        let least = periods_in(PART, io).max(self.warm.saturating_mul(WARM_UPS));
         part_size(share, (share / least).max(1), self.warm)
     }
 }
 
 /// Returns the number of periods of a piece, if each worker has up to `share` frames of it, or eight warm-ups. A piece
 /// that is not cut has up to `PIECE` frames.
-pub(crate) fn piece_periods(exchange: IoRates, cut: Option<PartSizes>, share: usize) -> u32
-    requires limits { IsExchange exchange }
+pub(crate) fn piece_periods(io: IoRates, partition: Option<Partition>, share: usize) -> u32
+    requires limits { AreIoRates io }
     requires few { share < 4294967296 }
     ensures some { 0 < result }
-    ensures piece { IsPieceSize share exchange cut result }
+    ensures piece { IsPieceSize share io partition result }
 {
-    match cut {
-        Some(PartSizes { parts, warm }) => part_size(periods_in(share, exchange), 1, warm)
+    match partition {
+        Some(Partition { parts, warm }) => part_size(periods_in(share, io), 1, warm)
             .saturating_mul(parts)
             .max(1),
-        None => periods_in(PIECE, exchange),
+        None => periods_in(PIECE, io),
     }
 }
 
@@ -82,17 +82,15 @@ pub fn parts_at_once(design: &Design, workers: u32, warm: u32, frames: u64) -> u
     ensures some { 0 < frames → 0 < result }
     ensures few { result ≤ max 1 workers }
     ensures parts { (q : List ℕ) → IsLeastPeriod (rates (graph_of kit_steps design.now.net)) q →
-        AreAtOnce (exchange_of design.now.net q) (record { parts = workers; warm = warm }) frames result }
+        AreAtOnce (io_rates_of design.now.net q) (record { parts = workers; warm = warm }) frames result }
 {
-    let exchange = IoRates::of_net(design.net());
-    let cut = PartSizes {
+    let io = IoRates::of_net(design.net());
+    let partition = Partition {
         parts: workers,
         warm,
     };
-    let periods = frames
-        .div_ceil(exchange.made as u64)
-        .min(u64::from(u32::MAX)) as u32;
-    let piece = piece_periods(exchange, Some(cut), FIRST_SHARE).min(periods);
-    let part = cut.part_of(exchange, piece);
+    let periods = frames.div_ceil(io.made as u64).min(u64::from(u32::MAX)) as u32;
+    let piece = piece_periods(io, Some(partition), FIRST_SHARE).min(periods);
+    let part = partition.part_of(io, piece);
     piece.div_ceil(part).min(workers.max(1))
 }

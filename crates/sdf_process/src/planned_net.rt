@@ -1,4 +1,4 @@
-//! A task: a net and its plan.
+//! A planned net: a net and its plan.
 
 use sdf_actor::Net;
 use sdf_kit::Kit;

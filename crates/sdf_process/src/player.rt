@@ -13,23 +13,23 @@ ghost use Rattle.sdf_kit.specs.Kit.{kit_steps};
 ghost use Rattle.sdf_sched.specs.Period.{IsPeriodOf};
 ghost use Rattle.sdf_faults.specs.declared.fault.Fault.TheVariants.{OutOfMemory};
 ghost use Rattle.sdf_wav.specs.Sound.{Sound};
-ghost use Rattle.sdf_process.specs.declared.part_sizes.PartSizes.{PartSizes};
-ghost use Rattle.sdf_process.specs.Output.{exchange_of, IsExchange};
+ghost use Rattle.sdf_process.specs.declared.part_sizes.Partition.{Partition};
+ghost use Rattle.sdf_process.specs.Output.{io_rates_of, AreIoRates};
 ghost use Rattle.sdf_process.specs.Streams.{CanPlay, CanPlayNext, Plays, PlaysNext, StandsAt, StaysPlayer};
-ghost use Rattle.sdf_process.specs.Tasks.{IsCut, IsPlayer, IsScore, cut_by};
+ghost use Rattle.sdf_process.specs.PlannedNets.{IsPartition, IsPlayer, IsPlayerPlan, partition_by};
 
-use crate::part_sizes::{PartSizes, PIECE, periods_in, piece_periods};
 use crate::io_rates::IoRates;
+use crate::part_sizes::{PIECE, Partition, periods_in, piece_periods};
 use crate::portion::Portion;
 use crate::samples::make_frames;
 use sdf_actor::{Net, NetState};
-use sdf_queues::RunFault;
 use sdf_faults::Fault;
-use sdf_warm_up::warm_up::warm_up;
 use sdf_kit::{Kept, Kit};
-use sdf_run::{Passage, Spares, resume_one_in};
-use sdf_sched::Period;
 use sdf_parallel::{PartWorkers, Split, resume_split};
+use sdf_queues::RunFault;
+use sdf_run::{RunInputs, SpareMemory, resume_one_in};
+use sdf_sched::Period;
+use sdf_warm_up::warm_up::warm_up;
 use std::alloc::{AllocError, Global};
 use std::mem;
 use std::thread::Threads;
@@ -48,7 +48,7 @@ pub(crate) struct Memory {
     /// The input lists.
     inputs: Vec<Vec<i32>>,
     /// The memory of the run.
-    spares: Spares<i32>,
+    spares: SpareMemory<i32>,
     /// The memory of its frames.
     frames: Vec<Vec<i16>>,
 }
@@ -58,7 +58,7 @@ impl Memory {
     fn none(alloc: Global) -> Memory {
         Memory {
             inputs: Vec::new(alloc),
-            spares: Spares::none(alloc),
+            spares: SpareMemory::none(alloc),
             frames: Vec::new(alloc),
         }
     }
@@ -82,13 +82,13 @@ impl Memory {
         let spare = made.pop().unwrap_or(Vec::new(alloc));
         made.clear();
         let lists = portion.lists(alloc, &mut self.inputs)?;
-        let passage = Passage {
+        let run_inputs = RunInputs {
             net,
             period,
             periods: portion.periods,
             inputs: &lists,
         };
-        let (ran, last) = resume_one_in(alloc, passage, rest, &mut self.spares)?;
+        let (ran, last) = resume_one_in(alloc, run_inputs, rest, &mut self.spares)?;
         self.inputs = lists;
         *rest = last;
         let frames = make_frames(&ran.outputs, portion.frames, spare)?;
@@ -104,8 +104,8 @@ impl Memory {
 pub(crate) enum Manner {
     /// On one thread.
     Whole(Memory),
-    /// In parallel parts, cut in this way, by these workers.
-    Parts(PartSizes, PartWorkers<Vec<i16>, i32, Kept>),
+    /// In the parallel parts of this partition, by these workers.
+    Parts(Partition, PartWorkers<Vec<i16>, i32, Kept>),
 }
 
 /// A net that plays a sound.
@@ -118,55 +118,60 @@ pub(crate) struct Player<'a> {
     pub(crate) manner: Manner,
 }
 
-/// Returns the cut of a sound in time, if several parts are requested and the net is known to forget its input.
-fn cut_of(alloc: Global, score: PlayerPlan<'_>) -> Result<Option<PartSizes>, AllocError>
-    requires { IsScore score }
-    ensures warm { IfOk result (IsCut score.entry.net.now score.entry.period.now.repetitions) }
-    ensures parts { IfOk result (λ cut. IfSome cut (λ (c : PartSizes). c.parts ≡ score.entry.parts)) }
-    ensures whole { IfOk result (λ cut. IfNone cut (2 ≤ score.entry.parts →
-        IsLasting kit_steps score.entry.net.now)) }
+/// Returns the partition of a sound, if several parts are requested and the net is known to forget its input.
+fn partition_for(
+    alloc: Global,
+    player_plan: PlayerPlan<'_>,
+) -> Result<Option<Partition>, AllocError>
+    requires { IsPlayerPlan player_plan }
+    ensures warm { IfOk result (IsPartition player_plan.entry.net.now player_plan.entry.period.now.repetitions) }
+    ensures parts { IfOk result (λ cut. IfSome cut (λ (c : Partition). c.parts ≡ player_plan.entry.parts)) }
+    ensures whole { IfOk result (λ cut. IfNone cut (2 ≤ player_plan.entry.parts →
+        IsLasting kit_steps player_plan.entry.net.now)) }
 {
-    if score.parts < 2 {
+    if player_plan.parts < 2 {
         return Ok(None);
     }
-    let Some(warm) = warm_up(alloc, score.net)? else {
+    let Some(warm) = warm_up(alloc, player_plan.net)? else {
         return Ok(None);
     };
-    let parts = score.parts;
-    Ok(Some(PartSizes { parts, warm }))
+    let parts = player_plan.parts;
+    Ok(Some(Partition { parts, warm }))
 }
 
 impl<'a> Player<'a> {
     /// Makes a player before its first period.
-    pub(crate) fn open(alloc: Global, score: PlayerPlan<'a>) -> Result<Player<'a>, Fault>
-        requires score { IsScore score }
-        requires taken { 0 < (exchange_of score.net.now score.period.now.repetitions).taken }
-        requires accepted { WasAccepted kit_steps score.net.now }
+    pub(crate) fn open(alloc: Global, player_plan: PlayerPlan<'a>) -> Result<Player<'a>, Fault>
+        requires player_plan { IsPlayerPlan player_plan }
+        requires taken { 0 < (io_rates_of player_plan.net.now player_plan.period.now.repetitions).taken }
+        requires accepted { WasAccepted kit_steps player_plan.net.now }
         ensures player { MatchResult result
-            (λ v. IsPlayer v × (v.net ≡ score.entry.net) × (v.period ≡ score.entry.period))
+            (λ v. IsPlayer v × (v.net ≡ player_plan.entry.net) × (v.period ≡ player_plan.entry.period))
             (λ e. e ≡ OutOfMemory) }
-        ensures stands { IfOk result (λ v. (s : Sound) → StandsAt score.entry.net.now score.entry.period.now 1 s 0 0 []
+        ensures stands { IfOk result (λ v. (s : Sound) →
+            StandsAt player_plan.entry.net.now player_plan.entry.period.now 1 s 0 0 []
             (Some v.rest)) }
-        ensures parts { IfOk result (λ v. IfSome (cut_by v.manner) (λ (c : PartSizes). c.parts ≡ score.entry.parts)) }
-        ensures whole { IfOk result (λ v. IfNone (cut_by v.manner) (2 ≤ score.entry.parts →
-            IsLasting kit_steps score.entry.net.now)) }
+        ensures parts { IfOk result (λ v. IfSome (partition_by v.manner)
+            (λ (c : Partition). c.parts ≡ player_plan.entry.parts)) }
+        ensures whole { IfOk result (λ v. IfNone (partition_by v.manner) (2 ≤ player_plan.entry.parts →
+            IsLasting kit_steps player_plan.entry.net.now)) }
     {
-        let manner = match cut_of(alloc, score)? {
+        let manner = match partition_for(alloc, player_plan)? {
             Some(cut) => Manner::Parts(cut, PartWorkers::none(alloc)),
             None => Manner::Whole(Memory::none(alloc)),
         };
-        let rest = score.net.first_rest(alloc)?;
+        let rest = player_plan.net.initial_state(alloc)?;
         Ok(Player {
-            net: score.net,
-            period: score.period,
+            net: player_plan.net,
+            period: player_plan.period,
             rest,
             manner,
         })
     }
 
-    /// Returns the cut of pieces in time, unless one thread plays them.
-    fn cut(&self) -> Option<PartSizes>
-        ensures { result ≡ cut_by self.now.manner }
+    /// Returns the partition by which pieces are cut in time, unless one thread plays them.
+    fn cut(&self) -> Option<Partition>
+        ensures { result ≡ partition_by self.now.manner }
     {
         match &self.manner {
             Manner::Whole(_) => None,
@@ -175,19 +180,19 @@ impl<'a> Player<'a> {
     }
 
     /// Returns whether it runs parts of a sound in parallel.
-    pub(crate) fn is_cut(&self) -> bool
-        ensures { result ≡ is_some (cut_by self.now.manner) }
+    pub(crate) fn is_in_parts(&self) -> bool
+        ensures { result ≡ is_some (partition_by self.now.manner) }
     {
         self.cut().is_some()
     }
 
     /// Returns the number of frames to feed at a time, if each worker has up to `share` of them.
-    pub(crate) fn piece(&self, exchange: IoRates, share: usize) -> usize
-        requires limits { IsExchange exchange }
+    pub(crate) fn piece(&self, io: IoRates, share: usize) -> usize
+        requires limits { AreIoRates io }
         requires few { share < 4294967296 }
         ensures { 0 < result }
     {
-        piece_periods(exchange, self.cut(), share) as usize * exchange.taken
+        piece_periods(io, self.cut(), share) as usize * io.taken
     }
 
     /// Runs `portion` in parallel parts, each of which makes its own frames, and `meanwhile` beside them.
@@ -198,9 +203,9 @@ impl<'a> Player<'a> {
         meanwhile: &mut G,
     ) -> (Result<Vec<Vec<i16>>, RunFault>, B)
         requires player { IsPlayer self.old }
-        requires cut { is_some (cut_by self.old.manner) ≡ true }
+        requires cut { is_some (partition_by self.old.manner) ≡ true }
         requires can { CanPlayNext self.old portion }
-        requires all { portion.frames ≡ portion.periods * portion.exchange.made }
+        requires all { portion.frames ≡ portion.periods * portion.io.made }
         requires meanwhile { G.pre meanwhile.old }
         ensures plays { IfOk result.0 (λ v. PlaysNext self.old self.new portion.entry (items_of v.items)) }
         ensures refused { IfErr result.0 (λ f. f ≡ run.OutOfMemory) }
@@ -215,8 +220,8 @@ impl<'a> Player<'a> {
             period: self.period,
             periods: portion.periods,
             warm: cut.warm,
-            size: cut.part_of(portion.exchange, portion.periods),
-            stretch: periods_in(PIECE, portion.exchange),
+            size: cut.part_of(portion.io, portion.periods),
+            stretch: periods_in(PIECE, portion.io),
             workers: cut.parts,
         };
         let (ran, done) = resume_split(rt, &portion, split, &self.rest, workers, meanwhile);
@@ -238,7 +243,7 @@ impl<'a> Player<'a> {
     ) -> Result<Vec<Vec<i16>>, RunFault>
         requires player { IsPlayer self.old }
         requires can { CanPlayNext self.old portion }
-        requires all { portion.frames ≡ portion.periods * portion.exchange.made }
+        requires all { portion.frames ≡ portion.periods * portion.io.made }
         ensures plays { IfOk result (λ v. PlaysNext self.old self.new portion.entry (items_of v.items)) }
         ensures refused { IfErr result (λ f. f ≡ run.OutOfMemory) }
         ensures stays { StaysPlayer self.old self.new }

@@ -3,7 +3,7 @@
 ghost use Rattle.std.specs.Prelude.{◌≡◌, ◌*◌, ◌≤◌, ◌<◌, ℕ, [], length, slice_index_or, IfOk};
 ghost use Rattle.sdf_actor.specs.Wires.{lists as items_of};
 ghost use Rattle.sdf_parallel.specs.Cuts.{cut};
-ghost use Rattle.sdf_process.specs.Output.{interleaved, lists_from, IsExchange};
+ghost use Rattle.sdf_process.specs.Output.{interleaved, lists_from, AreIoRates};
 
 use crate::io_rates::IoRates;
 use crate::samples::{channel_lists, make_frames};
@@ -15,13 +15,13 @@ use std::alloc::{AllocError, Global};
 /// are written. In a run in parts, each stretch makes its own input lists and its own frames.
 #[derive(Clone, Copy)]
 pub(crate) struct Portion<'a> {
-    pub(crate) exchange: IoRates,
+    pub(crate) io: IoRates,
     pub(crate) input: &'a Wav,
     pub(crate) periods: u32,
     pub(crate) frames: usize,
     ghost fits: { periods ≤ 4294967295 },
-    ghost limits: { IsExchange exchange },
-    ghost some: { 0 < exchange.inputs },
+    ghost limits: { AreIoRates io },
+    ghost some: { 0 < io.inputs },
 }
 
 impl<'a> Portion<'a> {
@@ -32,19 +32,19 @@ impl<'a> Portion<'a> {
         spares: &mut [Vec<i32>],
     ) -> Result<Vec<Vec<i32>>, AllocError>
         ensures { IfOk result (λ all. items_of all.items ≡
-            lists_from 0 self.entry.periods self.entry.exchange self.entry.input.now) }
+            lists_from 0 self.entry.periods self.entry.io self.entry.input.now) }
     {
-        let len = self.periods as usize * self.exchange.taken;
-        channel_lists(alloc, self.input, 0, len, self.exchange.inputs, spares)
+        let len = self.periods as usize * self.io.taken;
+        channel_lists(alloc, self.input, 0, len, self.io.inputs, spares)
     }
 }
 
 impl<'a> PartIo<i32> for Portion<'a> {
-    type Made = Vec<i16>;
+    type StretchResult = Vec<i16>;
 
-    ghost inputs = { λ p. lists_from 0 p.periods p.exchange p.input.now };
+    ghost inputs = { λ p. lists_from 0 p.periods p.io p.input.now };
 
-    ghost makes = { λ p periods outputs made. made.items ≡ interleaved (periods * p.exchange.made) outputs };
+    ghost makes = { λ p periods outputs made. made.items ≡ interleaved (periods * p.io.made) outputs };
 
     fn read(
         &self,
@@ -54,12 +54,12 @@ impl<'a> PartIo<i32> for Portion<'a> {
         mut spares: Vec<Vec<i32>>,
     ) -> Result<Vec<Vec<i32>>, AllocError>
         requires order { from ≤ to }
-        requires within { let p = self.now in let inputs = lists_from 0 p.periods p.exchange p.input.now in
+        requires within { let p = self.now in let inputs = lists_from 0 p.periods p.io p.input.now in
             (e : ℕ) → e < length inputs → to ≤ length (slice_index_or inputs e []) }
         ensures { let p = self.now in IfOk result
-            (λ v. items_of v.items ≡ cut from to (lists_from 0 p.periods p.exchange p.input.now)) }
+            (λ v. items_of v.items ≡ cut from to (lists_from 0 p.periods p.io p.input.now)) }
     {
-        let channels = self.exchange.inputs;
+        let channels = self.io.inputs;
         channel_lists(alloc, self.input, from, to - from, channels, &mut spares)
     }
 
@@ -71,9 +71,9 @@ impl<'a> PartIo<i32> for Portion<'a> {
         spare: Option<Vec<i16>>,
     ) -> Result<Vec<i16>, AllocError>
         ensures { IfOk result
-            (λ v. v.items ≡ interleaved (periods * self.now.exchange.made) (items_of outputs.now)) }
+            (λ v. v.items ≡ interleaved (periods * self.now.io.made) (items_of outputs.now)) }
     {
-        let frames = periods as usize * self.exchange.made;
+        let frames = periods as usize * self.io.made;
         make_frames(outputs, frames, spare.unwrap_or(Vec::new(alloc)))
     }
 }

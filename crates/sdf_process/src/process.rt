@@ -3,8 +3,8 @@
 ghost use Rattle.sdf_plan.specs.Plans.{Suits};
 ghost use Rattle.sdf_process.specs.Run.{IsRun};
 
-use crate::running::run_net;
 use crate::planned_net::PlannedNet;
+use crate::running::run_net;
 use sdf_faults::Fault;
 use sdf_file::Design;
 use sdf_plan::Plan;
@@ -34,11 +34,11 @@ pub fn process_with<T: Threads + AllocGlobal + Sync, R: Reader, W: Writer, G: Ga
     ensures { IsRun design.now.net plan.now.period.repetitions (R.state reader.old) (R.state reader.new)
         (W.state writer.old) (W.state writer.new) result }
 {
-    let task = PlannedNet {
+    let planned = PlannedNet {
         net: design.net(),
         plan,
     };
-    run_net(rt, reader, writer, task, gate)
+    run_net(rt, reader, writer, planned, gate)
 }
 
 /// Reads a WAV file, runs `design` on it by `plan`, and writes the WAV file of the output. The gate of `process_with`

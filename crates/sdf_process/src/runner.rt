@@ -8,14 +8,14 @@ ghost use Rattle.sdf_kit.specs.declared.kit.Kit.{Kit as KitValue};
 ghost use Rattle.sdf_faults.specs.declared.fault.Fault.TheVariants.{OutOfMemory};
 ghost use Rattle.sdf_sched.specs.Period.{Schedule};
 ghost use Rattle.sdf_process.specs.Streams.{CanRun, CanRunNext, FeedsBy, FeedsNext, IsFollowed, RunsNext, StaysRunner};
-ghost use Rattle.sdf_process.specs.Streams.{is_cut};
+ghost use Rattle.sdf_process.specs.Streams.{is_in_parts};
 
 use crate::player::Player;
 use crate::portion::Portion;
 use crate::samples::make_frames;
-use sdf_queues::RunFault;
 use sdf_faults::Fault;
 use sdf_kit::Kit;
+use sdf_queues::RunFault;
 use sdf_run::{Gate, Session};
 use std::thread::Threads;
 
@@ -30,12 +30,12 @@ pub(crate) enum PieceRunner<'a> {
 
 impl<'a> PieceRunner<'a> {
     /// Returns whether it runs parts of a sound in parallel.
-    pub(crate) fn is_cut(&self) -> bool
-        ensures { result ≡ is_cut self.now }
+    pub(crate) fn is_in_parts(&self) -> bool
+        ensures { result ≡ is_in_parts self.now }
     {
         match self {
             PieceRunner::Session(_) => false,
-            PieceRunner::Player(player) => player.is_cut(),
+            PieceRunner::Player(player) => player.is_in_parts(),
         }
     }
 
@@ -52,8 +52,8 @@ impl<'a> PieceRunner<'a> {
         ensures refused { IfErr result (λ f. f ≡ OutOfMemory) }
     {
         match self {
-            PieceRunner::Session(session) => run_fed(rt, gate, session, portion),
-            PieceRunner::Player(player) => played(player.run(rt, rt.alloc(), portion)),
+            PieceRunner::Session(session) => feed_session(rt, gate, session, portion),
+            PieceRunner::Player(player) => play_result(player.run(rt, rt.alloc(), portion)),
         }
     }
 
@@ -69,7 +69,7 @@ impl<'a> PieceRunner<'a> {
 }
 
 /// Feeds `portion`, which has whole blocks, to `session`, and returns the first `portion.frames` frames that it makes.
-fn run_fed<T: Threads + AllocGlobal + Sync, G: Gate>(
+fn feed_session<T: Threads + AllocGlobal + Sync, G: Gate>(
     rt: &T,
     gate: &G,
     session: &mut Session<'_, Kit>,
@@ -90,9 +90,9 @@ fn run_fed<T: Threads + AllocGlobal + Sync, G: Gate>(
 }
 
 /// Returns the frames that were played, or the fault of a run.
-pub(crate) fn played(ran: Result<Vec<Vec<i16>>, RunFault>) -> Result<Vec<Vec<i16>>, Fault>
+pub(crate) fn play_result(ran: Result<Vec<Vec<i16>>, RunFault>) -> Result<Vec<Vec<i16>>, Fault>
     requires { IfErr ran (λ f. f ≡ run.OutOfMemory) }
-    ensures played { IfOk result (λ v. ran ≡ Ok v) }
+    ensures play_result { IfOk result (λ v. ran ≡ Ok v) }
     ensures refused { IfErr result (λ f. f ≡ OutOfMemory) }
 {
     Ok(ran?)

@@ -4,13 +4,13 @@ ghost use Rattle.std.specs.Prelude.{◌≡◌, None};
 ghost use Rattle.sdf_wav.specs.PiecesIn.{known_frames};
 ghost use Rattle.sdf_process.specs.Run.{IsRun};
 ghost use Rattle.sdf_process.specs.Stages.{RunsOn};
-ghost use Rattle.sdf_process.specs.Tasks.{IsUnheard, IsTask};
+ghost use Rattle.sdf_process.specs.PlannedNets.{IsUnreadContent, IsPlannedNet};
 
-use crate::opened_output::{OpenedOutput, run_begun};
-use crate::io_rates::{StreamInfo, IoRates};
-use crate::stages::{begin, read_content};
-use crate::source::Source;
+use crate::io_rates::{IoRates, StreamInfo};
+use crate::opened_output::{OpenedOutput, run_by_plan};
 use crate::planned_net::PlannedNet;
+use crate::source::Source;
+use crate::stages::{read_content, write_header};
 use sdf_faults::Fault;
 use sdf_run::Gate;
 use sdf_wav::{ContentIn, Reader, Writer};
@@ -25,62 +25,62 @@ struct UnreadContent {
 
 /// Runs a net on a content whose size is filled in. The output is tested, and its header written, before the content
 /// is read.
-fn run_ahead<T: Threads + AllocGlobal + Sync, R: Reader, W: Writer, G: Gate>(
+fn run_sized<T: Threads + AllocGlobal + Sync, R: Reader, W: Writer, G: Gate>(
     rt: &T,
     reader: &mut R,
     writer: &mut W,
-    task: PlannedNet<'_>,
+    planned: PlannedNet<'_>,
     gate: &G,
-    unheard: UnreadContent,
+    unread_content: UnreadContent,
 ) -> Result<(), Fault>
-    requires task { IsTask task }
-    requires content { IsUnheard unheard.content unheard.frames }
-    ensures { RunsOn task.entry.net.now task.entry.plan.now.period.repetitions unheard.content
+    requires planned { IsPlannedNet planned }
+    requires content { IsUnreadContent unread_content.content unread_content.frames }
+    ensures { RunsOn planned.entry.net.now planned.entry.plan.now.period.repetitions unread_content.content
         (R.state reader.old) (R.state reader.new) (W.state writer.old) (W.state writer.new) result }
 {
-    let UnreadContent { content, frames } = unheard;
-    let exchange = IoRates::of_net(task.net);
-    let announced = StreamInfo {
+    let UnreadContent { content, frames } = unread_content;
+    let io = IoRates::of_net(planned.net);
+    let info = StreamInfo {
         rate: content.rate(),
         channels: content.channels(),
         frames,
     };
-    let extent = exchange.extent(announced)?;
-    let output = begin(writer, exchange, extent)?;
-    let begun = OpenedOutput {
+    let output_size = io.output_size(info)?;
+    let output = write_header(writer, io, output_size)?;
+    let opened_output = OpenedOutput {
         source: Source::Content(content),
         frames,
         output,
     };
-    run_begun(rt, reader, writer, task, gate, begun)
+    run_by_plan(rt, reader, writer, planned, gate, opened_output)
 }
 
-/// Runs a net on a content whose size was never filled in. It is read whole before the output is tested and begun.
-fn run_behind<T: Threads + AllocGlobal + Sync, R: Reader, W: Writer, G: Gate>(
+/// Runs a net on a content whose size was never filled in. It is read whole before the output is tested and opened.
+fn run_unsized<T: Threads + AllocGlobal + Sync, R: Reader, W: Writer, G: Gate>(
     rt: &T,
     reader: &mut R,
     writer: &mut W,
-    task: PlannedNet<'_>,
+    planned: PlannedNet<'_>,
     gate: &G,
     content: ContentIn,
 ) -> Result<(), Fault>
-    requires task { IsTask task }
+    requires planned { IsPlannedNet planned }
     requires unread { content.gone ≡ 0 }
     requires unspoilt { content.fault ≡ None }
     requires unknown { known_frames content ≡ None }
-    ensures { RunsOn task.entry.net.now task.entry.plan.now.period.repetitions content
+    ensures { RunsOn planned.entry.net.now planned.entry.plan.now.period.repetitions content
         (R.state reader.old) (R.state reader.new) (W.state writer.old) (W.state writer.new) result }
 {
-    let exchange = IoRates::of_net(task.net);
+    let io = IoRates::of_net(planned.net);
     let sound = read_content(rt.alloc(), reader, content)?;
-    let extent = exchange.extent(StreamInfo::by(&sound))?;
-    let output = begin(writer, exchange, extent)?;
-    let begun = OpenedOutput {
+    let output_size = io.output_size(StreamInfo::of_sound(&sound))?;
+    let output = write_header(writer, io, output_size)?;
+    let opened_output = OpenedOutput {
         frames: sound.frames(),
-        source: Source::Heard { sound, taken: 0 },
+        source: Source::Decoded { sound, taken: 0 },
         output,
     };
-    run_begun(rt, reader, writer, task, gate, begun)
+    run_by_plan(rt, reader, writer, planned, gate, opened_output)
 }
 
 /// Runs a net on a WAV file, and writes the WAV file of its output.
@@ -88,19 +88,20 @@ pub(crate) fn run_net<T: Threads + AllocGlobal + Sync, R: Reader, W: Writer, G: 
     rt: &T,
     reader: &mut R,
     writer: &mut W,
-    task: PlannedNet<'_>,
+    planned: PlannedNet<'_>,
     gate: &G,
 ) -> Result<(), Fault>
-    requires { IsTask task }
-    ensures { IsRun task.entry.net.now task.entry.plan.now.period.repetitions (R.state reader.old) (R.state reader.new)
+    requires { IsPlannedNet planned }
+    ensures { IsRun planned.entry.net.now planned.entry.plan.now.period.repetitions (R.state reader.old)
+        (R.state reader.new)
         (W.state writer.old) (W.state writer.new) result }
 {
     let content = ContentIn::open(reader)?;
     match content.frames() {
         Some(frames) => {
-            let unheard = UnreadContent { content, frames };
-            run_ahead(rt, reader, writer, task, gate, unheard)
+            let unread_content = UnreadContent { content, frames };
+            run_sized(rt, reader, writer, planned, gate, unread_content)
         }
-        None => run_behind(rt, reader, writer, task, gate, content),
+        None => run_unsized(rt, reader, writer, planned, gate, content),
     }
 }

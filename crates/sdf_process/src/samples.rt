@@ -98,7 +98,7 @@ pub(crate) fn channel_lists(
 }
 
 /// Clamps `sample` to 16 bits.
-fn clamped(sample: i32) -> i16
+fn clamp_sample(sample: i32) -> i16
     ensures { result ≡ saturate_signed w16 sample }
 {
     sample.clamp(-32_768, 32_767) as i16
@@ -145,7 +145,7 @@ fn put_samples(list: &[i32], channel: usize, channels: usize, samples: &mut [i16
     ensures count { length samples.new ≡ length samples.old }
 {
     for (at, sample) in list.iter().enumerate() {
-        samples[at * channels + channel] = clamped(*sample);
+        samples[at * channels + channel] = clamp_sample(*sample);
     }
 }
 

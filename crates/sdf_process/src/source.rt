@@ -2,8 +2,8 @@
 
 ghost use Rattle.std.specs.Prelude.{◌≡◌, ◌≢◌, ◌+◌, ◌*◌, ◌≤◌, ℤ, List, length, Ok, Err, MatchResult, None};
 ghost use Rattle.sdf_wav.specs.Device.{ReaderState};
-ghost use Rattle.sdf_wav.specs.PiecesIn.{Reading};
-ghost use Rattle.sdf_wav.specs.declared.wav.TheConstants.{MOST_CHANNELS};
+ghost use Rattle.sdf_wav.specs.PiecesIn.{ContentInValue};
+ghost use Rattle.sdf_wav.specs.declared.wav.TheConstants.{MAX_CHANNELS};
 ghost use Rattle.sdf_process.specs.Sources.{reading_of, source_behind, ReadsBy, ReadsMore, Takes, TakesAll, TakesMore};
 
 use crate::stages::read_content;
@@ -17,7 +17,7 @@ pub(crate) enum Source {
     /// The content of a file, which is next in the reader.
     Content(ContentIn),
     /// A sound that was read before. `taken` of its samples were taken.
-    Heard { sound: Wav, taken: usize },
+    Decoded { sound: Wav, taken: usize },
 }
 
 /// Reads the next `frames` frames of `content`, and adds them to `kept`.
@@ -31,7 +31,7 @@ fn read_more<R: Reader>(
     requires unspoilt { content.old.fault ≡ None }
     requires sized { content.old.size ≢ 0xFFFFFFFF }
     requires enough { content.old.gone + 2 * (frames * content.old.channels) ≤ content.old.size }
-    ensures { (c : Reading) (before : List ℤ) (r : ReaderState) →
+    ensures { (c : ContentInValue) (before : List ℤ) (r : ReaderState) →
         content.old ≡ record c { gone = c.gone + 2 * length before } →
         ReadsBy c before r.remaining (R.state reader.old).remaining → (R.state reader.old).failures ≡ r.failures →
         MatchResult result
@@ -54,7 +54,7 @@ impl Source {
     {
         match self {
             Source::Content(content) => content.rate(),
-            Source::Heard { sound, .. } => sound.rate(),
+            Source::Decoded { sound, .. } => sound.rate(),
         }
     }
 
@@ -62,11 +62,11 @@ impl Source {
     pub(crate) fn channels(&self) -> u16
         ensures value { result ≡ (reading_of self.now).channels }
         ensures above_0 { 1 ≤ result }
-        ensures few { result ≤ MOST_CHANNELS }
+        ensures few { result ≤ MAX_CHANNELS }
     {
         match self {
             Source::Content(content) => content.channels(),
-            Source::Heard { sound, .. } => sound.channels(),
+            Source::Decoded { sound, .. } => sound.channels(),
         }
     }
 
@@ -91,7 +91,7 @@ impl Source {
     {
         match self {
             Source::Content(content) => read_more(alloc, reader, content, frames, kept),
-            Source::Heard { sound, taken } => {
+            Source::Decoded { sound, taken } => {
                 let end = *taken + frames * usize::from(sound.channels());
                 kept.extend_from_slice(&sound.samples()[*taken..end])?;
                 *taken = end;
@@ -108,7 +108,7 @@ impl Source {
     {
         match self {
             Source::Content(content) => read_content(alloc, reader, content),
-            Source::Heard { sound, .. } => Ok(sound),
+            Source::Decoded { sound, .. } => Ok(sound),
         }
     }
 }

@@ -2,8 +2,8 @@
 
 ghost use Rattle.std.specs.Prelude.{◌≡◌, ◌*◌, ◌≤◌, ◌<◌, false, length, None, IfOk};
 ghost use Rattle.sdf_wav.specs.PiecesOut.{file_header};
-ghost use Rattle.sdf_process.specs.Output.{IsExchange};
-ghost use Rattle.sdf_process.specs.Stages.{PutsHeader, ReadsContent};
+ghost use Rattle.sdf_process.specs.Output.{AreIoRates};
+ghost use Rattle.sdf_process.specs.Stages.{PutsBytes, ReadsContent};
 
 use crate::io_rates::{IoRates, OutputSize};
 use sdf_faults::Fault;
@@ -11,28 +11,28 @@ use sdf_wav::{ContentIn, ContentOut, Reader, Wav, Writer};
 use std::alloc::Global;
 
 /// Writes the header of an output.
-pub(crate) fn begin<W: Writer>(
+pub(crate) fn write_header<W: Writer>(
     writer: &mut W,
-    exchange: IoRates,
-    extent: OutputSize,
+    io: IoRates,
+    output_size: OutputSize,
 ) -> Result<ContentOut, Fault>
-    requires limits { IsExchange exchange }
-    requires some_rate { 0 < extent.rate }
-    requires few_bytes_a_second { extent.rate * (2 * exchange.outputs) ≤ 4294967295 }
-    requires few_bytes { 2 * (extent.periods * exchange.made * exchange.outputs) ≤ 4294967259 }
-    ensures puts { PutsHeader (W.state writer.old) (W.state writer.new)
-        (file_header extent.rate exchange.outputs (extent.periods * exchange.made)) result }
+    requires limits { AreIoRates io }
+    requires some_rate { 0 < output_size.rate }
+    requires few_bytes_a_second { output_size.rate * (2 * io.outputs) ≤ 4294967295 }
+    requires few_bytes { 2 * (output_size.periods * io.made * io.outputs) ≤ 4294967259 }
+    ensures puts { PutsBytes (W.state writer.old) (W.state writer.new)
+        (file_header output_size.rate io.outputs (output_size.periods * io.made)) result }
     ensures owed { IfOk result (λ o. o ≡ record {
-      channels = exchange.outputs;
-      missing = extent.periods * exchange.made;
+      channels = io.outputs;
+      missing = output_size.periods * io.made;
       spent = false;
     }) }
 {
-    let frames = u64::from(extent.periods) * exchange.made as u64;
+    let frames = u64::from(output_size.periods) * io.made as u64;
     Ok(ContentOut::start(
         writer,
-        u64::from(extent.rate),
-        exchange.outputs as u16,
+        u64::from(output_size.rate),
+        io.outputs as u16,
         frames,
     )?)
 }

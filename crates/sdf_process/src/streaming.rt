@@ -7,20 +7,20 @@ ghost use Rattle.sdf_wav.specs.Device.{ReaderState, WriterState};
 ghost use Rattle.sdf_process.specs.Flows.{CanStep, CanTurn, KeepsGoing, GoesOn, Start, StepsOn, StreamsFrom, TakesMost};
 ghost use Rattle.sdf_process.specs.Flows.{TurnsAll, start_of};
 ghost use Rattle.sdf_process.specs.Streams.{CanPlayNext, IsOpened, PlaysNext, StaysPlayer, Streams};
-ghost use Rattle.sdf_process.specs.Streams.{is_cut};
-ghost use Rattle.sdf_process.specs.Tasks.{IsBegun, IsPlayer, cut_by};
+ghost use Rattle.sdf_process.specs.Streams.{is_in_parts};
+ghost use Rattle.sdf_process.specs.PlannedNets.{IsOpenedOutput, IsPlayer, partition_by};
 
-use crate::opened_output::OpenedOutput;
-use crate::io_rates::IoRates;
 use crate::flow::Flow;
+use crate::io_rates::IoRates;
+use crate::opened_output::OpenedOutput;
 use crate::player::Player;
 use crate::portion::Portion;
+use crate::runner::{PieceRunner, play_result};
 use crate::writing::put_in_turn;
-use crate::runner::{PieceRunner, played};
 use sdf_actor::Net;
-use sdf_queues::RunFault;
 use sdf_faults::Fault;
 use sdf_kit::Kit;
+use sdf_queues::RunFault;
 use sdf_run::Gate;
 use sdf_run::laws::runs_go_on;
 use sdf_sched::Period;
@@ -30,7 +30,7 @@ use std::mem;
 use std::thread::Threads;
 
 /// Returns a copy of the samples from index `from` on.
-fn behind(alloc: Global, samples: &[i16], from: usize) -> Result<Vec<i16>, AllocError>
+fn copy_tail(alloc: Global, samples: &[i16], from: usize) -> Result<Vec<i16>, AllocError>
     requires { from ≤ length samples.now }
     ensures { IfOk result (λ rest. rest.items ≡ drop from samples.now) }
 {
@@ -57,7 +57,7 @@ pub(crate) struct Opened<'a> {
 pub(crate) struct Stream<'a> {
     runner: PieceRunner<'a>,
     flow: Flow,
-    exchange: IoRates,
+    io: IoRates,
     /// Periods in a block.
     blocking: u32,
     /// Frames a second of the sound.
@@ -72,7 +72,7 @@ impl Drop for Stream<'_> {
         let Stream {
             runner: _,
             flow: _,
-            exchange: _,
+            io: _,
             blocking: _,
             rate: _,
             channels: _,
@@ -82,19 +82,19 @@ impl Drop for Stream<'_> {
 
 impl<'a> Stream<'a> {
     /// Makes the stream of a run before its first frame.
-    fn open(alloc: Global, opened: Opened<'a>, begun: OpenedOutput) -> Stream<'a>
+    fn open(alloc: Global, opened: Opened<'a>, opened_output: OpenedOutput) -> Stream<'a>
         requires opened { IsOpened opened }
-        requires begun { IsBegun opened.net.now opened.period.now.repetitions begun }
+        requires opened_output { IsOpenedOutput opened.net.now opened.period.now.repetitions opened_output }
         ensures { (r : ReaderState) (w : WriterState) →
-            GoesOn (start_of opened.entry begun r w) result r w }
+            GoesOn (start_of opened.entry opened_output r w) result r w }
     {
         let OpenedOutput {
             source,
             frames: left,
             output,
-        } = begun;
+        } = opened_output;
         runs_go_on::<Kit>();
-        let exchange = IoRates::of_net(opened.net);
+        let io = IoRates::of_net(opened.net);
         let (rate, channels) = (source.rate(), source.channels());
         let flow = Flow {
             source,
@@ -108,7 +108,7 @@ impl<'a> Stream<'a> {
         Stream {
             runner: opened.runner,
             flow,
-            exchange,
+            io,
             blocking: opened.blocking,
             rate,
             channels,
@@ -131,11 +131,11 @@ impl<'a> Stream<'a> {
         ensures left { TakesMost self.old.flow self.new.flow result }
     {
         self.flow.made = self.runner.run(rt, gate, portion)?;
-        self.flow.turn(rt.alloc(), reader, writer)
+        self.flow.write_and_take(rt.alloc(), reader, writer)
     }
 
     /// Runs `portion` in parallel parts. Meanwhile the frames made before are written and the next ones are taken.
-    fn run_beside<T: Threads + AllocGlobal + Sync, R: Reader, W: Writer>(
+    fn run_overlapped<T: Threads + AllocGlobal + Sync, R: Reader, W: Writer>(
         &mut self,
         rt: &T,
         reader: &mut R,
@@ -143,7 +143,7 @@ impl<'a> Stream<'a> {
         portion: Portion<'_>,
     ) -> Result<(), Fault>
         requires step { CanStep self.old portion (R.state reader.old) (W.state writer.old) }
-        requires parts { is_cut self.old.runner ≡ true }
+        requires parts { is_in_parts self.old.runner ≡ true }
         ensures goes { StepsOn self.old self.new portion.entry (R.state reader.old) (R.state reader.new)
             (W.state writer.old) (W.state writer.new) result }
         ensures left { TakesMost self.old.flow self.new.flow result }
@@ -151,9 +151,9 @@ impl<'a> Stream<'a> {
         let PieceRunner::Player(player) = &mut self.runner else {
             unreachable!()
         };
-        let (ran, turned) = play_while_turning(rt, player, &mut self.flow, reader, writer, portion);
+        let (ran, turned) = play_overlapped(rt, player, &mut self.flow, reader, writer, portion);
         turned?;
-        self.flow.made = played(ran)?;
+        self.flow.made = play_result(ran)?;
         Ok(())
     }
 
@@ -171,15 +171,15 @@ impl<'a> Stream<'a> {
             (W.state writer.old) (W.state writer.new) result }
         ensures left { TakesMost self.old.flow self.new.flow result }
     {
-        if self.runner.is_cut() {
-            self.run_beside(rt, reader, writer, portion)
+        if self.runner.is_in_parts() {
+            self.run_overlapped(rt, reader, writer, portion)
         } else {
             self.run_in_turn(rt, reader, writer, gate, portion)
         }
     }
 
     /// Runs the whole blocks of the kept samples, writes frames that were made, and takes the next ones.
-    fn go_on<T: Threads + AllocGlobal + Sync, R: Reader, W: Writer, G: Gate>(
+    fn run_blocks<T: Threads + AllocGlobal + Sync, R: Reader, W: Writer, G: Gate>(
         &mut self,
         rt: &T,
         reader: &mut R,
@@ -191,19 +191,19 @@ impl<'a> Stream<'a> {
             (W.state writer.new) result }
         ensures left { TakesMost self.old.flow self.new.flow result }
     {
-        let block = self.blocking as usize * self.exchange.taken * usize::from(self.channels);
+        let block = self.blocking as usize * self.io.taken * usize::from(self.channels);
         let blocks = self.flow.kept.len() / block;
         if blocks == 0 {
-            return self.flow.turn(rt.alloc(), reader, writer);
+            return self.flow.write_and_take(rt.alloc(), reader, writer);
         }
         let input = self.flow.take_kept(rt.alloc(), self.rate, self.channels);
-        self.flow.kept = behind(rt.alloc(), input.samples(), blocks * block)?;
+        self.flow.kept = copy_tail(rt.alloc(), input.samples(), blocks * block)?;
         let periods = blocks * self.blocking as usize;
         let portion = Portion {
-            exchange: self.exchange,
+            io: self.io,
             input: &input,
             periods: periods as u32,
-            frames: periods * self.exchange.made,
+            frames: periods * self.io.made,
         };
         let spare = mem::replace(&mut self.flow.spare, Vec::new(rt.alloc()));
         self.runner.give_back(spare);
@@ -229,10 +229,10 @@ impl<'a> Stream<'a> {
         if frames == 0 {
             return Ok(());
         }
-        let blocks = frames.div_ceil(self.blocking as usize * self.exchange.made);
+        let blocks = frames.div_ceil(self.blocking as usize * self.io.made);
         let input = self.flow.take_kept(alloc, self.rate, self.channels);
         let portion = Portion {
-            exchange: self.exchange,
+            io: self.io,
             input: &input,
             periods: (blocks * self.blocking as usize) as u32,
             frames,
@@ -243,7 +243,7 @@ impl<'a> Stream<'a> {
 }
 
 /// Plays `portion` in parallel parts. Meanwhile `flow` writes the frames made before and takes the next ones.
-fn play_while_turning<T: Threads + AllocGlobal + Sync, R: Reader, W: Writer>(
+fn play_overlapped<T: Threads + AllocGlobal + Sync, R: Reader, W: Writer>(
     rt: &T,
     player: &mut Player<'_>,
     flow: &mut Flow,
@@ -252,9 +252,9 @@ fn play_while_turning<T: Threads + AllocGlobal + Sync, R: Reader, W: Writer>(
     portion: Portion<'_>,
 ) -> (Result<Vec<Vec<i16>>, RunFault>, Result<(), Fault>)
     requires player { IsPlayer player.old }
-    requires cut { is_some (cut_by player.old.manner) ≡ true }
+    requires cut { is_some (partition_by player.old.manner) ≡ true }
     requires can { CanPlayNext player.old portion }
-    requires all { portion.frames ≡ portion.periods * portion.exchange.made }
+    requires all { portion.frames ≡ portion.periods * portion.io.made }
     requires ahead { CanTurn flow.old (R.state reader.old) (W.state writer.old) }
     ensures plays { IfOk result.0 (λ v. PlaysNext player.old player.new portion.entry (items_of v.items)) }
     ensures refused { IfErr result.0 (λ f. f ≡ run.OutOfMemory) }
@@ -270,7 +270,7 @@ fn play_while_turning<T: Threads + AllocGlobal + Sync, R: Reader, W: Writer>(
             requires { CanTurn flow.now (R.state reader.now) (W.state writer.now) }
             ensures { TurnsAll flow.entry.now flow.exit.now (R.state reader.entry.now) (R.state reader.exit.now)
                 (W.state writer.entry.now) (W.state writer.exit.now) result }
-        { flow.turn(alloc, reader, writer) },
+        { flow.write_and_take(alloc, reader, writer) },
     )
 }
 
@@ -283,20 +283,20 @@ pub(crate) fn run_stream<T: Threads + AllocGlobal + Sync, R: Reader, W: Writer, 
     writer: &mut W,
     gate: &G,
     opened: Opened<'_>,
-    begun: OpenedOutput,
+    opened_output: OpenedOutput,
 ) -> Result<(), Fault>
     requires opened { IsOpened opened }
-    requires begun { IsBegun opened.net.now opened.period.now.repetitions begun }
-    ensures { Streams opened.entry.net.now opened.entry.period.now.repetitions begun.source
+    requires opened_output { IsOpenedOutput opened.net.now opened.period.now.repetitions opened_output }
+    ensures { Streams opened.entry.net.now opened.entry.period.now.repetitions opened_output.source
         (R.state reader.old) (R.state reader.new) (W.state writer.old) (W.state writer.new) result }
 {
     let most = opened.frames;
-    let mut stream = Stream::open(rt.alloc(), opened, begun);
-    stream.go_on(rt, reader, writer, gate)?;
+    let mut stream = Stream::open(rt.alloc(), opened, opened_output);
+    stream.run_blocks(rt, reader, writer, gate)?;
     stream.flow.most = most;
     while stream.flow.left > 0 {
-        stream.go_on(rt, reader, writer, gate)?;
+        stream.run_blocks(rt, reader, writer, gate)?;
     }
-    stream.go_on(rt, reader, writer, gate)?;
+    stream.run_blocks(rt, reader, writer, gate)?;
     stream.finish(rt, writer, gate)
 }

@@ -50,7 +50,8 @@ written_turn graph read actor places costs before after end d (Some y) place cos
     (drop (suc actor) costs) before after end here)
 
 -- there is no cost in the place of what stands there
-pub written_fault : (graph : List ℕ) (read actor : ℕ) (places : List CostPlace) (costs before after : List ℕ) (d : CostPlace)
+pub written_fault : (graph : List ℕ) (read actor : ℕ) (places : List CostPlace) (costs before after : List ℕ)
+    (d : CostPlace)
     (o : Option ℕ) → actor < length places → actor < length costs →
     MatchOption o (piece graph read (get_or places actor d) (get_or costs actor 0) ≡ None)
     (Follows graph read (get_or places actor d) (get_or costs actor 0) before after) →

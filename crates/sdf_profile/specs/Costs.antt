@@ -1,6 +1,6 @@
 -- Costs of firings, in multiples of the cheapest firing.
 use Rattle.std.specs.Prelude.{◌≡◌, ◌⊎◌, ℕ, suc, ◌*◌, ◌+◌, ◌-◌, ◌/◌, ◌≤◌, ◌<◌, List, length, map, slice_index, min}
-use Rattle.sdf_limits.specs.declared.TheConstants.{MOST_COST}
+use Rattle.sdf_limits.specs.declared.TheConstants.{MAX_COST}
 
 -- a time in multiples of the least, rounded to the nearest
 abbrev pub rounded_multiple : ℕ → ℕ → ℕ
@@ -28,4 +28,4 @@ pub record IsLeastTime (times : List ℕ) (least : ℕ) : Type 0 where
 pub record AreCostsOf (times costs : List ℕ) : Type 0 where
   pub least : ℕ
   pub is : IsLeastTime times least
-  pub are : costs ≡ map (cost_of MOST_COST least) times
+  pub are : costs ≡ map (cost_of MAX_COST least) times

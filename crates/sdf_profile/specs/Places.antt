@@ -84,8 +84,8 @@ abbrev pub closed : FoundValue → List CostPlace
 closed f = f.places ++ option_to_list f.table
 
 -- what is found after a line that heads a table
-unfoldable pub headed : ℕ → List ℕ → FoundValue → FoundValue
-headed start line f = record {
+unfoldable pub head_found : ℕ → List ℕ → FoundValue → FoundValue
+head_found start line f = record {
   places = closed f;
   table = if begins line (codes "[[actor]]") then Some (place_behind start line (ends line (13 ∷ 10 ∷ []))) else None;
 }
@@ -96,20 +96,20 @@ cost_found start f None = Err (Cost (length f.places))
 cost_found start f (Some n) = Ok (record f { table = Some (record { start = start; length = n; long = false }) })
 
 -- what is found after a line of an actor's table that has a key
-unfoldable pub keyed : ℕ → List ℕ → CostPlace → FoundValue → Result FoundValue Unwritten
-keyed start line place f =
+unfoldable pub entry_found : ℕ → List ℕ → CostPlace → FoundValue → Result FoundValue Unwritten
+entry_found start line place f =
     if names_cost line then cost_found start f (cost_length line)
     else if place.length == 0 then Ok (record f { table = Some (place_behind start line place.long) })
     else Ok f
 
 abbrev pub key_found : ℕ → List ℕ → Option CostPlace → FoundValue → Result FoundValue Unwritten
 key_found start line None f = Ok f
-key_found start line (Some place) f = keyed start line place f
+key_found start line (Some place) f = entry_found start line place f
 
 -- what is found after any line
 unfoldable pub line_found : ℕ → List ℕ → FoundValue → Result FoundValue Unwritten
 line_found start line f =
-    if begins line (codes "[") then Ok (headed start line f)
+    if begins line (codes "[") then Ok (head_found start line f)
     else if says_nothing line then Ok f
     else key_found start line f.table f
 

@@ -1,6 +1,6 @@
 -- What a profile says of the design and the sound that it ran.
 use Rattle.std.specs.Prelude.{◌≡◌, ℕ, ◌/◌, max, min, List, Option, Some, Err, length, string_bytes, sum, ◌⊎◌}
-use Rattle.sdf_limits.specs.declared.TheConstants.{MOST_BLOCK, MOST_BLOCKING, MOST_PATIENCE}
+use Rattle.sdf_limits.specs.declared.TheConstants.{MAX_BLOCK, MAX_BLOCKING, MAX_PATIENCE}
 use Rattle.sdf_graph.specs.Rates.{rates}
 use Rattle.sdf_graph.specs.Periods.{IsLeastPeriod}
 use Rattle.sdf_actor.specs.Graphs.{graph_of}
@@ -35,7 +35,7 @@ IsMeasured d m = (all : List Spent) × (length all ≡ length d.net.nodes)
 
 -- the most periods in a block, by the limits of a block and of `blocking`
 abbrev pub blocking_of : ℕ → ℕ
-blocking_of period = max 1 (min (MOST_BLOCK / period) MOST_BLOCKING)
+blocking_of period = max 1 (min (MAX_BLOCK / period) MAX_BLOCKING)
 
 -- the options of a profile: a run over rings by one worker, in the longest blocks allowed
 pub record AreProfileOptions (d : DesignValue) (o : Options) : Type 0 where
@@ -44,7 +44,7 @@ pub record AreProfileOptions (d : DesignValue) (o : Options) : Type 0 where
   pub workers : o.workers ≡ 1
   pub policy : o.policy ≡ Runs
   pub placement : o.placement ≡ Homed
-  pub patience : o.patience ≡ MOST_PATIENCE
+  pub patience : o.patience ≡ MAX_PATIENCE
   pub blocking : (q : List ℕ) → IsLeastPeriod (rates (graph_of kit_steps d.net)) q → o.blocking ≡ blocking_of (sum q)
 
 -- a reader that never failed

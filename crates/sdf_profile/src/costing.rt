@@ -52,7 +52,7 @@ fn test_costed(
 
 /// Returns the text of `graph` with `costs`, before it is read again.
 #[tactic(auto, unfolding(crate::specs::Places::costed_text_of))]
-fn made_text(alloc: Global, graph: &[u8], costs: &[u32]) -> Result<Vec<u8>, Unwritten>
+fn unchecked_text(alloc: Global, graph: &[u8], costs: &[u32]) -> Result<Vec<u8>, Unwritten>
     ensures exactly { MatchResult result
         (λ text. costed_text_of costs.now graph.now ≡ Ok text.items)
         (λ fault. (fault ≡ OutOfMemory) ⊎ (costed_text_of costs.now graph.now ≡ Err fault)) }
@@ -79,7 +79,7 @@ pub fn costed_text(
         (λ text. costed_text_of costs.now graph.now ≡ Ok text.items)
         (IsUnwritten costs.now graph.now (files_view files.now)) }
 {
-    let text = made_text(alloc, graph, costs)?;
+    let text = unchecked_text(alloc, graph, costs)?;
     match test_costed(alloc, graph, &text, files, costs) {
         Ok(()) => Ok(text),
         Err(fault) => Err(fault),

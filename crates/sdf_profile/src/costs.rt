@@ -1,12 +1,12 @@
 //! Costs of firings, in multiples of the cheapest firing.
 
 ghost use Rattle.std.specs.Prelude.{◌≡◌, ◌<◌, map, IfOk};
-ghost use Rattle.sdf_limits.specs.declared.TheConstants.{MOST_COST};
+ghost use Rattle.sdf_limits.specs.declared.TheConstants.{MAX_COST};
 ghost use Rattle.sdf_profile.specs.Costs.{cost_of, IsLeastTime, AreCostsOf};
 ghost use Rattle.sdf_profile.specs.Times.{quotient, time_of};
 
 use crate::stopwatch::Spent;
-use sdf_limits::MOST_COST;
+use sdf_limits::MAX_COST;
 use std::alloc::{AllocError, Global};
 
 /// Divides `many` by `by`; 0 if there is nothing to divide by.
@@ -52,11 +52,11 @@ fn least(times: &[u64]) -> u64
 /// Returns `time` in multiples of `least`, rounded to the nearest, within the limits of the key `cost`.
 fn cost_of(least: u64, time: u64) -> u32
     requires { 0 < least }
-    ensures { result ≡ cost_of MOST_COST least time }
+    ensures { result ≡ cost_of MAX_COST least time }
 {
     let least = u128::from(least);
     let times = (2 * u128::from(time) + least) / (2 * least);
-    times.max(1).min(u128::from(MOST_COST)) as u32
+    times.max(1).min(u128::from(MAX_COST)) as u32
 }
 
 /// Returns the costs of firings that take these `times`. The least time above 0 costs 1.

@@ -8,11 +8,11 @@ ghost use Rattle.sdf_profile.specs.Times.{AreMeasured};
 
 use crate::costs::{costs_of, times_of};
 use crate::lines::profile_text;
-use crate::memory::{Dropped, Heard};
+use crate::memory::{MemoryReader, NullWriter};
 use crate::stopwatch::{Spent, Stopwatch};
 use sdf_faults::Fault;
 use sdf_file::Design;
-use sdf_limits::{MOST_BLOCK, MOST_BLOCKING, MOST_PATIENCE};
+use sdf_limits::{MAX_BLOCK, MAX_BLOCKING, MAX_PATIENCE};
 use sdf_options::{Options, Placement, Policy, Runner};
 use sdf_plan::Plan;
 use sdf_plan::planning::plan;
@@ -27,14 +27,14 @@ fn options_for(design: &Design) -> Options
     ensures { AreProfileOptions design.now result }
 {
     let period = u64::from(design.net().repetitions().period());
-    let blocks = MOST_BLOCK.checked_div(period).unwrap_or(1);
+    let blocks = MAX_BLOCK.checked_div(period).unwrap_or(1);
     Options {
-        blocking: blocks.clamp(1, u64::from(MOST_BLOCKING)) as u32,
+        blocking: blocks.clamp(1, u64::from(MAX_BLOCKING)) as u32,
         workers: 1,
         policy: Policy::Runs,
         placement: Placement::Homed,
         runner: Runner::Rings,
-        patience: MOST_PATIENCE,
+        patience: MAX_PATIENCE,
     }
 }
 
@@ -57,12 +57,12 @@ fn run_through<T: Threads + AllocGlobal + Sync, G: Gate>(
     requires { Suits design.now.net plan.now }
     ensures { MatchResult result (λ _. HasRunOn design.now input.now) (IsRunFault design.now input.now) }
 {
-    let mut reader = Heard { left: input };
-    process_with(rt, &mut reader, &mut Dropped, design, plan, gate)
+    let mut reader = MemoryReader { left: input };
+    process_with(rt, &mut reader, &mut NullWriter, design, plan, gate)
 }
 
 /// Makes the text and the costs from the time that firings took.
-fn told(alloc: Global, design: &Design, spent: &[Spent]) -> Result<Measured, AllocError>
+fn measured_from(alloc: Global, design: &Design, spent: &[Spent]) -> Result<Measured, AllocError>
     ensures { IfOk result (λ m. AreMeasured design.now.names spent.now (string_bytes m.text) m.costs.items) }
 {
     let costs = costs_of(alloc, &times_of(alloc, spent)?)?;
@@ -71,7 +71,7 @@ fn told(alloc: Global, design: &Design, spent: &[Spent]) -> Result<Measured, All
 }
 
 /// Makes the text and the costs of a run that `watch` timed.
-fn taken<C: Clock + Drop>(
+fn read_watch<C: Clock + Drop>(
     alloc: Global,
     design: &Design,
     watch: &Stopwatch<C>,
@@ -79,7 +79,7 @@ fn taken<C: Clock + Drop>(
     ensures { IfOk result (IsMeasured design.now) }
 {
     let spent = watch.spent(alloc, design.net().len())?;
-    told(alloc, design, &spent)
+    measured_from(alloc, design, &spent)
 }
 
 /// Times a run by `plan` with `watch`.
@@ -96,7 +96,7 @@ fn run_timed<T: Threads + AllocGlobal + Sync, C: Clock + Drop + Sync>(
 {
     run_through(rt, input, design, plan, watch)?;
     watch.pass_to(usize::MAX);
-    Ok(taken(rt.alloc(), design, watch)?)
+    Ok(read_watch(rt.alloc(), design, watch)?)
 }
 
 /// Times a run by `plan`, with a stopwatch of its own.

@@ -4,13 +4,13 @@ ghost use Rattle.std.specs.Prelude.{None, Some};
 
 use sdf_wav::{DeviceFault, Reader, Writer};
 
-/// The bytes of a sound that are still to be read.
+/// A reader of a sound in memory, with the bytes that are still to be read.
 #[derive(Clone, Copy)]
-pub(crate) struct Heard<'a> {
+pub(crate) struct MemoryReader<'a> {
     pub(crate) left: &'a [u8],
 }
 
-impl<'a> Reader for Heard<'a> {
+impl<'a> Reader for MemoryReader<'a> {
     ghost state = { λ s. record { remaining = Some s.left.now; failures = 0 } };
 
     fn read(&mut self, buf: &mut [u8]) -> Result<usize, DeviceFault> {
@@ -24,9 +24,9 @@ impl<'a> Reader for Heard<'a> {
 
 /// A writer that drops the output of a run.
 #[derive(Clone, Copy)]
-pub(crate) struct Dropped;
+pub(crate) struct NullWriter;
 
-impl Writer for Dropped {
+impl Writer for NullWriter {
     ghost state = { λ _. record { contents = None; failures = 0 } };
 
     fn write(&mut self, bytes: &[u8]) -> Result<usize, DeviceFault> {

@@ -2,7 +2,8 @@
 
 ghost use Rattle.std.specs.Prelude.{◌≡◌, ◌≤◌, ◌<◌, ◌+◌, ◌⊎◌, length, Ok, Err, OnOk, MatchResult};
 ghost use Rattle.sdf_profile.specs.Places.{line_length, end_length, unindented, says_nothing, names_cost, digits};
-ghost use Rattle.sdf_profile.specs.Places.{cost_length, place_behind, found_view, closed, headed, keyed, line_found};
+ghost use Rattle.sdf_profile.specs.Places.{cost_length, place_behind, found_view, closed, head_found, entry_found};
+ghost use Rattle.sdf_profile.specs.Places.{line_found};
 ghost use Rattle.sdf_profile.specs.Places.{places_of};
 ghost use Rattle.sdf_profile.specs.declared.unwritten.Unwritten.TheVariants.{OutOfMemory};
 
@@ -140,10 +141,10 @@ impl Found {
     }
 
     /// Reads a line that heads a table.
-    #[tactic(auto, unfolding(crate::specs::Places::headed))]
+    #[tactic(auto, unfolding(crate::specs::Places::head_found))]
     fn head(&mut self, start: usize, line: &[u8]) -> Result<(), AllocError>
         requires { start + length line.now ≤ usize.MAX }
-        ensures { OnOk result (found_view self.new ≡ headed start line.now (found_view self.old)) }
+        ensures { OnOk result (found_view self.new ≡ head_found start line.now (found_view self.old)) }
     {
         self.close()?;
         self.table = if line.starts_with(HEAD) {
@@ -155,12 +156,12 @@ impl Found {
     }
 
     /// Reads a line of an actor's table that has a key. `place` is the place in this table so far.
-    #[tactic(auto, unfolding(crate::specs::Places::keyed))]
+    #[tactic(auto, unfolding(crate::specs::Places::entry_found))]
     fn key(&mut self, start: usize, line: &[u8], place: CostPlace) -> Result<(), Unwritten>
         requires { start + length line.now ≤ usize.MAX }
         ensures { MatchResult result
-            (λ _. keyed start line.now place (found_view self.old) ≡ Ok (found_view self.new))
-            (λ fault. keyed start line.now place (found_view self.old) ≡ Err fault) }
+            (λ _. entry_found start line.now place (found_view self.old) ≡ Ok (found_view self.new))
+            (λ fault. entry_found start line.now place (found_view self.old) ≡ Err fault) }
     {
         if names_cost(line) {
             let Some(length) = cost_length(line) else {

@@ -8,7 +8,7 @@ ghost use Rattle.std.specs.Char.{IsAsciiDigit, is_ascii_digit};
 ghost use Rattle.sdf_profile.specs.Places.{is_cost, before, text_for, piece, costed_in};
 ghost use Rattle.sdf_profile.specs.Written.{IsCost, IsBefore, IsReplaced, DifferInCosts};
 
-use crate::places::{KEY, CostPlace};
+use crate::places::{CostPlace, KEY};
 use crate::unwritten::Unwritten;
 use std::alloc::{AllocError, Global};
 

@@ -2,20 +2,20 @@
 
 ghost use Rattle.std.specs.Prelude.{◌≡◌, ◌≤◌, IfSome, false};
 ghost use Rattle.sdf_plan.specs.Plans.{Suits};
-ghost use Rattle.sdf_cli.specs.Limits.{IsCrew};
+ghost use Rattle.sdf_cli.specs.Limits.{IsParallelWorkers};
 
-use crate::desk::{Desk, Done};
+use crate::desk::{Desk, FinishedFile};
 use crate::guards::keep_inputs;
-use crate::items::{Batching, Item, items_of, settle};
+use crate::items::{Batching, Item, finish_output, items_of};
 use crate::outcome::Outcome;
 use crate::plans::{Prepared, plan_of, workers_of};
 use crate::running::{Planned, Running, run_planned};
+use sdf_cli::{BatchRequest, ParallelWorkers, RunRequest};
 use sdf_commands::making::make_folder;
 use sdf_faults::Fault;
 use sdf_io::files::Sources;
 use sdf_io::storage::Storage;
 use sdf_io::world::World;
-use sdf_cli::{Batch, ParallelWorkers, RunRequest};
 use std::alloc::{AllocError, Global};
 use std::io::Write;
 use std::sync::Mutex;
@@ -27,31 +27,31 @@ use std::time::Clock;
 fn running_of<'a>(batching: Batching<'a>, input: &'a str, output: &'a str) -> Running<'a>
     ensures graph { result.graph ≡ batching.entry.graph }
     ensures design { result.loaded ≡ batching.entry.loaded }
-    ensures input { result.asked.input ≡ input.entry }
-    ensures output { result.asked.output ≡ output.entry }
-    ensures options { result.asked.options ≡ batching.entry.asked.now.options }
-    ensures crew { result.asked.parallel ≡ batching.entry.asked.now.parallel }
-    ensures size { result.asked.open_ended ≡ batching.entry.asked.now.open_ended }
-    ensures said { result.is_said ≡ batching.entry.is_said }
+    ensures input { result.request.input ≡ input.entry }
+    ensures output { result.request.output ≡ output.entry }
+    ensures options { result.request.options ≡ batching.entry.request.now.options }
+    ensures workers { result.request.parallel ≡ batching.entry.request.now.parallel }
+    ensures size { result.request.open_ended ≡ batching.entry.request.now.open_ended }
+    ensures messages { result.is_verbose ≡ batching.entry.is_verbose }
     ensures shown { result.is_shown ≡ false }
 {
-    let Batch {
+    let BatchRequest {
         options,
         parallel,
         open_ended,
         ..
-    } = batching.asked;
+    } = batching.request;
     Running {
         graph: batching.graph,
         loaded: batching.loaded,
-        asked: RunRequest {
+        request: RunRequest {
             input,
             output,
             options: *options,
             parallel: *parallel,
             open_ended: *open_ended,
         },
-        is_said: batching.is_said,
+        is_verbose: batching.is_verbose,
         is_shown: false,
     }
 }
@@ -64,13 +64,13 @@ struct PlannedBatch<'a> {
 }
 
 /// Runs a plan on the file of `item`. Writes to `item.part`, the path of an output that is not complete. Reports to
-/// `said`.
+/// `messages`.
 fn run_part<S: Storage, T: Threads + AllocGlobal + Clock + Sync>(
     world: &World<S, T>,
     planned: PlannedBatch<'_>,
     item: &Item<'_>,
-    said: &mut Vec<u8>,
-    heard: &mut Sources,
+    messages: &mut Vec<u8>,
+    sound_sources: &mut Sources,
 ) -> Result<(), Fault>
     requires { Suits planned.batching.loaded.now.design.net planned.prepared.now.plan }
 {
@@ -82,7 +82,14 @@ fn run_part<S: Storage, T: Threads + AllocGlobal + Clock + Sync>(
     };
     let mut nothing: &[u8] = b"";
     let mut unwritten = Vec::new(world.threads.alloc());
-    run_planned(world, &mut nothing, &mut unwritten, said, planned, heard)
+    run_planned(
+        world,
+        &mut nothing,
+        &mut unwritten,
+        messages,
+        planned,
+        sound_sources,
+    )
 }
 
 /// Runs a plan on the file of `item`, and returns the outcome.
@@ -94,19 +101,25 @@ fn run_item<'a, S: Storage, T: Threads + AllocGlobal + Clock + Sync>(
     requires { Suits planned.batching.loaded.now.design.net planned.prepared.now.plan }
 {
     let alloc = world.threads.alloc();
-    let mut said = Vec::new(alloc);
-    let mut heard = Sources::new(alloc);
-    let ended = run_part(world, planned, item, &mut said, &mut heard);
-    let settled = settle(alloc, world.storage, item, ended, &mut heard.refused);
-    if settled.is_ok() {
+    let mut messages = Vec::new(alloc);
+    let mut sound_sources = Sources::new(alloc);
+    let ended = run_part(world, planned, item, &mut messages, &mut sound_sources);
+    let finished = finish_output(
+        alloc,
+        world.storage,
+        item,
+        ended,
+        &mut sound_sources.refused,
+    );
+    if finished.is_ok() {
         // The outcome may wait for the outcomes of earlier files, and a file that is done needs no diagnostic.
-        heard = Sources::new(alloc);
+        sound_sources = Sources::new(alloc);
     }
     Outcome {
         input: item.input,
-        said,
-        ended: settled,
-        heard,
+        messages,
+        ended: finished,
+        sound_sources,
     }
 }
 
@@ -135,7 +148,7 @@ fn hand_over<'a, O: Write, E: Write>(
     alloc: Global,
     backlog: &Backlog<'_, 'a>,
     desk: &Mutex<Desk<'_, 'a, O, E>>,
-    done: &mut Vec<Done<'a>>,
+    done: &mut Vec<FinishedFile<'a>>,
 ) {
     if let Some(mut desk) = desk.try_lock() {
         if !desk.take_over(alloc, done) {
@@ -146,8 +159,8 @@ fn hand_over<'a, O: Write, E: Write>(
 
 /// The outcomes that a worker could not hand over, and whether memory was refused to it.
 #[derive(Drop)]
-struct Left<'a> {
-    done: Vec<Done<'a>>,
+struct WorkerResult<'a> {
+    done: Vec<FinishedFile<'a>>,
     ended: Result<(), AllocError>,
 }
 
@@ -155,12 +168,18 @@ struct Left<'a> {
 ///
 /// If another worker is at the desk, an outcome is handed over with the next one, or tried once more at the end. A file
 /// is taken only after memory for its outcome is reserved, so each file that is taken is reported.
-fn work<'a, S: Storage, T: Threads + AllocGlobal + Clock + Sync, O: Write + Send, E: Write + Send>(
+fn run_files<
+    'a,
+    S: Storage,
+    T: Threads + AllocGlobal + Clock + Sync,
+    O: Write + Send,
+    E: Write + Send,
+>(
     world: &World<S, T>,
     planned: PlannedBatch<'_>,
     backlog: &Backlog<'_, 'a>,
     desk: &Mutex<Desk<'_, 'a, O, E>>,
-) -> Left<'a>
+) -> WorkerResult<'a>
     requires { Suits planned.batching.loaded.now.design.net planned.prepared.now.plan }
 {
     let alloc = world.threads.alloc();
@@ -176,16 +195,16 @@ fn work<'a, S: Storage, T: Threads + AllocGlobal + Clock + Sync, O: Write + Send
             break;
         };
         let outcome = run_item(world, planned, item);
-        done.push_reserved(Done { number, outcome });
+        done.push_reserved(FinishedFile { number, outcome });
         hand_over(alloc, backlog, desk, &mut done);
     }
     hand_over(alloc, backlog, desk, &mut done);
-    Left { done, ended }
+    WorkerResult { done, ended }
 }
 
 /// Returns how many files run at the same time: one if the processors work on one file together, otherwise one for each
 /// processor, at most 16.
-fn files_at_once<T: Threads>(threads: &T, batch: &Batch<'_>) -> usize
+fn files_at_once<T: Threads>(threads: &T, batch: &BatchRequest<'_>) -> usize
     ensures { 1 ≤ result }
 {
     match batch.parallel {
@@ -198,11 +217,11 @@ fn files_at_once<T: Threads>(threads: &T, batch: &Batch<'_>) -> usize
 fn report_left<'a, O: Write, E: Write>(
     alloc: Global,
     mut desk: Desk<'_, 'a, O, E>,
-    left: Vec<Left<'a>>,
+    left: Vec<WorkerResult<'a>>,
 ) -> Result<u8, Fault> {
     let mut all = Ok(());
-    for Left { mut done, ended } in left {
-        desk.tell_all(alloc, &mut done);
+    for WorkerResult { mut done, ended } in left {
+        desk.report_all(alloc, &mut done);
         all = all.and(ended);
     }
     all?;
@@ -230,15 +249,15 @@ fn serve_items<
         items,
         taken: AtomicUsize::new(0),
     };
-    let crew = files_at_once(world.threads, planned.batching.asked).min(items.len());
+    let workers = files_at_once(world.threads, planned.batching.request).min(items.len());
     let desk = Mutex::new(desk);
     let left = thread::map_indices(
         world.threads,
         alloc,
-        crew,
-        &|_: usize| -> Left
+        workers,
+        &|_: usize| -> WorkerResult
             requires { Suits planned.batching.loaded.now.design.net planned.prepared.now.plan }
-        { work(world, planned, &backlog, &desk) },
+        { run_files(world, planned, &backlog, &desk) },
     );
     let mut desk = desk.into_inner();
     desk.hide_count();
@@ -265,7 +284,7 @@ fn serve_into<
     let batching = planned.batching;
     keep_inputs(alloc, world.storage, batching, items)?;
     let refused = &mut sources.refused;
-    make_folder(alloc, world.storage, batching.asked.folder, refused)?;
+    make_folder(alloc, world.storage, batching.request.folder, refused)?;
     let desk = Desk::new(alloc, out, err, batching, items.len(), sources)?;
     serve_items(world, planned, items, desk)
 }
@@ -285,7 +304,7 @@ fn serve_batch<
 ) -> Result<u8, Fault>
     requires { Suits planned.batching.loaded.now.design.net planned.prepared.now.plan }
 {
-    let items = items_of(world.threads.alloc(), planned.batching.asked)?;
+    let items = items_of(world.threads.alloc(), planned.batching.request)?;
     serve_into(world, out, err, planned, &items, sources)
 }
 
@@ -303,15 +322,15 @@ pub(crate) fn run_batch<
     batching: Batching<'_>,
     sources: &mut Sources,
 ) -> Result<u8, Fault>
-    requires { IfSome batching.asked.now.parallel IsCrew }
+    requires { IfSome batching.request.now.parallel IsParallelWorkers }
 {
     let prepared = plan_of(
         world.threads,
         err,
         &batching.loaded.design,
-        &batching.asked.options,
-        batching.asked.parallel,
-        batching.is_said,
+        &batching.request.options,
+        batching.request.parallel,
+        batching.is_verbose,
     )?;
     let planned = PlannedBatch {
         batching,

@@ -1,6 +1,6 @@
 //! The number of files of a batch that are done, on one line of a terminal.
 
-use sdf_io::progress::GONE;
+use sdf_io::progress::ERASE_LINE;
 use sdf_options::plural::plural;
 use std::alloc::{AllocError, Global};
 use std::io::Write;
@@ -47,7 +47,7 @@ impl Count {
     /// Removes the line, if it is on the terminal.
     pub(crate) fn hide<E: Write>(&mut self, err: &mut E) {
         if self.is_there {
-            let _ = err.write_all(GONE);
+            let _ = err.write_all(ERASE_LINE);
             self.is_there = false;
         }
     }

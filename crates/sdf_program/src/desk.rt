@@ -8,9 +8,9 @@ use sdf_io::files::Sources;
 use std::alloc::{AllocError, Global};
 use std::io::Write;
 
-/// The outcome of file `number`.
+/// A finished file: its number and its outcome.
 #[derive(Drop)]
-pub(crate) struct Done<'a> {
+pub(crate) struct FinishedFile<'a> {
     pub(crate) number: usize,
     pub(crate) outcome: Outcome<'a>,
 }
@@ -24,7 +24,7 @@ pub(crate) struct Desk<'d, 'a, O, E> {
     batching: Batching<'d>,
     /// The outcome of each file that is done and not reported.
     outcomes: Vec<Option<Outcome<'a>>>,
-    told: usize,
+    reported: usize,
     count: Count,
     /// The greatest exit status so far, or the fault of a report.
     worst: Result<u8, Fault>,
@@ -52,7 +52,7 @@ impl<'d, 'a, O: Write, E: Write> Desk<'d, 'a, O, E> {
             sources,
             batching,
             outcomes,
-            told: 0,
+            reported: 0,
             count,
             worst: Ok(0),
         })
@@ -60,12 +60,12 @@ impl<'d, 'a, O: Write, E: Write> Desk<'d, 'a, O, E> {
 
     /// Moves outcomes out of `done`, reports all that can be reported, and shows how many files are done. Returns false
     /// if a report fails.
-    pub(crate) fn take_over(&mut self, alloc: Global, done: &mut Vec<Done<'a>>) -> bool {
+    pub(crate) fn take_over(&mut self, alloc: Global, done: &mut Vec<FinishedFile<'a>>) -> bool {
         if done.is_empty() {
             return self.worst.is_ok();
         }
         self.count.hide(self.err);
-        self.tell_all(alloc, done);
+        self.report_all(alloc, done);
         if self.worst.is_err() {
             return false;
         }
@@ -79,18 +79,18 @@ impl<'d, 'a, O: Write, E: Write> Desk<'d, 'a, O, E> {
     }
 
     /// Moves outcomes out of `done`, and reports all that can be reported.
-    pub(crate) fn tell_all(&mut self, alloc: Global, done: &mut Vec<Done<'a>>) {
+    pub(crate) fn report_all(&mut self, alloc: Global, done: &mut Vec<FinishedFile<'a>>) {
         for _ in 0..done.len() {
             if let Some(done) = done.pop() {
                 self.put(done);
             }
         }
-        self.tell_on(alloc);
+        self.report_ready(alloc);
     }
 
     /// Puts the outcome `done` in the place of its file.
-    fn put(&mut self, done: Done<'a>) {
-        let Done { number, outcome } = done;
+    fn put(&mut self, done: FinishedFile<'a>) {
+        let FinishedFile { number, outcome } = done;
         if let Some(place) = self.outcomes.get_mut(number) {
             *place = Some(outcome);
         }
@@ -98,26 +98,26 @@ impl<'d, 'a, O: Write, E: Write> Desk<'d, 'a, O, E> {
     }
 
     /// Reports files in order, up to the first one that is not done.
-    fn tell_on(&mut self, alloc: Global) {
+    fn report_ready(&mut self, alloc: Global) {
         for _ in 0..self.outcomes.len() {
             let Some(mut outcome) = self.take_next() else {
                 return;
             };
-            self.tell(alloc, &mut outcome);
+            self.report(alloc, &mut outcome);
         }
     }
 
     /// Takes out the outcome of the next file, if it is done.
     fn take_next(&mut self) -> Option<Outcome<'a>> {
-        let outcome = self.outcomes.get_mut(self.told)?.take()?;
-        self.told = self.told.saturating_add(1);
+        let outcome = self.outcomes.get_mut(self.reported)?.take()?;
+        self.reported = self.reported.saturating_add(1);
         Some(outcome)
     }
 
     /// Reports `outcome`, unless an earlier report failed.
-    fn tell(&mut self, alloc: Global, outcome: &mut Outcome<'a>) {
+    fn report(&mut self, alloc: Global, outcome: &mut Outcome<'a>) {
         if let Ok(worst) = &mut self.worst {
-            match outcome.tell(alloc, self.out, self.err, self.batching, self.sources) {
+            match outcome.report(alloc, self.out, self.err, self.batching, self.sources) {
                 Ok(status) => *worst = (*worst).max(status),
                 Err(fault) => self.worst = Err(fault),
             }

@@ -2,7 +2,7 @@
 
 use crate::items::{Batching, Item};
 use sdf_faults::Fault;
-use sdf_io::overwriting::{Paths, canonical_path, keep_what_is_read, same_file};
+use sdf_io::overwriting::{Paths, canonical_path, refuse_overwriting, same_file};
 use sdf_io::storage::Storage;
 use sdf_io::world::STANDARD;
 use sdf_options::printable::printable;
@@ -49,7 +49,7 @@ fn keep_path<S: Storage>(
         input: STANDARD,
         output: path,
     };
-    keep_what_is_read(alloc, storage, word, paths, &batching.loaded.names)
+    refuse_overwriting(alloc, storage, word, paths, &batching.loaded.names)
 }
 
 /// Errs if `path` leads to one of `read`, to the graph file or to a coefficient file, and names `path`.

@@ -1,11 +1,12 @@
 //! A batch that is asked for, and the places where its files are written.
 
+use sdf_cli::BatchRequest;
 use sdf_faults::Fault;
 use sdf_io::files::{Loaded, Refused, or_refuse};
 use sdf_io::storage::Storage;
 use sdf_io::world::STANDARD;
 use sdf_options::printable::printable;
-use sdf_cli::{Batch, mistake};
+use sdf_options::usage_error;
 use std::alloc::{AllocError, Global};
 use std::path::Path;
 
@@ -14,9 +15,9 @@ use std::path::Path;
 pub(crate) struct Batching<'a> {
     pub(crate) graph: &'a str,
     pub(crate) loaded: &'a Loaded,
-    pub(crate) asked: &'a Batch<'a>,
+    pub(crate) request: &'a BatchRequest<'a>,
     /// Whether diagnostics and reports are printed.
-    pub(crate) is_said: bool,
+    pub(crate) is_verbose: bool,
     /// Whether the number of files that are done is shown.
     pub(crate) is_shown: bool,
 }
@@ -41,21 +42,21 @@ fn name_of(input: &str) -> Option<&str> {
 fn unnamed(alloc: Global, input: &str) -> Result<Fault, AllocError> {
     let shown = printable(alloc, input)?;
     let text = format!(in alloc; "IN {} has no name for a file in FOLDER", shown.as_str())?;
-    Ok(Fault::from(mistake(alloc, text.as_str())))
+    Ok(Fault::from(usage_error(alloc, text.as_str())))
 }
 
 /// Returns the usage error for two files with the same name.
 fn named_twice(alloc: Global, name: &str) -> Result<Fault, AllocError> {
     let shown = printable(alloc, name)?;
     let text = format!(in alloc; "two IN files have the name {}", shown.as_str())?;
-    Ok(Fault::from(mistake(alloc, text.as_str())))
+    Ok(Fault::from(usage_error(alloc, text.as_str())))
 }
 
 /// Returns the usage error for two files whose names differ only by `.part`.
 fn named_as_a_part(alloc: Global, name: &str) -> Result<Fault, AllocError> {
     let shown = printable(alloc, name)?;
     let text = format!(in alloc; "IN {} and another IN differ only by .part", shown.as_str())?;
-    Ok(Fault::from(mistake(alloc, text.as_str())))
+    Ok(Fault::from(usage_error(alloc, text.as_str())))
 }
 
 /// Checks whether one of `items` is written to `output`.
@@ -110,7 +111,10 @@ fn push_item<'a>(
 }
 
 /// Returns the files of a batch.
-pub(crate) fn items_of<'a>(alloc: Global, batch: &Batch<'a>) -> Result<Vec<Item<'a>>, Fault> {
+pub(crate) fn items_of<'a>(
+    alloc: Global,
+    batch: &BatchRequest<'a>,
+) -> Result<Vec<Item<'a>>, Fault> {
     let mut items = Vec::new(alloc);
     for input in &batch.inputs {
         push_item(alloc, &mut items, batch.folder, *input)?;
@@ -119,7 +123,7 @@ pub(crate) fn items_of<'a>(alloc: Global, batch: &Batch<'a>) -> Result<Vec<Item<
 }
 
 /// Moves a complete output to its final path, or notes in `refused` how the system refused that.
-fn place<S: Storage>(
+fn move_output<S: Storage>(
     alloc: Global,
     storage: &S,
     item: &Item<'_>,
@@ -132,19 +136,19 @@ fn place<S: Storage>(
 
 /// Moves the output of a run that ended well to its final path. Removes the output if the run failed or the move
 /// failed.
-pub(crate) fn settle<S: Storage>(
+pub(crate) fn finish_output<S: Storage>(
     alloc: Global,
     storage: &S,
     item: &Item<'_>,
     ended: Result<(), Fault>,
     refused: &mut Vec<Refused>,
 ) -> Result<(), Fault> {
-    let settled = match ended {
-        Ok(()) => place(alloc, storage, item, refused),
+    let finished = match ended {
+        Ok(()) => move_output(alloc, storage, item, refused),
         Err(fault) => Err(fault),
     };
-    if settled.is_err() {
+    if finished.is_err() {
         let _ = storage.remove(item.part.as_str());
     }
-    settled
+    finished
 }

@@ -4,20 +4,20 @@ ghost use Rattle.std.specs.Prelude.{◌≡◌, MatchResult};
 ghost use Rattle.sdf_faults.specs.Statuses.{status_of};
 
 use crate::items::Batching;
-use sdf_commands::telling::why;
+use sdf_commands::diagnostics::why;
 use sdf_faults::{Fault, fault_text, status};
 use sdf_io::files::{Sources, put};
 use sdf_options::printable::printable;
 use std::alloc::{AllocError, Global};
 use std::io::Write;
 
-/// The outcome of the file `input`: the text of its run, the result, and what is known about the WAV file.
+/// The outcome of the file `input`: the messages of its run, the result, and what is known about the WAV file.
 #[derive(Drop)]
 pub(crate) struct Outcome<'a> {
     pub(crate) input: &'a str,
-    pub(crate) said: Vec<u8>,
+    pub(crate) messages: Vec<u8>,
     pub(crate) ended: Result<(), Fault>,
-    pub(crate) heard: Sources,
+    pub(crate) sound_sources: Sources,
 }
 
 /// Returns the first line of a text.
@@ -29,16 +29,16 @@ fn first_line(text: &str) -> &str {
 }
 
 /// Returns the line of a fault without the program's name.
-fn bare(line: &str) -> &str {
+fn without_prefix(line: &str) -> &str {
     match line.strip_prefix("sdfw: ") {
         Some(rest) => rest,
         None => line,
     }
 }
 
-/// Adds the lines of `said`, with `name` before each of them.
-fn push_named(text: &mut String, name: &str, said: &str) -> Result<(), AllocError> {
-    for line in said.lines() {
+/// Adds the lines of `messages`, with `name` before each of them.
+fn push_named(text: &mut String, name: &str, messages: &str) -> Result<(), AllocError> {
+    for line in messages.lines() {
         writeln!(text, "{name}: {line}")?;
     }
     Ok(())
@@ -51,7 +51,7 @@ impl Outcome<'_> {
             Ok(()) => String::from_str(alloc, "done"),
             Err(fault) => {
                 let text = fault_text(alloc, fault)?;
-                String::from_str(alloc, bare(first_line(text.as_str())))
+                String::from_str(alloc, without_prefix(first_line(text.as_str())))
             }
         }
     }
@@ -64,21 +64,27 @@ impl Outcome<'_> {
         put(out, line.as_bytes())
     }
 
-    /// Returns the text of the run, with the name of the file before each line.
-    fn said_text(&self, alloc: Global) -> Result<String, AllocError> {
+    /// Returns the messages of the run, with the name of the file before each line.
+    fn named_messages(&self, alloc: Global) -> Result<String, AllocError> {
         let mut text = String::new(alloc);
-        if let Ok(said) = str::from_utf8(&self.said) {
+        if let Ok(messages) = str::from_utf8(&self.messages) {
             let shown = printable(alloc, self.input)?;
-            push_named(&mut text, shown.as_str(), said)?;
+            push_named(&mut text, shown.as_str(), messages)?;
         }
         Ok(text)
     }
 
-    /// Writes the text of a run that ended well, or the diagnostic of the fault, to `err`.
-    fn say<E: Write>(&self, alloc: Global, err: &mut E, batching: Batching<'_>, sources: &Sources) {
+    /// Writes the messages of a run that ended well, or the diagnostic of the fault, to `err`.
+    fn write_details<E: Write>(
+        &self,
+        alloc: Global,
+        err: &mut E,
+        batching: Batching<'_>,
+        sources: &Sources,
+    ) {
         let text = match &self.ended {
-            Ok(()) => self.said_text(alloc),
-            Err(fault) => why(alloc, fault, &batching.asked.options, sources),
+            Ok(()) => self.named_messages(alloc),
+            Err(fault) => why(alloc, fault, &batching.request.options, sources),
         };
         if let Ok(text) = text {
             let _ = err.write_all(text.as_bytes());
@@ -97,7 +103,7 @@ impl Outcome<'_> {
 
     /// Reports the outcome, with diagnostics if they are asked for, and returns the exit status of the run. Leaves what
     /// is known about the WAV file in `sources`.
-    pub(crate) fn tell<O: Write, E: Write>(
+    pub(crate) fn report<O: Write, E: Write>(
         &mut self,
         alloc: Global,
         out: &mut O,
@@ -105,10 +111,10 @@ impl Outcome<'_> {
         batching: Batching<'_>,
         sources: &mut Sources,
     ) -> Result<u8, Fault> {
-        sources.swap_sound(&mut self.heard);
+        sources.swap_sound(&mut self.sound_sources);
         self.show(alloc, out)?;
-        if batching.is_said {
-            self.say(alloc, err, batching, sources);
+        if batching.is_verbose {
+            self.write_details(alloc, err, batching, sources);
         }
         Ok(self.status())
     }

@@ -1,20 +1,20 @@
 //! The plan of a run.
 
 ghost use Rattle.std.specs.Prelude.{◌≡◌, ◌≤◌, ℕ, IfOk, IfSome};
-ghost use Rattle.sdf_limits.specs.declared.TheConstants.{MOST_WORKERS};
+ghost use Rattle.sdf_limits.specs.declared.TheConstants.{MAX_WORKERS};
 ghost use Rattle.sdf_plan.specs.Plans.{Suits};
-ghost use Rattle.sdf_cli.specs.Limits.{IsCrew};
-ghost use Rattle.sdf_cli.specs.declared.asked.ParallelWorkers.TheVariants as crews;
+ghost use Rattle.sdf_cli.specs.Limits.{IsParallelWorkers};
+ghost use Rattle.sdf_cli.specs.declared.requests.ParallelWorkers.TheVariants as worker_choices;
 
+use sdf_cli::ParallelWorkers;
 use sdf_faults::Fault;
 use sdf_file::Design;
-use sdf_limits::MOST_WORKERS;
+use sdf_limits::MAX_WORKERS;
 use sdf_options::Options;
 use sdf_plan::Plan;
 use sdf_plan::parallel::{Pace, ParallelPlan, parallel_plan};
 use sdf_plan::planning::plan;
 use sdf_why::loop_text;
-use sdf_cli::ParallelWorkers;
 use std::alloc::{AllocError, Global};
 use std::io::Write;
 use std::thread::{Threads, available_parallelism};
@@ -29,17 +29,17 @@ pub(crate) struct Prepared {
     pub(crate) pace: Option<Pace>,
 }
 
-/// Returns the number of workers that `crew` asks for.
-pub(crate) fn workers_of<T: Threads>(threads: &T, crew: ParallelWorkers) -> usize
-    requires { IsCrew crew }
+/// Returns the number of workers that `parallel_workers` asks for.
+pub(crate) fn workers_of<T: Threads>(threads: &T, parallel_workers: ParallelWorkers) -> usize
+    requires { IsParallelWorkers parallel_workers }
     ensures some { 1 ≤ result }
-    ensures few { result ≤ MOST_WORKERS }
-    ensures asked { (workers : ℕ) → crew ≡ crews.Workers workers → result ≡ workers }
+    ensures few { result ≤ MAX_WORKERS }
+    ensures asked { (workers : ℕ) → parallel_workers ≡ worker_choices.Workers workers → result ≡ workers }
 {
-    match crew {
+    match parallel_workers {
         ParallelWorkers::Workers(workers) => workers,
         ParallelWorkers::Processors => match available_parallelism(threads) {
-            Ok(processors) => processors.get().min(MOST_WORKERS),
+            Ok(processors) => processors.get().min(MAX_WORKERS),
             Err(_) => WORKERS,
         },
     }
@@ -64,7 +64,7 @@ fn pace_text(alloc: Global, design: &Design, pace: Pace) -> Result<String, Alloc
 }
 
 /// Reports why a parallel run uses one thread, if that is known before it begins.
-fn tell_pace<E: Write>(
+fn report_pace<E: Write>(
     alloc: Global,
     err: &mut E,
     design: &Design,
@@ -75,21 +75,25 @@ fn tell_pace<E: Write>(
     Ok(())
 }
 
-/// Returns the plan of a parallel run. If `is_said` is set, reports why it uses one thread.
-fn crew_plan<T: Threads + AllocGlobal, E: Write>(
+/// Returns the plan of a parallel run. If `is_verbose` is set, reports why it uses one thread.
+fn parallel_plan_of<T: Threads + AllocGlobal, E: Write>(
     threads: &T,
     err: &mut E,
     design: &Design,
-    crew: ParallelWorkers,
-    is_said: bool,
+    parallel_workers: ParallelWorkers,
+    is_verbose: bool,
 ) -> Result<Prepared, Fault>
-    requires { IsCrew crew }
+    requires { IsParallelWorkers parallel_workers }
     ensures { IfOk result (λ prepared. Suits design.now.net prepared.plan) }
 {
     let alloc = threads.alloc();
-    let ParallelPlan { plan, pace } = parallel_plan(alloc, design, workers_of(threads, crew))?;
-    let told = if is_said {
-        tell_pace(alloc, err, design, pace)
+    let ParallelPlan { plan, pace } = parallel_plan(
+        alloc,
+        design,
+        workers_of(threads, parallel_workers),
+    )?;
+    let told = if is_verbose {
+        report_pace(alloc, err, design, pace)
     } else {
         Ok(())
     };
@@ -105,20 +109,26 @@ fn crew_plan<T: Threads + AllocGlobal, E: Write>(
     }
 }
 
-/// Returns the plan of a run. If `is_said` is set, reports why a parallel run uses one thread.
+/// Returns the plan of a run. If `is_verbose` is set, reports why a parallel run uses one thread.
 pub(crate) fn plan_of<T: Threads + AllocGlobal, E: Write>(
     threads: &T,
     err: &mut E,
     design: &Design,
     options: &Options,
     parallel: Option<ParallelWorkers>,
-    is_said: bool,
+    is_verbose: bool,
 ) -> Result<Prepared, Fault>
-    requires { IfSome parallel IsCrew }
+    requires { IfSome parallel IsParallelWorkers }
     ensures { IfOk result (λ prepared. Suits design.now.net prepared.plan) }
 {
     match parallel {
-        Some(crew) => crew_plan(threads, err, design, crew, is_said),
+        Some(parallel_workers) => parallel_plan_of(
+            threads,
+            err,
+            design,
+            parallel_workers,
+            is_verbose,
+        ),
         None => Ok(Prepared {
             plan: plan(threads.alloc(), design, options)?,
             pace: None,

@@ -4,12 +4,12 @@ use sdf_commands::printing::show;
 use sdf_faults::Fault;
 use sdf_file::Design;
 use sdf_io::files::{Loaded, Refused, Sources, bytes_of, or_refuse, put, read_at, write_at};
-use sdf_io::overwriting::{Paths, keep_what_is_read};
+use sdf_io::overwriting::{Paths, refuse_overwriting};
 use sdf_io::storage::Storage;
 use sdf_io::world::{STANDARD, World};
 use sdf_options::plural::plural;
+use sdf_options::usage_error;
 use sdf_profile::{Measured, Unwritten, costed_text, profile};
-use sdf_cli::mistake;
 use std::alloc::{AllocError, Global};
 use std::io::{self, Read, Write};
 use std::thread::Threads;
@@ -67,18 +67,18 @@ const OTHERWISE: &str =
     "new costs would change GRAPH in more than its costs: give each key a line of its own";
 
 /// Returns the usage error for a graph file whose text cannot take costs.
-fn unwritten(alloc: Global, design: &Design, fault: Unwritten) -> Result<Fault, AllocError> {
+fn unwritten_fault(alloc: Global, design: &Design, fault: Unwritten) -> Result<Fault, AllocError> {
     let text = match fault {
         Unwritten::OutOfMemory => return Ok(Fault::OutOfMemory),
         Unwritten::Tables(lines) => lines_text(alloc, design, lines)?,
         Unwritten::Cost(actor) => cost_text(alloc, design, actor)?,
         Unwritten::Reading => String::from_str(alloc, OTHERWISE)?,
     };
-    Ok(Fault::from(mistake(alloc, text.as_str())))
+    Ok(Fault::from(usage_error(alloc, text.as_str())))
 }
 
 /// Returns the text of the graph file that was read, with these `costs`.
-fn costed(
+fn text_with_costs(
     alloc: Global,
     sources: &Sources,
     design: &Design,
@@ -86,7 +86,7 @@ fn costed(
 ) -> Result<Vec<u8>, Fault> {
     match costed_text(alloc, &sources.graph, &sources.files, costs) {
         Ok(text) => Ok(text),
-        Err(fault) => Err(unwritten(alloc, design, fault)?),
+        Err(fault) => Err(unwritten_fault(alloc, design, fault)?),
     }
 }
 
@@ -132,7 +132,7 @@ fn write_measured<S: Storage, T: AllocGlobal, O: Write>(
     sources: &mut Sources,
     measured: &Measured,
 ) -> Result<(), Fault> {
-    let written = costed(world.threads.alloc(), sources, design, &measured.costs)?;
+    let written = text_with_costs(world.threads.alloc(), sources, design, &measured.costs)?;
     let profile = measured.text.as_str();
     put_written(world, out, output, &written, profile, &mut sources.refused)
 }
@@ -140,19 +140,19 @@ fn write_measured<S: Storage, T: AllocGlobal, O: Write>(
 /// Errs if `output` is a file that is read, or if costs can't be written into the graph file.
 fn test_output<S: Storage, T: AllocGlobal>(
     world: &World<S, T>,
-    asked: Profiling<'_>,
+    request: Profiling<'_>,
     output: &str,
     sources: &Sources,
 ) -> Result<(), Fault> {
     let alloc = world.threads.alloc();
     let paths = Paths {
-        graph: asked.graph,
-        input: asked.input,
+        graph: request.graph,
+        input: request.input,
         output,
     };
-    keep_what_is_read(alloc, world.storage, "FILE", paths, &asked.loaded.names)?;
-    let design = &asked.loaded.design;
-    costed(alloc, sources, design, design.costs())?;
+    refuse_overwriting(alloc, world.storage, "FILE", paths, &request.loaded.names)?;
+    let design = &request.loaded.design;
+    text_with_costs(alloc, sources, design, design.costs())?;
     Ok(())
 }
 
@@ -160,7 +160,7 @@ fn test_output<S: Storage, T: AllocGlobal>(
 fn measure_into<S: Storage, T, O: Write>(
     world: &World<S, T>,
     out: &mut O,
-    asked: Profiling<'_>,
+    request: Profiling<'_>,
     output: &str,
     sources: &mut Sources,
     bytes: &[u8],
@@ -168,8 +168,8 @@ fn measure_into<S: Storage, T, O: Write>(
 where
     T: Threads + AllocGlobal + Clock + Clone + Drop + Sync,
 {
-    test_output(world, asked, output, sources)?;
-    let design = &asked.loaded.design;
+    test_output(world, request, output, sources)?;
+    let design = &request.loaded.design;
     let measured = profile(world.threads, bytes, design)?;
     write_measured(world, out, design, output, sources, &measured)
 }
@@ -178,17 +178,17 @@ where
 fn measure<S: Storage, T, O: Write>(
     world: &World<S, T>,
     out: &mut O,
-    asked: Profiling<'_>,
+    request: Profiling<'_>,
     sources: &mut Sources,
     bytes: &[u8],
 ) -> Result<(), Fault>
 where
     T: Threads + AllocGlobal + Clock + Clone + Drop + Sync,
 {
-    match asked.write {
-        Some(output) => measure_into(world, out, asked, output, sources, bytes),
+    match request.write {
+        Some(output) => measure_into(world, out, request, output, sources, bytes),
         None => {
-            let measured = profile(world.threads, bytes, &asked.loaded.design)?;
+            let measured = profile(world.threads, bytes, &request.loaded.design)?;
             show(out, measured.text.as_str())
         }
     }
@@ -200,12 +200,12 @@ pub(crate) fn print_profile<S: Storage, T, I: Read, O: Write>(
     world: &World<S, T>,
     stdin: &mut I,
     out: &mut O,
-    asked: Profiling<'_>,
+    request: Profiling<'_>,
     sources: &mut Sources,
 ) -> Result<(), Fault>
 where
     T: Threads + AllocGlobal + Clock + Clone + Drop + Sync,
 {
-    let bytes = bytes_at(world, stdin, asked.input, sources)?;
-    measure(world, out, asked, sources, &bytes)
+    let bytes = bytes_at(world, stdin, request.input, sources)?;
+    measure(world, out, request, sources, &bytes)
 }

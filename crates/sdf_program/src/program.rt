@@ -4,34 +4,34 @@ ghost use Rattle.std.specs.Prelude.{◌≡◌, ◌⊎◌, IfSome};
 ghost use Rattle.sdf_faults.specs.Statuses.{status_of};
 ghost use Rattle.sdf_faults.specs.declared.fault.Fault.TheVariants.{OutOfMemory};
 ghost use Rattle.sdf_options.specs.Limits.{AreWithinLimits};
-ghost use Rattle.sdf_cli.specs.Limits.{IsCrew, IsTaskWithinLimits, IsWithinLimits};
+ghost use Rattle.sdf_cli.specs.Limits.{IsParallelWorkers, IsCommandWithinLimits, IsWithinLimits};
 
 use crate::batch::run_batch;
 use crate::items::Batching;
 use crate::profiling::{Profiling, print_profile};
 use crate::running::{Running, run};
+use sdf_cli::arguments::Arguments;
+use sdf_cli::{BatchRequest, DesignCommand, Format, RunRequest, Why, Words};
 use sdf_commands::comparing::print_comparison;
+use sdf_commands::diagnostics::Background;
 use sdf_commands::making::{fir, resample};
 use sdf_commands::printing::{
     print_analysis, print_check, print_kinds, print_meaning, print_picture, print_schedule, show,
 };
-use sdf_commands::telling::Background;
 use sdf_faults::{Fault, fault_text, status};
 use sdf_io::files::{Loaded, Sources, load_into};
 use sdf_io::storage::Storage;
 use sdf_io::world::World;
 use sdf_json::{comparison_json, fault_json};
 use sdf_options::{Options, WordFault};
-use sdf_cli::arguments::Arguments;
-use sdf_cli::{Batch, Format, RunRequest, DesignCommand, Why, Words};
 use std::alloc::{AllocError, Global};
 use std::io::{Read, Write};
 use std::thread::Threads;
 use std::time::Clock;
 
-/// A task for a design, and when diagnostics and reports are printed.
+/// A requested task for a design, and when diagnostics and reports are printed.
 #[derive(Clone, Copy)]
-struct Asked<'a> {
+struct DesignRequest<'a> {
     graph: &'a str,
     task: DesignCommand<'a>,
     why: Why,
@@ -44,21 +44,21 @@ struct Job<'a> {
     task: DesignCommand<'a>,
     loaded: &'a Loaded,
     /// Whether diagnostics and reports are printed.
-    is_said: bool,
+    is_verbose: bool,
 }
 
 impl<'a> Job<'a> {
-    /// Returns the run that is `asked` for. Its progress is shown on a `terminal`, if reports are printed.
-    fn running(self, asked: RunRequest<'a>, terminal: bool) -> Running<'a>
+    /// Returns the run that `request` asks for. Its progress is shown on a `terminal`, if reports are printed.
+    fn running(self, request: RunRequest<'a>, terminal: bool) -> Running<'a>
         ensures loaded { result.loaded ≡ self.entry.loaded }
-        ensures asked { result.asked ≡ asked.entry }
+        ensures request { result.request ≡ request.entry }
     {
         Running {
             graph: self.graph,
             loaded: self.loaded,
-            asked,
-            is_said: self.is_said,
-            is_shown: self.is_said && terminal,
+            request,
+            is_verbose: self.is_verbose,
+            is_shown: self.is_verbose && terminal,
         }
     }
 
@@ -86,13 +86,13 @@ fn compare<O: Write, E: Write>(
 {
     let design = &job.loaded.design;
     match format {
-        Format::Text => print_comparison(alloc, out, err, design, options, job.is_said),
+        Format::Text => print_comparison(alloc, out, err, design, options, job.is_verbose),
         Format::Json => show(out, comparison_json(alloc, design, options)?.as_str()),
     }
 }
 
 /// Does a task for a design that was read.
-fn work<
+fn do_task<
     S: Storage,
     T: Threads + AllocGlobal + Clock + Clone + Drop + Sync,
     I: Read,
@@ -106,29 +106,37 @@ fn work<
     job: Job<'_>,
     sources: &mut Sources,
 ) -> Result<(), Fault>
-    requires { IsTaskWithinLimits job.task }
+    requires { IsCommandWithinLimits job.task }
 {
     let alloc = world.threads.alloc();
     let design = &job.loaded.design;
     match job.task {
         DesignCommand::Check { format } => print_check(alloc, out, design, format),
-        DesignCommand::Schedule { options, format } => print_schedule(alloc, out, design, &options, format),
-        DesignCommand::Analyze { options, format } => print_analysis(alloc, out, design, &options, format),
-        DesignCommand::Compare { options, format } => compare(alloc, out, err, job, &options, format),
-        DesignCommand::Draw { options, picture } => print_picture(alloc, out, design, &options, picture),
-        DesignCommand::RunRequest(asked) => {
-            let running = job.running(asked, world.terminal);
+        DesignCommand::Schedule { options, format } => print_schedule(
+            alloc, out, design, &options, format,
+        ),
+        DesignCommand::Analyze { options, format } => print_analysis(
+            alloc, out, design, &options, format,
+        ),
+        DesignCommand::Compare { options, format } => compare(
+            alloc, out, err, job, &options, format,
+        ),
+        DesignCommand::Draw { options, picture } => print_picture(
+            alloc, out, design, &options, picture,
+        ),
+        DesignCommand::Run(request) => {
+            let running = job.running(request, world.terminal);
             run(world, stdin, out, err, running, sources)
         }
         DesignCommand::Profile { input, write } => {
-            let asked = job.profiling(input, write);
-            print_profile(world, stdin, out, asked, sources)
+            let request = job.profiling(input, write);
+            print_profile(world, stdin, out, request, sources)
         }
     }
 }
 
 /// Reads a design, and does a task for it. Leaves what was read in `sources`.
-fn work_on<
+fn load_and_do<
     S: Storage,
     T: Threads + AllocGlobal + Clock + Clone + Drop + Sync,
     I: Read,
@@ -139,51 +147,56 @@ fn work_on<
     stdin: &mut I,
     out: &mut O,
     err: &mut E,
-    asked: Asked<'_>,
+    request: DesignRequest<'_>,
     sources: &mut Sources,
 ) -> Result<(), Fault>
-    requires { IsTaskWithinLimits asked.task }
+    requires { IsCommandWithinLimits request.task }
 {
-    let Asked { graph, task, why } = asked;
+    let DesignRequest { graph, task, why } = request;
     let alloc = world.threads.alloc();
     let loaded = load_into(alloc, world.storage, graph, world.most, sources)?;
     let job = Job {
         graph,
         task,
         loaded: &loaded,
-        is_said: why.is_said(world.terminal),
+        is_verbose: why.is_verbose(world.terminal),
     };
-    work(world, stdin, out, err, job, sources)
+    do_task(world, stdin, out, err, job, sources)
 }
 
-/// Runs of a design, and when diagnostics and reports are printed.
+/// The requested runs of a design, and when diagnostics and reports are printed.
 #[derive(Clone, Copy)]
-struct Runs<'a> {
+struct DesignBatch<'a> {
     graph: &'a str,
-    batch: &'a Batch<'a>,
+    batch: &'a BatchRequest<'a>,
     why: Why,
 }
 
 /// Reads a design, and runs it on several files. Leaves what was read in `sources`, and returns the exit status.
-fn run_on<S: Storage, T: Threads + AllocGlobal + Clock + Sync, O: Write + Send, E: Write + Send>(
+fn load_and_run<
+    S: Storage,
+    T: Threads + AllocGlobal + Clock + Sync,
+    O: Write + Send,
+    E: Write + Send,
+>(
     world: &World<S, T>,
     out: &mut O,
     err: &mut E,
-    asked: Runs<'_>,
+    request: DesignBatch<'_>,
     sources: &mut Sources,
 ) -> Result<u8, Fault>
-    requires { IfSome asked.batch.now.parallel IsCrew }
+    requires { IfSome request.batch.now.parallel IsParallelWorkers }
 {
-    let Runs { graph, batch, why } = asked;
+    let DesignBatch { graph, batch, why } = request;
     let alloc = world.threads.alloc();
     let loaded = load_into(alloc, world.storage, graph, world.most, sources)?;
-    let is_said = why.is_said(world.terminal);
+    let is_verbose = why.is_verbose(world.terminal);
     let batching = Batching {
         graph,
         loaded: &loaded,
-        asked: batch,
-        is_said,
-        is_shown: is_said && world.terminal,
+        request: batch,
+        is_verbose,
+        is_shown: is_verbose && world.terminal,
     };
     run_batch(world, out, err, batching, sources)
 }
@@ -194,8 +207,8 @@ fn status_or_fault(done: Result<(), Fault>) -> Result<u8, Fault> {
     Ok(0)
 }
 
-/// Does what is asked for, and returns the exit status. Leaves what was read in `sources`.
-fn obey<
+/// Executes what is asked for, and returns the exit status. Leaves what was read in `sources`.
+fn execute<
     S: Storage,
     T: Threads + AllocGlobal + Clock + Clone + Drop + Sync,
     I: Read,
@@ -206,24 +219,24 @@ fn obey<
     stdin: &mut I,
     out: &mut O,
     err: &mut E,
-    asked: Words<'_>,
+    request: Words<'_>,
     sources: &mut Sources,
 ) -> Result<u8, Fault>
-    requires { IsWithinLimits asked }
+    requires { IsWithinLimits request }
 {
     let alloc = world.threads.alloc();
-    match asked {
+    match request {
         Words::Design { graph, task, why } => {
-            let asked = Asked { graph, task, why };
-            status_or_fault(work_on(world, stdin, out, err, asked, sources))
+            let request = DesignRequest { graph, task, why };
+            status_or_fault(load_and_do(world, stdin, out, err, request, sources))
         }
         Words::Batch { graph, batch, why } => {
-            let asked = Runs {
+            let request = DesignBatch {
                 graph,
                 batch: &batch,
                 why,
             };
-            run_on(world, out, err, asked, sources)
+            load_and_run(world, out, err, request, sources)
         }
         Words::Fir { wanted } => status_or_fault(fir(alloc, out, err, wanted)),
         Words::Resample { conversion } => status_or_fault(resample(
@@ -270,13 +283,13 @@ fn report_without_memory(format: Format) -> &'static [u8] {
 
 /// Reports `fault` and its diagnostic on standard error, and returns its exit status. If there is no memory for the
 /// text, reports `OutOfMemory` and returns its status instead.
-fn tell<E: Write>(alloc: Global, err: &mut E, fault: &Fault, background: &Background) -> u8
+fn report<E: Write>(alloc: Global, err: &mut E, fault: &Fault, background: &Background) -> u8
     ensures { (result ≡ status_of fault.now) ⊎ (result ≡ status_of OutOfMemory) }
 {
     match report_text(alloc, fault, background) {
         Ok(text) => {
             let _ = err.write_all(text.as_bytes());
-            background.tell(alloc, err, fault);
+            background.report(alloc, err, fault);
             status(fault)
         }
         Err(_) => {
@@ -287,17 +300,17 @@ fn tell<E: Write>(alloc: Global, err: &mut E, fault: &Fault, background: &Backgr
 }
 
 /// Returns the words of a command line as slices.
-fn line_of(alloc: Global, given: &[String]) -> Result<Vec<&str>, AllocError> {
+fn line_of(alloc: Global, arguments: &[String]) -> Result<Vec<&str>, AllocError> {
     let mut line = Vec::new(alloc);
-    for word in given {
+    for word in arguments {
         line.push(word.as_str())?;
     }
     Ok(line)
 }
 
-/// Does what the given words ask for, and returns the exit status. Leaves in `background` what the report of a fault
-/// needs.
-fn answer<
+/// Parses the words of `arguments`, executes what they ask for, and returns the exit status. Leaves in `background`
+/// what the report of a fault needs.
+fn parse_and_execute<
     S: Storage,
     T: Threads + AllocGlobal + Clock + Clone + Drop + Sync,
     I: Read,
@@ -308,15 +321,15 @@ fn answer<
     stdin: &mut I,
     out: &mut O,
     err: &mut E,
-    given: &Arguments,
+    arguments: &Arguments,
     background: &mut Background,
 ) -> Result<u8, Fault> {
     let alloc = world.threads.alloc();
-    let line = line_of(alloc, &given.words)?;
-    match given.read(alloc, line.as_slice()) {
-        Ok(asked) => {
-            background.set_form(&asked, world.terminal);
-            obey(world, stdin, out, err, asked, &mut background.sources)
+    let line = line_of(alloc, &arguments.words)?;
+    match arguments.read(alloc, line.as_slice()) {
+        Ok(request) => {
+            background.set_form(&request, world.terminal);
+            execute(world, stdin, out, err, request, &mut background.sources)
         }
         Err(fault) => {
             background.set_form_of_mistake(&line);
@@ -334,12 +347,12 @@ fn exit_status<E: Write>(
 ) -> u8 {
     match done {
         Ok(status) => status,
-        Err(fault) => tell(alloc, err, &fault, background),
+        Err(fault) => report(alloc, err, &fault, background),
     }
 }
 
-/// Runs the whole program on its command line `given`, and returns its exit status. It works on `world` and `stdin`,
-/// and prints to `out` and `err`.
+/// Runs the whole program on its command line `arguments`, and returns its exit status. It works on `world` and
+/// `stdin`, and prints to `out` and `err`.
 pub fn serve<
     S: Storage,
     T: Threads + AllocGlobal + Clock + Clone + Drop + Sync,
@@ -351,12 +364,12 @@ pub fn serve<
     stdin: &mut I,
     out: &mut O,
     err: &mut E,
-    given: Result<Arguments, WordFault>,
+    arguments: Result<Arguments, WordFault>,
 ) -> u8 {
     let alloc = world.threads.alloc();
     let mut background = Background::new(alloc);
-    let done = match given {
-        Ok(given) => answer(world, stdin, out, err, &given, &mut background),
+    let done = match arguments {
+        Ok(arguments) => parse_and_execute(world, stdin, out, err, &arguments, &mut background),
         Err(fault) => Err(Fault::from(fault)),
     };
     exit_status(alloc, err, done, &background)

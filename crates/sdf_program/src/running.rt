@@ -2,27 +2,27 @@
 
 ghost use Rattle.std.specs.Prelude.{IfSome};
 ghost use Rattle.sdf_plan.specs.Plans.{Suits};
-ghost use Rattle.sdf_cli.specs.Limits.{IsCrew};
+ghost use Rattle.sdf_cli.specs.Limits.{IsParallelWorkers};
 
 use crate::plans::plan_of;
+use sdf_cli::RunRequest;
 use sdf_faults::Fault;
 use sdf_file::Design;
 use sdf_io::SoundLevels;
 use sdf_io::files::{Loaded, Refused, Sources, or_refuse, refuse_kind};
 use sdf_io::input::Input;
-use sdf_io::output::{Output, Shown};
-use sdf_io::overwriting::{Paths, keep_what_is_read};
+use sdf_io::output::{Output, ProgressLine};
+use sdf_io::overwriting::{Paths, refuse_overwriting};
 use sdf_io::progress::Progress;
 use sdf_io::storage::Storage;
 use sdf_io::world::{STANDARD, World};
-use sdf_limits::MOST_WORKERS;
+use sdf_limits::MAX_WORKERS;
 use sdf_options::plural::plural;
 use sdf_plan::Plan;
 use sdf_plan::parallel::Pace;
 use sdf_process::part_sizes::parts_at_once;
 use sdf_process::process::process;
 use sdf_wav::{FromRead, ToWrite};
-use sdf_cli::RunRequest;
 use std::alloc::{AllocError, Global};
 use std::io::{ErrorKind, Read, Write};
 use std::thread::Threads;
@@ -33,9 +33,9 @@ use std::time::Clock;
 pub(crate) struct Running<'a> {
     pub(crate) graph: &'a str,
     pub(crate) loaded: &'a Loaded,
-    pub(crate) asked: RunRequest<'a>,
+    pub(crate) request: RunRequest<'a>,
     /// Whether diagnostics and reports are printed.
-    pub(crate) is_said: bool,
+    pub(crate) is_verbose: bool,
     /// Whether the progress of the run is shown.
     pub(crate) is_shown: bool,
 }
@@ -45,8 +45,8 @@ impl<'a> Running<'a> {
     fn paths(self) -> Paths<'a> {
         Paths {
             graph: self.graph,
-            input: self.asked.input,
-            output: self.asked.output,
+            input: self.request.input,
+            output: self.request.output,
         }
     }
 }
@@ -90,7 +90,7 @@ fn parts_text(alloc: Global, planned: Planned<'_>, frames: u64) -> Result<String
     else {
         return Ok(String::new(alloc));
     };
-    let most = workers.clamp(1, MOST_WORKERS) as u32;
+    let most = workers.clamp(1, MAX_WORKERS) as u32;
     let parts = parts_at_once(&planned.running.loaded.design, most, periods, frames);
     if parts < 2 {
         return String::from_str(alloc, "one thread: the sound is shorter than two parts\n");
@@ -103,7 +103,7 @@ fn parts_text(alloc: Global, planned: Planned<'_>, frames: u64) -> Result<String
 }
 
 /// Reports how a run went in parts and how loud its outputs are. Reports nothing if the levels were not counted.
-fn tell_end<E: Write>(
+fn report_end<E: Write>(
     alloc: Global,
     err: &mut E,
     planned: Planned<'_>,
@@ -136,10 +136,10 @@ impl Ran {
         refused: &mut Vec<Refused>,
     ) -> Result<(), Fault> {
         if let Some(kind) = self.refused {
-            refuse_kind(alloc, refused, planned.running.asked.output, kind);
+            refuse_kind(alloc, refused, planned.running.request.output, kind);
         }
         self.ended?;
-        Ok(tell_end(alloc, err, planned, self.levels)?)
+        Ok(report_end(alloc, err, planned, self.levels)?)
     }
 }
 
@@ -154,7 +154,7 @@ fn run_shown<T: Threads + AllocGlobal + Clock + Sync, R: Read, W: Write, E: Writ
     requires { Suits planned.running.loaded.now.design.net planned.plan.now }
 {
     let Planned { running, plan, .. } = planned;
-    let shown = Shown {
+    let progress_line = ProgressLine {
         alloc: threads.alloc(),
         err,
         clock: threads,
@@ -164,9 +164,9 @@ fn run_shown<T: Threads + AllocGlobal + Clock + Sync, R: Read, W: Write, E: Writ
             None
         },
     };
-    let mut output = Output::new(to, shown, running.is_said);
+    let mut output = Output::new(to, progress_line, running.is_verbose);
     let ended = run_between(threads, from, &mut output, &running.loaded.design, plan);
-    output.shown.hide();
+    output.progress_line.hide();
     Ran {
         ended,
         levels: output.levels,
@@ -204,7 +204,7 @@ fn run_from<S: Storage, T: Threads + AllocGlobal + Clock + Sync, R: Read, O: Wri
     let alloc = world.threads.alloc();
     let paths = planned.running.paths();
     let names = &planned.running.loaded.names;
-    keep_what_is_read(alloc, world.storage, "OUT", paths, names)?;
+    refuse_overwriting(alloc, world.storage, "OUT", paths, names)?;
     if paths.output == STANDARD {
         return run_into(world.threads, from, out, err, planned, refused);
     }
@@ -230,7 +230,7 @@ fn run_traced<S: Storage, T: Threads + AllocGlobal + Clock + Sync, R: Read, O: W
         input: name,
         open_ended,
         ..
-    } = planned.running.asked;
+    } = planned.running.request;
     trace.name = String::from_str(alloc, name)?;
     let mut input = Input::new(from, trace, open_ended);
     let ended = run_from(world, &mut input, out, err, planned, refused);
@@ -258,7 +258,7 @@ pub(crate) fn run_planned<
 ) -> Result<(), Fault>
     requires { Suits planned.running.loaded.now.design.net planned.plan.now }
 {
-    let input = planned.running.asked.input;
+    let input = planned.running.request.input;
     if input == STANDARD {
         return run_traced(world, stdin, out, err, planned, sources);
     }
@@ -278,15 +278,15 @@ pub(crate) fn run<S: Storage, T: Threads + AllocGlobal + Clock + Sync, I: Read, 
     running: Running<'_>,
     sources: &mut Sources,
 ) -> Result<(), Fault>
-    requires { IfSome running.asked.parallel IsCrew }
+    requires { IfSome running.request.parallel IsParallelWorkers }
 {
     let prepared = plan_of(
         world.threads,
         err,
         &running.loaded.design,
-        &running.asked.options,
-        running.asked.parallel,
-        running.is_said,
+        &running.request.options,
+        running.request.parallel,
+        running.is_verbose,
     )?;
     let planned = Planned {
         running,

@@ -7,7 +7,7 @@ use Rattle.std.specs.List.{between}
 use Rattle.std.proofs.lemmas.List.{with_items_is, drop-drop, drop-append-le, length-take-le}
 use Rattle.std.proofs.lemmas.Slice.{between_is, take-put_mid}
 use borrow.Rule.Slice.PartMut.{put_mid}
-use Rattle.sdf_queues.specs.Held.{Held}
+use Rattle.sdf_queues.specs.QueueValue.{QueueValue}
 
 -- a part whose beginning is dropped
 pub released : {T : Type 0} (xs : List T) (start end many : ℕ) →
@@ -36,7 +36,7 @@ written list slots ys old from to made many rise within len is long kept same =
     ∙ ap (λ xs. xs ++ ys) (ap (between from to) is ∙ same))
 
 -- and what the queue then holds
-pub holds_more : {T : Type 0} (list : Vec T Global) (slots ys put old : List T) (room : ℕ) (q : Held T)
+pub holds_more : {T : Type 0} (list : Vec T Global) (slots ys put old : List T) (room : ℕ) (q : QueueValue T)
     (from to made many : ℕ) → from ≤ to → to + made ≤ vec_len list → length slots ≡ vec_len list →
     slots ≡ list.items → length ys ≡ made → length (put_mid to many slots ys) ≡ length slots →
     between from to list.items ≡ old → record { samples = old; room = room } ≡ q → ys ≡ put →

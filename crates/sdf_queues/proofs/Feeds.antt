@@ -2,10 +2,10 @@
 use Rattle.std.proofs.Common.{◌≡◌, ℕ, ◌+◌, ◌*◌, ◌<◌, ◌++◌, get_or, None, sym, ◌∙◌, subst, arith}
 use Rattle.sdf_actor.specs.GoingOn.{GoesOn, in_all}
 use Rattle.sdf_actor.specs.Nets.{node}
-use Rattle.sdf_actor.specs.Rests.{IsNodeIn}
+use Rattle.sdf_actor.specs.NetStates.{IsResumedNode}
 use Rattle.sdf_actor.specs.Steps.{Steps}
-use Rattle.sdf_actor.proofs.Theorems.{arrivals_go_on, histories_go_on, rests_go_on}
-use Rattle.sdf_queues.specs.Answer.{periods_of}
+use Rattle.sdf_actor.proofs.Theorems.{arrivals_go_on, histories_go_on, states_go_on}
+use Rattle.sdf_queues.specs.RunResults.{periods_of}
 use Rattle.sdf_queues.specs.Feeds.{FeedsGoOn, HasRun}
 use Rattle.sdf_queues.proofs.Wholes.{asks, may_leave, reads}
 
@@ -45,8 +45,8 @@ run_in_all s r n m p few more first later all made on joined rest last has given
       each = λ a e block l is.
           let one = before.each a e block l is in
           let other = after.each a e block (subst (λ j. a < j) (sym begins.nodes) l)
-          (subst (λ x. IsNodeIn s r (get_or rest.states.items a None) x (node m a)) is (begins.each a l)) in
+          (subst (λ x. IsResumedNode s r (get_or rest.states.items a None) x (node m a)) is (begins.each a l)) in
           joined_are e ∙ ((λ κ. one κ ++ other κ) ∙ sym (arrivals_go_on s r n m first later k i before.history
           after.history rest goes_on a e block l is));
-      left = rests_go_on s r n m first later k i before.history after.history rest last goes_on after.left;
+      left = states_go_on s r n m first later k i before.history after.history rest last goes_on after.left;
     }

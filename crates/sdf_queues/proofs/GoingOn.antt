@@ -12,7 +12,7 @@ use Rattle.sdf_actor.specs.Nets.{IsHistoryOf, SourceReaches, InputsReach}
 use Rattle.sdf_actor.specs.Sides.{period_samples}
 use Rattle.sdf_actor.specs.Laws.{HistoryExists}
 use Rattle.sdf_actor.proofs.Theorems.{histories_grow, nets_are_wired, ports_have_channels}
-use Rattle.sdf_queues.specs.Answer.{periods_of}
+use Rattle.sdf_queues.specs.RunResults.{periods_of}
 use Rattle.sdf_queues.specs.Laws.{RunsGoOn}
 use Rattle.sdf_queues.proofs.Histories.{history_along}
 use Rattle.sdf_queues.proofs.Periods.{sinks_below}

@@ -5,14 +5,14 @@ use Rattle.std.specs.List.{flat_map}
 use Rattle.std.proofs.Math.Nat.{mul-le-mul_left}
 use Rattle.std.proofs.lemmas.List.{take_all}
 use Rattle.sdf_graph.specs.Sequences.{times}
-use Rattle.sdf_actor.specs.Rests.{state_left}
+use Rattle.sdf_actor.specs.NetStates.{state_left}
 use Rattle.sdf_actor.specs.Steps.{Steps}
 use Rattle.sdf_actor.specs.Histories.{Wiring, Answers, IsHistory, IsWired, taken_before}
 use Rattle.sdf_actor.specs.Nets.{Netlist, node, wiring, answers, to_port}
 use Rattle.sdf_actor.specs.Sides.{period_samples}
 use Rattle.sdf_actor.specs.declared.sides.Lists.TheVariants.{Inputs}
 use Rattle.sdf_actor.proofs.Theorems.{nets_are_wired}
-use Rattle.sdf_queues.specs.Answer.{HasInputs, periods_of}
+use Rattle.sdf_queues.specs.RunResults.{HasInputs, periods_of}
 use Rattle.sdf_queues.specs.Feeds.{SinksMakeRuns, NothingRuns}
 use Rattle.sdf_queues.specs.Laws.{HistoriesBegin, SinksTakeAll, SinksMakeOutputs, NothingMakesNothing}
 use Rattle.sdf_queues.proofs.Periods.{sinks_below}

@@ -14,8 +14,8 @@ mod Routes
 mod PortRows
 mod Moves
 mod Feeds
-mod BegunLists
-mod Begun
+mod ResumedLists
+mod Resumed
 mod ByTurns
 mod TwoPorts
 pub mod Theorems

@@ -9,7 +9,7 @@ use Rattle.std.proofs.lemmas.Slice.{between_from_start}
 use Rattle.sdf_actor.specs.Histories.{spread}
 use Rattle.sdf_node.proofs.Theorems.{blocks_join}
 use Rattle.sdf_node.specs.Many.{nth_block, joined}
-use Rattle.sdf_queues.specs.Held.{Held}
+use Rattle.sdf_queues.specs.QueueValue.{QueueValue}
 use Rattle.sdf_queues.specs.Blocks.{samples}
 use Rattle.sdf_queues.proofs.Ports.{Turn, put_part, spread_here, spread_on, later_none}
 
@@ -93,7 +93,7 @@ blocks_whole f size times at xs long past each =
     (λ i l. sym (take_all at (nth_block size xs i) (omega (arith, are.0 i l))) ∙ each i l)
 
 -- many firings' parts are put at a port more: what is still to be put of the blocks f
-module _ {T : Type 0} (t : Turn T) (x q : Held T) (f : ℕ → List T) (times at : ℕ) where
+module _ {T : Type 0} (t : Turn T) (x q : QueueValue T) (f : ℕ → List T) (times at : ℕ) where
   open t use {ports, was, now, i}
 
   abbrev size : ℕ → ℕ

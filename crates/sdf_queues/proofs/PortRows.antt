@@ -10,10 +10,10 @@ use Rattle.sdf_actor.specs.Steps.{Steps}
 use Rattle.sdf_actor.specs.Nets.{Netlist, node, to_port, from_port, cycle_of, consumed_at, produced_at, IsNet}
 use Rattle.sdf_actor.specs.Sides.{ports_of, channel_at, channels_at}
 use Rattle.sdf_actor.proofs.Theorems.{nets_are_wired, ports_have_channels}
-use Rattle.sdf_queues.specs.Sizes.{Rows, AreSizes, AreRows, IsPlan, at_phase, phase_of, rows_on, sizes}
+use Rattle.sdf_queues.specs.Sizes.{SizesValue, AreSizes, AreRows, IsPlan, at_phase, phase_of, rows_on, sizes}
 use Rattle.sdf_queues.proofs.Routes.{at_end}
 
-module _ {A S T : Type 0} {s : Steps A S T} {n : Netlist A T} {z : Rows} (good : IsNet s n) (are : AreSizes s n z)
+module _ {A S T : Type 0} {s : Steps A S T} {n : Netlist A T} {z : SizesValue} (good : IsNet s n) (are : AreSizes s n z)
     (a : ℕ) (known : a < length n.nodes) where
   -- the firings of the first cycle are at the phases of their numbers
   turn : (j : ℕ) → j < cycle_of s (node n a) → phase_of s (node n a) j ≡ j

@@ -8,7 +8,7 @@ use Rattle.std.proofs.Math.Seq.{drop-cons}
 use Rattle.std.specs.List.{flat_map}
 use Rattle.std.proofs.lemmas.Bool.{cases_eq, eq-eqb, ne_eqb}
 use Rattle.sdf_actor.specs.Histories.{spread}
-use Rattle.sdf_queues.specs.Held.{Held}
+use Rattle.sdf_queues.specs.QueueValue.{QueueValue}
 use Rattle.sdf_queues.specs.Blocks.{nothing, samples, room, at_ports, ArePorts}
 
 pub at_none : (ds : List ℕ) (many c : ℕ) → ((n : ℕ) → n < length ds → get_or ds n 0 ≡ c → ⊥) → at_ports ds many c ≡ 0
@@ -36,24 +36,24 @@ spread_none size (d ∷ ds) b c none =
     ap (λ t. cond t (take (size d) b) (spread size ds (drop (size d) b) c)) (ne_eqb d c (none 0 (omega arith))) ∙
     spread_none size ds (drop (size d) b) c (λ n l. none (suc n) (omega arith))
 
-pub same_x : {T : Type 0} (qs : List (Held T)) (d : ℕ) (x : Held T) → d < length qs →
+pub same_x : {T : Type 0} (qs : List (QueueValue T)) (d : ℕ) (x : QueueValue T) → d < length qs →
     samples qs d ≡ (get_or qs d x).samples
-same_x {T} qs d x l = ap (λ (y : Held T). y.samples) (get_or_default qs d nothing x l)
+same_x {T} qs d x l = ap (λ (y : QueueValue T). y.samples) (get_or_default qs d nothing x l)
 
 -- a loop over a node's ports when it comes to port i: the channels of the ports, the sizes of all channels, the queues
 -- before the loop and now
 pub record Turn (T : Type 0) : Type 0 where
   pub ports : List ℕ
   pub sizes : List ℕ
-  pub was : List (Held T)
+  pub was : List (QueueValue T)
   pub are : ArePorts ports sizes (length was)
-  pub now : List (Held T)
+  pub now : List (QueueValue T)
   pub long : length now ≡ length was
   pub i : ℕ
   pub known : i < length ports
 
 -- the turn of port i, from what a loop's goals know of it
-abbrev pub turn_at : {T : Type 0} {ports sizes : List ℕ} (was now : List (Held T)) (i : ℕ) →
+abbrev pub turn_at : {T : Type 0} {ports sizes : List ℕ} (was now : List (QueueValue T)) (i : ℕ) →
     ArePorts ports sizes (length was) → length now ≡ length was → i < length ports → Turn T
 turn_at {T} {ports} {sizes} was now i are long known = record {
   ports = ports;
@@ -74,7 +74,7 @@ module _ {T : Type 0} (t : Turn T) where
   d = get_or ports i 0
 
   -- the queues after the turn
-  abbrev after : Held T → List (Held T)
+  abbrev after : QueueValue T → List (QueueValue T)
   after q = set now d q
 
   -- the ports before one are other channels
@@ -91,17 +91,17 @@ module _ {T : Type 0} (t : Turn T) where
   in_range : d < length now
   in_range = omega (arith, are.known i t.known, t.long)
 
-  set_here : (q : Held T) → get_or (after q) d nothing ≡ q
+  set_here : (q : QueueValue T) → get_or (after q) d nothing ≡ q
   set_here q = get_or-set_same now d q nothing in_range
 
-  set_other : (q : Held T) (c : ℕ) → (d ≡ c → ⊥) → get_or (after q) c nothing ≡ get_or now c nothing
+  set_other : (q : QueueValue T) (c : ℕ) → (d ≡ c → ⊥) → get_or (after q) c nothing ≡ get_or now c nothing
   set_other q c ne = get_or-set_other now d c q nothing (λ e. ne (sym e))
 
   cons : drop i ports ≡ d ∷ drop (i + 1) ports
   cons = drop-cons ports i 0 t.known ∙ ap (λ j. d ∷ drop j ports) (sym (add-one i))
 
   -- the room of each queue stays
-  pub rooms_more : (x q : Held T) → q.room ≡ (get_or now d x).room →
+  pub rooms_more : (x q : QueueValue T) → q.room ≡ (get_or now d x).room →
       ((c : ℕ) → c < length was → room now c ≡ room was c) → (c : ℕ) → c < length was →
       room (after q) c ≡ room was c
   rooms_more x q stays before c k = go (cases_eq d c)
@@ -109,10 +109,10 @@ module _ {T : Type 0} (t : Turn T) where
       go : (d ≡ c) ⊎ (d ≡ c → ⊥) → room (after q) c ≡ room was c
       go (inl e) =
           subst (λ c. room (after q) c ≡ room was c) e
-          (ap (λ (y : Held T). y.room) (set_here q) ∙ (stays
-          ∙ (ap (λ (y : Held T). y.room) (sym (get_or_default now d nothing x in_range))
+          (ap (λ (y : QueueValue T). y.room) (set_here q) ∙ (stays
+          ∙ (ap (λ (y : QueueValue T). y.room) (sym (get_or_default now d nothing x in_range))
           ∙ before d (are.known i t.known))))
-      go (inr ne) = ap (λ (y : Held T). y.room) (set_other q c ne) ∙ before c k
+      go (inr ne) = ap (λ (y : QueueValue T). y.room) (set_other q c ne) ∙ before c k
 
   module _ (taken : ℕ → ℕ) where
     -- the ports before this one have had their turns
@@ -120,18 +120,18 @@ module _ {T : Type 0} (t : Turn T) where
     Before = (c : ℕ) → c < length was → samples now c ≡ drop (at_ports (take i ports) (taken c) c) (samples was c)
 
     -- a port's queue is whole until its turn
-    pub whole : (x : Held T) → Before → (get_or now d x).samples ≡ samples was d
+    pub whole : (x : QueueValue T) → Before → (get_or now d x).samples ≡ samples was d
     whole x before =
         sym (same_x now d x in_range) ∙ (before d (are.known i t.known)
         ∙ ap (λ n. drop n (samples was d)) (fresh (taken d)))
 
     -- and so holds what is taken from it
-    pub holds : (x : Held T) → ((n : ℕ) → n < length ports → taken (get_or ports n 0) ≤
+    pub holds : (x : QueueValue T) → ((n : ℕ) → n < length ports → taken (get_or ports n 0) ≤
         length (samples was (get_or ports n 0))) → Before → taken d ≤ length (get_or now d x).samples
     holds x held before = omega (arith, held i t.known, ap length (whole x before))
 
     -- taking from one port more
-    pub taken_more : (x q : Held T) → q.samples ≡ drop (taken d) (get_or now d x).samples → Before →
+    pub taken_more : (x q : QueueValue T) → q.samples ≡ drop (taken d) (get_or now d x).samples → Before →
         (c : ℕ) → c < length was →
         samples (after q) c ≡ drop (at_ports (take (i + 1) ports) (taken c) c) (samples was c)
     taken_more x q moved before c k =
@@ -142,23 +142,24 @@ module _ {T : Type 0} (t : Turn T) where
             samples (after q) c ≡ drop (at_ports (take i ports ++ d ∷ []) (taken c) c) (samples was c)
         go (inl e) =
             subst (λ c. samples (after q) c ≡ drop (at_ports (take i ports ++ d ∷ []) (taken c) c) (samples was c)) e
-            (ap (λ (y : Held T). y.samples) (set_here q) ∙ (moved
+            (ap (λ (y : QueueValue T). y.samples) (set_here q) ∙ (moved
             ∙ (ap (drop (taken d)) (whole x before) ∙ ap (λ n. drop n (samples was d))
             (sym (push_same (take i ports) (taken d) d)))))
         go (inr ne) =
-            ap (λ (y : Held T). y.samples) (set_other q c ne) ∙
+            ap (λ (y : QueueValue T). y.samples) (set_other q c ne) ∙
             (before c k ∙ ap (λ n. drop n (samples was c)) (sym (push_other (take i ports) (taken c) d c ne)))
 
   -- putting on one port more
-  pub untouched_more : (q : Held T) → ((c : ℕ) → c < length was → ((n : ℕ) → n < i → get_or ports n 0 ≡ c → ⊥) →
+  pub untouched_more : (q : QueueValue T) → ((c : ℕ) → c < length was → ((n : ℕ) → n < i → get_or ports n 0 ≡ c → ⊥) →
       samples now c ≡ samples was c) →
       (c : ℕ) → c < length was → ((n : ℕ) → n < i + 1 → get_or ports n 0 ≡ c → ⊥) →
       samples (after q) c ≡ samples was c
   untouched_more q before c k none =
-      ap (λ (y : Held T). y.samples) (set_other q c (none i (omega arith))) ∙ before c k (λ n h. none n (omega arith))
+      ap (λ (y : QueueValue T). y.samples) (set_other q c (none i (omega arith)))
+      ∙ before c k (λ n h. none n (omega arith))
 
   -- a part is put: of what was still to come on a channel nothing is left there, and elsewhere all of it
-  pub put_part : (x q : Held T) (part : List T) → q.samples ≡ (get_or now d x).samples ++ part →
+  pub put_part : (x q : QueueValue T) (part : List T) → q.samples ≡ (get_or now d x).samples ++ part →
       (rest later : List T) (c : ℕ) → (d ≡ c → (rest ≡ part) × (later ≡ [])) → ((d ≡ c → ⊥) → rest ≡ later) →
       samples (after q) c ++ later ≡ samples now c ++ rest
   put_part x q part moved rest later c here other = go (cases_eq d c)
@@ -166,13 +167,13 @@ module _ {T : Type 0} (t : Turn T) where
       go : (d ≡ c) ⊎ (d ≡ c → ⊥) → samples (after q) c ++ later ≡ samples now c ++ rest
       go (inl e) =
           let mine : samples (after q) c ≡ q.samples =
-          subst (λ c. samples (after q) c ≡ q.samples) e (ap (λ (y : Held T). y.samples) (set_here q)) in
+          subst (λ c. samples (after q) c ≡ q.samples) e (ap (λ (y : QueueValue T). y.samples) (set_here q)) in
           let old : samples now c ≡ (get_or now d x).samples =
           subst (λ c. samples now c ≡ (get_or now d x).samples) e (same_x now d x in_range) in
           ap (λ ys. samples (after q) c ++ ys) (here e).1 ∙ (append-nil (samples (after q) c) ∙
           (mine ∙ (moved ∙ (ap (λ ys. ys ++ part) (sym old) ∙ ap (λ ys. samples now c ++ ys) (sym (here e).0)))))
       go (inr ne) =
-          ap (λ ys. ys ++ later) (ap (λ (y : Held T). y.samples) (set_other q c ne))
+          ap (λ ys. ys ++ later) (ap (λ (y : QueueValue T). y.samples) (set_other q c ne))
           ∙ ap (λ ys. samples now c ++ ys) (sym (other ne))
 
   abbrev size : ℕ → ℕ
@@ -200,7 +201,7 @@ module _ {T : Type 0} (t : Turn T) where
       ap (λ es. spread size es b c) cons ∙ ap (λ u. cond u (take (size d) b)
       (spread size (drop (i + 1) ports) (drop (size d) b) c)) (ne_eqb d c ne)
 
-  pub put_more : (x q : Held T) (all rest : List T) → q.samples ≡ (get_or now d x).samples ++ take (size d) rest →
+  pub put_more : (x q : QueueValue T) (all rest : List T) → q.samples ≡ (get_or now d x).samples ++ take (size d) rest →
       ((c : ℕ) → c < length was →
       samples now c ++ spread size (drop i ports) rest c ≡ samples was c ++ spread size ports all c) →
       (c : ℕ) → c < length was → samples (after q) c ++ spread size (drop (i + 1) ports) (drop (size d) rest) c ≡

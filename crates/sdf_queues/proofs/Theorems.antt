@@ -2,13 +2,13 @@
 use Rattle.sdf_actor.specs.declared.sides.Lists.TheVariants.{Outputs}
 use Rattle.sdf_actor.specs.Laws.{HistoryExists, HistoryGrowsByFiring}
 use Rattle.sdf_actor.specs.Steps.{Steps}
-use Rattle.sdf_queues.specs.Feeds.{FeedsGoOn, BegunNetsAsk, BegunNetsMake, SinksMakeRuns, NothingRuns}
-use Rattle.sdf_queues.specs.Feeds.{PeriodsMayLeave, BegunRunsGoOn, BegunRunsFail}
+use Rattle.sdf_queues.specs.Feeds.{FeedsGoOn, ResumedNetsNeed, ResumedNetsMake, SinksMakeRuns, NothingRuns}
+use Rattle.sdf_queues.specs.Feeds.{PeriodsMayLeave, ResumedRunsGoOn, ResumedRunsFail}
 use Rattle.sdf_queues.specs.Laws.{RunsGoOn, NetsCanRun, HistoriesBegin, SinksTakeAll, SinksMakeOutputs}
 use Rattle.sdf_queues.specs.Laws.{NothingMakesNothing, BlocksAreCounted, NodesTakeTheirs, PlansFit, BlocksStand}
 use Rattle.sdf_queues.specs.Laws.{FiringsMoveOn, NetsHaveFacts, NetsHavePeriods, BlocksAreSmall}
-use Rattle.sdf_queues.proofs.Begun.{begun_runs_go_on as go_on, begun_runs_fail as fail}
-use Rattle.sdf_queues.proofs.BegunLists.{begun_nets_ask as ask, as_many_lists}
+use Rattle.sdf_queues.proofs.Resumed.{begun_runs_go_on as go_on, begun_runs_fail as fail}
+use Rattle.sdf_queues.proofs.ResumedLists.{begun_nets_ask as ask, as_many_lists}
 use Rattle.sdf_queues.proofs.Feeds.{run_in_all}
 use Rattle.sdf_queues.proofs.GoingOn.{runs_go_on_of}
 use Rattle.sdf_queues.proofs.Histories.{histories_begin as begin, sinks_take_all as take_all}
@@ -40,19 +40,19 @@ runs_go_on = runs_go_on_of
 pub feeds_go_on : {A B S T : Type 0} (s : Steps A S T) (r : Steps B S T) → FeedsGoOn s r
 feeds_go_on = run_in_all
 
-pub begun_nets_ask : {A B S T : Type 0} (s : Steps A S T) (r : Steps B S T) → BegunNetsAsk s r
+pub begun_nets_ask : {A B S T : Type 0} (s : Steps A S T) (r : Steps B S T) → ResumedNetsNeed s r
 begun_nets_ask = ask
 
-pub begun_nets_make : {A B S T : Type 0} (s : Steps A S T) (r : Steps B S T) → BegunNetsMake s r
+pub begun_nets_make : {A B S T : Type 0} (s : Steps A S T) (r : Steps B S T) → ResumedNetsMake s r
 begun_nets_make s r n rest m begins = as_many_lists begins Outputs
 
 pub periods_may_leave : {A S T : Type 0} (s : Steps A S T) → PeriodsMayLeave s
 periods_may_leave = may_leave
 
-pub begun_runs_go_on : {A B S T : Type 0} (s : Steps A S T) (r : Steps B S T) → BegunRunsGoOn s r
+pub begun_runs_go_on : {A B S T : Type 0} (s : Steps A S T) (r : Steps B S T) → ResumedRunsGoOn s r
 begun_runs_go_on = go_on
 
-pub begun_runs_fail : {A B S T : Type 0} (s : Steps A S T) (r : Steps B S T) → BegunRunsFail s r
+pub begun_runs_fail : {A B S T : Type 0} (s : Steps A S T) (r : Steps B S T) → ResumedRunsFail s r
 begun_runs_fail = fail
 
 pub histories_begin : {A S T : Type 0} (s : Steps A S T) → HistoriesBegin s

@@ -6,7 +6,7 @@ use Rattle.std.proofs.lemmas.List.{take_all, drop_all, length-set, append-nil, s
 use Rattle.std.proofs.lemmas.List.Sums.{sum_by-drop_more}
 use Rattle.sdf_actor.specs.Histories.{spread}
 use Rattle.sdf_node.specs.Many.{nth_block, joined}
-use Rattle.sdf_queues.specs.Held.{Held}
+use Rattle.sdf_queues.specs.QueueValue.{QueueValue}
 use Rattle.sdf_queues.specs.Blocks.{samples, room, at_ports, front_at, dealt, ArePorts}
 use Rattle.sdf_queues.specs.TwoPorts.{ArePairs}
 use Rattle.sdf_queues.proofs.Ports.{Turn, taken_more, rooms_more}
@@ -44,11 +44,11 @@ module _ {ports sizes : List ℕ} (pair : ArePairs ports sizes) where
   both : take 2 ports ≡ ports
   both = take_all 2 ports (omega (arith, pair.two))
 
-  module _ {T : Type 0} (was : List (Held T)) (are : ArePorts ports sizes (length was)) where
+  module _ {T : Type 0} (was : List (QueueValue T)) (are : ArePorts ports sizes (length was)) where
     apart : first ≡ second → ⊥
     apart e = differ 0 1 refl refl (are.once 0 1 is_first is_second e)
 
-    abbrev turn : (n : ℕ) → n < length ports → (now : List (Held T)) → length now ≡ length was → Turn T
+    abbrev turn : (n : ℕ) → n < length ports → (now : List (QueueValue T)) → length now ≡ length was → Turn T
     turn n l now long = record {
       ports = ports;
       sizes = sizes;
@@ -64,7 +64,7 @@ module _ {ports sizes : List ℕ} (pair : ArePairs ports sizes) where
     abbrev one_turn : Turn T
     one_turn = turn 0 is_first was refl
 
-    abbrev other_turn : Held T → Turn T
+    abbrev other_turn : QueueValue T → Turn T
     other_turn p = turn 1 is_second (set was first p) (length-set was first p)
 
     -- the block of a firing
@@ -90,7 +90,8 @@ module _ {ports sizes : List ℕ} (pair : ArePairs ports sizes) where
             ∙ (row_block xs 1 times i l ∙ ap (λ w. take w (drop (i * w) xs)) width)
 
     -- samples of both are taken
-    pub pair_taken : (size : ℕ → ℕ) (x y p q : Held T) → p.samples ≡ drop (size first) (get_or was first x).samples →
+    pub pair_taken : (size : ℕ → ℕ) (x y p q : QueueValue T) →
+        p.samples ≡ drop (size first) (get_or was first x).samples →
         q.samples ≡ drop (size second) (get_or (set was first p) second y).samples →
         (c : ℕ) → c < length was → samples (set (set was first p) second q) c ≡
         drop (at_ports ports (size c) c) (samples was c)
@@ -98,26 +99,26 @@ module _ {ports sizes : List ℕ} (pair : ArePairs ports sizes) where
         taken_more (other_turn p) size y q two (taken_more one_turn size x p one (λ c k. refl)) c k
         ∙ ap (λ ps. drop (at_ports ps (size c) c) (samples was c)) both
 
-    pub pair_rooms : (x y p q : Held T) → p.room ≡ (get_or was first x).room →
+    pub pair_rooms : (x y p q : QueueValue T) → p.room ≡ (get_or was first x).room →
         q.room ≡ (get_or (set was first p) second y).room →
         (c : ℕ) → c < length was → room (set (set was first p) second q) c ≡ room was c
     pair_rooms x y p q one two = rooms_more (other_turn p) y q two (rooms_more one_turn x p one (λ c k. refl))
 
-    -- the second queue is lifted while both are put on
-    pub lifted : (e p q : Held T) →
+    -- the second queue is taken out while both are put on
+    pub lifted : (e p q : QueueValue T) →
         set (set (set was second e) first p) second q ≡ set (set was first p) second q
     lifted e p q =
         ap (λ qs. set qs second q) (set_comm was second first e p (λ f. apart (sym f)))
         ∙ set-set (set was first p) second e q
 
-    pub other_first : (e x : Held T) → get_or (set was second e) first x ≡ get_or was first x
+    pub other_first : (e x : QueueValue T) → get_or (set was second e) first x ≡ get_or was first x
     other_first e x = get_or-set_other was second first e x apart
 
-    pub other_second : (p y : Held T) → get_or (set was first p) second y ≡ get_or was second y
+    pub other_second : (p y : QueueValue T) → get_or (set was first p) second y ≡ get_or was second y
     other_second p y = get_or-set_other was first second p y (λ f. apart (sym f))
 
     -- samples are put on both
-    pub pair_put : (block : List T) (times : ℕ) (x y p q : Held T) →
+    pub pair_put : (block : List T) (times : ℕ) (x y p q : QueueValue T) →
         p.samples ≡ (get_or was first x).samples ++ joined (λ j. slice_range (nth_block 2 block j) 0 1) times →
         q.samples ≡ (get_or was second y).samples ++ joined (λ j. slice_range (nth_block 2 block j) 1 2) times →
         (c : ℕ) → c < length was → samples (set (set was first p) second q) c ≡

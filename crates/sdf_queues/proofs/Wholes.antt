@@ -18,7 +18,7 @@ use Rattle.sdf_actor.specs.Graphs.{graph_of, channel_of}
 use Rattle.sdf_actor.specs.Sides.{list_of, block_of, period_samples}
 use Rattle.sdf_actor.specs.NetFaults.{IsAccepted}
 use Rattle.sdf_actor.proofs.Theorems.{list_below, periods_are_whole}
-use Rattle.sdf_queues.specs.Answer.{HasInputs, periods_of}
+use Rattle.sdf_queues.specs.RunResults.{HasInputs, periods_of}
 use Rattle.sdf_queues.specs.Feeds.{PeriodsMayLeave}
 use Rattle.sdf_queues.specs.Laws.{NetsCanRun}
 use Rattle.sdf_queues.specs.Periods.{HasPeriod, IsPaced}

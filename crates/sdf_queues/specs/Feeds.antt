@@ -3,14 +3,14 @@ use Rattle.std.specs.Prelude.{◌≡◌, ◌↔◌, ℕ, ◌+◌, ◌*◌, ◌<�
 use Rattle.std.specs.List.{flat_map}
 use Rattle.sdf_sched.specs.Period.{Schedule}
 use Rattle.sdf_actor.specs.declared.node.Node.TheVariants.{Sink}
-use Rattle.sdf_actor.specs.declared.rest.NetState.{NetState}
+use Rattle.sdf_actor.specs.declared.net_state.NetState.{NetState}
 use Rattle.sdf_actor.specs.declared.sides.Lists.TheVariants.{Inputs, Outputs}
 use Rattle.sdf_actor.specs.Histories.{taken_before}
 use Rattle.sdf_actor.specs.Nets.{Netlist, node, wiring, arrived, IsNet, IsHistoryOf}
-use Rattle.sdf_actor.specs.Rests.{AreWhole, Leaves, IsRest, BeginsWith, AreJoined}
+use Rattle.sdf_actor.specs.NetStates.{AreWhole, Leaves, IsNetState, IsResumedNet, AreJoined}
 use Rattle.sdf_actor.specs.Sides.{list_count, period_samples}
 use Rattle.sdf_actor.specs.Steps.{Steps}
-use Rattle.sdf_queues.specs.Answer.{HasInputs, periods_of, IsRunFault}
+use Rattle.sdf_queues.specs.RunResults.{HasInputs, periods_of, IsRunFault}
 use Rattle.sdf_queues.specs.declared.fault.RunFault.{RunFault}
 use Rattle.sdf_queues.specs.Periods.{HasPeriod}
 
@@ -36,7 +36,7 @@ FeedsGoOn {A} {B} {S} {T} s r =
     (n : Netlist A T) (m : Netlist B T) (p : Schedule) (few more : ℕ) (first later all made on joined : List (List T))
     (rest last : NetState T S) →
     HasPeriod s n p → HasInputs n p.repetitions few first → AreFull n p.repetitions few first →
-    HasRun s n first (periods_of p.repetitions few) made rest → BeginsWith s r n rest m →
+    HasRun s n first (periods_of p.repetitions few) made rest → IsResumedNet s r n rest m →
     HasRun r m later (periods_of p.repetitions more) on last →
     AreJoined first later all → AreJoined made on joined → length joined ≡ length made →
     HasRun s n all (periods_of p.repetitions (few + more)) joined last
@@ -59,19 +59,19 @@ NothingRuns {A} {S} {T} s =
     IsNet s n → HasInputs n q periods inputs → 0 < length inputs → 0 < period_samples n.nodes Inputs q →
     length (slice_index_or inputs 0 []) ≡ 0 →
     length outputs ≡ list_count Outputs n.nodes → ((e : ℕ) → e < length outputs → slice_index_or outputs e [] ≡ []) →
-    IsRest s n inputs (λ _. 0) rest → HasRun s n inputs (periods_of q periods) outputs rest
+    IsNetState s n inputs (λ _. 0) rest → HasRun s n inputs (periods_of q periods) outputs rest
 
--- a net that begins with a rest of net n needs the same inputs as n
-abbrev pub BegunNetsAsk : {A B S T : Type 0} → Steps A S T → Steps B S T → Type 0
-BegunNetsAsk {A} {B} {S} {T} s r =
+-- a net that resumes from a state of net n needs the same inputs as n
+abbrev pub ResumedNetsNeed : {A B S T : Type 0} → Steps A S T → Steps B S T → Type 0
+ResumedNetsNeed {A} {B} {S} {T} s r =
     (n : Netlist A T) (rest : NetState T S) (m : Netlist B T) (q : List ℕ) (periods : ℕ) (inputs : List (List T)) →
-    BeginsWith s r n rest m →
+    IsResumedNet s r n rest m →
     HasInputs m q periods inputs ↔ HasInputs n q periods inputs
 
--- a net that begins with a rest of net n makes the same number of outputs as n
-abbrev pub BegunNetsMake : {A B S T : Type 0} → Steps A S T → Steps B S T → Type 0
-BegunNetsMake {A} {B} {S} {T} s r =
-    (n : Netlist A T) (rest : NetState T S) (m : Netlist B T) → BeginsWith s r n rest m →
+-- a net that resumes from a state of net n makes the same number of outputs as n
+abbrev pub ResumedNetsMake : {A B S T : Type 0} → Steps A S T → Steps B S T → Type 0
+ResumedNetsMake {A} {B} {S} {T} s r =
+    (n : Netlist A T) (rest : NetState T S) (m : Netlist B T) → IsResumedNet s r n rest m →
     list_count Outputs m.nodes ≡ list_count Outputs n.nodes
 
 -- a run goes on by `more` periods on the lists `later`. Whatever run left `rest`, with nothing unread, `on` is what it
@@ -90,17 +90,18 @@ abbrev pub PeriodsMayLeave : {A S T : Type 0} → Steps A S T → Type 0
 PeriodsMayLeave {A} {S} {T} s = (n : Netlist A T) (p : Schedule) (few : ℕ) → HasPeriod s n p →
     AreWhole s n (periods_of p.repetitions few)
 
--- a run of the net that begins with a rest goes on from there
-abbrev pub BegunRunsGoOn : {A B S T : Type 0} → Steps A S T → Steps B S T → Type 0
-BegunRunsGoOn {A} {B} {S} {T} s r =
-    (n : Netlist A T) (m : Netlist B T) (p : Schedule) (more : ℕ) (later on : List (List T)) (rest last : NetState T S) →
-    HasPeriod s n p → BeginsWith s r n rest m → HasInputs m p.repetitions more later →
+-- a run of the net that resumes from a state goes on from there
+abbrev pub ResumedRunsGoOn : {A B S T : Type 0} → Steps A S T → Steps B S T → Type 0
+ResumedRunsGoOn {A} {B} {S} {T} s r =
+    (n : Netlist A T) (m : Netlist B T) (p : Schedule) (more : ℕ) (later on : List (List T))
+    (rest last : NetState T S) →
+    HasPeriod s n p → IsResumedNet s r n rest m → HasInputs m p.repetitions more later →
     HasRun r m later (periods_of p.repetitions more) on last →
     GoesOnBy s n p.repetitions rest more later on last
 
--- a fault of a run of the net that begins with a rest of net n is a fault of a run of n
-abbrev pub BegunRunsFail : {A B S T : Type 0} → Steps A S T → Steps B S T → Type 0
-BegunRunsFail {A} {B} {S} {T} s r =
+-- a fault of a run of the net that resumes from a state of net n is a fault of a run of n
+abbrev pub ResumedRunsFail : {A B S T : Type 0} → Steps A S T → Steps B S T → Type 0
+ResumedRunsFail {A} {B} {S} {T} s r =
     (n : Netlist A T) (rest : NetState T S) (m : Netlist B T) (q : List ℕ) (periods : ℕ) (inputs : List (List T))
-    (fault : RunFault) → BeginsWith s r n rest m →
+    (fault : RunFault) → IsResumedNet s r n rest m →
     IsRunFault m q periods inputs fault → IsRunFault n q periods inputs fault

@@ -12,7 +12,7 @@ use Rattle.sdf_actor.specs.NetFaults.{WasAccepted}
 use Rattle.sdf_actor.specs.Nets.{Netlist, node, wiring, arrived, IsNet, InputsReach, IsHistoryOf}
 use Rattle.sdf_actor.specs.Sides.{list_count, period_samples}
 use Rattle.sdf_actor.specs.Steps.{Steps}
-use Rattle.sdf_queues.specs.Answer.{HasInputs, AreOutputs, periods_of}
+use Rattle.sdf_queues.specs.RunResults.{HasInputs, AreOutputs, periods_of}
 use Rattle.sdf_queues.specs.Blocks.{at_ports}
 use Rattle.sdf_queues.specs.Periods.{HasFacts, HasPeriod, AreBlocksSmall, CanRun}
 use Rattle.sdf_queues.specs.Moves.{FitsPorts, IsLeft, front_of, MovesOn}

@@ -1,6 +1,6 @@
-pub mod Answer
+pub mod RunResults
 pub mod Lists
-pub mod Held
+pub mod QueueValue
 pub mod Blocks
 pub mod Parts
 pub mod Sizes

@@ -1,6 +1,6 @@
 -- What a run of a number of periods depends on.
 use Rattle.std.specs.Prelude.{◌≡◌, ℕ, ◌*◌, ◌≤◌, ◌<◌, List, [], length, sum, slice_index, slice_index_or}
-use Rattle.sdf_limits.specs.declared.TheConstants.{MOST_RATE, MOST_BLOCK}
+use Rattle.sdf_limits.specs.declared.TheConstants.{MAX_RATE, MAX_BLOCK}
 use Rattle.sdf_graph.specs.Rates.{Rates, rates, IsShape, IsAlike}
 use Rattle.sdf_graph.specs.Periods.{IsLeastPeriod}
 use Rattle.sdf_graph.specs.Sequences.{IsPass}
@@ -13,7 +13,7 @@ use Rattle.sdf_actor.specs.NetFaults.{WasAccepted}
 use Rattle.sdf_actor.specs.Nets.{Netlist, node, wiring, cycle_of, IsNet, InputsReach}
 use Rattle.sdf_actor.specs.Sides.{list_count, period_samples}
 use Rattle.sdf_actor.specs.Steps.{Steps}
-use Rattle.sdf_queues.specs.Answer.{periods_of}
+use Rattle.sdf_queues.specs.RunResults.{periods_of}
 
 -- a net that was accepted, and one period of it
 pub record HasPeriod {A S T : Type 0} (s : Steps A S T) (n : Netlist A T) (p : Schedule) : Type 0 where
@@ -70,9 +70,9 @@ pub record CanRun {A S T : Type 0} (s : Steps A S T) (n : Netlist A T) (q : List
       r.produced c (slice_index q (r.source c)) ≡ (wiring s n).rates.produced c
       (slice_index q ((wiring s n).rates.source c))
 
--- in a block of few firings no list moves more samples than MOST_BLOCK firings do at the rate MOST_RATE
+-- in a block of few firings no list moves more samples than MAX_BLOCK firings do at the rate MAX_RATE
 abbrev pub AreBlocksSmall : {A S T : Type 0} → Steps A S T → Netlist A T → Type 0
 AreBlocksSmall s n =
     (j : ℕ) (q : List ℕ) (lists : Lists) → IsLeastPeriod (rates (graph_of s n)) q →
-    j * sum q ≤ MOST_BLOCK →
-    j * period_samples n.nodes lists q ≤ MOST_RATE * MOST_BLOCK
+    j * sum q ≤ MAX_BLOCK →
+    j * period_samples n.nodes lists q ≤ MAX_RATE * MAX_BLOCK

@@ -1,7 +1,7 @@
 -- How many samples firings move.
 use Rattle.std.specs.Prelude.{◌≡◌, ℕ, ◌+◌, ◌-◌, ◌%◌, ◌<◌, List, [], length, slice_index, slice_index_or}
 use Rattle.std.specs.List.{sum_by, range_with_len}
-use Rattle.sdf_graph.specs.Rates.{Edge}
+use Rattle.sdf_graph.specs.Rates.{ChannelValue}
 use Rattle.sdf_actor.specs.declared.node.Node.{Node}
 use Rattle.sdf_actor.specs.declared.sides.Side.{Side}
 use Rattle.sdf_actor.specs.declared.sides.Side.TheVariants.{Input, Output}
@@ -11,16 +11,16 @@ use Rattle.sdf_actor.specs.Graphs.{rate_of}
 use Rattle.sdf_actor.specs.Sides.{ports_of, moved_at}
 
 -- how many samples a firing at each phase takes from each channel, and puts on it
-pub record Rows : Type 0 where
+pub record SizesValue : Type 0 where
   pub takes : List (List ℕ)
   pub puts : List (List ℕ)
 
 -- the rates at the end of a channel on a side of its nodes
-abbrev pub rates_on : Side → Edge → List ℕ
+abbrev pub rates_on : Side → ChannelValue → List ℕ
 rates_on Input e = e.take
 rates_on Output e = e.put
 
-abbrev pub rows_on : Side → Rows → List (List ℕ)
+abbrev pub rows_on : Side → SizesValue → List (List ℕ)
 rows_on Input z = z.takes
 rows_on Output z = z.puts
 
@@ -49,7 +49,7 @@ pub record IsPlan {A S T : Type 0} (s : Steps A S T) (n : Netlist A T) (a i : �
       (wiring s n).rates.produced c (i + 1) ≡ (wiring s n).rates.produced c i + slice_index puts c
 
 -- each node has phases, and each of its firings moves the sizes of its phase
-pub record AreSizes {A S T : Type 0} (s : Steps A S T) (n : Netlist A T) (z : Rows) : Type 0 where
+pub record AreSizes {A S T : Type 0} (s : Steps A S T) (n : Netlist A T) (z : SizesValue) : Type 0 where
   pub some : (a : ℕ) → a < length n.nodes → 0 < cycle_of s (node n a)
   pub takes_known : (a i : ℕ) → a < length n.nodes → phase_of s (node n a) i < length z.takes
   pub puts_known : (a i : ℕ) → a < length n.nodes → phase_of s (node n a) i < length z.puts

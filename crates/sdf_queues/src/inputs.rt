@@ -2,7 +2,7 @@
 
 ghost use Rattle.std.specs.Prelude.{◌≡◌, ◌≤◌, ◌<◌, ◌↔◌, ℕ, List, [], length, slice_index_or, IsTrue, MatchOption};
 ghost use Rattle.sdf_actor.specs.Wires.{lists};
-ghost use Rattle.sdf_queues.specs.Answer.{AreInputs};
+ghost use Rattle.sdf_queues.specs.RunResults.{AreInputs};
 
 /// Checks whether `list` has `len` samples, and no fewer than `least`.
 fn is_input<T>(list: &Vec<T>, len: usize, least: usize) -> bool

@@ -6,8 +6,8 @@ ghost use Rattle.sdf_sched.specs.Period.{Schedule, IsPeriodOf};
 ghost use Rattle.sdf_actor.specs.Graphs.{graph_of};
 ghost use Rattle.sdf_actor.specs.Nets.{node, wiring, cycle_of, IsNet};
 ghost use Rattle.sdf_actor.specs.NetFaults.{WasAccepted};
-ghost use Rattle.sdf_queues.specs.Feeds.{FeedsGoOn, BegunNetsAsk, BegunNetsMake, SinksMakeRuns, NothingRuns};
-ghost use Rattle.sdf_queues.specs.Feeds.{PeriodsMayLeave, BegunRunsGoOn, BegunRunsFail};
+ghost use Rattle.sdf_queues.specs.Feeds.{FeedsGoOn, ResumedNetsNeed, ResumedNetsMake, SinksMakeRuns, NothingRuns};
+ghost use Rattle.sdf_queues.specs.Feeds.{PeriodsMayLeave, ResumedRunsGoOn, ResumedRunsFail};
 ghost use Rattle.sdf_queues.specs.Periods.{HasPeriod, HasSinks, AreBlocksSmall};
 ghost use Rattle.sdf_queues.specs.Laws.{RunsGoOn, NetsCanRun, HistoriesBegin, SinksTakeAll, SinksMakeOutputs};
 ghost use Rattle.sdf_queues.specs.Laws.{NothingMakesNothing};
@@ -57,15 +57,15 @@ pub fn runs_go_on<A: Actor>()
 /// States that a run fed in pieces makes, joined, the outputs of one run, and leaves the same net state.
 pub fn feeds_go_on<A: Actor, B: Actor<Token = A::Token, State = A::State>>()
     ensures runs { FeedsGoOn A.steps B.steps }
-    ensures inputs { BegunNetsAsk A.steps B.steps }
-    ensures outputs { BegunNetsMake A.steps B.steps }
+    ensures inputs { ResumedNetsNeed A.steps B.steps }
+    ensures outputs { ResumedNetsMake A.steps B.steps }
 {}
 
 /// States that a net that begins with what whole periods left can be run in place of the first net, from there on.
-pub fn begun_nets_go_on<A: Actor, B: Actor<Token = A::Token, State = A::State>>()
+pub fn resumed_nets_go_on<A: Actor, B: Actor<Token = A::Token, State = A::State>>()
     ensures whole { PeriodsMayLeave A.steps }
-    ensures runs { BegunRunsGoOn A.steps B.steps }
-    ensures faults { BegunRunsFail A.steps B.steps }
+    ensures runs { ResumedRunsGoOn A.steps B.steps }
+    ensures faults { ResumedRunsFail A.steps B.steps }
 {}
 
 /// States that a history begins with the initial samples of the channels, and that what its sinks took is the outputs.

@@ -9,7 +9,7 @@ ghost use Rattle.sdf_queues.specs.TwoPorts.{ArePairs};
 ghost use Rattle.std.specs.Prelude.{IsTrue};
 
 use crate::blocks::Ports;
-use crate::pairs::weave;
+use crate::pairs::interleave;
 use crate::parts::deal_row;
 use crate::queue::{Queue, put_pairs};
 
@@ -71,7 +71,7 @@ fn take_pairs<T: Copy>(ports: &Ports, times: usize, queues: &mut [Queue<T>], blo
 {
     let first = ports.channels[0];
     let second = ports.channels[1];
-    weave(
+    interleave(
         queues[first].oldest(times),
         queues[second].oldest(times),
         blocks,
@@ -93,7 +93,7 @@ fn put_on_pairs<T: Copy>(ports: &Ports, times: usize, block: &[T], queues: &mut 
 {
     let first = ports.channels[0];
     let second = ports.channels[1];
-    let mut target = queues[second].lift();
+    let mut target = queues[second].take_out();
     put_pairs(&mut queues[first], &mut target, block, times);
     queues[second] = target;
 }

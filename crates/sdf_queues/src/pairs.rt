@@ -4,7 +4,7 @@ ghost use Rattle.std.specs.Prelude.{◌≡◌, ◌*◌, ◌++◌, length, slice_
 ghost use Rattle.sdf_node.specs.Many.{nth_block, joined};
 
 /// Interleaves the samples of `left` and `right` in `pairs`. One loop for both is faster than a loop for each.
-pub fn weave<T: Copy>(left: &[T], right: &[T], pairs: &mut [T], many: usize)
+pub fn interleave<T: Copy>(left: &[T], right: &[T], pairs: &mut [T], many: usize)
     requires left { length left.now ≡ many }
     requires right { length right.now ≡ many }
     requires pairs { length pairs.old ≡ 2 * many }
@@ -17,7 +17,7 @@ pub fn weave<T: Copy>(left: &[T], right: &[T], pairs: &mut [T], many: usize)
 }
 
 /// Splits the interleaved samples of `pairs` into `left` and `right`.
-pub fn unweave<T: Copy>(pairs: &[T], left: &mut [T], right: &mut [T], many: usize)
+pub fn deinterleave<T: Copy>(pairs: &[T], left: &mut [T], right: &mut [T], many: usize)
     requires left { length left.old ≡ many }
     requires right { length right.old ≡ many }
     requires pairs { length pairs.now ≡ 2 * many }

@@ -43,9 +43,9 @@ fn copy_samples<T: Copy>(from: &[T], out: Stride, to: &mut [T], into: Stride, ma
     ensures { AreCopied out into 1 many from.now to.old to.new }
 {
     if out.step == 2 && into.step == 1 {
-        copy_each(from, every(2, out), to, every(1, into), many);
+        copy_each(from, with_step(2, out), to, with_step(1, into), many);
     } else if out.step == 1 && into.step == 2 {
-        copy_each(from, every(1, out), to, every(2, into), many);
+        copy_each(from, with_step(1, out), to, with_step(2, into), many);
     } else {
         copy_each(from, out, to, into, many);
     }
@@ -53,7 +53,7 @@ fn copy_samples<T: Copy>(from: &[T], out: Stride, to: &mut [T], into: Stride, ma
 
 /// Returns `stride` with `step` for its step, so that the compiler knows it as a constant.
 #[inline(always)]
-fn every(step: usize, stride: Stride) -> Stride
+fn with_step(step: usize, stride: Stride) -> Stride
     requires { step ≡ stride.step }
     ensures { result ≡ stride }
 {

@@ -6,9 +6,9 @@ ghost use Rattle.std.specs.List.{between};
 ghost use Rattle.sdf_actor.specs.Steps.{sum_in, sum_out, state_at, puts_to};
 ghost use Rattle.sdf_actor.specs.Wires.{lists};
 ghost use Rattle.sdf_node.specs.Many.{nth_block, joined};
-ghost use Rattle.sdf_queues.specs.Held.{Held};
+ghost use Rattle.sdf_queues.specs.QueueValue.{QueueValue};
 
-use crate::pairs::unweave;
+use crate::pairs::deinterleave;
 use crate::parts::gather_row;
 use sdf_actor::Actor;
 use sdf_node::append;
@@ -31,7 +31,7 @@ pub struct Queue<T> {
 }
 
 impl<T> Model for Queue<T> {
-    ghost Value = { Held T };
+    ghost Value = { QueueValue T };
 
     ghost view = { λ q. record { samples = between q.start q.end q.items.items; room = q.room } };
 
@@ -54,7 +54,7 @@ pub fn lengthen<T: Copy>(list: &mut Vec<T>, len: usize, filler: T)
 /// Makes room for `more` samples behind the part of `list` from `start` to `end`, and returns where that part then
 /// begins and ends. The part moves to the front if the room behind it is too small. An empty part also begins at the
 /// front, so that a queue that is emptied often uses little of its buffer.
-fn place_for<T: Copy>(list: &mut Vec<T>, start: usize, end: usize, more: usize) -> (usize, usize)
+fn make_room<T: Copy>(list: &mut Vec<T>, start: usize, end: usize, more: usize) -> (usize, usize)
     requires rise { start ≤ end }
     requires within { end ≤ vec_len list.old }
     requires room { end - start + more ≤ vec_len list.old }
@@ -101,7 +101,7 @@ impl<T: Copy> Queue<T> {
 
     /// Drops the samples and begins anew with `initial` and `room`. The buffer is used again if it has the length of a
     /// new one.
-    pub fn renewed(self, initial: &[T], room: usize, filler: T) -> Result<Queue<T>, AllocError>
+    pub fn reset(self, initial: &[T], room: usize, filler: T) -> Result<Queue<T>, AllocError>
         requires initial { length initial.now ≤ room }
         requires room { room ≤ 4_611_686_018_427_387_904 }
         ensures { IfOk result (λ q. q ≡ record { samples = initial.now; room = room }) }
@@ -141,7 +141,7 @@ impl<T: Copy> Queue<T> {
         requires { length self.old.samples + length block.now ≤ self.old.room }
         ensures { self.new ≡ record self.old { samples = self.old.samples ++ block.now } }
     {
-        let place = place_for(&mut self.items, self.start, self.end, block.len());
+        let place = make_room(&mut self.items, self.start, self.end, block.len());
         let last = place.1 + block.len();
         self.items[place.1..last].copy_from_slice(block);
         self.start = place.0;
@@ -191,31 +191,31 @@ impl<T: Copy> Queue<T> {
     /// queue: a block for each firing, for each cycle of phases, or one for all.
     pub fn put_fired<A: Actor<Token = T>>(
         &mut self,
-        firings: Batch<'_, A>,
+        batch: Batch<'_, A>,
         state: &mut A::State,
         taken: &[T],
         many: usize,
         size: usize,
     )
-        requires phase { firings.phase < A.steps.cycle firings.actor.now }
-        requires taken { length taken.now ≡ sum_in A.steps firings.actor.now firings.phase firings.times }
-        requires made { many * size ≡ sum_out A.steps firings.actor.now firings.phase firings.times }
+        requires phase { batch.phase < A.steps.cycle batch.actor.now }
+        requires taken { length taken.now ≡ sum_in A.steps batch.actor.now batch.phase batch.times }
+        requires made { many * size ≡ sum_out A.steps batch.actor.now batch.phase batch.times }
         requires room { length self.old.samples + many * size ≤ self.old.room }
-        ensures state { state.new ≡ state_at A.steps firings.entry.actor.now firings.entry.phase state.old taken.now
-            firings.entry.times }
+        ensures state { state.new ≡ state_at A.steps batch.entry.actor.now batch.entry.phase state.old taken.now
+            batch.entry.times }
         ensures queue { self.new ≡ record self.old {
           samples = self.old.samples
-              ++ puts_to A.steps firings.entry.actor.now firings.entry.phase state.old taken.now firings.entry.times;
+              ++ puts_to A.steps batch.entry.actor.now batch.entry.phase state.old taken.now batch.entry.times;
         } }
-        ensures long { length (puts_to A.steps firings.entry.actor.now firings.entry.phase state.old taken.now
-            firings.entry.times) ≡ many * size }
+        ensures long { length (puts_to A.steps batch.entry.actor.now batch.entry.phase state.old taken.now
+            batch.entry.times) ≡ many * size }
     {
         let Batch {
             actor,
             phase,
             times,
-        } = firings;
-        let place = place_for(&mut self.items, self.start, self.end, many * size);
+        } = batch;
+        let place = make_room(&mut self.items, self.start, self.end, many * size);
         let end = place.1 + many * size;
         actor.fire_many(phase, times, state, taken, &mut self.items[place.1..end]);
         self.start = place.0;
@@ -234,7 +234,7 @@ impl<T: Copy> Queue<T> {
         } }
     {
         let made = width * many;
-        let place = place_for(&mut self.items, self.start, self.end, made);
+        let place = make_room(&mut self.items, self.start, self.end, made);
         let last = place.1 + made;
         let row = &mut self.items[place.1..last];
         gather_row(blocks, row, at, width, many, size);
@@ -243,7 +243,7 @@ impl<T: Copy> Queue<T> {
     }
 
     /// Takes the queue out, and leaves one with no room in its place.
-    pub fn lift(&mut self) -> Queue<T>
+    pub fn take_out(&mut self) -> Queue<T>
         ensures { result ≡ self.old }
     {
         let alloc = *self.items.allocator();
@@ -269,12 +269,12 @@ pub fn put_pairs<T: Copy>(first: &mut Queue<T>, second: &mut Queue<T>, pairs: &[
       samples = second.old.samples ++ joined (λ i. slice_range (nth_block 2 pairs.now i) 1 2) many;
     } }
 {
-    let place = place_for(&mut first.items, first.start, first.end, many);
-    let other = place_for(&mut second.items, second.start, second.end, many);
+    let place = make_room(&mut first.items, first.start, first.end, many);
+    let other = make_room(&mut second.items, second.start, second.end, many);
     let last = place.1 + many;
     let end = other.1 + many;
     let left = &mut first.items[place.1..last];
-    unweave(pairs, left, &mut second.items[other.1..end], many);
+    deinterleave(pairs, left, &mut second.items[other.1..end], many);
     first.start = place.0;
     first.end = last;
     second.start = other.0;

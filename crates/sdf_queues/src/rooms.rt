@@ -37,7 +37,7 @@ fn renew_queue<T: Copy>(
     ensures { IfOk result (λ q. q ≡ record { samples = initial.now; room = room }) }
 {
     if channel < spares.len() {
-        return spares[channel].lift().renewed(initial, room, filler);
+        return spares[channel].take_out().reset(initial, room, filler);
     }
     Queue::new(alloc, initial, room, filler)
 }

@@ -1,7 +1,7 @@
 //! How many samples firings move.
 
 ghost use Rattle.std.specs.Prelude.{◌≡◌, ◌<◌, ◌≤◌, ◌*◌, ℕ, length, map, slice_index, slice_index_or, vec_len, IfOk};
-ghost use Rattle.sdf_limits.specs.declared.TheConstants.{MOST_RATE, MOST_BLOCK};
+ghost use Rattle.sdf_limits.specs.declared.TheConstants.{MAX_RATE, MAX_BLOCK};
 ghost use Rattle.sdf_graph.specs.Rates.{rate_at, no_channel};
 ghost use Rattle.sdf_actor.specs.Nets.{node, cycle_of};
 ghost use Rattle.sdf_actor.specs.Sides.{channels_at};
@@ -13,12 +13,12 @@ use sdf_graph::Channel;
 use std::alloc::{AllocError, Global};
 use std::marker::Model;
 
-/// Returns how many samples move in `blocks` blocks of `j` periods, if each period moves `each`.
-pub fn samples_of_blocks(blocks: u32, j: u32, each: usize) -> usize
-    requires { j * each ≤ MOST_RATE * MOST_BLOCK }
-    ensures { result ≡ blocks * j * each }
+/// Returns how many samples move in `blocks` blocks of `blocking` periods, if each period moves `each`.
+pub fn samples_of_blocks(blocks: u32, blocking: u32, each: usize) -> usize
+    requires { blocking * each ≤ MAX_RATE * MAX_BLOCK }
+    ensures { result ≡ blocks * blocking * each }
 {
-    blocks as usize * (j as usize * each)
+    blocks as usize * (blocking as usize * each)
 }
 
 /// The samples that a firing at each phase takes from each channel and puts on it: by phase, then by channel.
@@ -30,9 +30,9 @@ pub struct Sizes {
 
 impl Model for Sizes {
     ghost use Rattle.sdf_actor.specs.Wires.{lists};
-    ghost use Rattle.sdf_queues.specs.Sizes.{Rows};
+    ghost use Rattle.sdf_queues.specs.Sizes.{SizesValue};
 
-    ghost Value = { Rows };
+    ghost Value = { SizesValue };
 
     ghost view = { λ z. record { takes = lists z.takes.items; puts = lists z.puts.items } };
 }
@@ -124,8 +124,8 @@ fn by_phase(
 ) -> Result<Vec<Vec<usize>>, AllocError>
     requires { (c : ℕ) → c < length channels.now →
         0 < length (rates_on side (slice_index_or channels.now c no_channel)) }
-    ensures { IfOk result (λ v. (vec_len v ≡ phases) × ((j : ℕ) → j < phases →
-        at_phase (lists v.items) j ≡ map (λ e. rate_at (rates_on side e) j) channels.now)) }
+    ensures { IfOk result (λ v. (vec_len v ≡ phases) × ((blocking : ℕ) → blocking < phases →
+        at_phase (lists v.items) blocking ≡ map (λ e. rate_at (rates_on side e) blocking) channels.now)) }
 {
     let mut rows = Vec::new(alloc);
     for phase in 0..phases {

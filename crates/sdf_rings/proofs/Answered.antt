@@ -3,33 +3,33 @@ use Rattle.std.proofs.Common.{◌≡◌, ℕ, ◌*◌, ◌≤◌, ◌<◌, ◌^�
 use Rattle.std.specs.Prelude.{sum}
 use Rattle.std.proofs.Math.Nat.{mul-le-mul, mul-le-mul_left}
 use Rattle.std.proofs.lemmas.List.{get_or-map}
-use Rattle.sdf_limits.specs.declared.TheConstants.{MOST_BLOCK, MOST_PATIENCE}
+use Rattle.sdf_limits.specs.declared.TheConstants.{MAX_BLOCK, MAX_PATIENCE}
 use Rattle.sdf_graph.specs.Rates.{rates}
 use Rattle.sdf_graph.specs.Sequences.{times, repeated}
 use Rattle.sdf_graph.proofs.Theorems.{graphs_are_sound, graphs_have_periods}
 use Rattle.sdf_sched.specs.Period.{Schedule}
 use Rattle.sdf_prec.specs.Blocks.{block}
 use Rattle.sdf_prec.specs.Laws.{AreBlocks}
-use Rattle.sdf_prec.specs.Tables.{Tabled, IsHomed}
+use Rattle.sdf_prec.specs.Tables.{TableValue, IsHomed}
 use Rattle.sdf_prec.proofs.Theorems.{tables_count, tables_repeat}
-use Rattle.sdf_actor.specs.declared.rest.NetState.{NetState}
+use Rattle.sdf_actor.specs.declared.net_state.NetState.{NetState}
 use Rattle.sdf_actor.specs.Graphs.{graph_of}
 use Rattle.sdf_actor.specs.Laws.{AreCountsOf}
 use Rattle.sdf_actor.specs.Nets.{Netlist}
 use Rattle.sdf_actor.specs.Steps.{Steps}
-use Rattle.sdf_queues.specs.Answer.{HasInputs, AreOutputs, periods_of}
+use Rattle.sdf_queues.specs.RunResults.{HasInputs, AreOutputs, periods_of}
 use Rattle.sdf_queues.specs.Feeds as feeds
 use Rattle.sdf_queues.specs.Periods.{HasPeriod}
 use Rattle.sdf_prec.specs.BlockTables.{IsTableOf}
 use Rattle.sdf_rings.specs.Asks.{IsPlanned}
 use Rattle.sdf_rings.specs.Outcome.{HasRunInRounds, HasEnded}
 use Rattle.sdf_rings.specs.Prepared.{IsPrepared}
-use Rattle.sdf_rings.specs.Rests.{InHand, HaveMet}
+use Rattle.sdf_rings.specs.Rests.{RingsValue, HaveMet}
 use Rattle.sdf_rings.specs.Totals.{total_left}
 use Rattle.sdf_rings.proofs.Lengths.{left_few, left_some}
 
 module _ {A S T : Type 0} (s : Steps A S T) (n : Netlist A T) (p : Schedule) (has : HasPeriod s n p) (j : ℕ)
-    (t : Tabled)
+    (t : TableValue)
     (is : IsTableOf (rates (graph_of s n)) p.repetitions j t) (b : ℕ) where
   abbrev q : List ℕ
   q = p.repetitions
@@ -51,7 +51,7 @@ module _ {A S T : Type 0} (s : Steps A S T) (n : Netlist A T) (p : Schedule) (ha
 
   pub order_few : b < 2 ^ 32 → length (repeated b t.order) < 2 ^ 64
   order_few few =
-      let within : b * (j * sum q) ≤ b * MOST_BLOCK = mul-le-mul_left b is.short in
+      let within : b * (j * sum q) ≤ b * MAX_BLOCK = mul-le-mul_left b is.short in
       omega (arith, order_long, within, few)
 
   pub some_node : 0 < length n.nodes
@@ -67,7 +67,7 @@ module _ {A S T : Type 0} (s : Steps A S T) (n : Netlist A T) (p : Schedule) (ha
       let all : 1 * 1 ≤ b * (j * get_or q 0 0) = mul-le-mul more some in
       omega (arith, all, ap (λ m. b * m) each, blocks.counts 0 known)
 
-  module _ (inputs : List (List T)) (r : InHand A S T) (prepared : IsPrepared s n inputs t b r) where
+  module _ (inputs : List (List T)) (r : RingsValue A S T) (prepared : IsPrepared s n inputs t b r) where
     -- what is asked, of the net in hand
     pub asked : IsPlanned s r.net r.seats r.places (repeated b t.order) (λ c. get_or t.caps c 0)
     asked = subst (λ m. IsPlanned s m r.seats r.places (repeated b t.order) (λ c. get_or t.caps c 0))
@@ -80,7 +80,7 @@ module _ {A S T : Type 0} (s : Steps A S T) (n : Netlist A T) (p : Schedule) (ha
     pub few_rounds : b < 2 ^ 32 → total_left r.seats < 2 ^ 64
     few_rounds few = omega (arith, few_left, order_few few)
 
-    pub has_ended : (new : InHand A S T) (patience rounds : ℕ) → IsHomed t → patience ≤ MOST_PATIENCE →
+    pub has_ended : (new : RingsValue A S T) (patience rounds : ℕ) → IsHomed t → patience ≤ MAX_PATIENCE →
         HasInputs n q (b * j) inputs →
         (new.net ≡ r.net) × (new.inputs ≡ r.inputs) × (new.places ≡ r.places) →
         ((order : List ℕ) (cap : ℕ → ℕ) → IsPlanned s r.net r.seats r.places order cap →
@@ -107,8 +107,8 @@ module _ {A S T : Type 0} (s : Steps A S T) (n : Netlist A T) (p : Schedule) (ha
               (λ e d. prepared.undone 0 e d some_node) (some_asked more));
         }
 
-module _ {A S T : Type 0} (s : Steps A S T) (n : Netlist A T) (q : List ℕ) (j : ℕ) (t : Tabled) (b : ℕ)
-    (inputs : List (List T)) (patience : ℕ) (r : InHand A S T) (rounds : ℕ)
+module _ {A S T : Type 0} (s : Steps A S T) (n : Netlist A T) (q : List ℕ) (j : ℕ) (t : TableValue) (b : ℕ)
+    (inputs : List (List T)) (patience : ℕ) (r : RingsValue A S T) (rounds : ℕ)
     (ended : HasEnded s n q j t b inputs patience r rounds) where
   -- what holds at the counts of a plan's firings holds of the run
   at_counts : (P : Netlist A T → List (List T) → (ℕ → ℕ) → Type 0) →

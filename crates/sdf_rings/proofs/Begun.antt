@@ -19,7 +19,7 @@ use Rattle.sdf_actor.proofs.Theorems.{locals_begin}
 use Rattle.sdf_node.specs.Nodes.{takes_of, puts_of, IsAt}
 use Rattle.sdf_node.specs.declared.node.NodeState.{NodeState}
 use Rattle.sdf_queues.specs.Sizes.{AreRows}
-use Rattle.sdf_rings.specs.Stands.{OwnArePairs, IsStand}
+use Rattle.sdf_rings.specs.RingNodes.{OwnArePairs, IsRingNode}
 use Rattle.sdf_rings.specs.Openings.{end_at, AreEndsAt, HasEnds}
 use Rattle.sdf_rings.specs.Begun.{HasIns, HasOuts}
 use Rattle.sdf_rings.proofs.Known.{out_channel, in_channel, port_at}
@@ -35,7 +35,7 @@ filled None asked many v is none some = let e = none refl in absurd (omega arith
 module _ {A S T : Type 0} (s : Steps A S T) (n : Netlist A T) (net : IsNet s n)
     (wired : IsWired (wiring s n)) (inputs : List (List T)) (a : ℕ) (known : a < length n.nodes) where
   -- what has not fired knows what its channels begin with
-  pub stand_begun : (state : NodeState T S) (ins : Vec (Consumer T Global AnyItems) Global)
+  pub ring_node_begun : (state : NodeState T S) (ins : Vec (Consumer T Global AnyItems) Global)
       (outs : Vec (Producer T Global AnyItems) Global) (takes puts : Vec (Vec ℕ Global) Global)
       (taken put : Vec T Global)
       (asked : ℕ) (filler : Option T) (many : ℕ) →
@@ -45,7 +45,7 @@ module _ {A S T : Type 0} (s : Steps A S T) (n : Netlist A T) (net : IsNet s n)
       ((j : ℕ) → j < cycle_of s (node n a) → (takes_of s (node n a) j ≤ many) × (puts_of s (node n a) j ≤ many)) →
       IfSome filler (λ _. vec_len taken ≡ many) → IfSome filler (λ _. vec_len put ≡ many) →
       (filler ≡ None → asked ≡ 0) →
-      IsStand s n inputs (record {
+      IsRingNode s n inputs (record {
         actor = a;
         state = state;
         ins = ins;
@@ -57,7 +57,8 @@ module _ {A S T : Type 0} (s : Steps A S T) (n : Netlist A T) (net : IsNet s n)
         done = 0;
         asked = asked;
       })
-  stand_begun state ins outs takes puts taken put asked filler many has_ins has_outs own some at take_rows put_rows most
+  ring_node_begun state ins outs takes puts taken put asked filler many has_ins has_outs own some at
+      take_rows put_rows most
       long_taken long_put none = record {
         known = known;
         own_pairs = own;

@@ -1,4 +1,4 @@
--- Where all ends have met and firings are left, the first firing of some seat is known to be possible.
+-- Where all ends are synchronized and firings are left, the first firing of some seat is known to be possible.
 use Rattle.std.proofs.Common.{◌≡◌, ℕ, ◌+◌, ◌-◌, ◌≤◌, ◌<◌, ◌⊎◌, List, length, get_or, take, map, cond, eqb, refl, sym}
 use Rattle.std.proofs.Common.{ap, ◌∙◌, subst, arith, inl, inr}
 use Rattle.std.specs.Global.{Global}
@@ -21,19 +21,19 @@ use Rattle.sdf_actor.proofs.Theorems.{nets_are_wired, ports_have_channels}
 use Rattle.sdf_queues.specs.Sizes.{sizes}
 use Rattle.sdf_rings.specs.declared.seat.ring_node.RingNode.{RingNode}
 use Rattle.sdf_rings.specs.declared.seat.Seat.{Seat}
-use Rattle.sdf_rings.specs.Stands.{CanFire}
-use Rattle.sdf_rings.specs.Seats.{HasFirst, times_between}
-use Rattle.sdf_rings.specs.Rests.{stand_of, producer_of, consumer_of, InHand, AreRings, HaveMet, AreAtRest}
+use Rattle.sdf_rings.specs.RingNodes.{CanFire}
+use Rattle.sdf_rings.specs.Seats.{CanFireFirst, times_between}
+use Rattle.sdf_rings.specs.Rests.{ring_node_of, producer_of, consumer_of, RingsValue, AreRings, HaveMet, AreAtRest}
 use Rattle.sdf_rings.specs.Asks.{IsPlanned, SomeFirst}
 use Rattle.sdf_rings.specs.Totals.{total_left}
 use Rattle.sdf_rings.proofs.Dealt.{part, done, IsFirst, first_left, part_times, part_all, times_map}
 use Rattle.sdf_rings.proofs.Totals.{which_left}
 use Rattle.sdf_rings.proofs.Times.{times_to}
 use Rattle.sdf_rings.proofs.Looking.{vec_in}
-use Rattle.sdf_rings.proofs.Tells.{some}
+use Rattle.sdf_rings.proofs.Syncs.{some}
 use Rattle.sdf_rings.proofs.Placed.{outs_of, ins_of, one_node}
 
-module _ {A S T : Type 0} {s : Steps A S T} {hand : InHand A S T} (r : AreRings s hand)
+module _ {A S T : Type 0} {s : Steps A S T} {hand : RingsValue A S T} (r : AreRings s hand)
     (met : HaveMet hand.net hand.seats hand.places)
     (at_rest : AreAtRest s hand.net hand.inputs hand.seats hand.places)
     {order : List ℕ} {cap : ℕ → ℕ} (plan : IsPlanned s hand.net hand.seats hand.places order cap) where
@@ -42,8 +42,8 @@ module _ {A S T : Type 0} {s : Steps A S T} {hand : InHand A S T} (r : AreRings 
   abbrev home : ℕ → ℕ
   home a = (get_or places a (0, 0)).0
 
-  abbrev stand : ℕ → ℕ
-  stand a = (get_or places a (0, 0)).1
+  abbrev ring_node : ℕ → ℕ
+  ring_node a = (get_or places a (0, 0)).1
 
   module _ (e0 : Seat A T S) where
     abbrev next : ℕ → ℕ
@@ -54,40 +54,40 @@ module _ {A S T : Type 0} {s : Steps A S T} {hand : InHand A S T} (r : AreRings 
     past b = done home order next b
 
     part_apart : (b : ℕ) → RingNode A T S → b < length n.nodes → (j : ℕ) → j < length (part home order (home b)) →
-        stand (get_or (part home order (home b)) j 0) ≡ stand b → get_or (part home order (home b)) j 0 ≡ b
+        ring_node (get_or (part home order (home b)) j 0) ≡ ring_node b → get_or (part home order (home b)) j 0 ≡ b
     part_apart b d l j h e =
         let is = part_all home order (home b) (λ a. a < length n.nodes) (λ i m. (plan.admissible i m).0) j h in
         one_node r.placed e0 d is.0 l is.1 e
 
     -- so many of the firings of b stand in the first m of its seat's list
     counted : (b : ℕ) → RingNode A T S → b < length n.nodes → (m : ℕ) → m ≤ length (part home order (home b)) →
-        times_between (stand b) (get_or seats (home b) e0).left 0 m ≡ times (take m (part home order (home b))) b
+        times_between (ring_node b) (get_or seats (home b) e0).left 0 m ≡ times (take m (part home order (home b))) b
     counted b d l m fits =
         let P = part home order (home b) in
-        let is : (get_or seats (home b) e0).left ≡ map stand P =
+        let is : (get_or seats (home b) e0).left ≡ map ring_node P =
         plan.asks.lists (home b) e0 (r.placed.seat_in b l) in
-        ap (λ xs. times xs (stand b)) (between_from_start (get_or seats (home b) e0).left m ∙ ap (take m) is
-        ∙ take-map stand m P) ∙
-        times_map stand b (take m P) (λ j h e.
+        ap (λ xs. times xs (ring_node b)) (between_from_start (get_or seats (home b) e0).left m ∙ ap (take m) is
+        ∙ take-map ring_node m P) ∙
+        times_map ring_node b (take m P) (λ j h e.
         let len = length-take-le m P fits in
         let same : get_or (take m P) j 0 ≡ get_or P j 0 = get_or-take m P j 0 (omega arith) in
-        same ∙ part_apart b d l j (omega arith) (ap stand (sym same) ∙ e))
+        same ∙ part_apart b d l j (omega arith) (ap ring_node (sym same) ∙ e))
 
     module _ (d0 : RingNode A T S) where
       -- the firings done
       abbrev k : ℕ → ℕ
-      k a = (stand_of n seats places e0 d0 a).done
+      k a = (ring_node_of n seats places e0 d0 a).done
 
       done_is : (b : ℕ) → b < length n.nodes → k b ≡ past b
       done_is b l =
           let P = part home order (home b) in
           let x = get_or seats (home b) e0 in
           let ok = r.each (home b) e0 (r.placed.seat_in b l) in
-          let is : x.left ≡ map stand P = plan.asks.lists (home b) e0 (r.placed.seat_in b l) in
-          let len : length x.left ≡ length P = ap (λ (xs : List ℕ). length xs) is ∙ length-map P stand in
+          let is : x.left ≡ map ring_node P = plan.asks.lists (home b) e0 (r.placed.seat_in b l) in
+          let len : length x.left ≡ length P = ap (λ (xs : List ℕ). length xs) is ∙ length-map P ring_node in
           let fits = ok.next_fits in
-          let c = ok.counts (stand b) d0 (r.placed.stand_in b e0 l) in
-          let all = times_to (stand b) x.left 0 x.next (length x.left) (omega arith) (omega arith)
+          let c = ok.counts (ring_node b) d0 (r.placed.ring_node_in b e0 l) in
+          let all = times_to (ring_node b) x.left 0 x.next (length x.left) (omega arith) (omega arith)
           (omega arith) in
           let some_done = counted b d0 l x.next (omega arith) in
           let every = counted b d0 l (length x.left) (omega arith) in
@@ -128,7 +128,7 @@ module _ {A S T : Type 0} {s : Steps A S T} {hand : InHand A S T} (r : AreRings 
         hold_at c x l e =
             let from = r.is_net.from_in c l in
             let to = r.is_net.to_in c l in
-            let outs = stand_of n seats places e0 d0 (wire n c).from.0 in
+            let outs = ring_node_of n seats places e0 d0 (wire n c).from.0 in
             let all = outs_of r e0 d0 from.0 in
             let y = some outs.outs.items (wire n c).from.1
             (vec_in outs.outs (wire n c).from.1 (omega (arith, from.1))) in
@@ -157,7 +157,7 @@ module _ {A S T : Type 0} {s : Steps A S T} {hand : InHand A S T} (r : AreRings 
 
             x : Consumer T Global AnyItems
             x =
-                let ins = (stand_of n seats places e0 d0 (wire n c).to.0).ins in
+                let ins = (ring_node_of n seats places e0 d0 (wire n c).to.0).ins in
                 let all = ins_of r e0 d0 to in
                 some ins.items (wire n c).to.1 (vec_in ins (wire n c).to.1 (omega (arith, (r.is_net.to_in c l).1)))
 
@@ -200,9 +200,9 @@ module _ {A S T : Type 0} {s : Steps A S T} {hand : InHand A S T} (r : AreRings 
                 ap ((wiring s n).rates.consumed c) (subst (λ b. k b ≡ times (take f.at order) b) own here) in
                 omega arith
 
-        can_fire : CanFire s n (stand_of n seats places e0 d0 first)
+        can_fire : CanFire s n (ring_node_of n seats places e0 d0 first)
         can_fire =
-            let z = stand_of n seats places e0 d0 first in
+            let z = ring_node_of n seats places e0 d0 first in
             let is : z.actor ≡ first = r.placed.is first e0 d0 known in
             record {
               holds = λ p x h.
@@ -215,7 +215,7 @@ module _ {A S T : Type 0} {s : Steps A S T} {hand : InHand A S T} (r : AreRings 
                   length (known_items (get_or z.ins.items p x)) =
                   subst (λ (q : ℕ × ℕ). consumed_at s (node n q.0) q.1 (k q.0 + 1)
                   - consumed_at s (node n q.0) q.1 (k q.0) ≤
-                  length (known_items (get_or (stand_of n seats places e0 d0 q.0).ins.items q.1 x)))
+                  length (known_items (get_or (ring_node_of n seats places e0 d0 q.0).ins.items q.1 x)))
                   (λ i. (at.0 i, at.1 i)) h' in
                   subst (λ (b : ℕ). sizes s Input (node n b) z.done p ≤ length (known_items (get_or z.ins.items p x)))
                   (sym is) moved;
@@ -229,21 +229,21 @@ module _ {A S T : Type 0} {s : Steps A S T} {hand : InHand A S T} (r : AreRings 
                   known_free (get_or z.outs.items p y) =
                   subst (λ (q : ℕ × ℕ). produced_at s (node n q.0) q.1 (k q.0 + 1)
                   - produced_at s (node n q.0) q.1 (k q.0) ≤
-                  known_free (get_or (stand_of n seats places e0 d0 q.0).outs.items q.1 y))
+                  known_free (get_or (ring_node_of n seats places e0 d0 q.0).outs.items q.1 y))
                   (λ i. (at.0 i, at.1 i)) h' in
                   subst (λ (b : ℕ). sizes s Output (node n b) z.done p ≤ known_free (get_or z.outs.items p y))
                   (sym is) moved;
             }
 
-    -- the next in its seat's list is its stand
+    -- the next in its seat's list is its ring node
     named : (f : IsFirst home order next) → get_or (get_or seats (home (get_or order f.at 0)) e0).left
-        (next (home (get_or order f.at 0))) 0 ≡ stand (get_or order f.at 0)
+        (next (home (get_or order f.at 0))) 0 ≡ ring_node (get_or order f.at 0)
     named f =
         let a : ℕ = get_or order f.at 0 in
         let l = (plan.admissible f.at f.is.within).0 in
         let P = part home order (home a) in
         ap (λ xs. get_or xs (next (home a)) 0) (plan.asks.lists (home a) e0 (r.placed.seat_in a l))
-        ∙ get_or-map stand P (next (home a)) 0 0 f.left ∙ ap stand f.names
+        ∙ get_or-map ring_node P (next (home a)) 0 0 f.left ∙ ap ring_node f.names
 
     some_at : IsFirst home order next → SomeFirst s n seats
     some_at f =
@@ -254,15 +254,16 @@ module _ {A S T : Type 0} {s : Steps A S T} {hand : InHand A S T} (r : AreRings 
         let same : (e : Seat A T S) → get_or seats (home a) e0 ≡ get_or seats (home a) e =
         λ e. get_or_default seats (home a) e0 e inside in
         let len : length (get_or seats (home a) e0).left ≡ length P =
-        ap (λ (xs : List ℕ). length xs) (plan.asks.lists (home a) e0 inside) ∙ length-map P stand in
+        ap (λ (xs : List ℕ). length xs) (plan.asks.lists (home a) e0 inside) ∙ length-map P ring_node in
         let more : (get_or seats (home a) e0).next < length (get_or seats (home a) e0).left = let h = f.left in
         omega arith in
         record {
           which = home a;
           which_in = inside;
           which_left = λ e. subst (λ (z : Seat A T S). z.next < length z.left) (same e) more;
-          which_can = λ e. subst (HasFirst s n) (same e)
-              (λ d. subst (λ (j : ℕ). CanFire s n (get_or (get_or seats (home a) e0).stands.items j d)) (sym (named f))
+          which_can = λ e. subst (CanFireFirst s n) (same e)
+              (λ d. subst (λ (j : ℕ). CanFire s n (get_or (get_or seats (home a) e0).ring_nodes.items j d))
+              (sym (named f))
               (can_fire d f));
         }
 
@@ -272,6 +273,6 @@ module _ {A S T : Type 0} {s : Steps A S T} {hand : InHand A S T} (r : AreRings 
       let e0 = some seats w.0 w.1 in
       let P = part home order w.0 in
       let len : length (get_or seats w.0 e0).left ≡ length P =
-      ap (λ (xs : List ℕ). length xs) (plan.asks.lists w.0 e0 w.1) ∙ length-map P stand in
+      ap (λ (xs : List ℕ). length xs) (plan.asks.lists w.0 e0 w.1) ∙ length-map P ring_node in
       let h = w.2 e0 in
       some_at e0 (first_left home order (λ i. (get_or seats i e0).next) w.0 (omega arith))

@@ -185,19 +185,21 @@ module _ (home : ℕ → ℕ) where
       heads a w i P all e rest zero h = (all 0 (omega arith), e)
       heads a w i P all e rest (suc j) h = rest j (omega arith)
 
--- counted by stand or by actor, where no two share a stand
-pub times_map : (stand : ℕ → ℕ) (b : ℕ) (xs : List ℕ) →
-    ((j : ℕ) → j < length xs → stand (get_or xs j 0) ≡ stand b → get_or xs j 0 ≡ b) →
-    times (map stand xs) (stand b) ≡ times xs b
-times_map stand b [] apart = refl
-times_map stand b (x ∷ xs) apart =
-    let t = times_map stand b xs (λ j h e. apart (suc j) (omega arith) e) in
-    let same : eqb (stand x) (stand b) ≡ eqb x b = elim (eqb_tells x b) as (λ _. eqb (stand x) (stand b) ≡ eqb x b) [
-      | inl h ↦ eq-eqb (stand x) (stand b) (ap stand h.1) ∙ sym h.0
-      | inr h ↦ ne_eqb (stand x) (stand b) (λ e. h.1 (apart 0 (omega arith) e)) ∙ sym h.0
+-- counted by ring node or by actor, where no two share a ring node
+pub times_map : (ring_node : ℕ → ℕ) (b : ℕ) (xs : List ℕ) →
+    ((j : ℕ) → j < length xs → ring_node (get_or xs j 0) ≡ ring_node b → get_or xs j 0 ≡ b) →
+    times (map ring_node xs) (ring_node b) ≡ times xs b
+times_map ring_node b [] apart = refl
+times_map ring_node b (x ∷ xs) apart =
+    let t = times_map ring_node b xs (λ j h e. apart (suc j) (omega arith) e) in
+    let same : eqb (ring_node x) (ring_node b) ≡ eqb x b =
+    elim (eqb_tells x b) as (λ _. eqb (ring_node x) (ring_node b) ≡ eqb x b) [
+      | inl h ↦ eq-eqb (ring_node x) (ring_node b) (ap ring_node h.1) ∙ sym h.0
+      | inr h ↦ ne_eqb (ring_node x) (ring_node b) (λ e. h.1 (apart 0 (omega arith) e)) ∙ sym h.0
     ] in
-    let c : bit (eqb (stand x) (stand b)) ≡ bit (eqb x b) = ap bit same in
-    let y : times (map stand (x ∷ xs)) (stand b) ≡ cond (eqb (stand x) (stand b)) 1 0 + times (map stand xs) (stand b) =
-    times_cons (stand x) (map stand xs) (stand b) in
+    let c : bit (eqb (ring_node x) (ring_node b)) ≡ bit (eqb x b) = ap bit same in
+    let y : times (map ring_node (x ∷ xs)) (ring_node b) ≡
+    cond (eqb (ring_node x) (ring_node b)) 1 0 + times (map ring_node xs) (ring_node b) =
+    times_cons (ring_node x) (map ring_node xs) (ring_node b) in
     let z = times_cons x xs b in
     omega arith

@@ -17,17 +17,18 @@ use Rattle.sdf_node.specs.declared.node.NodeState.{NodeState}
 use Rattle.sdf_rings.specs.declared.seat.ring_node.RingNode.{RingNode}
 use Rattle.sdf_rings.specs.Blocks.{start_at, block_of}
 use Rattle.sdf_queues.specs.Sizes.{sizes}
-use Rattle.sdf_rings.specs.Stands.{OwnBegin, IsStand, HasMoved}
+use Rattle.sdf_rings.specs.RingNodes.{OwnBegin, IsRingNode, HasMoved}
 use Rattle.sdf_rings.proofs.Blocks.{block_in}
 use Rattle.sdf_rings.proofs.Known.{out_in, in_in, sent_at, received_at}
 use Rattle.sdf_rings.proofs.Knowing.{IsOneMore, one_more}
-use Rattle.sdf_rings.proofs.Onward.{stand_after, HasGoneOn, HoldsThen, gone_on}
-use Rattle.sdf_rings.proofs.Tells.{some}
+use Rattle.sdf_rings.proofs.Onward.{ring_node_after, HasResumed, HoldsThen, gone_on}
+use Rattle.sdf_rings.proofs.Syncs.{some}
 use Rattle.sdf_rings.proofs.Looking.{vec_in}
 use Rattle.sdf_rings.proofs.PortBlocks.{outs_long, consumed_in, produced_out, out_block}
 
--- one firing: the blocks that were taken and put, and the state and what the stand holds then
-pub record OneFiring {A S T : Type 0} (s : Steps A S T) (n : Netlist A T) (inputs : List (List T)) (x : RingNode A T S) :
+-- one firing: the blocks that were taken and put, and the state and what the ring node holds then
+pub record OneFiring {A S T : Type 0} (s : Steps A S T) (n : Netlist A T) (inputs : List (List T))
+    (x : RingNode A T S) :
     Type 0 where
   pub left : x.done < x.asked
   pub t : List T
@@ -44,7 +45,7 @@ pub record OneFiring {A S T : Type 0} (s : Steps A S T) (n : Netlist A T) (input
   pub begin : OwnBegin n x.actor held.ins.items x.outs.items
 
 module _ {A S T : Type 0} {s : Steps A S T} {n : Netlist A T} (good : IsNet s n) {inputs : List (List T)}
-    {x : RingNode A T S} (st : IsStand s n inputs x) (one : OneFiring s n inputs x) where
+    {x : RingNode A T S} (st : IsRingNode s n inputs x) (one : OneFiring s n inputs x) where
   open one use {t, b, w, held}
 
   -- what it moves at each port
@@ -88,7 +89,7 @@ module _ {A S T : Type 0} {s : Steps A S T} {n : Netlist A T} (good : IsNet s n)
     own = own_taken;
   })
 
-  on : HasGoneOn st 1 (λ i. block_of g i t) (λ i. block_of h i b) w
+  on : HasResumed st 1 (λ i. block_of g i t) (λ i. block_of h i b) w
   on = record {
     left = let l = one.left in omega arith;
     W = more.0;
@@ -117,5 +118,5 @@ module _ {A S T : Type 0} {s : Steps A S T} {n : Netlist A T} (good : IsNet s n)
         omega (arith, produced_out good st.known i x.done p, produced_out good st.known i (x.done + 1) p);
   }
 
-  pub fired : IsStand s n inputs (stand_after x 1 w held) × HasMoved s n x (stand_after x 1 w held)
+  pub fired : IsRingNode s n inputs (ring_node_after x 1 w held) × HasMoved s n x (ring_node_after x 1 w held)
   fired = gone_on st good on held

@@ -1,4 +1,4 @@
--- What the ends of a stand have moved, by channel.
+-- What the ends of a ring node have moved, by channel.
 use Rattle.std.proofs.Common.{◌≡◌, ℕ, ◌<◌, List, length, get_or, take, refl, sym, ap, ◌∙◌, subst, arith, vec_len}
 use Rattle.std.specs.Global.{Global}
 use Rattle.std.proofs.lemmas.List.FromFn.{get_or-map-range_with_len, length-map-range_with_len}
@@ -12,7 +12,7 @@ use Rattle.sdf_actor.specs.Nets.{Netlist, Wire, wire, node, wiring, answers, inp
 use Rattle.sdf_actor.specs.Nets.{IsNet}
 use Rattle.sdf_actor.proofs.Theorems.{ports_have_channels}
 use Rattle.sdf_rings.specs.declared.seat.ring_node.RingNode.{RingNode}
-use Rattle.sdf_rings.specs.Stands.{IsStand}
+use Rattle.sdf_rings.specs.RingNodes.{IsRingNode}
 
 module _ {A S T : Type 0} {s : Steps A S T} {n : Netlist A T} (good : IsNet s n) where
   -- the channel at its own port
@@ -68,8 +68,8 @@ module _ {A S T : Type 0} {s : Steps A S T} {n : Netlist A T} (good : IsNet s n)
       get_or ((wiring s n).ins a) p 0 ≡ c
   at_port {a} {p} {c} l t e = (λ i. get_or ((wiring s n).ins (sym t i)) (sym e i) 0) ∙ in_channel c l
 
-  -- what the ends of a stand that is node a have moved
-  module _ {inputs : List (List T)} {z : RingNode A T S} (st : IsStand s n inputs z) {a : ℕ} (is : z.actor ≡ a) where
+  -- what the ends of a ring node that is node a have moved
+  module _ {inputs : List (List T)} {z : RingNode A T S} (st : IsRingNode s n inputs z) {a : ℕ} (is : z.actor ≡ a) where
     pub as_local : IsLocal (wiring s n) (answers s n inputs) a z.done st.own
     as_local = subst (λ b. IsLocal (wiring s n) (answers s n inputs) b z.done st.own) is st.local
 

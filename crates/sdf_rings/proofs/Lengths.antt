@@ -12,12 +12,12 @@ use Rattle.sdf_actor.specs.Nets.{Netlist}
 use Rattle.sdf_rings.specs.declared.seat.ring_node.RingNode.{RingNode}
 use Rattle.sdf_rings.specs.declared.seat.Seat.{Seat}
 use Rattle.sdf_rings.specs.Seats.{times_between}
-use Rattle.sdf_rings.specs.Rests.{stand_of, AreRings}
+use Rattle.sdf_rings.specs.Rests.{ring_node_of, AreRings}
 use Rattle.sdf_rings.specs.Asks.{dealt, IsPlanned}
 use Rattle.sdf_rings.specs.Totals.{total_left}
 use Rattle.sdf_rings.proofs.Dealt.{part, part_same, part_other}
 use Rattle.sdf_rings.proofs.Looking.{vec_in}
-use Rattle.sdf_rings.proofs.Tells.{some}
+use Rattle.sdf_rings.proofs.Syncs.{some}
 use Rattle.sdf_rings.proofs.Times.{times_none}
 use Rattle.sdf_rings.proofs.Totals.{total_some}
 
@@ -101,20 +101,20 @@ module _ {A S T : Type 0} (s : Steps A S T) (n : Netlist A T) (inputs : List (Li
 
   -- where nothing is done, what is asked is left
   pub left_some : (a : ℕ) → a < length n.nodes → ((e : Seat A T S) (d : RingNode A T S) →
-      (stand_of n seats places e d a).done ≡ 0) → 0 < times order a → 0 < total_left seats
+      (ring_node_of n seats places e d a).done ≡ 0) → 0 < times order a → 0 < total_left seats
   left_some a l undone asked =
       let i : ℕ = (get_or places a (0, 0)).0 in
       let k : ℕ = (get_or places a (0, 0)).1 in
       let inside = r.placed.seat_in a l in
       let e = some seats i inside in
       let x = get_or seats i e in
-      let d = some x.stands.items k (vec_in x.stands k (r.placed.stand_in a e l)) in
+      let d = some x.ring_nodes.items k (vec_in x.ring_nodes k (r.placed.ring_node_in a e l)) in
       let ok = r.each i e inside in
       elim (cases_lt x.next (length x.left)) as (λ _. 0 < total_left seats) [
         | inl h ↦ total_some seats i e inside h
         | inr h ↦
             let over : length x.left ≡ x.next = let f = ok.next_fits in omega arith in
-            let c = ok.counts k d (r.placed.stand_in a e l) in
+            let c = ok.counts k d (r.placed.ring_node_in a e l) in
             let z : times_between k x.left x.next (length x.left) ≡ 0 =
             ap (times_between k x.left x.next) over ∙ times_none k x.left x.next in
             let is = plan.asks.asked a e d l in

@@ -1,5 +1,5 @@
 mod Counts
-mod Courses
+mod ListLaws
 mod Kept
 mod Plans
 mod Runs
@@ -25,16 +25,16 @@ mod Firing
 mod Running
 mod RunEnds
 mod RunFired
-mod Standing
+mod RingNodeRows
 mod Looking
 mod Times
 mod Rounds
 mod Places
 mod Pairs
 mod Swaps
-mod Tells
+mod Syncs
 mod Placed
-mod Telling
+mod Syncing
 mod Rests
 mod Hands
 mod Lists

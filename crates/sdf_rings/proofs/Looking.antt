@@ -14,7 +14,7 @@ use Rattle.sdf_actor.specs.Sides.{moved_at}
 use Rattle.sdf_actor.specs.declared.sides.Side.TheVariants.{Input, Output}
 use Rattle.sdf_rings.specs.declared.seat.ring_node.RingNode.{RingNode}
 use Rattle.sdf_rings.specs.Ends.{DrewEach, GaveEach}
-use Rattle.sdf_rings.specs.Stands.{IsStand, CanFire, HasMoved}
+use Rattle.sdf_rings.specs.RingNodes.{IsRingNode, CanFire, HasMoved}
 use Rattle.sdf_rings.proofs.OwnEnds.{own_pairs_kept}
 use Rattle.sdf_rings.proofs.Looks.{drew_join, gave_join, drew_none, gave_none}
 
@@ -85,9 +85,9 @@ module _ {A S T : Type 0} {s : Steps A S T} {n : Netlist A T} where
       (outs : Vec (Producer T Global AnyItems) Global)
       (drew : DrewEach x.ins.items ins.items (λ _. [])) (gave : GaveEach x.outs.items outs.items (λ _. []))
       (ins_is : vec_len ins ≡ vec_len x.ins) (outs_is : vec_len outs ≡ vec_len x.outs) where
-    pub looked_stand : {inputs : List (List T)} → IsStand s n inputs x →
-        IsStand s n inputs (record x { ins = ins; outs = outs })
-    looked_stand {inputs} st = record {
+    pub looked_ring_node : {inputs : List (List T)} → IsRingNode s n inputs x →
+        IsRingNode s n inputs (record x { ins = ins; outs = outs })
+    looked_ring_node {inputs} st = record {
       known = st.known;
       own_pairs = own_pairs_kept n x.actor x.ins.items ins.items x.outs.items outs.items (λ _. []) (λ _. [])
           (items_long ins x.ins ins_is) (items_long outs x.outs outs_is) drew gave st.own_pairs;

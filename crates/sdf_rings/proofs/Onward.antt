@@ -1,4 +1,4 @@
--- A stand whose node went on by some firings.
+-- A ring node whose node went on by some firings.
 use Rattle.std.proofs.Common.{◌≡◌, ℕ, ◌+◌, ◌≤◌, ◌<◌, List, ◌++◌, length, get_or, take, refl, sym, ap, ◌∙◌, arith}
 use Rattle.std.proofs.Common.{vec_len}
 use Rattle.std.specs.Global.{Global}
@@ -18,12 +18,12 @@ use Rattle.sdf_node.specs.Nodes.{IsAt}
 use Rattle.sdf_node.specs.declared.node.NodeState.{NodeState}
 use Rattle.sdf_rings.specs.declared.seat.ring_node.RingNode.{RingNode}
 use Rattle.sdf_rings.specs.Ends.{DrewEach, GaveEach}
-use Rattle.sdf_rings.specs.Stands.{IsStand, HasMoved}
+use Rattle.sdf_rings.specs.RingNodes.{IsRingNode, HasMoved}
 use Rattle.sdf_rings.proofs.Known.{received_at, in_in, port_at}
 use Rattle.sdf_rings.proofs.OwnEnds.{own_pairs_kept}
 use Rattle.sdf_rings.proofs.Looking.{vec_in, items_long}
 
--- the ends and the working blocks of a stand that took and put these at its ports
+-- the ends and the working blocks of a ring node that took and put these at its ports
 pub record HoldsThen {A S T : Type 0} (x : RingNode A T S) (taken_at put_at : ℕ → List T) : Type 0 where
   pub ins : Vec (Consumer T Global AnyItems) Global
   pub outs : Vec (Producer T Global AnyItems) Global
@@ -36,10 +36,10 @@ pub record HoldsThen {A S T : Type 0} (x : RingNode A T S) (taken_at put_at : �
   pub taken_is : length taken.items ≡ length x.taken.items
   pub put_is : length put.items ≡ length x.put.items
 
--- the stand behind its next so many firings, with its state and what it holds then
-abbrev pub stand_after : {A S T : Type 0} (x : RingNode A T S) {taken_at put_at : ℕ → List T} → ℕ → NodeState T S →
+-- the ring node behind its next so many firings, with its state and what it holds then
+abbrev pub ring_node_after : {A S T : Type 0} (x : RingNode A T S) {taken_at put_at : ℕ → List T} → ℕ → NodeState T S →
     HoldsThen x taken_at put_at → RingNode A T S
-stand_after x more w held = record x {
+ring_node_after x more w held = record x {
   state = w;
   ins = held.ins;
   outs = held.outs;
@@ -49,7 +49,7 @@ stand_after x more w held = record x {
 }
 
 module _ {A S T : Type 0} {s : Steps A S T} {n : Netlist A T} {inputs : List (List T)} {x : RingNode A T S}
-    (st : IsStand s n inputs x) where
+    (st : IsRingNode s n inputs x) where
   abbrev f : Wiring T
   f = wiring s n
 
@@ -57,7 +57,7 @@ module _ {A S T : Type 0} {s : Steps A S T} {n : Netlist A T} {inputs : List (Li
   v = node n x.actor
 
   -- after so many more firings the node knows W of its channels, has this state, and took and put this at each port
-  pub record HasGoneOn (more : ℕ) (taken put : ℕ → List T) (w : NodeState T S) : Type 0 where
+  pub record HasResumed (more : ℕ) (taken put : ℕ → List T) (w : NodeState T S) : Type 0 where
     pub left : x.done + more ≤ x.asked
     pub W : ℕ → List T
     pub local : IsLocal f (answers s n inputs) x.actor (x.done + more) W
@@ -73,7 +73,7 @@ module _ {A S T : Type 0} {s : Steps A S T} {n : Netlist A T} {inputs : List (Li
         length (put i) + moved_at s Output v i x.done ≡ moved_at s Output v i (x.done + more)
 
   module _ (good : IsNet s n) {more : ℕ} {taken put : ℕ → List T} {w : NodeState T S}
-      (on : HasGoneOn more taken put w) (held : HoldsThen x taken put) where
+      (on : HasResumed more taken put w) (held : HoldsThen x taken put) where
     open on use {W}
     open held use {ins, outs, drew, gave, ins_is, outs_is, taken_is, put_is}
 
@@ -85,10 +85,10 @@ module _ {A S T : Type 0} {s : Steps A S T} {n : Netlist A T} {inputs : List (Li
         (received_at good st refl c d l e) ∙ sym (on.into c l e))
 
     abbrev y : RingNode A T S
-    y = stand_after x more w held
+    y = ring_node_after x more w held
 
-    on_stand : IsStand s n inputs y
-    on_stand = record {
+    on_ring_node : IsRingNode s n inputs y
+    on_ring_node = record {
       known = st.known;
       own_pairs = own_pairs_kept n x.actor x.ins.items ins.items x.outs.items outs.items taken put
           (items_long ins x.ins ins_is) (items_long outs x.outs outs_is) drew gave st.own_pairs;
@@ -129,5 +129,5 @@ module _ {A S T : Type 0} {s : Steps A S T} {n : Netlist A T} {inputs : List (Li
       put_count = λ i h. on.put_count i (omega (arith, st.outs_all));
     }
 
-    pub gone_on : IsStand s n inputs y × HasMoved s n x y
-    gone_on = (on_stand, on_moved)
+    pub gone_on : IsRingNode s n inputs y × HasMoved s n x y
+    gone_on = (on_ring_node, on_moved)

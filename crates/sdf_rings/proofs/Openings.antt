@@ -11,7 +11,7 @@ use Rattle.rtrb.specs.Ring.{producer_capacity, IsPair}
 use Rattle.rtrb.specs.declared.producer.Producer.{Producer}
 use Rattle.rtrb.specs.declared.consumer.Consumer.{Consumer}
 use Rattle.rtrb.specs.declared.AnyItems.{AnyItems}
-use Rattle.sdf_graph.specs.Rates.{Rates, Shape, rates, channel, rate_at, IsAlike}
+use Rattle.sdf_graph.specs.Rates.{Rates, GraphValue, rates, channel, rate_at, IsAlike}
 use Rattle.sdf_graph.proofs.Theorems.{sums_grow}
 use Rattle.sdf_actor.specs.Steps.{Steps}
 use Rattle.sdf_actor.specs.Nets.{Netlist, wire, wiring}
@@ -19,7 +19,7 @@ use Rattle.sdf_rings.specs.Asks.{IsGreatestPut, IsRoomOf}
 use Rattle.sdf_rings.specs.Openings.{IsOpened, IsGreatestOf, HasRing, HaveRings, HasEnds}
 
 -- the greatest rate of a channel's source is the greatest number that a firing puts
-pub greatest_is : (g : Shape) (t : Rates) → IsAlike (rates g) t → (c m : ℕ) → c < length g.channels →
+pub greatest_is : (g : GraphValue) (t : Rates) → IsAlike (rates g) t → (c m : ℕ) → c < length g.channels →
     0 < length (channel g c).put → IsGreatestOf (channel g c).put m → IsGreatestPut t c m
 greatest_is g t alike c m l some is =
     let put : List ℕ = (channel g c).put in

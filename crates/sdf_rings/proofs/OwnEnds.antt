@@ -13,7 +13,7 @@ use Rattle.rtrb.specs.declared.consumer.Consumer.{Consumer}
 use Rattle.rtrb.specs.declared.AnyItems.{AnyItems}
 use Rattle.sdf_actor.specs.Nets.{Netlist, wire}
 use Rattle.sdf_rings.specs.Ends.{DrewEach, GaveEach}
-use Rattle.sdf_rings.specs.Stands.{OwnArePairs, OwnBegin}
+use Rattle.sdf_rings.specs.RingNodes.{OwnArePairs, OwnBegin}
 use Rattle.sdf_rings.proofs.Pairs.{pair_kept}
 
 -- a relation at each place of two lists holds behind their ends too, if it holds of what is the same
@@ -55,7 +55,7 @@ module _ {A T : Type 0} (n : Netlist A T) where
       c < length n.wires → (wire n c).from.0 ≡ a → (wire n c).to.0 ≡ a → (wire n c).to.1 < i →
       IsPrefix (received (get_or ins (wire n c).to.1 d)) (sent (get_or outs (wire n c).from.1 e))
 
-  -- the ends of the channel at port i were told
+  -- the ends of the channel at port i were synchronized
   module _ (a : ℕ) (ins : List (Consumer T Global AnyItems)) (outs : List (Producer T Global AnyItems))
       (x : Consumer T Global AnyItems) (y : Producer T Global AnyItems) (i q : ℕ)
       (in_in : i < length ins) (out_in : q < length outs) (begins : IsPrefix (received x) (sent y))

@@ -37,8 +37,8 @@ pub plan_sequence : {A S T : Type 0} (s : Steps A S T) (n : Netlist A T) (p : Ma
     IsMachinePlan s n p →
     IsSequence (wiring s n).rates (firings p b) (capacity p) (sequence_of p b)
 plan_sequence s n p b plan =
-    let all : AreBlocks p.rates (λ a. get_or (block p.factor p.period) a 0) p.table b =
-    tables_repeat p.rates p.period p.factor p.width p.table b plan.sound plan.period plan.table in
+    let all : AreBlocks p.rates (λ a. get_or (block p.blocking p.period) a 0) p.table b =
+    tables_repeat p.rates p.period p.blocking p.width p.table b plan.sound plan.period plan.table in
     record {
       admissible = alike_sequences p.rates (wiring s n).rates (sequence_of p b) plan.alike all.admissible;
       counts = λ a l. all.counts a (subst (λ m. a < m) (sym plan.alike.actors) l);

@@ -16,8 +16,8 @@ use Rattle.sdf_rings.specs.declared.seat.ring_node.RingNode.{RingNode}
 use Rattle.sdf_rings.specs.declared.seat.Seat.{Seat}
 use Rattle.sdf_rings.specs.Ends.{IsMet}
 use Rattle.sdf_rings.specs.Seats.{IsSeat, times_between}
-use Rattle.sdf_rings.specs.Stands.{IsStand}
-use Rattle.sdf_rings.specs.Rests.{stand_of, producer_of, consumer_of, IsPlaced, HaveMet, AreRings}
+use Rattle.sdf_rings.specs.RingNodes.{IsRingNode}
+use Rattle.sdf_rings.specs.Rests.{ring_node_of, producer_of, consumer_of, IsPlaced, HaveMet, AreRings}
 use Rattle.sdf_rings.specs.Asks.{dealt, IsRoomOf, IsPlanned}
 use Rattle.sdf_rings.specs.Openings.{HasRing, HaveRings}
 use Rattle.sdf_rings.specs.Begun.{place, HasBegun, IsBegun, HaveBegun}
@@ -51,16 +51,16 @@ pub record AreLaidOut {A S T : Type 0} (s : Steps A S T) (n : Netlist A T) (inpu
 module _ {A S T : Type 0} {s : Steps A S T} {n : Netlist A T} {inputs : List (List T)} {asked cap : ℕ → ℕ}
     {order : List ℕ} {seats : List (Seat A T S)} {places : List (ℕ × ℕ)}
     (laid : AreLaidOut s n inputs asked cap order seats places) where
-  -- the stand of a node
+  -- the ring node of a node
   here : (a : ℕ) (e : Seat A T S) (d : RingNode A T S) → a < length n.nodes →
-      HasBegun s n inputs asked laid.ps laid.xs a (stand_of n seats places e d a)
-  here a e d l = (laid.each (place places a).0 e (laid.seated a l)).stands_are.here a d l refl
+      HasBegun s n inputs asked laid.ps laid.xs a (ring_node_of n seats places e d a)
+  here a e d l = (laid.each (place places a).0 e (laid.seated a l)).ring_nodes_are.here a d l refl
 
   pub placed : IsPlaced n seats places
   placed = record {
     seat_in = laid.seated;
-    stand_in = λ a e l. in_vec (get_or seats (place places a).0 e).stands (place places a).1
-        ((laid.each (place places a).0 e (laid.seated a l)).stands_are.known a l refl);
+    ring_node_in = λ a e l. in_vec (get_or seats (place places a).0 e).ring_nodes (place places a).1
+        ((laid.each (place places a).0 e (laid.seated a l)).ring_nodes_are.known a l refl);
     is = λ a e d l. (here a e d l).actor_is;
   }
 
@@ -68,26 +68,26 @@ module _ {A S T : Type 0} {s : Steps A S T} {n : Netlist A T} {inputs : List (Li
   one : (a b : ℕ) (e : Seat A T S) (d : RingNode A T S) → a < length n.nodes → b < length n.nodes →
       (place places a).0 ≡ (place places b).0 → (place places a).1 ≡ (place places b).1 → a ≡ b
   one a b e d la lb p q =
-      let same : stand_of n seats places e d a ≡ stand_of n seats places e d b =
-      λ k. get_or (get_or seats (p k) e).stands.items (q k) d in
+      let same : ring_node_of n seats places e d a ≡ ring_node_of n seats places e d b =
+      λ k. get_or (get_or seats (p k) e).ring_nodes.items (q k) d in
       sym (here a e d la).actor_is ∙ (ap (λ (z : RingNode A T S). z.actor) same ∙ (here b e d lb).actor_is)
 
   abbrev home : ℕ → ℕ
   home a = (place places a).0
 
-  abbrev stand : ℕ → ℕ
-  stand a = (place places a).1
+  abbrev ring_node : ℕ → ℕ
+  ring_node a = (place places a).1
 
   -- the firings of a seat are those of nodes that stand there
   dealt_here : (i j : ℕ) → j < length (dealt places order i) →
       (get_or (dealt places order i) j 0 < length n.nodes) × (home (get_or (dealt places order i) j 0) ≡ i)
   dealt_here i = part_all home order i (λ a. a < length n.nodes) laid.known
 
-  -- how often the seat's list names the stand of a node
+  -- how often the seat's list names the ring node of a node
   named : (a : ℕ) (e : Seat A T S) (d : RingNode A T S) → a < length n.nodes →
-      times (map stand (dealt places order (home a))) (stand a) ≡ asked a
+      times (map ring_node (dealt places order (home a))) (ring_node a) ≡ asked a
   named a e d l =
-      times_map stand a (dealt places order (home a))
+      times_map ring_node a (dealt places order (home a))
       (λ j h same. let is = dealt_here (home a) j h in
       one (get_or (dealt places order (home a)) j 0) a e d is.0 l is.1 same) ∙
       (part_times home order (home a) a refl ∙ laid.counts a l)
@@ -99,56 +99,58 @@ module _ {A S T : Type 0} {s : Steps A S T} {n : Netlist A T} {inputs : List (Li
     begun : IsBegun s n inputs asked laid.ps laid.xs places order i x
     begun = laid.each i e inside
 
-    -- a stand is a node's
-    at_stand : (k : ℕ) (d : RingNode A T S) → k < length x.stands.items →
-        (a : ℕ) × (a < length n.nodes) × (home a ≡ i) × (stand a ≡ k)
-    at_stand k d h = begun.stands_are.only k h
+    -- a ring node is a node's
+    at_ring_node : (k : ℕ) (d : RingNode A T S) → k < length x.ring_nodes.items →
+        (a : ℕ) × (a < length n.nodes) × (home a ≡ i) × (ring_node a ≡ k)
+    at_ring_node k d h = begun.ring_nodes_are.only k h
 
-    counted : (k : ℕ) (d : RingNode A T S) → k < length x.stands.items →
-        (get_or x.stands.items k d).done + times_between k x.left x.next (length x.left) ≡
-        (get_or x.stands.items k d).asked
+    counted : (k : ℕ) (d : RingNode A T S) → k < length x.ring_nodes.items →
+        (get_or x.ring_nodes.items k d).done + times_between k x.left x.next (length x.left) ≡
+        (get_or x.ring_nodes.items k d).asked
     counted k d h =
-        let o = at_stand k d h in
+        let o = at_ring_node k d h in
         let a : ℕ = o.0 in
-        let b : HasBegun s n inputs asked laid.ps laid.xs a (get_or x.stands.items k d) =
-        subst (λ m. HasBegun s n inputs asked laid.ps laid.xs a (get_or x.stands.items m d)) o.3
-        (begun.stands_are.here a d o.1 o.2) in
+        let b : HasBegun s n inputs asked laid.ps laid.xs a (get_or x.ring_nodes.items k d) =
+        subst (λ m. HasBegun s n inputs asked laid.ps laid.xs a (get_or x.ring_nodes.items m d)) o.3
+        (begun.ring_nodes_are.here a d o.1 o.2) in
         let whole : times_between k x.left x.next (length x.left) ≡ times x.left k =
         times_all x.left x.next k begun.first in
-        let list : times x.left k ≡ times (map stand (dealt places order i)) k =
+        let list : times x.left k ≡ times (map ring_node (dealt places order i)) k =
         ap (λ w. times w k) begun.left_is in
-        let turned : times (map stand (dealt places order i)) k ≡
-        times (map stand (dealt places order (home a))) (stand a) =
-        λ m. times (map stand (dealt places order (sym o.2 m))) (sym o.3 m) in
+        let turned : times (map ring_node (dealt places order i)) k ≡
+        times (map ring_node (dealt places order (home a))) (ring_node a) =
+        λ m. times (map ring_node (dealt places order (sym o.2 m))) (sym o.3 m) in
         let is = named a e d o.1 in
         let none = b.undone in
         let want = b.asked_is in
         omega (arith, whole, list, turned, is, none, want)
 
-    names : (j : ℕ) → j < length x.left → get_or x.left j 0 < vec_len x.stands
+    names : (j : ℕ) → j < length x.left → get_or x.left j 0 < vec_len x.ring_nodes
     names j h =
         let firings : List ℕ = dealt places order i in
         let long = ap (λ (w : List ℕ). length w) begun.left_is in
-        let many = length-map firings stand in
+        let many = length-map firings ring_node in
         let l : j < length firings = omega (arith, h, long, many) in
         let is = dealt_here i j l in
-        let at : get_or x.left j 0 ≡ stand (get_or firings j 0) =
-        ap (λ w. get_or w j 0) begun.left_is ∙ get_or-map stand firings j 0 0 l in
-        in_vec x.stands (get_or x.left j 0) (subst (λ k. k < length x.stands.items) (sym at)
-        (begun.stands_are.known (get_or firings j 0) is.0 is.1))
+        let at : get_or x.left j 0 ≡ ring_node (get_or firings j 0) =
+        ap (λ w. get_or w j 0) begun.left_is ∙ get_or-map ring_node firings j 0 0 l in
+        in_vec x.ring_nodes (get_or x.left j 0) (subst (λ k. k < length x.ring_nodes.items) (sym at)
+        (begun.ring_nodes_are.known (get_or firings j 0) is.0 is.1))
 
     pub is_seat : IsSeat s n inputs x
     is_seat = record {
       next_fits = omega (arith, begun.first);
       names = names;
       each = λ k d h.
-          let o = at_stand k d (in_items x.stands k h) in
-          subst (λ m. IsStand s n inputs (get_or x.stands.items m d)) o.3 (begun.stands_are.here o.0 d o.1 o.2).is;
-      counts = λ k d h. counted k d (in_items x.stands k h);
+          let o = at_ring_node k d (in_items x.ring_nodes k h) in
+          subst (λ m. IsRingNode s n inputs (get_or x.ring_nodes.items m d)) o.3
+          (begun.ring_nodes_are.here o.0 d o.1 o.2).is;
+      counts = λ k d h. counted k d (in_items x.ring_nodes k h);
     }
 
   -- the ends of a channel are those that were opened
-  module _ (c : ℕ) (e : Seat A T S) (d : RingNode A T S) (v : Consumer T Global AnyItems) (w : Producer T Global AnyItems)
+  module _ (c : ℕ) (e : Seat A T S) (d : RingNode A T S) (v : Consumer T Global AnyItems)
+      (w : Producer T Global AnyItems)
       (l : c < length n.wires) where
     ring : HasRing s n cap c laid.ps laid.xs
     ring = laid.rings.each c l
@@ -193,5 +195,5 @@ module _ {A S T : Type 0} {s : Steps A S T} {n : Netlist A T} {inputs : List (Li
   }
 
   pub undone : (a : ℕ) (e : Seat A T S) (d : RingNode A T S) → a < length n.nodes →
-      (stand_of n seats places e d a).done ≡ 0
+      (ring_node_of n seats places e d a).done ≡ 0
   undone a e d l = (here a e d l).undone

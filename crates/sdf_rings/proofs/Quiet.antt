@@ -1,4 +1,4 @@
--- Where all ends have met, the state of the ring machine that is made of the stands is quiescent.
+-- Where all ends are synchronized, the state of the ring machine that is made of the ring nodes is quiescent.
 use Rattle.std.proofs.Common.{◌≡◌, ◌≢◌, ℕ, zero, suc, ◌+◌, ◌-◌, ◌≤◌, ◌<◌, List, [], ◌∷◌, length, get_or, take, eqb}
 use Rattle.std.proofs.Common.{Some, inl, inr, refl, sym, ap, ◌∙◌, subst, arith, length-drop}
 use Rattle.std.specs.Global.{Global}
@@ -22,12 +22,13 @@ use Rattle.sdf_rings.specs.Asks.{IsPlanned}
 use Rattle.sdf_rings.specs.Ends.{IsMet}
 use Rattle.sdf_rings.specs.MachineLaws.{Idle, resting, state_on, taken_on, IsStateOf, IsWithin, IsQuiescent, HasGrown}
 use Rattle.sdf_rings.specs.Quiescence.{IsMadeOf, AreQuiescent}
-use Rattle.sdf_rings.specs.Rests.{stand_of, state_in, producer_of, consumer_of, InHand, AreRings, HaveMet, StandAtRest}
+use Rattle.sdf_rings.specs.Rests.{ring_node_of, state_in, producer_of, consumer_of, RingsValue, AreRings, HaveMet}
+use Rattle.sdf_rings.specs.Rests.{AreAtRestAfter}
 use Rattle.sdf_rings.specs.Rests.{AreAtRest}
 use Rattle.sdf_rings.proofs.Dealt.{bit, times_cons}
 use Rattle.sdf_rings.proofs.Plans.{plan_sequence}
 use Rattle.sdf_rings.proofs.Quiescent.{quiescent_later, quiescent_is_reached}
-use Rattle.sdf_rings.proofs.Reading.{state_is, a_seat, a_stand, taker, putter, rest_at}
+use Rattle.sdf_rings.proofs.Reading.{state_is, a_seat, a_ring_node, taker, putter, rest_at}
 use Rattle.sdf_rings.proofs.Rests.{are_at_rest}
 
 -- a front of a sequence has as many firings of an actor as one likes, up to all
@@ -74,7 +75,7 @@ state_made s inputs many (kind.Sink ext size) past w state at is = tt
 state_made s inputs many (kind.Inner z) past w state at is =
     same_Some state (state_after s z past) (sym (is z refl) ∙ state_is s inputs many z past w at)
 
-module _ {A S T : Type 0} {s : Steps A S T} {hand : InHand A S T} (r : AreRings s hand)
+module _ {A S T : Type 0} {s : Steps A S T} {hand : RingsValue A S T} (r : AreRings s hand)
     (met : HaveMet hand.net hand.seats hand.places)
     (at_rest : AreAtRest s hand.net hand.inputs hand.seats hand.places)
     {q : List ℕ} (accepted : IsAccepted s hand.net q) {order : List ℕ} {cap : ℕ → ℕ}
@@ -82,17 +83,17 @@ module _ {A S T : Type 0} {s : Steps A S T} {hand : InHand A S T} (r : AreRings 
     (made : IsMadeOf hand.net hand.seats hand.places x) where
   open hand use {net as n, inputs, seats, places}
 
-  at : StandAtRest s n inputs seats places x.done
+  at : AreAtRestAfter s n inputs seats places x.done
   at = rest_at r at_rest accepted (λ a e d l. sym (made.dones a e d l))
 
   -- no more is done than is asked
   pub done_few : (a : ℕ) → a < length n.nodes → x.done a ≤ times order a
   done_few a l =
       let e = a_seat r l in
-      let d = a_stand r l in
-      let stand = (r.each (get_or places a (0, 0)).0 e (r.placed.seat_in a l)).each (get_or places a (0, 0)).1 d
-      (r.placed.stand_in a e l) in
-      omega (arith, stand.within, made.dones a e d l, plan.asks.asked a e d l)
+      let d = a_ring_node r l in
+      let ring_node = (r.each (get_or places a (0, 0)).0 e (r.placed.seat_in a l)).each (get_or places a (0, 0)).1 d
+      (r.placed.ring_node_in a e l) in
+      omega (arith, ring_node.within, made.dones a e d l, plan.asks.asked a e d l)
 
   module _ (c : ℕ) (l : c < length n.wires) where
     abbrev a : ℕ
@@ -105,7 +106,7 @@ module _ {A S T : Type 0} {s : Steps A S T} {hand : InHand A S T} (r : AreRings 
     list_is =
         let from = r.is_net.from_in c l in
         let e = a_seat r from.0 in
-        let d = a_stand r from.0 in
+        let d = a_ring_node r from.0 in
         let y = putter r l e d in
         made.lists c e d y l ∙ at.put c e d y l
 
@@ -131,7 +132,7 @@ module _ {A S T : Type 0} {s : Steps A S T} {hand : InHand A S T} (r : AreRings 
         let to = r.is_net.to_in c l in
         let from = r.is_net.from_in c l in
         let eb = a_seat r to.0 in
-        let db = a_stand r to.0 in
+        let db = a_ring_node r to.0 in
         let w = taker r l eb db in
         let y = putter r l eb db in
         let few = held_few (producer_of n seats places eb db y c) (consumer_of n seats places eb db w c)
@@ -158,8 +159,8 @@ module _ {A S T : Type 0} {s : Steps A S T} {hand : InHand A S T} (r : AreRings 
     history = at.is;
     states = λ a l.
         let e = a_seat r l in
-        let d = a_stand r l in
-        let z = stand_of n seats places e d a in
+        let d = a_ring_node r l in
+        let z = ring_node_of n seats places e d a in
         state_made s inputs z.asked (node n a) (taken_before (wiring s n) at.history a (x.done a)) z.state (x.states a)
         (at.states a e d l) (λ y is. made.states a y e d l is);
     within = λ c l. subst (λ (v : List T). length v ≤ cap c + (wiring s n).rates.consumed c (x.done (wire n c).to.0))
@@ -183,8 +184,9 @@ module _ {A S T : Type 0} {s : Steps A S T} {hand : InHand A S T} (r : AreRings 
   pub quiet : IsQuiescent s n inputs cap x
   quiet = quiescent_later s n r.is_net inputs cap past x past_quiet grown within
 
--- where all ends have met, the machine's state that is made of the stands is quiescent, and a run leads to it
-pub are_quiescent : {A S T : Type 0} {s : Steps A S T} {hand : InHand A S T} → AreRings s hand →
+-- where all ends are synchronized, the machine's state that is made of the ring nodes is quiescent, and a run leads to
+-- it
+pub are_quiescent : {A S T : Type 0} {s : Steps A S T} {hand : RingsValue A S T} → AreRings s hand →
     HaveMet hand.net hand.seats hand.places → {q : List ℕ} → IsAccepted s hand.net q → AreQuiescent s hand
 are_quiescent {s} {hand} rings met accepted p b x plan planned made =
     let rest = are_at_rest rings met in

@@ -1,4 +1,4 @@
--- Where all ends have met, what stands where at any counts that are those of the firings done.
+-- Where all ends are synchronized, what stands where at any counts that are those of the firings done.
 use Rattle.std.proofs.Common.{◌≡◌, ℕ, ◌<◌, List, length, get_or, Some, ap, arith}
 use Rattle.std.specs.Global.{Global}
 use Rattle.std.proofs.lemmas.Option.{none-some}
@@ -17,10 +17,10 @@ use Rattle.sdf_node.specs.declared.node.NodeState.TheVariants.{Source, Sink, Inn
 use Rattle.sdf_node.specs.Nodes.{IsAt}
 use Rattle.sdf_rings.specs.declared.seat.ring_node.RingNode.{RingNode}
 use Rattle.sdf_rings.specs.declared.seat.Seat.{Seat}
-use Rattle.sdf_rings.specs.Rests.{stand_of, state_in, InHand, AreRings, StandAtRest, AreAtRest}
+use Rattle.sdf_rings.specs.Rests.{ring_node_of, state_in, RingsValue, AreRings, AreAtRestAfter, AreAtRest}
 use Rattle.sdf_rings.proofs.Looking.{vec_in}
 use Rattle.sdf_rings.proofs.Placed.{outs_of, ins_of}
-use Rattle.sdf_rings.proofs.Tells.{some}
+use Rattle.sdf_rings.proofs.Syncs.{some}
 
 takes_one : {A S T : Type 0} (s : Steps A S T) (x : Node A) (e : ℕ) → list_of Outputs x ≡ Some e → 0 < inputs_of s x
 takes_one s (kind.Source ext block) e is = absurd (none-some e is)
@@ -43,39 +43,41 @@ some_wire s n q accepted good =
     let l = good.to_all found.0 0 found.1 (takes_one s (node n found.0) 0 found.2) in
     omega arith
 
-module _ {A S T : Type 0} {s : Steps A S T} {hand : InHand A S T} (r : AreRings s hand) where
+module _ {A S T : Type 0} {s : Steps A S T} {hand : RingsValue A S T} (r : AreRings s hand) where
   open hand use {net as n, inputs, seats, places}
 
-  -- a seat, a stand and an end to read lists with
+  -- a seat, a ring node and an end to read lists with
   pub a_seat : {a : ℕ} → a < length n.nodes → Seat A T S
   a_seat {a} l = some seats (get_or places a (0, 0)).0 (r.placed.seat_in a l)
 
-  pub a_stand : {a : ℕ} → a < length n.nodes → RingNode A T S
-  a_stand {a} l = some (get_or seats (get_or places a (0, 0)).0 (a_seat l)).stands.items (get_or places a (0, 0)).1
-      (vec_in (get_or seats (get_or places a (0, 0)).0 (a_seat l)).stands (get_or places a (0, 0)).1
-      (r.placed.stand_in a (a_seat l) l))
+  pub a_ring_node : {a : ℕ} → a < length n.nodes → RingNode A T S
+  a_ring_node {a} l = some (get_or seats (get_or places a (0, 0)).0 (a_seat l)).ring_nodes.items
+      (get_or places a (0, 0)).1
+      (vec_in (get_or seats (get_or places a (0, 0)).0 (a_seat l)).ring_nodes (get_or places a (0, 0)).1
+      (r.placed.ring_node_in a (a_seat l) l))
 
   pub taker : {c : ℕ} → c < length n.wires → Seat A T S → RingNode A T S → Consumer T Global AnyItems
   taker {c} l e d =
       let to = r.is_net.to_in c l in
       let ins_all = ins_of r e d to.0 in
-      some (stand_of n seats places e d (wire n c).to.0).ins.items (wire n c).to.1
-      (vec_in (stand_of n seats places e d (wire n c).to.0).ins (wire n c).to.1 (omega (arith, to.1, ins_all)))
+      some (ring_node_of n seats places e d (wire n c).to.0).ins.items (wire n c).to.1
+      (vec_in (ring_node_of n seats places e d (wire n c).to.0).ins (wire n c).to.1 (omega (arith, to.1, ins_all)))
 
   pub putter : {c : ℕ} → c < length n.wires → Seat A T S → RingNode A T S → Producer T Global AnyItems
   putter {c} l e d =
       let from = r.is_net.from_in c l in
       let outs_all = outs_of r e d from.0 in
-      some (stand_of n seats places e d (wire n c).from.0).outs.items (wire n c).from.1
-      (vec_in (stand_of n seats places e d (wire n c).from.0).outs (wire n c).from.1
+      some (ring_node_of n seats places e d (wire n c).from.0).outs.items (wire n c).from.1
+      (vec_in (ring_node_of n seats places e d (wire n c).from.0).outs (wire n c).from.1
       (omega (arith, from.1, outs_all)))
 
   pub rest_at : AreAtRest s n inputs seats places → {q : List ℕ} → IsAccepted s n q → {k : ℕ → ℕ} →
-      ((a : ℕ) (e : Seat A T S) (d : RingNode A T S) → a < length n.nodes → (stand_of n seats places e d a).done ≡ k a) →
-      StandAtRest s n inputs seats places k
+      ((a : ℕ) (e : Seat A T S) (d : RingNode A T S) → a < length n.nodes →
+      (ring_node_of n seats places e d a).done ≡ k a) →
+      AreAtRestAfter s n inputs seats places k
   rest_at at_rest {q} accepted {k} counts =
       let wires : 0 < length n.wires = some_wire s n q accepted r.is_net in
       let from = r.is_net.from_in 0 wires in
       let e = a_seat from.0 in
-      let d = a_stand from.0 in
+      let d = a_ring_node from.0 in
       at_rest e d (taker wires e d) (putter wires e d) k (λ a l. counts a e d l)

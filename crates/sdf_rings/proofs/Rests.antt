@@ -1,4 +1,4 @@
--- Where all ends have met, the nodes' own equations are a history.
+-- Where all ends are synchronized, the nodes' own equations are a history.
 use Rattle.std.proofs.Common.{◌≡◌, ℕ, ◌≤◌, ◌<◌, List, [], ◌++◌, length, get_or, take, drop, Bool, true, false, cond}
 use Rattle.std.proofs.Common.{eqb, refl, sym, ap, ◌∙◌, subst, arith, inl, inr, ◌⊎◌, length-append, take_at, drop_at}
 use Rattle.std.specs.Global.{Global}
@@ -16,8 +16,8 @@ use Rattle.sdf_actor.proofs.Theorems.{locals_meet, taken_stays}
 use Rattle.sdf_node.specs.Nodes.{IsAt}
 use Rattle.sdf_rings.specs.declared.seat.ring_node.RingNode.{RingNode}
 use Rattle.sdf_rings.specs.declared.seat.Seat.{Seat}
-use Rattle.sdf_rings.specs.Stands.{IsStand}
-use Rattle.sdf_rings.specs.Rests.{stand_of, producer_of, consumer_of, InHand, HaveMet, StandAtRest, AreRings}
+use Rattle.sdf_rings.specs.RingNodes.{IsRingNode}
+use Rattle.sdf_rings.specs.Rests.{ring_node_of, producer_of, consumer_of, RingsValue, HaveMet, AreAtRestAfter, AreRings}
 use Rattle.sdf_rings.specs.Rests.{AreAtRest}
 use Rattle.sdf_rings.proofs.Looking.{vec_in}
 use Rattle.sdf_rings.proofs.Known.{as_local, sent_at, received_at}
@@ -28,21 +28,21 @@ begins : {X : Type 0} (t : Bool) (m : ℕ) (xs ys : List X) → (t ≡ true → 
 begins true m xs ys h = let is = h refl in is.1 ∙ ap (λ i. take i ys) (sym (length-take-le m xs is.0))
 begins false m xs ys h = refl
 
-module _ {A S T : Type 0} {s : Steps A S T} {hand : InHand A S T} (r : AreRings s hand)
+module _ {A S T : Type 0} {s : Steps A S T} {hand : RingsValue A S T} (r : AreRings s hand)
     (met : HaveMet hand.net hand.seats hand.places)
-    -- a seat, a stand and ends to read lists with
+    -- a seat, a ring node and ends to read lists with
     (e0 : Seat A T S) (d0 : RingNode A T S) (x0 : Consumer T Global AnyItems) (y0 : Producer T Global AnyItems)
     {done : ℕ → ℕ} (counts : (a : ℕ) → a < length hand.net.nodes →
-    (stand_of hand.net hand.seats hand.places e0 d0 a).done ≡ done a) where
+    (ring_node_of hand.net hand.seats hand.places e0 d0 a).done ≡ done a) where
   open hand use {net as n, inputs, seats, places}
 
-  stand : (a : ℕ) → a < length n.nodes → IsStand s n inputs (stand_of n seats places e0 d0 a)
-  stand a l = (r.each (get_or places a (0, 0)).0 e0 (r.placed.seat_in a l)).each (get_or places a (0, 0)).1 d0
-      (r.placed.stand_in a e0 l)
+  ring_node : (a : ℕ) → a < length n.nodes → IsRingNode s n inputs (ring_node_of n seats places e0 d0 a)
+  ring_node a l = (r.each (get_or places a (0, 0)).0 e0 (r.placed.seat_in a l)).each (get_or places a (0, 0)).1 d0
+      (r.placed.ring_node_in a e0 l)
 
   -- what a node knows of its channels
   abbrev pick : (a : ℕ) → (a < length n.nodes) ⊎ (length n.nodes ≤ a) → ℕ → List T
-  pick a (inl l) c = (stand a l).own c
+  pick a (inl l) c = (ring_node a l).own c
   pick a (inr l) c = []
 
   abbrev own : ℕ → ℕ → List T
@@ -50,33 +50,33 @@ module _ {A S T : Type 0} {s : Steps A S T} {hand : InHand A S T} (r : AreRings 
 
   own_local : (a : ℕ) → a < length n.nodes → (t : (a < length n.nodes) ⊎ (length n.nodes ≤ a)) →
       IsLocal (wiring s n) (answers s n inputs) a (done a) (pick a t)
-  own_local a l (inl h) = subst (λ i. IsLocal (wiring s n) (answers s n inputs) a i (stand a h).own) (counts a l)
-      (as_local r.is_net (stand a h) (r.placed.is a e0 d0 h))
+  own_local a l (inl h) = subst (λ i. IsLocal (wiring s n) (answers s n inputs) a i (ring_node a h).own) (counts a l)
+      (as_local r.is_net (ring_node a h) (r.placed.is a e0 d0 h))
   own_local a l (inr h) = absurd (omega arith)
 
   own_sent : (a : ℕ) → a < length n.nodes → (t : (a < length n.nodes) ⊎ (length n.nodes ≤ a)) →
       (c : ℕ) (y : Producer T Global AnyItems) → c < length n.wires → (wire n c).from.0 ≡ a →
-      sent (get_or (stand_of n seats places e0 d0 a).outs.items (wire n c).from.1 y) ≡ pick a t c
-  own_sent a l (inl h) c y m e = sent_at r.is_net (stand a h) (r.placed.is a e0 d0 h) c y m e
+      sent (get_or (ring_node_of n seats places e0 d0 a).outs.items (wire n c).from.1 y) ≡ pick a t c
+  own_sent a l (inl h) c y m e = sent_at r.is_net (ring_node a h) (r.placed.is a e0 d0 h) c y m e
   own_sent a l (inr h) c y m e = absurd (omega arith)
 
   own_received : (a : ℕ) → a < length n.nodes → (t : (a < length n.nodes) ⊎ (length n.nodes ≤ a)) →
       (c : ℕ) (x : Consumer T Global AnyItems) → c < length n.wires → (wire n c).to.0 ≡ a →
-      received (get_or (stand_of n seats places e0 d0 a).ins.items (wire n c).to.1 x) ≡
+      received (get_or (ring_node_of n seats places e0 d0 a).ins.items (wire n c).to.1 x) ≡
       take ((wiring s n).rates.consumed c (done a)) (pick a t c)
-  own_received a l (inl h) c x m e = received_at r.is_net (stand a h) (r.placed.is a e0 d0 h) c x m e
-      ∙ ap (λ i. take ((wiring s n).rates.consumed c i) ((stand a h).own c)) (counts a l)
+  own_received a l (inl h) c x m e = received_at r.is_net (ring_node a h) (r.placed.is a e0 d0 h) c x m e
+      ∙ ap (λ i. take ((wiring s n).rates.consumed c i) ((ring_node a h).own c)) (counts a l)
   own_received a l (inr h) c x m e = absurd (omega arith)
 
   own_at : (a : ℕ) → a < length n.nodes → (t : (a < length n.nodes) ⊎ (length n.nodes ≤ a)) →
-      IsAt s inputs (stand_of n seats places e0 d0 a).asked (node n a)
-      (taken_before (wiring s n) (pick a t) a (done a)) (stand_of n seats places e0 d0 a).state
+      IsAt s inputs (ring_node_of n seats places e0 d0 a).asked (node n a)
+      (taken_before (wiring s n) (pick a t) a (done a)) (ring_node_of n seats places e0 d0 a).state
   own_at a l (inl h) =
-      let z = stand_of n seats places e0 d0 a in
-      subst (λ i. IsAt s inputs z.asked (node n a) (taken_before (wiring s n) (stand a h).own a i)
+      let z = ring_node_of n seats places e0 d0 a in
+      subst (λ i. IsAt s inputs z.asked (node n a) (taken_before (wiring s n) (ring_node a h).own a i)
       z.state) (counts a l)
-      (subst (λ b. IsAt s inputs z.asked (node n b) (taken_before (wiring s n) (stand a h).own b z.done) z.state)
-      (r.placed.is a e0 d0 h) (stand a h).at)
+      (subst (λ b. IsAt s inputs z.asked (node n b) (taken_before (wiring s n) (ring_node a h).own b z.done) z.state)
+      (r.placed.is a e0 d0 h) (ring_node a h).at)
   own_at a l (inr h) = absurd (omega arith)
 
   module _ (c : ℕ) (l : c < length n.wires) where
@@ -161,32 +161,32 @@ module _ {A S T : Type 0} {s : Steps A S T} {hand : InHand A S T} (r : AreRings 
               take ((wiring s n).rates.consumed c (done b)) (own (wire n c).from.0 c)) e (meets c m),
         )))
 
-  same_stand : (a : ℕ) (e : Seat A T S) (d : RingNode A T S) → a < length n.nodes →
-      stand_of n seats places e d a ≡ stand_of n seats places e0 d0 a
-  same_stand a e d l =
+  same_ring_node : (a : ℕ) (e : Seat A T S) (d : RingNode A T S) → a < length n.nodes →
+      ring_node_of n seats places e d a ≡ ring_node_of n seats places e0 d0 a
+  same_ring_node a e d l =
       let seat : get_or seats (get_or places a (0, 0)).0 e ≡ get_or seats (get_or places a (0, 0)).0 e0 =
       get_or_default seats (get_or places a (0, 0)).0 e e0 (r.placed.seat_in a l) in
-      ap (λ (z : Seat A T S). get_or z.stands.items (get_or places a (0, 0)).1 d) seat ∙
-      get_or_default (get_or seats (get_or places a (0, 0)).0 e0).stands.items (get_or places a (0, 0)).1 d d0
-      (vec_in (get_or seats (get_or places a (0, 0)).0 e0).stands (get_or places a (0, 0)).1
-      (r.placed.stand_in a e0 l))
+      ap (λ (z : Seat A T S). get_or z.ring_nodes.items (get_or places a (0, 0)).1 d) seat ∙
+      get_or_default (get_or seats (get_or places a (0, 0)).0 e0).ring_nodes.items (get_or places a (0, 0)).1 d d0
+      (vec_in (get_or seats (get_or places a (0, 0)).0 e0).ring_nodes (get_or places a (0, 0)).1
+      (r.placed.ring_node_in a e0 l))
 
-  pub is_rest : StandAtRest s n inputs seats places done
+  pub is_rest : AreAtRestAfter s n inputs seats places done
   is_rest = record {
     history = λ c. own (wire n c).from.0 c;
     is = locals_meet s n inputs done own r.is_net (λ a l. own_local a l (cases_lt a (length n.nodes))) enough meets;
-    dones = λ a e d l. ap (λ (z : RingNode A T S). z.done) (same_stand a e d l) ∙ counts a l;
+    dones = λ a e d l. ap (λ (z : RingNode A T S). z.done) (same_ring_node a e d l) ∙ counts a l;
     put = λ c e d y l. ap (λ (z : RingNode A T S). sent (get_or z.outs.items (wire n c).from.1 y))
-        (same_stand (wire n c).from.0 e d (from_known c l)) ∙ put_is c l y;
+        (same_ring_node (wire n c).from.0 e d (from_known c l)) ∙ put_is c l y;
     left = λ c e d x l. ap (λ (z : RingNode A T S). known_items (get_or z.ins.items (wire n c).to.1 x))
-        (same_stand (wire n c).to.0 e d (to_known c l)) ∙ left_is c l x;
+        (same_ring_node (wire n c).to.0 e d (to_known c l)) ∙ left_is c l x;
     states = λ a e d l. subst (λ (z : RingNode A T S). IsAt s inputs z.asked (node n a)
-        (taken_before (wiring s n) (λ c. own (wire n c).from.0 c) a (done a)) z.state) (sym (same_stand a e d l))
-        (subst (λ past. IsAt s inputs (stand_of n seats places e0 d0 a).asked (node n a) past
-        (stand_of n seats places e0 d0 a).state) (same_taken a l) (own_at a l (cases_lt a (length n.nodes))));
+        (taken_before (wiring s n) (λ c. own (wire n c).from.0 c) a (done a)) z.state) (sym (same_ring_node a e d l))
+        (subst (λ past. IsAt s inputs (ring_node_of n seats places e0 d0 a).asked (node n a) past
+        (ring_node_of n seats places e0 d0 a).state) (same_taken a l) (own_at a l (cases_lt a (length n.nodes))));
   }
 
--- where all ends have met, each stand is at rest
-pub are_at_rest : {A S T : Type 0} {s : Steps A S T} {hand : InHand A S T} → AreRings s hand →
+-- where all ends are synchronized, each ring node is at rest
+pub are_at_rest : {A S T : Type 0} {s : Steps A S T} {hand : RingsValue A S T} → AreRings s hand →
     HaveMet hand.net hand.seats hand.places → AreAtRest s hand.net hand.inputs hand.seats hand.places
 are_at_rest rings met e d x y k counts = is_rest rings met e d x y counts

@@ -1,4 +1,4 @@
--- A round of all seats does a firing, where all ends have met and firings of a plan are left.
+-- A round of all seats does a firing, where all ends are synchronized and firings of a plan are left.
 use Rattle.std.proofs.Common.{◌≡◌, ◌≤◌, List, length, ap, arith}
 use Rattle.sdf_actor.specs.Steps.{Steps}
 use Rattle.sdf_actor.specs.Nets.{Netlist}

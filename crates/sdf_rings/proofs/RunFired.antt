@@ -1,4 +1,4 @@
--- A run of firings of a node at its ends of rings.
+-- A batch of firings of a node at its ends of rings.
 use Rattle.std.proofs.Common.{◌≡◌, ℕ, zero, suc, ◌+◌, ◌*◌, ◌%◌, ◌≤◌, ◌<◌, ◌⊎◌, inl, inr, List, [], ◌∷◌, ◌++◌, length}
 use Rattle.std.proofs.Common.{get_or, sym, ap, ◌∙◌, subst, arith, length-append}
 use Rattle.std.specs.Global.{Global}
@@ -25,19 +25,19 @@ use Rattle.sdf_node.specs.Nodes.{phase_at, takes_of, puts_of, IsAt}
 use Rattle.sdf_node.specs.declared.node.NodeState.{NodeState}
 use Rattle.sdf_node.proofs.Theorems.{blocks_join, nodes_can_step_many}
 use Rattle.sdf_queues.specs.Sizes.{sizes, phase_of, at_phase, AreRows}
-use Rattle.sdf_rings.specs.declared.seat.run_ends.RunBlocks.{RunBlocks}
+use Rattle.sdf_rings.specs.declared.seat.run_ends.BatchBlocks.{BatchBlocks}
 use Rattle.sdf_rings.specs.declared.seat.ring_node.RingNode.{RingNode}
 use Rattle.sdf_rings.specs.Blocks.{start_at, block_of}
-use Rattle.sdf_rings.specs.RunBlocks.{HasPorts}
+use Rattle.sdf_rings.specs.BatchBlocks.{HasPorts}
 use Rattle.sdf_rings.specs.Ends.{Drew, Gave, DrewEach, GaveEach, HoldsEach, HasRoomEach}
-use Rattle.sdf_rings.specs.Stands.{IsStand, HasMoved}
-use Rattle.sdf_rings.specs.Together.{GoesInRuns, CanRun}
+use Rattle.sdf_rings.specs.RingNodes.{IsRingNode, HasMoved}
+use Rattle.sdf_rings.specs.Batches.{CanBatch, CanRun}
 use Rattle.sdf_rings.proofs.Blocks.{block_in}
 use Rattle.sdf_rings.proofs.Spreads.{start_at_same, start_at_all}
 use Rattle.sdf_rings.proofs.Knowing.{length_taken_before}
-use Rattle.sdf_rings.proofs.Onward.{stand_after, HasGoneOn, HoldsThen, gone_on}
+use Rattle.sdf_rings.proofs.Onward.{ring_node_after, HasResumed, HoldsThen, gone_on}
 use Rattle.sdf_rings.proofs.RunEnds.{same_joined, few_kept}
-use Rattle.sdf_rings.proofs.Standing.{phase_is, row_all, row_size, row_sum, row_part}
+use Rattle.sdf_rings.proofs.RingNodeRows.{phase_is, row_all, row_size, row_sum, row_part}
 use Rattle.sdf_rings.proofs.PortBlocks.{sizes_taken, sizes_put, ins_long, consumed_in, produced_out}
 use Rattle.sdf_rings.proofs.Running.{IsManyMore, many_more}
 
@@ -64,7 +64,7 @@ count_on moved size from f (suc many) rise long =
 
 -- a node of one phase moves the same in each firing
 module _ {A S T : Type 0} {s : Steps A S T} {n : Netlist A T} {inputs : List (List T)} {x : RingNode A T S}
-    (st : IsStand s n inputs x) (one : phase_of s (node n x.actor) ≡ λ i. 0) where
+    (st : IsRingNode s n inputs x) (one : phase_of s (node n x.actor) ≡ λ i. 0) where
   pub sizes_same : {side : Side} {rows : List (List ℕ)} → AreRows s side (node n x.actor) rows → (k p : ℕ) →
       p < ports_of s side (node n x.actor) → sizes s side (node n x.actor) k p ≡ sizes s side (node n x.actor) x.done p
   sizes_same {side} {rows} are k p l = sym (are.each k p l)
@@ -73,7 +73,7 @@ module _ {A S T : Type 0} {s : Steps A S T} {n : Netlist A T} {inputs : List (Li
 
 -- and is always at its phase
 pub at_zero : {A S T : Type 0} {s : Steps A S T} {n : Netlist A T} {inputs : List (List T)} {x : RingNode A T S} →
-    IsStand s n inputs x → GoesInRuns s n x.actor → 0 ≡ phase_at x.state
+    IsRingNode s n inputs x → CanBatch s n x.actor → 0 ≡ phase_at x.state
 at_zero {x = x} st goes = sym (phase_is st ∙ (ap (λ c. x.done % c) goes.one_phase ∙ mod-one x.done))
 
 -- what so many of its firings take or put at each port, where each moves the same
@@ -86,7 +86,7 @@ module _ {A S T : Type 0} (s : Steps A S T) (n : Netlist A T) (x : RingNode A T 
   run_out b p = joined (λ i. block_of (sizes s Output (node n x.actor) x.done) p
       (nth_block (puts_of s (node n x.actor) 0) b i)) many
 
--- so many firings: the blocks that were taken and put, and the state and what the stand holds then
+-- so many firings: the blocks that were taken and put, and the state and what the ring node holds then
 pub record ManyFirings {A S T : Type 0} (s : Steps A S T) (n : Netlist A T) (inputs : List (List T))
     (x : RingNode A T S) (many : ℕ) : Type 0 where
   pub t : List T
@@ -103,7 +103,7 @@ pub record ManyFirings {A S T : Type 0} (s : Steps A S T) (n : Netlist A T) (inp
   pub held : HoldsThen x (run_in s n x many t) (run_out s n x many b)
 
 module _ {A S T : Type 0} {s : Steps A S T} {n : Netlist A T} (good : IsNet s n) {inputs : List (List T)}
-    {x : RingNode A T S} (st : IsStand s n inputs x) {many : ℕ} (can : CanRun s n x many) where
+    {x : RingNode A T S} (st : IsRingNode s n inputs x) {many : ℕ} (can : CanRun s n x many) where
   abbrev f : Wiring T
   f = wiring s n
 
@@ -203,7 +203,7 @@ module _ {A S T : Type 0} {s : Steps A S T} {n : Netlist A T} (good : IsNet s n)
   pub zero_phase : 0 ≡ phase_at x.state
   zero_phase = at_zero st can.goes
 
-  module _ {z : Node A} (z_is : z ≡ node n x.actor) {r : RunBlocks} where
+  module _ {z : Node A} (z_is : z ≡ node n x.actor) {r : BatchBlocks} where
     pub in_ports : r.size ≡ takes_of s z 0 → r.sizes.now ≡ at_phase (lists x.takes.items) 0 → {ports : ℕ} →
         ports ≡ inputs_of s v → HasPorts r ports
     in_ports size_is row_is all = record {
@@ -294,7 +294,7 @@ module _ {A S T : Type 0} {s : Steps A S T} {n : Netlist A T} (good : IsNet s n)
         (nth_block in_size t) (nth_block out_size b) many (λ i l. (blocks_join in_size many t t_long).0 i l ∙ in_all)
         (λ i l. (blocks_join out_size many b b_long).0 i l ∙ out_all) (r.puts x.asked past st.at whole)
 
-    on : HasGoneOn st many (run_in s n x many t) (run_out s n x many b) r.w
+    on : HasResumed st many (run_in s n x many t) (run_out s n x many b) r.w
     on = record {
       left = can.left;
       W = more.0;
@@ -310,12 +310,13 @@ module _ {A S T : Type 0} {s : Steps A S T} {n : Netlist A T} (good : IsNet s n)
           (part_long h p (outputs_of s v) out_size many b l out_all b_long);
     }
 
-    pub run_fired : IsStand s n inputs (stand_after x many r.w r.held) × HasMoved s n x (stand_after x many r.w r.held)
+    pub run_fired : IsRingNode s n inputs (ring_node_after x many r.w r.held)
+        × HasMoved s n x (ring_node_after x many r.w r.held)
     run_fired = gone_on st good on r.held
 
--- as many firings can run as each of the tests leaves
+-- as many firings can be batched as each of the tests leaves
 module _ {A S T : Type 0} {s : Steps A S T} {n : Netlist A T} {inputs : List (List T)} {x : RingNode A T S}
-    (st : IsStand s n inputs x) (goes : GoesInRuns s n x.actor) {z : Node A} (z_is : z ≡ node n x.actor)
+    (st : IsRingNode s n inputs x) (goes : CanBatch s n x.actor) {z : Node A} (z_is : z ≡ node n x.actor)
     {takes puts : List ℕ} (takes_is : takes ≡ at_phase (lists x.takes.items) 0)
     (puts_is : puts ≡ at_phase (lists x.puts.items) 0) where
   first : 0 ≡ phase_at x.state
@@ -356,7 +357,7 @@ module _ {A S T : Type 0} {s : Steps A S T} {n : Netlist A T} {inputs : List (Li
             omega (arith, same, few);
       }
 
--- fewer firings can run too
+-- fewer firings can be batched too
 pub fewer_run : {A S T : Type 0} (s : Steps A S T) (n : Netlist A T) (x : RingNode A T S) (few many : ℕ) → few ≤ many →
     CanRun s n x many → CanRun s n x few
 fewer_run s n x few many l can = record {

@@ -13,7 +13,7 @@ use Rattle.sdf_actor.specs.Nets.{Netlist, wire}
 use Rattle.sdf_rings.specs.declared.seat.ring_node.RingNode.{RingNode}
 use Rattle.sdf_rings.specs.declared.seat.Seat.{Seat}
 use Rattle.sdf_rings.specs.Openings.{end_at, HasEnds}
-use Rattle.sdf_rings.specs.Begun.{place, standing, AreNext, HasBegun, AreBegun, IsBegun, HaveBegun}
+use Rattle.sdf_rings.specs.Begun.{place, count_on_seat, AreNext, HasBegun, AreBegun, IsBegun, HaveBegun}
 use Rattle.sdf_rings.proofs.Lists.{push_each}
 
 -- the ends at a node are there where they are as they were
@@ -47,13 +47,13 @@ module _ {A S T : Type 0} (s : Steps A S T) (n : Netlist A T) (inputs : List (Li
     (ps : List (Option (Producer T Global AnyItems))) (xs : List (Option (Consumer T Global AnyItems)))
     (places : List (ℕ × ℕ)) where
   -- the nodes of seat i below a stand on it, and the ends at the others are as they were
-  pub record IsSeating (i a : ℕ) (stands : List (RingNode A T S)) (qs : List (Option (Producer T Global AnyItems)))
+  pub record IsSeating (i a : ℕ) (ring_nodes : List (RingNode A T S)) (qs : List (Option (Producer T Global AnyItems)))
       (ys : List (Option (Consumer T Global AnyItems))) : Type 0 where
-    pub len : length stands ≡ standing (take a places) i
-    pub known : (b : ℕ) → b < a → (place places b).0 ≡ i → (place places b).1 < length stands
+    pub len : length ring_nodes ≡ count_on_seat (take a places) i
+    pub known : (b : ℕ) → b < a → (place places b).0 ≡ i → (place places b).1 < length ring_nodes
     pub here : (b : ℕ) (d : RingNode A T S) → b < a → (place places b).0 ≡ i →
-        HasBegun s n inputs asked ps xs b (get_or stands (place places b).1 d)
-    pub only : (k : ℕ) → k < length stands → (b : ℕ) × (b < a) × ((place places b).0 ≡ i) × ((place places b).1 ≡ k)
+        HasBegun s n inputs asked ps xs b (get_or ring_nodes (place places b).1 d)
+    pub only : (k : ℕ) → k < length ring_nodes → (b : ℕ) × (b < a) × ((place places b).0 ≡ i) × ((place places b).1 ≡ k)
     pub producers : (c : ℕ) → ((place places (wire n c).from.0).0 ≡ i → a ≤ (wire n c).from.0) →
         end_at qs c ≡ end_at ps c
     pub consumers : (c : ℕ) → ((place places (wire n c).to.0).0 ≡ i → a ≤ (wire n c).to.0) → end_at ys c ≡ end_at xs c
@@ -78,16 +78,16 @@ module _ {A S T : Type 0} {s : Steps A S T} {n : Netlist A T} {inputs : List (Li
     consumers = λ c h. refl;
   }
 
-  module _ {i a : ℕ} {stands : List (RingNode A T S)} {qs : List (Option (Producer T Global AnyItems))}
+  module _ {i a : ℕ} {ring_nodes : List (RingNode A T S)} {qs : List (Option (Producer T Global AnyItems))}
       {ys : List (Option (Consumer T Global AnyItems))}
-      (st : IsSeating s n inputs asked ps xs places i a stands qs ys) where
+      (st : IsSeating s n inputs asked ps xs places i a ring_nodes qs ys) where
     -- what stands at a node of the seat that comes later
     pub seating_there : (place places a).0 ≡ i → HasEnds n a ps xs → HasEnds n a qs ys
     seating_there e has = ends_same n a ps qs xs ys (λ c from. st.producers c (λ h. omega (arith, from)))
         (λ c to. st.consumers c (λ h. omega (arith, to))) has
 
     pub seating_skip : a < length places → ((place places a).0 ≡ i → ⊥) →
-        IsSeating s n inputs asked ps xs places i (a + 1) stands qs ys
+        IsSeating s n inputs asked ps xs places i (a + 1) ring_nodes qs ys
     seating_skip inside ne = record {
       len = st.len ∙ sym (count_by_more_no (λ p. eqb p.0 i) places a (0, 0) inside (ne_eqb (place places a).0 i ne));
       known = λ b l e. st.known b (below b l e (cases_lt b a)) e;
@@ -103,54 +103,55 @@ module _ {A S T : Type 0} {s : Steps A S T} {n : Netlist A T} {inputs : List (Li
             absurd (ne (sym (ap (λ j. (place places j).0) same) ∙ e))
 
     module _ (inside : a < length places) (e : (place places a).0 ≡ i) (next : AreNext places) {x : RingNode A T S}
-        (begun : HasBegun s n inputs asked qs ys a x) {stands' : List (RingNode A T S)} (is : stands' ≡ stands ++ x ∷ [])
+        (begun : HasBegun s n inputs asked qs ys a x) {ring_nodes' : List (RingNode A T S)}
+        (is : ring_nodes' ≡ ring_nodes ++ x ∷ [])
         (qs' : List (Option (Producer T Global AnyItems))) (ys' : List (Option (Consumer T Global AnyItems)))
         (same_out : (c : ℕ) → ((wire n c).from.0 ≡ a → ⊥) → end_at qs' c ≡ end_at qs c)
         (same_in : (c : ℕ) → ((wire n c).to.0 ≡ a → ⊥) → end_at ys' c ≡ end_at ys c) where
-      at : (place places a).1 ≡ length stands
-      at = next a inside ∙ (ap (λ j. standing (take a places) j) e ∙ sym st.len)
+      at : (place places a).1 ≡ length ring_nodes
+      at = next a inside ∙ (ap (λ j. count_on_seat (take a places) j) e ∙ sym st.len)
 
-      more : length stands' ≡ length stands + 1
-      more = ap length is ∙ length-append stands (x ∷ [])
+      more : length ring_nodes' ≡ length ring_nodes + 1
+      more = ap length is ∙ length-append ring_nodes (x ∷ [])
 
       -- its ends were there from the first
       first : HasBegun s n inputs asked ps xs a x
       first = begun_same qs ps ys xs a x (λ c from. sym (st.producers c (λ h. omega (arith, from))))
           (λ c to. sym (st.consumers c (λ h. omega (arith, to)))) begun
 
-      old_at : (k : ℕ) (d : RingNode A T S) → k < length stands → get_or stands' k d ≡ get_or stands k d
-      old_at k d l = ap (λ zs. get_or zs k d) is ∙ get_or_append_left stands (x ∷ []) d k l
+      old_at : (k : ℕ) (d : RingNode A T S) → k < length ring_nodes → get_or ring_nodes' k d ≡ get_or ring_nodes k d
+      old_at k d l = ap (λ zs. get_or zs k d) is ∙ get_or_append_left ring_nodes (x ∷ []) d k l
 
-      new_at : (d : RingNode A T S) → get_or stands' (place places a).1 d ≡ x
-      new_at d = ap (λ zs. get_or zs (place places a).1 d) is ∙ get_or_push stands x d (place places a).1 (sym at)
+      new_at : (d : RingNode A T S) → get_or ring_nodes' (place places a).1 d ≡ x
+      new_at d = ap (λ zs. get_or zs (place places a).1 d) is ∙ get_or_push ring_nodes x d (place places a).1 (sym at)
 
       go_known : (b : ℕ) → b < a + 1 → (place places b).0 ≡ i → (b < a) ⊎ (a ≤ b) →
-          (place places b).1 < length stands'
+          (place places b).1 < length ring_nodes'
       go_known b l f (inl below) = omega (arith, st.known b below f, more)
       go_known b l f (inr above) = let same : a ≡ b = omega arith in
-          subst (λ j. (place places j).1 < length stands') same (omega (arith, at, more))
+          subst (λ j. (place places j).1 < length ring_nodes') same (omega (arith, at, more))
 
       go_here : (b : ℕ) (d : RingNode A T S) → b < a + 1 → (place places b).0 ≡ i → (b < a) ⊎ (a ≤ b) →
-          HasBegun s n inputs asked ps xs b (get_or stands' (place places b).1 d)
+          HasBegun s n inputs asked ps xs b (get_or ring_nodes' (place places b).1 d)
       go_here b d l f (inl below) = subst (HasBegun s n inputs asked ps xs b)
           (sym (old_at (place places b).1 d (st.known b below f))) (st.here b d below f)
       go_here b d l f (inr above) =
           let same : a ≡ b = omega arith in
-          subst (λ j. HasBegun s n inputs asked ps xs j (get_or stands' (place places j).1 d)) same
+          subst (λ j. HasBegun s n inputs asked ps xs j (get_or ring_nodes' (place places j).1 d)) same
           (subst (HasBegun s n inputs asked ps xs a) (sym (new_at d)) first)
 
-      go_only : (k : ℕ) → k < length stands' → (k < length stands) ⊎ (length stands ≤ k) →
+      go_only : (k : ℕ) → k < length ring_nodes' → (k < length ring_nodes) ⊎ (length ring_nodes ≤ k) →
           (b : ℕ) × (b < a + 1) × ((place places b).0 ≡ i) × ((place places b).1 ≡ k)
       go_only k l (inl below) = let o = st.only k below in (o.0, omega (arith, o.1), o.2, o.3)
       go_only k l (inr above) = (a, omega arith, e, omega (arith, at, more, l))
 
-      pub seating_take : IsSeating s n inputs asked ps xs places i (a + 1) stands' qs' ys'
+      pub seating_take : IsSeating s n inputs asked ps xs places i (a + 1) ring_nodes' qs' ys'
       seating_take = record {
         len = more ∙ (ap (λ m. m + 1) st.len ∙ sym (count_by_more_yes (λ p. eqb p.0 i) places a (0, 0) inside
             (eq-eqb (place places a).0 i e)));
         known = λ b l f. go_known b l f (cases_lt b a);
         here = λ b d l f. go_here b d l f (cases_lt b a);
-        only = λ k l. go_only k l (cases_lt k (length stands));
+        only = λ k l. go_only k l (cases_lt k (length ring_nodes));
         producers = λ c h. same_out c (λ from. let m = h (ap (λ j. (place places j).0) from ∙ e) in
             absurd (omega (arith, from, m))) ∙ st.producers c (λ f. omega (arith, h f));
         consumers = λ c h. same_in c (λ to. let m = h (ap (λ j. (place places j).0) to ∙ e) in
@@ -158,7 +159,7 @@ module _ {A S T : Type 0} {s : Steps A S T} {n : Netlist A T} {inputs : List (Li
       }
 
     -- all nodes of the seat stand there
-    pub seating_end : a ≡ length n.nodes → AreBegun s n inputs asked ps xs places i stands
+    pub seating_end : a ≡ length n.nodes → AreBegun s n inputs asked ps xs places i ring_nodes
     seating_end all = record {
       known = λ b l e. st.known b (omega arith) e;
       here = λ b d l e. st.here b d (omega arith) e;
@@ -195,14 +196,14 @@ module _ {A S T : Type 0} {s : Steps A S T} {n : Netlist A T} {inputs : List (Li
         first = record {
           processor_is = b.processor_is;
           first = b.first;
-          stands_are = record {
-            known = b.stands_are.known;
+          ring_nodes_are = record {
+            known = b.ring_nodes_are.known;
             here = λ a d l e.
-                begun_same qs ps ys xs a (get_or x.stands.items (place places a).1 d)
+                begun_same qs ps ys xs a (get_or x.ring_nodes.items (place places a).1 d)
                 (λ c from. sym (st.producers c (let m = ap (λ j. (place places j).0) from in omega (arith, m, e))))
                 (λ c to. sym (st.consumers c (let m = ap (λ j. (place places j).0) to in omega (arith, m, e))))
-                (b.stands_are.here a d l e);
-            only = b.stands_are.only;
+                (b.ring_nodes_are.here a d l e);
+            only = b.ring_nodes_are.only;
           };
           left_is = b.left_is;
         }

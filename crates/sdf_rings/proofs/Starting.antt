@@ -7,7 +7,7 @@ use Rattle.std.proofs.lemmas.List.{get_or-map, length-map}
 use Rattle.sdf_graph.specs.Rates.{rates}
 use Rattle.sdf_graph.proofs.Theorems.{graphs_are_sound, graphs_have_periods}
 use Rattle.sdf_sched.specs.Period.{Schedule}
-use Rattle.sdf_prec.specs.Tables.{Tabled}
+use Rattle.sdf_prec.specs.Tables.{TableValue}
 use Rattle.sdf_actor.specs.Steps.{Steps}
 use Rattle.sdf_actor.specs.Graphs.{graph_of}
 use Rattle.sdf_actor.specs.Nets.{Netlist, node, cycle_of}
@@ -15,7 +15,7 @@ use Rattle.sdf_actor.specs.Sides.{period_samples}
 use Rattle.sdf_actor.specs.declared.node.Node.{Node}
 use Rattle.sdf_actor.specs.declared.node.Node.TheVariants.{Source, Sink, Inner}
 use Rattle.sdf_actor.specs.declared.sides.Lists.TheVariants.{Inputs, Outputs}
-use Rattle.sdf_queues.specs.Answer.{HasInputs}
+use Rattle.sdf_queues.specs.RunResults.{HasInputs}
 use Rattle.sdf_queues.specs.Periods.{HasPeriod, CanRun}
 use Rattle.sdf_prec.specs.BlockTables.{IsTableOf}
 use Rattle.sdf_node.specs.Nodes.{CanBegin}
@@ -72,13 +72,13 @@ module _ {A S T : Type 0} (s : Steps A S T) (n : Netlist A T) (p : Schedule)
       go a l (Sink ext block) x = omega (arith, run.makes a ext block l x, ap (λ m. block * m) (counted a l), room_is)
       go a l (Inner y) x = tt
 
-  pub is_asked : (t : Tabled) →
+  pub is_asked : (t : TableValue) →
       IsTableOf (rates (graph_of s n)) p.repetitions j t → IsAsked s n t blocks (λ a. get_or asked a 0)
   is_asked t table = record {
     plan = record {
       rates = rates (graph_of s n);
       period = p.repetitions;
-      factor = j;
+      blocking = j;
       width = table.width;
       table = t;
     };

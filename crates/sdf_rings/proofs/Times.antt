@@ -27,7 +27,7 @@ pub times_more : (k : ℕ) (xs : List ℕ) (from i : ℕ) → from ≤ i → i <
 times_more k xs from i le inside = ap (λ w. times w k) (between_more xs from i 0 le inside)
     ∙ times_append k (between from i xs) (slice_index xs i ∷ []) ∙ omega arith
 
--- so many firings of one stand
+-- so many firings of one ring node
 pub times_row : (k k0 : ℕ) (xs : List ℕ) (i n : ℕ) → i + n ≤ length xs →
     ((j : ℕ) → j < n → k0 ≡ slice_index xs (i + j)) → times_between k xs i (i + n) ≡ cond (eqb k0 k) n 0
 times_row k k0 xs i zero inside is = rw add-zero (times_none k xs i ∙ cond_zero (eqb k0 k))
@@ -60,7 +60,7 @@ pub times_fits : (k : ℕ) (xs : List ℕ) (a b : ℕ) → a ≤ b → b ≤ len
 times_fits k xs a b le fits = let l = count_by-le-length (λ x. eqb x k) (between a b xs) in let e =
     length-between xs a b fits in omega arith
 
--- where the first places of what is left are one stand's, so many firings are left of it
+-- where the first places of what is left are one ring node's, so many firings are left of it
 pub row_left : (xs : List ℕ) (i n done asked : ℕ) → i + n ≤ length xs →
     ((j : ℕ) → j < n → slice_index xs i ≡ slice_index xs (i + j)) →
     done + times_between (slice_index xs i) xs i (length xs) ≡ asked → done + n ≤ asked

@@ -10,8 +10,8 @@ use Rattle.sdf_actor.specs.Steps.{Steps}
 use Rattle.sdf_actor.specs.Nets.{Netlist, wiring}
 use Rattle.sdf_rings.specs.declared.seat.ring_node.RingNode.{RingNode}
 use Rattle.sdf_rings.specs.declared.seat.Seat.{Seat}
-use Rattle.sdf_rings.specs.Seats.{HasFirst}
-use Rattle.sdf_rings.specs.Rests.{stand_of, producer_of}
+use Rattle.sdf_rings.specs.Seats.{CanFireFirst}
+use Rattle.sdf_rings.specs.Rests.{ring_node_of, producer_of}
 
 -- the firings of a sequence whose actor is on seat i, in order
 abbrev pub dealt : List (ℕ × ℕ) → List ℕ → ℕ → List ℕ
@@ -29,12 +29,12 @@ pub record IsRoomOf (r : Rates) (cap : ℕ → ℕ) (c room : ℕ) : Type 0 wher
   pub own : r.source c ≡ r.target c → (m : ℕ) × IsGreatestPut r c m × (room ≡ cap c + m)
 
 module _ {A S T : Type 0} (n : Netlist A T) (seats : List (Seat A T S)) (places : List (ℕ × ℕ)) where
-  -- each seat's list names, by stand, its firings of the sequence, and no other firing is asked
+  -- each seat's list names, by ring node, its firings of the sequence, and no other firing is asked
   pub record AsksFor (order : List ℕ) : Type 0 where
     pub lists : (i : ℕ) (e : Seat A T S) → i < length seats →
         (slice_index_or seats i e).left ≡ map (λ a. (slice_index_or places a (0, 0)).1) (dealt places order i)
     pub asked : (a : ℕ) (e : Seat A T S) (d : RingNode A T S) → a < length n.nodes →
-        (stand_of n seats places e d a).asked ≡ times order a
+        (ring_node_of n seats places e d a).asked ≡ times order a
 
   -- each ring has the room that belongs to the capacity of its channel
   abbrev pub HaveCapacities : Steps A S T → (ℕ → ℕ) → Type 0
@@ -55,4 +55,4 @@ pub record SomeFirst {A S T : Type 0} (s : Steps A S T) (n : Netlist A T) (seats
   pub which : ℕ
   pub which_in : which < length seats
   pub which_left : (e : Seat A T S) → (slice_index_or seats which e).next < length (slice_index_or seats which e).left
-  pub which_can : (e : Seat A T S) → HasFirst s n (slice_index_or seats which e)
+  pub which_can : (e : Seat A T S) → CanFireFirst s n (slice_index_or seats which e)

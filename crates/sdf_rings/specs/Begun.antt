@@ -19,23 +19,23 @@ use Rattle.sdf_rings.specs.declared.seat.ring_node.RingNode.{RingNode}
 use Rattle.sdf_rings.specs.declared.seat.Seat.{Seat}
 use Rattle.sdf_rings.specs.Asks.{dealt}
 use Rattle.sdf_rings.specs.Openings.{end_at}
-use Rattle.sdf_rings.specs.Stands.{IsStand}
+use Rattle.sdf_rings.specs.RingNodes.{IsRingNode}
 
 -- the place of node a: its seat, and its index there
 abbrev pub place : List (ℕ × ℕ) → ℕ → ℕ × ℕ
 place places a = slice_index_or places a (0, 0)
 
 -- how many of the places are on a seat
-abbrev pub standing : List (ℕ × ℕ) → ℕ → ℕ
-standing places seat = count_by (λ p. p.0 == seat) places
+abbrev pub count_on_seat : List (ℕ × ℕ) → ℕ → ℕ
+count_on_seat places seat = count_by (λ p. p.0 == seat) places
 
 -- each node has the next index on its seat
 abbrev pub AreNext : List (ℕ × ℕ) → Type 0
-AreNext places = (a : ℕ) → a < length places → (place places a).1 ≡ standing (take a places) (place places a).0
+AreNext places = (a : ℕ) → a < length places → (place places a).1 ≡ count_on_seat (take a places) (place places a).0
 
 -- each firing is of a node that has a place
-abbrev pub IsRoster : Assignment → Type 0
-IsRoster r = (i : ℕ) → i < length r.order.now → slice_index r.order.now i < length r.places.now
+abbrev pub IsAssignment : Assignment → Type 0
+IsAssignment r = (i : ℕ) → i < length r.order.now → slice_index r.order.now i < length r.places.now
 
 -- each node can do the firings that are asked of it if a sink has this room. If any firing is asked, there is a sample
 -- to fill working blocks with
@@ -71,7 +71,7 @@ module _ {A S T : Type 0} (s : Steps A S T) (n : Netlist A T) (inputs : List (Li
     (consumers : List (Option (Consumer T Global AnyItems))) where
   -- node a has not fired, and asked a is the number of firings asked of it. It has its ends of these rings
   pub record HasBegun (a : ℕ) (x : RingNode A T S) : Type 0 where
-    pub is : IsStand s n inputs x
+    pub is : IsRingNode s n inputs x
     pub actor_is : x.actor ≡ a
     pub undone : x.done ≡ 0
     pub asked_is : x.asked ≡ asked a
@@ -81,18 +81,18 @@ module _ {A S T : Type 0} (s : Steps A S T) (n : Netlist A T) (inputs : List (Li
         end_at producers c ≡ Some (slice_index_or x.outs.items (wire n c).from.1 d)
 
   -- the nodes of seat i are there, each at its index, and nothing else is
-  pub record AreBegun (places : List (ℕ × ℕ)) (i : ℕ) (stands : List (RingNode A T S)) : Type 0 where
-    pub known : (a : ℕ) → a < length n.nodes → (place places a).0 ≡ i → (place places a).1 < length stands
+  pub record AreBegun (places : List (ℕ × ℕ)) (i : ℕ) (ring_nodes : List (RingNode A T S)) : Type 0 where
+    pub known : (a : ℕ) → a < length n.nodes → (place places a).0 ≡ i → (place places a).1 < length ring_nodes
     pub here : (a : ℕ) (d : RingNode A T S) → a < length n.nodes → (place places a).0 ≡ i →
-        HasBegun a (slice_index_or stands (place places a).1 d)
-    pub only : (k : ℕ) → k < length stands → (a : ℕ) × (a < length n.nodes) × ((place places a).0 ≡ i)
+        HasBegun a (slice_index_or ring_nodes (place places a).1 d)
+    pub only : (k : ℕ) → k < length ring_nodes → (a : ℕ) × (a < length n.nodes) × ((place places a).0 ≡ i)
         × ((place places a).1 ≡ k)
 
   -- seat i before its first firing: its list has its firings of the sequence
   pub record IsBegun (places : List (ℕ × ℕ)) (order : List ℕ) (i : ℕ) (x : Seat A T S) : Type 0 where
     pub processor_is : x.processor ≡ i
     pub first : x.next ≡ 0
-    pub stands_are : AreBegun places i x.stands.items
+    pub ring_nodes_are : AreBegun places i x.ring_nodes.items
     pub left_is : x.left ≡ map (λ a. (place places a).1) (dealt places order i)
 
   -- the first `many` seats before their first firing

@@ -2,10 +2,10 @@ pub mod Machine
 pub mod MachineLaws
 pub mod Pair
 pub mod Blocks
-pub mod RunBlocks
+pub mod BatchBlocks
 pub mod Ends
 pub mod Changes
-pub mod Stands
+pub mod RingNodes
 pub mod Seats
 pub mod Places
 pub mod Rests
@@ -15,7 +15,7 @@ pub mod Openings
 pub mod Begun
 pub mod Prepared
 pub mod Outcome
-pub mod Together
+pub mod Batches
 pub mod Quiescence
 pub mod Laws
 pub mod Busy

@@ -5,7 +5,7 @@ use Rattle.std.specs.List.{between}
 use Rattle.sdf_graph.specs.Rates.{Rates, IsAlike, IsSound}
 use Rattle.sdf_graph.specs.Sequences.{IsPeriod}
 use Rattle.sdf_prec.specs.Blocks.{block}
-use Rattle.sdf_prec.specs.Tables.{Tabled, IsTable}
+use Rattle.sdf_prec.specs.Tables.{TableValue, IsTable}
 use Rattle.sdf_actor.specs.declared.node.Node.{Node}
 use Rattle.sdf_actor.specs.declared.node.Node.TheVariants.{Source, Sink, Inner}
 use Rattle.sdf_actor.specs.Steps.{Steps, phase, state_from, state_after}
@@ -18,9 +18,9 @@ use Rattle.sdf_rings.specs.Machine.{Machine, Event, put_on, taken_from, at_start
 pub record MachinePlan : Type 0 where
   pub rates : Rates
   pub period : List ℕ
-  pub factor : ℕ
+  pub blocking : ℕ
   pub width : ℕ
-  pub table : Tabled
+  pub table : TableValue
 
 -- the graph is the net's, and the table is valid. Its actors need not have homes: the laws are true of each valid table
 pub record IsMachinePlan {A S T : Type 0} (s : Steps A S T) (n : Netlist A T) (p : MachinePlan) : Type 0 where
@@ -28,11 +28,11 @@ pub record IsMachinePlan {A S T : Type 0} (s : Steps A S T) (n : Netlist A T) (p
   pub alike : IsAlike p.rates (wiring s n).rates
   pub sound : IsSound p.rates
   pub period : IsPeriod p.rates (slice_index p.period)
-  pub table : IsTable p.rates (slice_index (block p.factor p.period)) p.width p.table
+  pub table : IsTable p.rates (slice_index (block p.blocking p.period)) p.width p.table
 
 -- how often each actor fires in b blocks, and what each channel may hold: its capacity in the table
 abbrev pub firings : MachinePlan → ℕ → ℕ → ℕ
-firings p b a = b * slice_index (block p.factor p.period) a
+firings p b a = b * slice_index (block p.blocking p.period) a
 
 abbrev pub capacity : MachinePlan → ℕ → ℕ
 capacity p = slice_index p.table.caps

@@ -21,7 +21,7 @@ abbrev pub plan : {A S T : Type 0} → Steps A S T → MachinePlan
 plan s = record {
   rates = (wiring s pair).rates;
   period = 3 ∷ 2 ∷ [];
-  factor = 1;
+  blocking = 1;
   width = 2;
   table = record {
     rows = first 0 ∷ first 1 ∷ first 2 ∷ second 0 ∷ second 1 ∷ [];

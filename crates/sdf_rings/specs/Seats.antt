@@ -6,25 +6,26 @@ use Rattle.sdf_actor.specs.Steps.{Steps}
 use Rattle.sdf_actor.specs.Nets.{Netlist}
 use Rattle.sdf_rings.specs.declared.seat.ring_node.RingNode.{RingNode}
 use Rattle.sdf_rings.specs.declared.seat.Seat.{Seat}
-use Rattle.sdf_rings.specs.Stands.{IsStand, CanFire, HasMoved}
+use Rattle.sdf_rings.specs.RingNodes.{IsRingNode, CanFire, HasMoved}
 
 -- how often the number k occurs between two places of a list
 abbrev pub times_between : ℕ → List ℕ → ℕ → ℕ → ℕ
 times_between k xs from to = times (slice_range xs from to) k
 
 module _ {A S T : Type 0} (s : Steps A S T) (n : Netlist A T) where
-  -- its list names its stands, and from next on has exactly the firings that are still to be done of each
+  -- its list names its ring nodes, and from next on has exactly the firings that are still to be done of each
   pub record IsSeat (inputs : List (List T)) (x : Seat A T S) : Type 0 where
     pub next_fits : x.next ≤ length x.left
-    pub names : (j : ℕ) → j < length x.left → slice_index x.left j < vec_len x.stands
-    pub each : (k : ℕ) (d : RingNode A T S) → k < vec_len x.stands → IsStand s n inputs (slice_index_or x.stands.items k d)
-    pub counts : (k : ℕ) (d : RingNode A T S) → k < vec_len x.stands →
-        (slice_index_or x.stands.items k d).done + times_between k x.left x.next (length x.left) ≡
-        (slice_index_or x.stands.items k d).asked
+    pub names : (j : ℕ) → j < length x.left → slice_index x.left j < vec_len x.ring_nodes
+    pub each : (k : ℕ) (d : RingNode A T S) → k < vec_len x.ring_nodes →
+        IsRingNode s n inputs (slice_index_or x.ring_nodes.items k d)
+    pub counts : (k : ℕ) (d : RingNode A T S) → k < vec_len x.ring_nodes →
+        (slice_index_or x.ring_nodes.items k d).done + times_between k x.left x.next (length x.left) ≡
+        (slice_index_or x.ring_nodes.items k d).asked
 
   -- the first firing of the list is known to be possible
-  abbrev pub HasFirst : Seat A T S → Type 0
-  HasFirst x = (d : RingNode A T S) → CanFire s n (slice_index_or x.stands.items (slice_index x.left x.next) d)
+  abbrev pub CanFireFirst : Seat A T S → Type 0
+  CanFireFirst x = (d : RingNode A T S) → CanFire s n (slice_index_or x.ring_nodes.items (slice_index x.left x.next) d)
 
   -- the firings between the two places of the list were done, and nothing else
   pub record HasWorked (x y : Seat A T S) : Type 0 where
@@ -32,11 +33,11 @@ module _ {A S T : Type 0} (s : Steps A S T) (n : Netlist A T) where
     pub left_kept : y.left ≡ x.left
     pub next_grows : x.next ≤ y.next
     pub next_fits : y.next ≤ length x.left
-    pub stands_kept : vec_len y.stands ≡ vec_len x.stands
-    pub moved : (k : ℕ) (d : RingNode A T S) → k < vec_len x.stands →
-        HasMoved s n (slice_index_or x.stands.items k d) (slice_index_or y.stands.items k d)
-    pub dones : (k : ℕ) (d : RingNode A T S) → k < vec_len x.stands →
-        (slice_index_or y.stands.items k d).done ≡ (slice_index_or x.stands.items k d).done
+    pub ring_nodes_kept : vec_len y.ring_nodes ≡ vec_len x.ring_nodes
+    pub moved : (k : ℕ) (d : RingNode A T S) → k < vec_len x.ring_nodes →
+        HasMoved s n (slice_index_or x.ring_nodes.items k d) (slice_index_or y.ring_nodes.items k d)
+    pub dones : (k : ℕ) (d : RingNode A T S) → k < vec_len x.ring_nodes →
+        (slice_index_or y.ring_nodes.items k d).done ≡ (slice_index_or x.ring_nodes.items k d).done
         + times_between k x.left x.next y.next
 
   -- nothing was done
@@ -48,5 +49,5 @@ module _ {A S T : Type 0} (s : Steps A S T) (n : Netlist A T) where
   pub record HasRounded (inputs : List (List T)) (x y : Seat A T S) : Type 0 where
     pub seat : IsSeat inputs y
     pub worked : HasWorked x y
-    pub stopped : (y.next ≡ length y.left) ⊎ (HasFirst y → ⊥)
-    pub progress : x.next < length x.left → HasFirst x → x.next < y.next
+    pub stopped : (y.next ≡ length y.left) ⊎ (CanFireFirst y → ⊥)
+    pub progress : x.next < length x.left → CanFireFirst x → x.next < y.next

@@ -3,20 +3,20 @@
 ghost use Rattle.std.specs.Prelude.{◌*◌, ℕ, List, MatchResult};
 ghost use Rattle.sdf_graph.specs.Rates.{rates};
 ghost use Rattle.sdf_actor.specs.Graphs.{graph_of};
-ghost use Rattle.sdf_actor.specs.Rests.{IsRest};
+ghost use Rattle.sdf_actor.specs.NetStates.{IsNetState};
 ghost use Rattle.sdf_actor.specs.Wires.{lists};
-ghost use Rattle.sdf_queues.specs.Answer.{periods_of};
+ghost use Rattle.sdf_queues.specs.RunResults.{periods_of};
 ghost use Rattle.sdf_queues.specs.Feeds as feeds;
 ghost use Rattle.sdf_prec.specs.BlockTables.{IsBlockTableOf};
-ghost use Rattle.sdf_rings.specs.Outcome.{HasRunInRounds, HasGoneOn, IsRingsFault};
+ghost use Rattle.sdf_rings.specs.Outcome.{HasRunInRounds, HasResumed, IsRingsFault};
 
-use crate::runner::run_through;
+use crate::runner::run_all_rounds;
 use crate::workers::Workers;
 use sdf_actor::{Actor, Net, NetState};
-use sdf_queues::laws::nets_have_periods;
-use sdf_queues::{Ran, RunFault};
 use sdf_node::Gate;
 use sdf_prec::BlockTable;
+use sdf_queues::laws::nets_have_periods;
+use sdf_queues::{Ran, RunFault};
 use std::alloc::AllocGlobal;
 use std::thread::Threads;
 
@@ -30,13 +30,13 @@ pub fn feed_rings<R: Threads + AllocGlobal + Sync, A: Actor, G: Gate>(
     inputs: &[Vec<A::Token>],
 ) -> Result<(Ran<A::Token>, NetState<A::Token, A::State>), RunFault>
     requires fits { IsBlockTableOf (rates (graph_of A.steps net.now)) table.now }
-    ensures { let t = table.now in let q = t.period.repetitions in let j = t.factor in MatchResult result
+    ensures { let t = table.now in let q = t.period.repetitions in let j = t.blocking in MatchResult result
         (λ fed. HasRunInRounds A.steps net.now q j t.table blocks (lists inputs.now) workers.entry.patience
         (lists fed.0.outputs.items) fed.0.rounds ×
         feeds.HasRun A.steps net.now (lists inputs.now) (periods_of q (blocks * j)) (lists fed.0.outputs.items) fed.1)
         (IsRingsFault net.now q (blocks * j) (lists inputs.now) t.table workers.entry.patience) }
 {
-    let (rings, rounds) = run_through(workers, net, table, blocks, inputs)?;
+    let (rings, rounds) = run_all_rounds(workers, net, table, blocks, inputs)?;
     let (outputs, rest) = rings.leave()?;
     Ok((Ran { outputs, rounds }, rest))
 }
@@ -53,9 +53,9 @@ pub fn resume_rings<R: Threads + AllocGlobal + Sync, A: Actor, G: Gate>(
 ) -> Result<(Ran<A::Token>, NetState<A::Token, A::State>), RunFault>
     requires fits { IsBlockTableOf (rates (graph_of A.steps net.now)) table.now }
     requires rest { (first : List (List A.Token)) × (few : ℕ)
-        × IsRest A.steps net.now first (periods_of table.now.period.repetitions few) rest.now }
-    ensures { let t = table.now in let q = t.period.repetitions in let j = t.factor in MatchResult result
-        (λ fed. HasGoneOn A.steps net.now q j t.table rest.now blocks (lists inputs.now) workers.entry.patience
+        × IsNetState A.steps net.now first (periods_of table.now.period.repetitions few) rest.now }
+    ensures { let t = table.now in let q = t.period.repetitions in let j = t.blocking in MatchResult result
+        (λ fed. HasResumed A.steps net.now q j t.table rest.now blocks (lists inputs.now) workers.entry.patience
         (lists fed.0.outputs.items) fed.0.rounds fed.1)
         (IsRingsFault net.now q (blocks * j) (lists inputs.now) t.table workers.entry.patience) }
 {

@@ -7,28 +7,28 @@ ghost use Rattle.sdf_actor.specs.declared.sides.Lists.TheVariants.{Inputs};
 ghost use Rattle.sdf_actor.specs.Graphs.{graph_of};
 ghost use Rattle.sdf_actor.specs.Sides.{period_samples};
 ghost use Rattle.sdf_actor.specs.Wires.{lists};
-ghost use Rattle.sdf_queues.specs.Answer.{HasInputs};
+ghost use Rattle.sdf_queues.specs.RunResults.{HasInputs};
 ghost use Rattle.sdf_prec.specs.BlockTables.{IsBlockTableOf};
 ghost use Rattle.sdf_rings.specs.Begun.{IsStart};
 ghost use Rattle.sdf_rings.specs.Prepared.{IsPrepared, IsAsked, IsPrepareFault};
 
 use crate::rings::Rings;
-use crate::setup::asked::asked;
+use crate::setup::assignment::Assignment;
+use crate::setup::firing_counts::asked;
 use crate::setup::openings::open_rings;
 use crate::setup::places::places;
-use crate::setup::assignment::Assignment;
-use crate::setup::seats::seats;
 use crate::setup::ring_nodes::Start;
+use crate::setup::seats::seats;
 use sdf_actor::{Actor, Net};
+use sdf_prec::{BlockTable, Table};
 use sdf_queues::inputs::{are_inputs, first_sample};
 use sdf_queues::outputs::make_outputs;
 use sdf_queues::sizes::samples_of_blocks;
 use sdf_queues::{RunFault, Sizes};
-use sdf_prec::{BlockTable, Table};
 use std::alloc::{AllocError, Global};
 
 /// Returns the seats of a run of `blocks` blocks of `table`.
-fn lay_out<'a, A: Actor>(
+fn build_rings<'a, A: Actor>(
     alloc: Global,
     start: &Start<'a, A>,
     table: &Table,
@@ -41,12 +41,12 @@ fn lay_out<'a, A: Actor>(
 {
     let places = places(alloc, table, start.net.len())?;
     let mut ends = open_rings(alloc, start.net, table)?;
-    let roster = Assignment {
+    let assigned = Assignment {
         places: &places,
         order: table.order(),
         blocks,
     };
-    let seats = seats(alloc, start, &roster, &mut ends, table.columns())?;
+    let seats = seats(alloc, start, &assigned, &mut ends, table.columns())?;
     let outputs = make_outputs(alloc, start.net.outputs(), 0)?;
     Ok(Rings::new(alloc, start.net, start.inputs, seats, places, outputs))
 }
@@ -62,7 +62,7 @@ fn prepare_homed<'a, A: Actor>(
     requires fits { IsBlockTableOf (rates (graph_of A.steps net.now)) table.now }
     requires homed { IsHomed table.now.table }
     requires inputs { let t = table.now in
-        HasInputs net.now t.period.repetitions (blocks * t.factor) (lists inputs.now) }
+        HasInputs net.now t.period.repetitions (blocks * t.blocking) (lists inputs.now) }
     requires some { 0 < period_samples net.now.nodes Inputs table.now.period.repetitions }
     ensures { IfOk result (IsPrepared A.steps net.now (lists inputs.now) table.now.table blocks) }
 {
@@ -70,11 +70,11 @@ fn prepare_homed<'a, A: Actor>(
         net,
         inputs,
         sizes: Sizes::new(alloc, net)?,
-        asked: asked(alloc, table.period.repetitions(), table.factor, blocks)?,
-        room: samples_of_blocks(blocks, table.factor, net.samples_out()),
+        asked: asked(alloc, table.period.repetitions(), table.blocking, blocks)?,
+        room: samples_of_blocks(blocks, table.blocking, net.samples_out()),
         filler: first_sample(inputs),
     };
-    lay_out(alloc, &start, &table.table, blocks)
+    build_rings(alloc, &start, &table.table, blocks)
 }
 
 impl<'a, A: Actor> Rings<'a, A> {
@@ -90,7 +90,7 @@ impl<'a, A: Actor> Rings<'a, A> {
         inputs: &'a [Vec<A::Token>],
     ) -> Result<Rings<'a, A>, RunFault>
         requires fits { IsBlockTableOf (rates (graph_of A.steps net.now)) table.now }
-        ensures { let t = table.now in let q = t.period.repetitions in let j = t.factor in MatchResult result
+        ensures { let t = table.now in let q = t.period.repetitions in let j = t.blocking in MatchResult result
             (λ r. IsHomed t.table × HasInputs net.now q (blocks * j) (lists inputs.now)
             × IsPrepared A.steps net.now (lists inputs.now) t.table blocks r)
             (IsPrepareFault net.now q (blocks * j) (lists inputs.now) t.table) }
@@ -98,7 +98,7 @@ impl<'a, A: Actor> Rings<'a, A> {
         if !table.table.homed() {
             return Err(RunFault::NotHomed);
         }
-        let least = samples_of_blocks(blocks, table.factor, net.samples_in());
+        let least = samples_of_blocks(blocks, table.blocking, net.samples_in());
         if !are_inputs(inputs, net.inputs(), least) {
             return Err(RunFault::InputLength);
         }

@@ -1,14 +1,17 @@
 //! Rounds by hand: the seats of a run. Between two rounds, one owner has both ends of each ring.
+//!
+//! `round` runs all workers in parallel, with the calls of `busy`. `meet` synchronizes all ends. When all firings are
+//! done, `finish` moves out the lists of the sinks, and `leave` takes the net state.
 
-pub(crate) mod round;
 pub mod busy;
-pub(crate) mod meet;
 pub(crate) mod finish;
 pub(crate) mod leave;
+pub(crate) mod meet;
+pub(crate) mod round;
 
 ghost use Rattle.std.specs.Prelude.{◌≡◌, ◌+◌, ◌<◌, ◌≤◌, ◌⊎◌, ◌^◌, ◌-◌, ℕ, List, length, min, HoldsAt, IfErr, IfOk};
 ghost use Rattle.sdf_rings.specs.Changes.{BecameAt, AllBecame, SameBut};
-ghost use Rattle.sdf_rings.specs.Seats.{HasFirst, HasWorked, HasIdled, HasRounded};
+ghost use Rattle.sdf_rings.specs.Seats.{CanFireFirst, HasWorked, HasIdled, HasRounded};
 ghost use Rattle.sdf_rings.specs.Rests.{AreRings, HaveMet, AreAtRest, HasDone, HoldsSamples};
 ghost use Rattle.sdf_rings.specs.Quiescence.{AreQuiescent};
 ghost use Rattle.sdf_rings.specs.Asks.{IsPlanned};
@@ -17,19 +20,19 @@ ghost use Rattle.sdf_actor.specs.Laws.{AreCountsOf};
 ghost use Rattle.sdf_actor.specs.Sides.{list_count};
 ghost use Rattle.sdf_actor.specs.Wires.{lists};
 ghost use Rattle.sdf_actor.specs.declared.sides.Lists.TheVariants.{Outputs};
-ghost use Rattle.sdf_queues.specs.Answer.{AreOutputs};
+ghost use Rattle.sdf_queues.specs.RunResults.{AreOutputs};
 ghost use Rattle.sdf_queues.specs.Feeds.{HasRun};
 
 use crate::rings::finish::collect;
 use crate::rings::leave::leave;
-use crate::rings::meet::meet_all;
+use crate::rings::meet::sync_all;
 use crate::rings::round::run_round;
 use crate::seat::{Seat, work};
 use crate::workers::Workers;
 use sdf_actor::{Actor, Net, NetState};
+use sdf_node::Gate;
 use sdf_queues::RunFault;
 use sdf_queues::laws::net_facts;
-use sdf_node::Gate;
 use std::alloc::{AllocError, Global};
 use std::marker::Model;
 use std::thread::Threads;
@@ -51,9 +54,9 @@ impl<'a, A: Actor> Model for Rings<'a, A> {
     ghost use Rattle.sdf_actor.specs.declared.sides.Lists.TheVariants.{Outputs};
     ghost use Rattle.sdf_actor.specs.Sides.{list_count};
     ghost use Rattle.sdf_actor.specs.Wires.{lists};
-    ghost use Rattle.sdf_rings.specs.Rests.{InHand, AreRings};
+    ghost use Rattle.sdf_rings.specs.Rests.{RingsValue, AreRings};
 
-    ghost Value = { InHand A A.State A.Token };
+    ghost Value = { RingsValue A A.State A.Token };
 
     ghost view = { λ r. record {
       net = r.net.now;
@@ -118,7 +121,7 @@ impl<'a, A: Actor> Rings<'a, A> {
         ensures { HasDone self.now actor result }
     {
         let place = self.places[actor];
-        self.seats[place.0].stands[place.1].done
+        self.seats[place.0].ring_nodes[place.1].done
     }
 
     /// Runs one round of worker `seat` in the caller's thread, and returns the number of firings done. `patience` is
@@ -127,9 +130,9 @@ impl<'a, A: Actor> Rings<'a, A> {
         requires { seat < length self.old.seats }
         ensures worked { BecameAt (HasWorked A.steps self.new.net) self.old.seats self.new.seats seat }
         ensures count { BecameAt (λ old new. new.next ≡ old.next + result) self.old.seats self.new.seats seat }
-        ensures stopped { HoldsAt (λ x. (x.next ≡ length x.left) ⊎ (HasFirst A.steps self.new.net x → ⊥))
+        ensures stopped { HoldsAt (λ x. (x.next ≡ length x.left) ⊎ (CanFireFirst A.steps self.new.net x → ⊥))
             self.new.seats seat }
-        ensures progress { HoldsAt (λ x. x.next < length x.left → HasFirst A.steps self.old.net x → 0 < result)
+        ensures progress { HoldsAt (λ x. x.next < length x.left → CanFireFirst A.steps self.old.net x → 0 < result)
             self.old.seats seat }
         ensures same { (self.new.net ≡ self.old.net) × (self.new.inputs ≡ self.old.inputs)
             × (self.new.places ≡ self.old.places) × (length self.new.seats ≡ length self.old.seats) }
@@ -181,7 +184,7 @@ impl<'a, A: Actor> Rings<'a, A> {
     {
         let to = self.net.link(channel).to;
         let place = self.places[to.0];
-        self.seats[place.0].stands[place.1].ins[to.1].cached_slots() as u64
+        self.seats[place.0].ring_nodes[place.1].ins[to.1].cached_slots() as u64
     }
 
     /// Ends a round: synchronizes the two ends of each ring. It takes no memory, and never errs.
@@ -199,7 +202,7 @@ impl<'a, A: Actor> Rings<'a, A> {
     {
         let net = self.net;
         let inputs = self.inputs;
-        meet_all(self.alloc, net, inputs, &mut self.seats, &self.places);
+        sync_all(self.alloc, net, inputs, &mut self.seats, &self.places);
         self.at_rest();
         Ok(())
     }
@@ -272,7 +275,7 @@ impl<'a, A: Actor> Rings<'a, A> {
             mut outputs,
         } = self;
         net_facts(net);
-        meet_all(alloc, net, inputs, &mut seats, &places);
+        sync_all(alloc, net, inputs, &mut seats, &places);
         collect(net, &mut seats, &places, &mut outputs);
         outputs
     }

@@ -10,16 +10,16 @@ ghost use Rattle.sdf_rings.specs.Outcome.{HasRunInRounds, HasEnded, IsRingsFault
 use crate::rings::Rings;
 use crate::workers::Workers;
 use sdf_actor::{Actor, Net};
-use sdf_queues::{Ran, RunFault};
-use sdf_limits::MOST_PATIENCE;
+use sdf_limits::MAX_PATIENCE;
 use sdf_node::Gate;
 use sdf_prec::BlockTable;
+use sdf_queues::{Ran, RunFault};
 use std::alloc::AllocGlobal;
 use std::thread::Threads;
 
 /// Runs all rounds, and returns the seats and the number of rounds. The arguments are tested first, in the order of the
 /// faults of `run_rings`.
-pub(crate) fn run_through<'a, R: Threads + AllocGlobal + Sync, A: Actor, G: Gate>(
+pub(crate) fn run_all_rounds<'a, R: Threads + AllocGlobal + Sync, A: Actor, G: Gate>(
     workers: Workers<'_, R, G>,
     net: &'a Net<A>,
     table: &BlockTable,
@@ -27,7 +27,7 @@ pub(crate) fn run_through<'a, R: Threads + AllocGlobal + Sync, A: Actor, G: Gate
     inputs: &'a [Vec<A::Token>],
 ) -> Result<(Rings<'a, A>, u64), RunFault>
     requires fits { IsBlockTableOf (rates (graph_of A.steps net.now)) table.now }
-    ensures { let t = table.now in let q = t.period.repetitions in let j = t.factor in MatchResult result
+    ensures { let t = table.now in let q = t.period.repetitions in let j = t.blocking in MatchResult result
         (λ ran. HasEnded A.steps net.now q j t.table blocks (lists inputs.now)
         workers.entry.patience ran.0 ran.1)
         (IsRingsFault net.now q (blocks * j) (lists inputs.now) t.table workers.entry.patience) }
@@ -35,7 +35,7 @@ pub(crate) fn run_through<'a, R: Threads + AllocGlobal + Sync, A: Actor, G: Gate
     if !table.table.homed() {
         return Err(RunFault::NotHomed);
     }
-    if workers.patience > MOST_PATIENCE {
+    if workers.patience > MAX_PATIENCE {
         return Err(RunFault::Patience);
     }
     let mut rings = Rings::prepare(workers.rt.alloc(), net, table, blocks, inputs)?;
@@ -58,12 +58,12 @@ pub fn run_rings<R: Threads + AllocGlobal + Sync, A: Actor, G: Gate>(
     inputs: &[Vec<A::Token>],
 ) -> Result<Ran<A::Token>, RunFault>
     requires fits { IsBlockTableOf (rates (graph_of A.steps net.now)) table.now }
-    ensures { let t = table.now in let q = t.period.repetitions in let j = t.factor in MatchResult result
+    ensures { let t = table.now in let q = t.period.repetitions in let j = t.blocking in MatchResult result
         (λ ran. HasRunInRounds A.steps net.now q j t.table blocks (lists inputs.now) workers.entry.patience
         (lists ran.outputs.items) ran.rounds)
         (IsRingsFault net.now q (blocks * j) (lists inputs.now) t.table workers.entry.patience) }
 {
-    let (rings, rounds) = run_through(workers, net, table, blocks, inputs)?;
+    let (rings, rounds) = run_all_rounds(workers, net, table, blocks, inputs)?;
     let outputs = rings.finish();
     Ok(Ran { outputs, rounds })
 }

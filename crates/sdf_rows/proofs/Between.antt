@@ -14,10 +14,10 @@ use Rattle.sdf_prec.specs.Tables.{firing, firings, no_firing, cell_of}
 use Rattle.sdf_node.proofs.Theorems.{nodes_keep_phase}
 use Rattle.sdf_queues.proofs.Theorems.{blocks_are_counted}
 use Rattle.sdf_rows.specs.declared.row_firing.RowFiring.{RowFiring}
-use Rattle.sdf_queues.specs.Held.{Held}
+use Rattle.sdf_queues.specs.QueueValue.{QueueValue}
 use Rattle.sdf_queues.specs.Sizes.{phase_of}
-use Rattle.sdf_rows.specs.Stage.{actors_of, row_actors, AreLoaded}
-use Rattle.sdf_rows.specs.Stands.{HaveBlocks, IsLoaded, IsFilling, IsBetween, IsRow, KeepBlocks}
+use Rattle.sdf_rows.specs.Loading.{actors_of, row_actors, AreLoaded}
+use Rattle.sdf_rows.specs.RowStates.{HaveBlocks, IsLoaded, IsFilling, IsBetween, IsRow, KeepBlocks}
 use Rattle.sdf_rows.proofs.Jobs.{actors_are}
 
 abbrev bit : Option Firing → ℕ
@@ -53,7 +53,7 @@ cells_known s n k high row is j f l cell =
 
 -- between two rows, with the jobs at the front loaded for the next row
 module _ {A S T : Type 0} {s : Steps A S T} {n : Netlist A T} {inputs : List (List T)} {many low high k : ℕ → ℕ}
-    {states states' : List (NodeState T S)} {ls : List (Held T)} {jobs jobs' : List (RowFiring A T S)}
+    {states states' : List (NodeState T S)} {ls : List (QueueValue T)} {jobs jobs' : List (RowFiring A T S)}
     {row : List (Option Firing)} {done : List ℕ} (st : IsBetween s n inputs many low high k states ls)
     (is : IsRow s n k high (row_actors row)) (blocks : HaveBlocks s n jobs) (few : length (firings row) ≤ length jobs)
     (loaded : AreLoaded row done (firings row) states states' jobs jobs') (front : List (RowFiring A T S))

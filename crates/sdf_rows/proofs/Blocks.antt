@@ -11,8 +11,8 @@ use Rattle.sdf_actor.specs.Steps.{Steps}
 use Rattle.sdf_actor.specs.Nets.{Netlist, wiring}
 use Rattle.sdf_prec.specs.declared.firing.Firing.{Firing}
 use Rattle.sdf_prec.specs.Tables.{firing, firings, no_firing, row, order, sequence, IsValid}
-use Rattle.sdf_rows.specs.Stage.{row_actors}
-use Rattle.sdf_rows.specs.Stands.{IsRow}
+use Rattle.sdf_rows.specs.Loading.{row_actors}
+use Rattle.sdf_rows.specs.RowStates.{IsRow}
 use Rattle.sdf_rows.specs.Blocks.{IsRound}
 
 times_both : (v w : List ℕ) (a : ℕ) → times (v ++ w) a ≡ times v a + times w a

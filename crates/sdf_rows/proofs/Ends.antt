@@ -9,7 +9,7 @@ use Rattle.std.proofs.Math.Nat.{mul-le-mul_left}
 use Rattle.std.proofs.lemmas.Nat.{mod_below}
 use Rattle.std.proofs.lemmas.List.{get_or-map, length-map}
 use Rattle.std.proofs.lemmas.List.Sums.{get_or-le-sum_by}
-use Rattle.sdf_limits.specs.declared.TheConstants.{MOST_BLOCK}
+use Rattle.sdf_limits.specs.declared.TheConstants.{MAX_BLOCK}
 use Rattle.sdf_graph.specs.Rates.{rates}
 use Rattle.sdf_actor.specs.declared.node.Node.{Node}
 use Rattle.sdf_actor.specs.declared.node.Node.TheVariants as node
@@ -19,8 +19,8 @@ use Rattle.sdf_actor.specs.Histories.{IsWired, taken_before}
 use Rattle.sdf_actor.specs.Nets as nets
 use Rattle.sdf_actor.specs.Nets.{Netlist, wire, wiring, cycle_of, IsNet, InputsReach}
 use Rattle.sdf_actor.specs.Graphs.{graph_of}
-use Rattle.sdf_actor.specs.Rests.{Leaves}
-use Rattle.sdf_actor.specs.declared.rest.NetState.{NetState}
+use Rattle.sdf_actor.specs.NetStates.{Leaves}
+use Rattle.sdf_actor.specs.declared.net_state.NetState.{NetState}
 use Rattle.sdf_actor.specs.Sides.{list_count, period_samples}
 use Rattle.sdf_actor.specs.Wires.{lists}
 use Rattle.sdf_node.specs.declared.node.NodeState.{NodeState}
@@ -29,13 +29,13 @@ use Rattle.sdf_node.specs.Nodes.{CanBegin, IsAt}
 use Rattle.sdf_node.proofs.Theorems.{nodes_keep_states}
 use Rattle.sdf_queues.proofs.Theorems.{histories_begin, sinks_make_runs}
 use Rattle.sdf_rows.specs.declared.row_firing.RowFiring.{RowFiring}
-use Rattle.sdf_queues.specs.Answer.{AreOutputs, periods_of}
+use Rattle.sdf_queues.specs.RunResults.{AreOutputs, periods_of}
 use Rattle.sdf_queues.specs.Feeds.{HasRun}
-use Rattle.sdf_queues.specs.Held.{Held}
+use Rattle.sdf_queues.specs.QueueValue.{QueueValue}
 use Rattle.sdf_queues.specs.Blocks.{room, nothing}
-use Rattle.sdf_queues.specs.Sizes.{Rows, AreSizes, phase_of}
+use Rattle.sdf_queues.specs.Sizes.{SizesValue, AreSizes, phase_of}
 use Rattle.sdf_rows.specs.Setup.{AreUnfired, HasPlaces}
-use Rattle.sdf_rows.specs.Stands.{HaveBlocks}
+use Rattle.sdf_rows.specs.RowStates.{HaveBlocks}
 use Rattle.sdf_rows.specs.Blocks.{IsResting}
 use Rattle.sdf_rows.specs.Collect.{AreCollected, AreKept}
 use Rattle.sdf_rows.proofs.Readings.{some_of}
@@ -43,7 +43,7 @@ use Rattle.sdf_queues.specs.Laws.{SinksMakeOutputs}
 use Rattle.sdf_queues.specs.Periods.{CanRun}
 
 -- the blocks of a job, firing by firing
-pub have_blocks : {A S T : Type 0} (s : Steps A S T) (n : Netlist A T) (z : Rows) → AreSizes s n z →
+pub have_blocks : {A S T : Type 0} (s : Steps A S T) (n : Netlist A T) (z : SizesValue) → AreSizes s n z →
     (jobs : List (RowFiring A T S)) → All (HasPlaces s n) jobs → HaveBlocks s n jobs
 have_blocks s n z sizes jobs places i d h = record {
   taken = λ a f l. (places i d h a (phase_of s (nets.node n a) f) l
@@ -54,7 +54,7 @@ have_blocks s n z sizes jobs places i d h = record {
 
 module _ {A S T : Type 0} (s : Steps A S T) (n : Netlist A T) (good : IsNet s n)
     (wired : IsWired (wiring s n)) (q : List ℕ) (j blocks : ℕ) (inputs : List (List T))
-    (can : CanRun s n q (blocks * j) inputs) (short : j * sum q ≤ MOST_BLOCK) (few : blocks < 2 ^ 32) where
+    (can : CanRun s n q (blocks * j) inputs) (short : j * sum q ≤ MAX_BLOCK) (few : blocks < 2 ^ 32) where
   abbrev many : ℕ → ℕ
   many a = blocks * (j * get_or q a 0)
 
@@ -65,7 +65,7 @@ module _ {A S T : Type 0} (s : Steps A S T) (n : Netlist A T) (good : IsNet s n)
   all_small a l =
       let one : get_or q a 0 ≤ sum q = get_or-le-sum_by (λ x. x) q a 0 (omega (arith, can.paced.all)) in
       let within : j * get_or q a 0 ≤ j * sum q = mul-le-mul_left j one in
-      let all : blocks * (j * get_or q a 0) ≤ blocks * MOST_BLOCK =
+      let all : blocks * (j * get_or q a 0) ≤ blocks * MAX_BLOCK =
       mul-le-mul_left blocks (omega (arith, within, short)) in
       omega (arith, all, few)
 
@@ -93,7 +93,7 @@ module _ {A S T : Type 0} (s : Steps A S T) (n : Netlist A T) (good : IsNet s n)
 
   -- nothing has fired
   pub begins : (space : ℕ) → space ≡ blocks * j * period_samples n.nodes Outputs q → (done : List ℕ) →
-      ((a : ℕ) → get_or done a 0 ≡ 0) → (states : List (NodeState T S)) (ls : List (Held T)) →
+      ((a : ℕ) → get_or done a 0 ≡ 0) → (states : List (NodeState T S)) (ls : List (QueueValue T)) →
       length states ≡ length n.nodes → AreUnfired s space n states → length ls ≡ length n.wires →
       ((c : ℕ) → c < length n.wires → get_or ls c nothing ≡
       record {
@@ -151,7 +151,7 @@ sink_list s inputs many ext block past (Source next) is = absurd is
 sink_list s inputs many ext block past (Inner phase state) is = absurd is
 
 module _ {A S T : Type 0} (s : Steps A S T) (n : Netlist A T) (inputs : List (List T)) (q : List ℕ) (j blocks : ℕ)
-    (k : ℕ → ℕ) (states : List (NodeState T S)) (ls : List (Held T))
+    (k : ℕ → ℕ) (states : List (NodeState T S)) (ls : List (QueueValue T))
     (over : IsResting s n inputs q j blocks blocks k states ls) where
   -- all firings are done
   all_done : (a : ℕ) → a < length n.nodes → k a ≡ periods_of q (blocks * j) a
@@ -199,10 +199,10 @@ module _ {A S T : Type 0} (s : Steps A S T) (n : Netlist A T) (inputs : List (Li
         (taken_before (wiring s n) over.between.history a (k a))
         (get_or states a w) (node_at a (nets.node n a) w l refl);
     channels = sym (length-map rest.held.items (λ v. v.items))
-        ∙ (ap length held ∙ (length-map ls (λ (q : Held T). q.samples) ∙ over.between.channels));
+        ∙ (ap length held ∙ (length-map ls (λ (q : QueueValue T). q.samples) ∙ over.between.channels));
     held = λ c l.
         ap (λ v. get_or v c []) held ∙
-        (get_or-map (λ (q : Held T). q.samples) ls c nothing [] (omega (arith, over.between.channels, l))
+        (get_or-map (λ (q : QueueValue T). q.samples) ls c nothing [] (omega (arith, over.between.channels, l))
         ∙ over.between.left c l);
   }
 

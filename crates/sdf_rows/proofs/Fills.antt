@@ -10,13 +10,13 @@ use Rattle.sdf_node.specs.Nodes.{phase_at, takes_of, puts_of, CanStep, IsAt}
 use Rattle.sdf_node.specs.declared.node.NodeState.{NodeState}
 use Rattle.sdf_node.proofs.Theorems.{nodes_can_step, nodes_keep_phase}
 use Rattle.sdf_rows.specs.declared.row_firing.RowFiring.{RowFiring}
-use Rattle.sdf_queues.specs.Held.{Held}
+use Rattle.sdf_queues.specs.QueueValue.{QueueValue}
 use Rattle.sdf_queues.specs.Blocks.{samples, front}
-use Rattle.sdf_queues.specs.Sizes.{Rows, AreSizes, at_phase, phase_of}
+use Rattle.sdf_queues.specs.Sizes.{SizesValue, AreSizes, at_phase, phase_of}
 use Rattle.sdf_queues.proofs.Theorems.{blocks_are_counted, blocks_stand}
 use Rattle.sdf_rows.specs.Jobs.{JobFits, HasFired, HaveFired}
-use Rattle.sdf_rows.specs.Stage.{actors_of}
-use Rattle.sdf_rows.specs.Stands.{IsLoaded, IsBack, IsFilling, IsSettling, IsBetween, KeepBlocks}
+use Rattle.sdf_rows.specs.Loading.{actors_of}
+use Rattle.sdf_rows.specs.RowStates.{IsLoaded, IsBack, IsFilling, IsSettling, IsBetween, KeepBlocks}
 use Rattle.sdf_rows.proofs.Jobs.{actors_are}
 use Rattle.sdf_rows.proofs.Settles.{AtPlace, plan, held, ports_in, in_cycle, takes_in, takes_are}
 
@@ -27,9 +27,11 @@ all_from P [] each = All-nil P
 all_from P (x ∷ xs) each = All-from_get_or P (x ∷ xs) x (λ i h. each i x h)
 
 -- one of a row's jobs, which are filled
-module _ {A S T : Type 0} {s : Steps A S T} {n : Netlist A T} (good : IsNet s n) {z : Rows} (sizes : AreSizes s n z)
+module _ {A S T : Type 0} {s : Steps A S T} {n : Netlist A T} (good : IsNet s n) {z : SizesValue}
+    (sizes : AreSizes s n z)
     {inputs : List (List T)} {many low high k : ℕ → ℕ} {acts : List ℕ} {states : List (NodeState T S)}
-    {ls : List (Held T)} {jobs : List (RowFiring A T S)} (st : IsFilling s n inputs many low high acts 0 k states ls jobs)
+    {ls : List (QueueValue T)} {jobs : List (RowFiring A T S)}
+    (st : IsFilling s n inputs many low high acts 0 k states ls jobs)
     (i : ℕ) (h : i < length acts) (d : RowFiring A T S) where
   abbrev pub who : ℕ
   who = get_or acts i 0
@@ -98,7 +100,8 @@ module _ {A S T : Type 0} {s : Steps A S T} {n : Netlist A T} (good : IsNet s n)
       blocks_stand s n k who st.history (at_phase z.takes job.phase) (at_phase z.puts job.phase) (samples ls)
       good (st.known i h) (plan here) st.left
 
-  pub is_back : (job' : RowFiring A T S) → HasFired s n inputs z ls job job' → IsBack s n inputs many k st.history who job'
+  pub is_back : (job' : RowFiring A T S) → HasFired s n inputs z ls job job' →
+      IsBack s n inputs many k st.history who job'
   is_back job' fired =
       let past : List (List T) = taken_before (wiring s n) st.history who (k who) in
       let at : HasFired s n inputs z ls (record job { actor = who }) job' =
@@ -120,8 +123,9 @@ module _ {A S T : Type 0} {s : Steps A S T} {n : Netlist A T} (good : IsNet s n)
       }
 
 -- all of them
-module _ {A S T : Type 0} {s : Steps A S T} {n : Netlist A T} (good : IsNet s n) {z : Rows} (sizes : AreSizes s n z)
-    {inputs : List (List T)} {many low high k : ℕ → ℕ} {states : List (NodeState T S)} {ls : List (Held T)}
+module _ {A S T : Type 0} {s : Steps A S T} {n : Netlist A T} (good : IsNet s n) {z : SizesValue}
+    (sizes : AreSizes s n z)
+    {inputs : List (List T)} {many low high k : ℕ → ℕ} {states : List (NodeState T S)} {ls : List (QueueValue T)}
     {jobs : List (RowFiring A T S)} (st : IsFilling s n inputs many low high (actors_of jobs) 0 k states ls jobs) where
   acts_long : length (actors_of jobs) ≡ length jobs
   acts_long = length-map jobs (λ j. j.actor)
@@ -172,8 +176,9 @@ module _ {A S T : Type 0} {s : Steps A S T} {n : Netlist A T} (good : IsNet s n)
 
 -- when all are settled, the row is over
 pub row_over : {A S T : Type 0} {s : Steps A S T} {n : Netlist A T} {inputs : List (List T)} {many low high : ℕ → ℕ}
-    {acts : List ℕ} {from : ℕ} {k : ℕ → ℕ} {states : List (NodeState T S)} {ls : List (Held T)}
-    {jobs : List (RowFiring A T S)} → IsSettling s n inputs many low high acts from k states ls jobs → length acts ≤ from →
+    {acts : List ℕ} {from : ℕ} {k : ℕ → ℕ} {states : List (NodeState T S)} {ls : List (QueueValue T)}
+    {jobs : List (RowFiring A T S)} → IsSettling s n inputs many low high acts from k states ls jobs →
+    length acts ≤ from →
     IsBetween s n inputs many low high k states ls
 row_over st over = record {
   small = st.small;

@@ -10,11 +10,11 @@ use Rattle.sdf_actor.specs.declared.node.Node.TheVariants.{Source, Sink, Inner}
 use Rattle.sdf_actor.specs.Nets.{Netlist, node, wiring}
 use Rattle.sdf_node.specs.Nodes.{takes_of, puts_of, CanStep}
 use Rattle.sdf_rows.specs.declared.row_firing.RowFiring.{RowFiring}
-use Rattle.sdf_queues.specs.Held.{Held}
+use Rattle.sdf_queues.specs.QueueValue.{QueueValue}
 use Rattle.sdf_queues.specs.Blocks.{samples, HoldBlocks, front}
-use Rattle.sdf_queues.specs.Sizes.{Rows, at_phase, phase_of, in_all, out_all}
+use Rattle.sdf_queues.specs.Sizes.{SizesValue, at_phase, phase_of, in_all, out_all}
 use Rattle.sdf_rows.specs.Jobs.{JobFits}
-use Rattle.sdf_rows.specs.Stage.{actors_of}
+use Rattle.sdf_rows.specs.Loading.{actors_of}
 
 -- what a firing moves in all is that of its phase
 pub in_is : {A S T : Type 0} (s : Steps A S T) (x : Node A) (i : ℕ) → in_all s x i ≡ takes_of s x (phase_of s x i)
@@ -29,7 +29,8 @@ out_is s (Inner x) i = refl
 
 -- jobs of these actors
 pub actors_are : {A S T : Type 0} (jobs : List (RowFiring A T S)) (acts : List ℕ) → length jobs ≡ length acts →
-    ((i : ℕ) (d : RowFiring A T S) → i < length jobs → (get_or jobs i d).actor ≡ get_or acts i 0) → actors_of jobs ≡ acts
+    ((i : ℕ) (d : RowFiring A T S) → i < length jobs → (get_or jobs i d).actor ≡ get_or acts i 0) →
+    actors_of jobs ≡ acts
 actors_are {A} {S} {T} jobs acts all each =
     same_lists (actors_of jobs) acts (length-map jobs (λ j. j.actor) ∙ all)
     (λ i d h.
@@ -42,7 +43,7 @@ actors_are {A} {S} {T} jobs acts all each =
     some_job (j ∷ js) i h = j
 
 -- a block at the front has its length
-pub length_fronts : {T : Type 0} (takes ins : List ℕ) (ls : List (Held T)) → HoldBlocks ins takes ls →
+pub length_fronts : {T : Type 0} (takes ins : List ℕ) (ls : List (QueueValue T)) → HoldBlocks ins takes ls →
     length (front takes ins ls) ≡ sum_by (λ c. get_or takes c 0) ins
 length_fronts takes [] ls held = refl
 length_fronts takes (c ∷ cs) ls held =
@@ -57,12 +58,14 @@ length_fronts takes (c ∷ cs) ls held =
     )
 
 -- what is read is the block that the firing takes
-pub read_is : {T : Type 0} (ins ins' takes takes' : List ℕ) (ls : List (Held T)) (was items : List T) → ins ≡ ins' →
+pub read_is : {T : Type 0} (ins ins' takes takes' : List ℕ) (ls : List (QueueValue T)) (was items : List T) →
+    ins ≡ ins' →
     takes ≡ takes' → was ≡ [] → items ≡ was ++ front takes ins ls → items ≡ front takes' ins' ls
 read_is ins ins' takes takes' ls was items is ts none all =
     all ∙ (ap (λ xs. xs ++ front takes ins ls) none ∙ (λ i. front (ts i) (is i) ls))
 
-module _ {A S T : Type 0} (s : Steps A S T) (n : Netlist A T) (inputs : List (List T)) (z : Rows) (ls : List (Held T))
+module _ {A S T : Type 0} (s : Steps A S T) (n : Netlist A T) (inputs : List (List T)) (z : SizesValue)
+    (ls : List (QueueValue T))
     (j : RowFiring A T S) (fits : JobFits s n inputs z ls j) where
   pub can_here : (x : Node A) (items : List T) (many : ℕ) → x ≡ node n j.actor →
       items ≡ front (at_phase z.takes j.phase) ((wiring s n).ins j.actor) ls → many ≡ puts_of s x j.phase →

@@ -6,7 +6,7 @@ use Rattle.std.proofs.lemmas.Bool.{cases_eq}
 use Rattle.sdf_actor.specs.Steps.{Steps}
 use Rattle.sdf_actor.specs.Nets.{Netlist}
 use Rattle.sdf_rows.specs.declared.row_firing.RowFiring.{RowFiring}
-use Rattle.sdf_rows.specs.Stands.{HaveBlocks, KeepBlocks}
+use Rattle.sdf_rows.specs.RowStates.{HaveBlocks, KeepBlocks}
 
 pub keep_twice : {A S T : Type 0} (x y z : List (RowFiring A T S)) → KeepBlocks x y → KeepBlocks y z → KeepBlocks x z
 keep_twice x y z one two = record {
@@ -26,7 +26,8 @@ keep_have s n x y have keeps i j h =
     }
 
 -- one job is changed, and keeps them
-pub kept_set : {A S T : Type 0} (was jobs : List (RowFiring A T S)) (i : ℕ) (job' d : RowFiring A T S) → KeepBlocks was jobs →
+pub kept_set : {A S T : Type 0} (was jobs : List (RowFiring A T S)) (i : ℕ) (job' d : RowFiring A T S) →
+    KeepBlocks was jobs →
     i < length jobs → job'.taken ≡ (get_or jobs i d).taken → job'.put ≡ (get_or jobs i d).put →
     KeepBlocks was (set jobs i job')
 kept_set {A} {S} {T} was jobs i job' d keeps h taken_is put_is = record {
@@ -42,7 +43,8 @@ kept_set {A} {S} {T} was jobs i job' d keeps h taken_is put_is = record {
         (ap (λ (x : RowFiring A T S). vec_capacity x.taken) (get_or-set_same jobs i job' j h)
         ∙ (ap (λ v. vec_capacity v) taken_is ∙ ap (λ (x : RowFiring A T S). vec_capacity x.taken)
         (get_or_default jobs i d j h)))
-    cap p j (inr ne) = ap (λ (x : RowFiring A T S). vec_capacity x.taken) (get_or-set_other jobs i p job' j (λ e. ne (sym e)))
+    cap p j (inr ne) = ap (λ (x : RowFiring A T S). vec_capacity x.taken)
+        (get_or-set_other jobs i p job' j (λ e. ne (sym e)))
 
     long : (p : ℕ) (j : RowFiring A T S) → (i ≡ p) ⊎ (i ≡ p → ⊥) →
         length (get_or (set jobs i job') p j).put.items ≡ length (get_or jobs p j).put.items
@@ -51,4 +53,5 @@ kept_set {A} {S} {T} was jobs i job' d keeps h taken_is put_is = record {
         (ap (λ (x : RowFiring A T S). length x.put.items) (get_or-set_same jobs i job' j h)
         ∙ (ap (λ v. length v.items) put_is ∙ ap (λ (x : RowFiring A T S). length x.put.items)
         (get_or_default jobs i d j h)))
-    long p j (inr ne) = ap (λ (x : RowFiring A T S). length x.put.items) (get_or-set_other jobs i p job' j (λ e. ne (sym e)))
+    long p j (inr ne) = ap (λ (x : RowFiring A T S). length x.put.items)
+        (get_or-set_other jobs i p job' j (λ e. ne (sym e)))

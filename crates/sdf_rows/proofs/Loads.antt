@@ -10,11 +10,12 @@ use Rattle.sdf_node.specs.Nodes.{phase_at}
 use Rattle.sdf_prec.specs.declared.firing.Firing.{Firing}
 use Rattle.sdf_prec.specs.Tables.{firing, firings, no_firing, cell_of}
 use Rattle.sdf_rows.specs.declared.row_firing.RowFiring.{RowFiring}
-use Rattle.sdf_rows.specs.Stage.{CanLoad, IsFilled, HasLoaded, AreLoaded}
+use Rattle.sdf_rows.specs.Loading.{CanLoad, IsFilled, HasLoaded, AreLoaded}
 
 -- a job filled, whatever stands in its actor's place
 module _ {A S T : Type 0} (states : List (NodeState T S)) (jobs : List (RowFiring A T S)) (f : Firing)
-    (many column : ℕ) (done : List ℕ) (v gone : NodeState T S) (k filled : RowFiring A T S) (known : f.actor < length states)
+    (many column : ℕ) (done : List ℕ) (v gone : NodeState T S) (k filled : RowFiring A T S)
+    (known : f.actor < length states)
     (has : many < length jobs)
     (is : filled ≡ record (get_or jobs many k) {
       processor = column;
@@ -129,7 +130,8 @@ module _ {A S T : Type 0} (row : List (Option Firing)) (done : List ℕ) (p : �
 
       each : ((i m : ℕ) → i < length (fs ++ f ∷ []) → m < length (fs ++ f ∷ []) →
           (firing (fs ++ f ∷ []) i).actor ≡ (firing (fs ++ f ∷ []) m).actor → i ≡ m) →
-          (i : ℕ) (w : NodeState T S) (j : RowFiring A T S) → i < length (fs ++ f ∷ []) → (i < length fs) ⊎ (length fs ≤ i) →
+          (i : ℕ) (w : NodeState T S) (j : RowFiring A T S) → i < length (fs ++ f ∷ []) →
+          (i < length fs) ⊎ (length fs ≤ i) →
           IsPlaced (firing (fs ++ f ∷ []) i) (get_or states (firing (fs ++ f ∷ []) i).actor w) (get_or jobs i j)
           (get_or jobs' i j)
       each apart i w j h (inl below) =

@@ -8,7 +8,7 @@ use Rattle.std.specs.Global.{Global}
 use Rattle.sdf_actor.specs.declared.sides.Lists.TheVariants.{Inputs}
 use Rattle.sdf_actor.specs.Nets.{Netlist}
 use Rattle.sdf_actor.specs.Sides.{list_count, period_samples}
-use Rattle.sdf_queues.specs.Answer.{AreInputs, HasInputs}
+use Rattle.sdf_queues.specs.RunResults.{AreInputs, HasInputs}
 
 -- an element of a list that has one
 pub some_of : {X : Type 0} (xs : List X) (i : ℕ) → i < length xs → X

@@ -8,8 +8,8 @@ use Rattle.sdf_actor.specs.Steps.{Steps}
 use Rattle.sdf_actor.specs.Nets.{Netlist, wiring}
 use Rattle.sdf_node.specs.declared.node.NodeState.{NodeState}
 use Rattle.sdf_prec.specs.Blocks.{block}
-use Rattle.sdf_queues.specs.Held.{Held}
-use Rattle.sdf_rows.specs.Stands.{IsBetween}
+use Rattle.sdf_queues.specs.QueueValue.{QueueValue}
+use Rattle.sdf_rows.specs.RowStates.{IsBetween}
 use Rattle.sdf_rows.specs.Blocks.{IsRound, IsResting, block_after}
 
 -- what begins anew after each period goes on as it began after several
@@ -108,7 +108,8 @@ module _ {A S T : Type 0} (s : Steps A S T) (n : Netlist A T) {r : Rates} (alike
         (sym taken ∙ ap ((wiring s n).rates.consumed c) (sym (k_is ((wiring s n).rates.target c) (tgt_known c h))))));
   }
 
-  module _ {inputs : List (List T)} {j blocks b : ℕ} {k : ℕ → ℕ} {states : List (NodeState T S)} {ls : List (Held T)}
+  module _ {inputs : List (List T)} {j blocks b : ℕ} {k : ℕ → ℕ} {states : List (NodeState T S)}
+      {ls : List (QueueValue T)}
       (rest : IsResting s n inputs q j blocks b k states ls) where
     pub round_here : IsRound s n k
     round_here = round_of k (b * j) (λ a l. rest.counts a l ∙
@@ -151,7 +152,7 @@ module _ {A S T : Type 0} (s : Steps A S T) (n : Netlist A T) {r : Rates} (alike
     }
 
     -- and when it is over, so it stands again
-    pub block_ends : {k' : ℕ → ℕ} {states' : List (NodeState T S)} {ls' : List (Held T)} →
+    pub block_ends : {k' : ℕ → ℕ} {states' : List (NodeState T S)} {ls' : List (QueueValue T)} →
         ((a : ℕ) → a < length n.nodes → k' a ≡ block_after q j k a) →
         IsBetween s n inputs (λ a. blocks * (j * get_or q a 0)) k (block_after q j k) k' states' ls' →
         IsResting s n inputs q j blocks (b + 1) k' states' ls'

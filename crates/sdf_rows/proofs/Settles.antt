@@ -19,11 +19,11 @@ use Rattle.sdf_actor.proofs.Theorems.{nets_are_wired}
 use Rattle.sdf_node.specs.Nodes.{takes_of, puts_of, IsAt}
 use Rattle.sdf_node.specs.declared.node.NodeState.{NodeState}
 use Rattle.sdf_rows.specs.declared.row_firing.RowFiring.{RowFiring}
-use Rattle.sdf_queues.specs.Held.{Held}
+use Rattle.sdf_queues.specs.QueueValue.{QueueValue}
 use Rattle.sdf_queues.specs.Blocks.{samples, room, at_ports, ArePorts, HoldBlocks}
-use Rattle.sdf_queues.specs.Sizes.{Rows, IsPlan, AreSizes, at_phase, phase_of}
-use Rattle.sdf_rows.specs.Stage.{CanSettle, HasSettled}
-use Rattle.sdf_rows.specs.Stands.{IsBack, IsStage, IsSettling}
+use Rattle.sdf_queues.specs.Sizes.{SizesValue, IsPlan, AreSizes, at_phase, phase_of}
+use Rattle.sdf_rows.specs.Loading.{CanSettle, HasSettled}
+use Rattle.sdf_rows.specs.RowStates.{IsBack, IsRowState, IsSettling}
 use Rattle.sdf_queues.specs.Laws.{FiringsMoveOn}
 use Rattle.sdf_queues.specs.Moves.{FitsPorts, MovesOn}
 use Rattle.sdf_queues.proofs.Theorems.{plans_fit}
@@ -44,20 +44,22 @@ enabled_within r k a on c l e = subst (λ n. r.consumed c (n + 1) ≤ r.initial 
     (ap k e) (on c l e)
 
 -- an actor stands at place i of a row, and its next firing is at this phase
-pub record AtPlace {A S T : Type 0} (s : Steps A S T) (n : Netlist A T) (z : Rows) (inputs : List (List T))
+pub record AtPlace {A S T : Type 0} (s : Steps A S T) (n : Netlist A T) (z : SizesValue) (inputs : List (List T))
     (many low high : ℕ → ℕ) (acts : List ℕ) (from i : ℕ) (k : ℕ → ℕ) (states : List (NodeState T S))
-    (ls : List (Held T)) (jobs : List (RowFiring A T S)) (P : (ℕ → ℕ) → (ℕ → List T) → ℕ → RowFiring A T S → Type 0)
+    (ls : List (QueueValue T)) (jobs : List (RowFiring A T S))
+    (P : (ℕ → ℕ) → (ℕ → List T) → ℕ → RowFiring A T S → Type 0)
     (phase : ℕ) : Type 0 where
   pub good : IsNet s n
   pub sizes : AreSizes s n z
-  pub st : IsStage s n inputs many P low high acts from k states ls jobs
+  pub st : IsRowState s n inputs many P low high acts from k states ls jobs
   pub first : from ≤ i
   pub inside : i < length acts
   pub phase_is : phase ≡ phase_of s (node n (get_or acts i 0)) (k (get_or acts i 0))
 
-module _ {A S T : Type 0} {s : Steps A S T} {n : Netlist A T} {z : Rows} {inputs : List (List T)}
+module _ {A S T : Type 0} {s : Steps A S T} {n : Netlist A T} {z : SizesValue} {inputs : List (List T)}
     {many low high : ℕ → ℕ} {acts : List ℕ} {from i : ℕ} {k : ℕ → ℕ} {states : List (NodeState T S)}
-    {ls : List (Held T)} {jobs : List (RowFiring A T S)} {P : (ℕ → ℕ) → (ℕ → List T) → ℕ → RowFiring A T S → Type 0} {phase : ℕ}
+    {ls : List (QueueValue T)} {jobs : List (RowFiring A T S)}
+    {P : (ℕ → ℕ) → (ℕ → List T) → ℕ → RowFiring A T S → Type 0} {phase : ℕ}
     (x : AtPlace s n z inputs many low high acts from i k states ls jobs P phase) where
   abbrev pub who : ℕ
   who = get_or acts i 0
@@ -147,8 +149,9 @@ module _ {A S T : Type 0} {s : Steps A S T} {n : Netlist A T} {z : Rows} {inputs
   puts_are = own_ports.put ∙ (out_is s (node n who) (k who) ∙ ap (puts_of s (node n who)) (sym x.phase_is))
 
 -- the firings of a row are settled up to place i, and one stands there
-pub record Settling {A S T : Type 0} (s : Steps A S T) (n : Netlist A T) (z : Rows) (inputs : List (List T))
-    (many low high : ℕ → ℕ) (acts : List ℕ) (i : ℕ) (done : List ℕ) (states : List (NodeState T S)) (ls : List (Held T))
+pub record Settling {A S T : Type 0} (s : Steps A S T) (n : Netlist A T) (z : SizesValue) (inputs : List (List T))
+    (many low high : ℕ → ℕ) (acts : List ℕ) (i : ℕ) (done : List ℕ) (states : List (NodeState T S))
+    (ls : List (QueueValue T))
     (jobs : List (RowFiring A T S)) : Type 0 where
   pub good : IsNet s n
   pub moves : FiringsMoveOn s
@@ -157,9 +160,9 @@ pub record Settling {A S T : Type 0} (s : Steps A S T) (n : Netlist A T) (z : Ro
   pub inside : i < length acts
   pub counted : length done ≡ length n.nodes
 
-module _ {A S T : Type 0} {s : Steps A S T} {n : Netlist A T} {z : Rows} {inputs : List (List T)}
+module _ {A S T : Type 0} {s : Steps A S T} {n : Netlist A T} {z : SizesValue} {inputs : List (List T)}
     {many low high : ℕ → ℕ} {acts : List ℕ} {i : ℕ} {done : List ℕ} {states : List (NodeState T S)}
-    {ls : List (Held T)} {jobs : List (RowFiring A T S)}
+    {ls : List (QueueValue T)} {jobs : List (RowFiring A T S)}
     (x : Settling s n z inputs many low high acts i done states ls jobs) (d : RowFiring A T S) where
   abbrev k : ℕ → ℕ
   k b = get_or done b 0
@@ -233,7 +236,7 @@ module _ {A S T : Type 0} {s : Steps A S T} {n : Netlist A T} {z : Rows} {inputs
       omega (arith, ap k back.actor, left, st.top a known, st.small a known)
 
   -- the firing is settled
-  module _ {ls' : List (Held T)} (did : HasSettled s n z job ls ls') {states' : List (NodeState T S)}
+  module _ {ls' : List (QueueValue T)} (did : HasSettled s n z job ls ls') {states' : List (NodeState T S)}
       (states_are : states' ≡ set states job.actor job.state) {done' : List ℕ}
       (done_is : done' ≡ set done job.actor (get_or done job.actor 0 + 1)) (job' : RowFiring A T S) where
     abbrev m : ℕ → ℕ

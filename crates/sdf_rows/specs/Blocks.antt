@@ -4,9 +4,9 @@ use Rattle.sdf_actor.specs.Steps.{Steps}
 use Rattle.sdf_actor.specs.Nets.{Netlist, wiring}
 use Rattle.sdf_node.specs.declared.node.NodeState.{NodeState}
 use Rattle.sdf_prec.specs.Blocks.{block}
-use Rattle.sdf_queues.specs.Held.{Held}
+use Rattle.sdf_queues.specs.QueueValue.{QueueValue}
 use Rattle.sdf_queues.specs.Blocks.{room}
-use Rattle.sdf_rows.specs.Stands.{IsBetween}
+use Rattle.sdf_rows.specs.RowStates.{IsBetween}
 
 -- counts of whole periods: the firings after them move what the first ones move, and each channel holds its initial
 -- number of samples
@@ -28,7 +28,7 @@ block_after q j k a = k a + slice_index (block j q) a
 -- between blocks, after the first b of `blocks`: each channel has room for its initial samples and for what a block
 -- puts on it
 pub record IsResting {A S T : Type 0} (s : Steps A S T) (n : Netlist A T) (inputs : List (List T)) (q : List ℕ)
-    (j blocks b : ℕ) (k : ℕ → ℕ) (states : List (NodeState T S)) (ls : List (Held T)) : Type 0 where
+    (j blocks b : ℕ) (k : ℕ → ℕ) (states : List (NodeState T S)) (ls : List (QueueValue T)) : Type 0 where
   pub counts : (a : ℕ) → a < length n.nodes → k a ≡ b * (j * slice_index q a)
   pub rooms : (c : ℕ) → c < length n.wires →
       (wiring s n).rates.initial c + (wiring s n).rates.produced c
@@ -37,5 +37,5 @@ pub record IsResting {A S T : Type 0} (s : Steps A S T) (n : Netlist A T) (input
 
 -- after all blocks
 abbrev pub IsOver : {A S T : Type 0} → Steps A S T → Netlist A T → List (List T) → List ℕ → ℕ → ℕ →
-    List (NodeState T S) → List (Held T) → Type 0
+    List (NodeState T S) → List (QueueValue T) → Type 0
 IsOver s n inputs q j blocks states ls = (k : ℕ → ℕ) × IsResting s n inputs q j blocks blocks k states ls

@@ -5,7 +5,7 @@ use Rattle.std.specs.declared.vec.Vec.{Vec}
 use Rattle.sdf_actor.specs.declared.node.Node.TheVariants as node
 use Rattle.sdf_actor.specs.Nets as nets
 use Rattle.sdf_actor.specs.Nets.{Netlist}
-use Rattle.sdf_node.specs.Kept.{kept_of}
+use Rattle.sdf_node.specs.Kept.{kept_state}
 use Rattle.sdf_node.specs.declared.node.NodeState.{NodeState}
 use Rattle.sdf_node.specs.declared.node.NodeState.TheVariants.{Sink}
 use Rattle.sdf_queues.specs.Lists.{list}
@@ -19,4 +19,4 @@ AreCollected {A} {S} {T} n m states outputs =
 -- kept has the state of each actor at its node
 abbrev pub AreKept : {A S T : Type 0} → Netlist A T → List (NodeState T S) → List (Option S) → Type 0
 AreKept {A} {S} {T} n states kept = (a : ℕ) (w : NodeState T S) → a < length n.nodes →
-    slice_index_or kept a None ≡ kept_of (nets.node n a) (slice_index_or states a w)
+    slice_index_or kept a None ≡ kept_state (nets.node n a) (slice_index_or states a w)

@@ -1,4 +1,4 @@
--- The firings of one row.
+-- The firings of one row, which are its jobs.
 use Rattle.std.specs.Prelude.{◌≡◌, ℕ, ◌≤◌, ◌<◌, List, [], ◌∷◌, ◌++◌, length, take, slice_index, slice_index_or}
 use Rattle.std.specs.Prelude.{vec_capacity}
 use Rattle.std.specs.List.{sum_by}
@@ -6,12 +6,12 @@ use Rattle.sdf_actor.specs.Steps.{Steps}
 use Rattle.sdf_actor.specs.Nets.{Netlist, node, wiring, cycle_of, answer_of}
 use Rattle.sdf_node.specs.Nodes.{puts_of, CanStep, IsAt}
 use Rattle.sdf_rows.specs.declared.row_firing.RowFiring.{RowFiring}
-use Rattle.sdf_queues.specs.Held.{Held}
+use Rattle.sdf_queues.specs.QueueValue.{QueueValue}
 use Rattle.sdf_queues.specs.Blocks.{front, ArePorts, HoldBlocks}
-use Rattle.sdf_queues.specs.Sizes.{Rows, at_phase}
+use Rattle.sdf_queues.specs.Sizes.{SizesValue, at_phase}
 
-module _ {A S T : Type 0} (s : Steps A S T) (n : Netlist A T) (inputs : List (List T)) (z : Rows)
-    (ls : List (Held T)) where
+module _ {A S T : Type 0} (s : Steps A S T) (n : Netlist A T) (inputs : List (List T)) (z : SizesValue)
+    (ls : List (QueueValue T)) where
   -- the block that a firing takes
   abbrev pub block_of : RowFiring A T S → List T
   block_of j = front (at_phase z.takes j.phase) ((wiring s n).ins j.actor) ls

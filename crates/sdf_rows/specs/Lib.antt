@@ -1,6 +1,6 @@
 pub mod Jobs
-pub mod Stage
-pub mod Stands
+pub mod Loading
+pub mod RowStates
 pub mod Blocks
 pub mod Setup
 pub mod Collect

@@ -1,4 +1,4 @@
-//! The firings of one row, in parallel.
+//! The firings of one row, in parallel. In the runner, a firing of a row is called a job.
 
 ghost use Rattle.std.specs.Prelude.{◌≡◌, ◌≤◌, ◌<◌, ◌++◌, ◌∷◌, [], ℕ, All, List, length, take};
 ghost use Rattle.sdf_actor.specs.Nets.{answer_of, wiring};
@@ -8,9 +8,9 @@ ghost use Rattle.sdf_rows.specs.Jobs.{JobFits, HasFired, HaveFired};
 
 use crate::scene::Scene;
 use sdf_actor::{Actor, Node, Side};
+use sdf_node::{ActorId, Gate, NodeState, puts, step};
 use sdf_queues::Queue;
 use sdf_queues::blocks::{Ports, read_fronts};
-use sdf_node::{ActorId, Gate, NodeState, puts, step};
 use std::thread;
 use std::thread::Threads;
 
@@ -50,7 +50,11 @@ fn step_into<A: Actor>(
 }
 
 /// Fires one job on a copy of its input. The samples stay on the channels until the job is settled.
-fn fire_job<A: Actor, G: Gate>(scene: &Scene<A, G>, queues: &[Queue<A::Token>], job: &mut RowFiring<A>)
+fn fire_job<A: Actor, G: Gate>(
+    scene: &Scene<A, G>,
+    queues: &[Queue<A::Token>],
+    job: &mut RowFiring<A>,
+)
     requires { JobFits A.steps scene.now.net.now (lists scene.now.inputs.now) scene.now.sizes queues.now job.old }
     ensures { HasFired A.steps scene.now.net.now (lists scene.now.inputs.now) scene.now.sizes queues.now job.old
         job.new }

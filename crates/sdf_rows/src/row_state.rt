@@ -1,4 +1,5 @@
-//! The firings of a row: their jobs are filled and fired in parallel, and then their output is put on the channels.
+//! The state of a run between two rows, and the run of a row: its jobs are filled and fired in parallel, and then their
+//! output is put on the channels.
 
 ghost use Rattle.std.specs.Prelude.{◌≡◌, ◌+◌, ◌^◌, ◌≤◌, ◌<◌, ℕ, length, slice_index, slice_set, Some};
 ghost use Rattle.sdf_graph.specs.Sequences.{times};
@@ -6,17 +7,17 @@ ghost use Rattle.sdf_actor.specs.Wires.{lists};
 ghost use Rattle.sdf_node.specs.Nodes.{phase_at};
 ghost use Rattle.sdf_prec.specs.declared.firing.Firing.{Firing};
 ghost use Rattle.sdf_prec.specs.Tables.{cell_of, firings};
-ghost use Rattle.sdf_rows.specs.Stage.{CanLoad, HasLoaded, AreLoaded, CanSettle, HasSettled, actors_of, row_actors};
-ghost use Rattle.sdf_rows.specs.Stands.{HaveBlocks, KeepBlocks, IsFilling, IsSettling, IsBetween, IsRow, IsScene};
+ghost use Rattle.sdf_rows.specs.Loading.{CanLoad, HasLoaded, AreLoaded, CanSettle, HasSettled, actors_of, row_actors};
+ghost use Rattle.sdf_rows.specs.RowStates.{HaveBlocks, KeepBlocks, IsFilling, IsSettling, IsBetween, IsRow, IsScene};
 
 use crate::row_firing::{RowFiring, fire_jobs};
 use crate::scene::Scene;
 use sdf_actor::laws::history_grows_by_firing;
 use sdf_actor::{Actor, Side};
-use sdf_queues::Queue;
-use sdf_queues::blocks::{Ports, put_block, skip_fronts};
 use sdf_node::{ActorId, Gate, NodeState, puts};
 use sdf_prec::Firing;
+use sdf_queues::Queue;
+use sdf_queues::blocks::{Ports, put_block, skip_fronts};
 use std::mem;
 use std::thread::Threads;
 
@@ -127,48 +128,55 @@ fn settle<A: Actor, G>(
 }
 
 /// Settles a firing, and counts it.
-fn settle_at<A: Actor, G>(scene: &Scene<A, G>, job: &mut RowFiring<A>, stage: &mut RowState<A>)
-    requires can { CanSettle A.steps scene.now.net.now scene.now.sizes job.old stage.old.queues.items }
-    requires state { job.old.actor < length stage.old.states.items }
-    requires counted { job.old.actor < length stage.old.done.items }
-    requires small { slice_index stage.old.done.items job.old.actor < 2 ^ 63 }
-    ensures queues { HasSettled A.steps scene.now.net.now scene.now.sizes job.old stage.old.queues.items
-        stage.new.queues.items }
-    ensures states { stage.new.states.items ≡ slice_set stage.old.states.items job.old.actor job.old.state }
-    ensures done { stage.new.done.items ≡ slice_set stage.old.done.items job.old.actor
-        (slice_index stage.old.done.items job.old.actor + 1) }
+fn settle_at<A: Actor, G>(scene: &Scene<A, G>, job: &mut RowFiring<A>, run_state: &mut RowState<A>)
+    requires can { CanSettle A.steps scene.now.net.now scene.now.sizes job.old run_state.old.queues.items }
+    requires state { job.old.actor < length run_state.old.states.items }
+    requires counted { job.old.actor < length run_state.old.done.items }
+    requires small { slice_index run_state.old.done.items job.old.actor < 2 ^ 63 }
+    ensures queues { HasSettled A.steps scene.now.net.now scene.now.sizes job.old run_state.old.queues.items
+        run_state.new.queues.items }
+    ensures states { run_state.new.states.items ≡ slice_set run_state.old.states.items job.old.actor job.old.state }
+    ensures done { run_state.new.done.items ≡ slice_set run_state.old.done.items job.old.actor
+        (slice_index run_state.old.done.items job.old.actor + 1) }
     ensures taken { job.new.taken ≡ job.old.taken }
     ensures put { job.new.put ≡ job.old.put }
 {
     let actor = job.actor;
-    settle(scene, job, &mut stage.states[actor], &mut stage.queues);
-    stage.done[actor] += 1;
+    settle(
+        scene,
+        job,
+        &mut run_state.states[actor],
+        &mut run_state.queues,
+    );
+    run_state.done[actor] += 1;
 }
 
 /// Settles all firings of a row, which are in `jobs`.
 pub(crate) fn settle_row<A: Actor, G>(
     scene: &Scene<A, G>,
     jobs: &mut [RowFiring<A>],
-    stage: &mut RowState<A>,
+    run_state: &mut RowState<A>,
 )
     requires scene { IsScene A.steps scene.now.net.now scene.now.sizes }
     requires back { (many low high : ℕ → ℕ) × IsSettling A.steps scene.now.net.now (lists scene.now.inputs.now) many low
-        high (actors_of jobs.old) 0 (slice_index stage.old.done.items) stage.old.states.items stage.old.queues.items
+        high (actors_of jobs.old) 0 (slice_index run_state.old.done.items) run_state.old.states.items
+        run_state.old.queues.items
         jobs.old }
-    requires counted { length stage.old.done.items ≡ length scene.now.net.now.nodes }
+    requires counted { length run_state.old.done.items ≡ length scene.now.net.now.nodes }
     ensures settled { (many low high : ℕ → ℕ) → IsSettling A.steps scene.now.net.now (lists scene.now.inputs.now) many
-        low high (actors_of jobs.old) 0 (slice_index stage.old.done.items) stage.old.states.items
-        stage.old.queues.items jobs.old →
+        low high (actors_of jobs.old) 0 (slice_index run_state.old.done.items) run_state.old.states.items
+        run_state.old.queues.items jobs.old →
         IsSettling A.steps scene.now.net.now (lists scene.now.inputs.now) many low high (actors_of jobs.old)
-        (length jobs.old) (slice_index stage.new.done.items) stage.new.states.items stage.new.queues.items jobs.new }
-    ensures done { (a : ℕ) → slice_index stage.new.done.items a ≡
-        slice_index stage.old.done.items a + times (actors_of jobs.old) a }
-    ensures counts { length stage.new.done.items ≡ length stage.old.done.items }
+        (length jobs.old) (slice_index run_state.new.done.items) run_state.new.states.items
+        run_state.new.queues.items jobs.new }
+    ensures done { (a : ℕ) → slice_index run_state.new.done.items a ≡
+        slice_index run_state.old.done.items a + times (actors_of jobs.old) a }
+    ensures counts { length run_state.new.done.items ≡ length run_state.old.done.items }
     ensures blocks { KeepBlocks jobs.old jobs.new }
 {
     history_grows_by_firing::<A>();
     for place in 0..jobs.len() {
-        settle_at(scene, &mut jobs[place], stage);
+        settle_at(scene, &mut jobs[place], run_state);
     }
 }
 
@@ -177,25 +185,25 @@ pub(crate) fn fire_row<R: Threads + Sync, A: Actor, G: Gate>(
     rt: &R,
     scene: &Scene<A, G>,
     jobs: &mut [RowFiring<A>],
-    stage: &mut RowState<A>,
+    run_state: &mut RowState<A>,
 )
     requires scene { IsScene A.steps scene.now.net.now scene.now.sizes }
     requires filled { (many low high : ℕ → ℕ) × IsFilling A.steps scene.now.net.now (lists scene.now.inputs.now) many
-        low high (actors_of jobs.old) 0 (slice_index stage.old.done.items) stage.old.states.items
-        stage.old.queues.items jobs.old }
-    requires counted { length stage.old.done.items ≡ length scene.now.net.now.nodes }
+        low high (actors_of jobs.old) 0 (slice_index run_state.old.done.items) run_state.old.states.items
+        run_state.old.queues.items jobs.old }
+    requires counted { length run_state.old.done.items ≡ length scene.now.net.now.nodes }
     ensures settled { (many low high : ℕ → ℕ) → IsFilling A.steps scene.now.net.now (lists scene.now.inputs.now) many
-        low high (actors_of jobs.old) 0 (slice_index stage.old.done.items) stage.old.states.items
-        stage.old.queues.items jobs.old →
+        low high (actors_of jobs.old) 0 (slice_index run_state.old.done.items) run_state.old.states.items
+        run_state.old.queues.items jobs.old →
         IsBetween A.steps scene.now.net.now (lists scene.now.inputs.now) many low high
-        (slice_index stage.new.done.items) stage.new.states.items stage.new.queues.items }
-    ensures done { (a : ℕ) → slice_index stage.new.done.items a ≡
-        slice_index stage.old.done.items a + times (actors_of jobs.old) a }
-    ensures counts { length stage.new.done.items ≡ length stage.old.done.items }
+        (slice_index run_state.new.done.items) run_state.new.states.items run_state.new.queues.items }
+    ensures done { (a : ℕ) → slice_index run_state.new.done.items a ≡
+        slice_index run_state.old.done.items a + times (actors_of jobs.old) a }
+    ensures counts { length run_state.new.done.items ≡ length run_state.old.done.items }
     ensures blocks { KeepBlocks jobs.old jobs.new }
 {
-    fire_jobs(rt, scene, &stage.queues, jobs);
-    settle_row(scene, jobs, stage);
+    fire_jobs(rt, scene, &run_state.queues, jobs);
+    settle_row(scene, jobs, run_state);
 }
 
 /// Fires `row`, a row of a table.
@@ -204,26 +212,26 @@ pub(crate) fn run_row<R: Threads + Sync, A: Actor, G: Gate>(
     scene: &Scene<A, G>,
     row: &[Option<Firing>],
     jobs: &mut [RowFiring<A>],
-    stage: &mut RowState<A>,
+    run_state: &mut RowState<A>,
 )
     requires scene { IsScene A.steps scene.now.net.now scene.now.sizes }
     requires between { (many low high : ℕ → ℕ) × IsBetween A.steps scene.now.net.now (lists scene.now.inputs.now) many
-        low high (slice_index stage.old.done.items) stage.old.states.items stage.old.queues.items
-        × IsRow A.steps scene.now.net.now (slice_index stage.old.done.items) high (row_actors row.now) }
-    requires counted { length stage.old.done.items ≡ length scene.now.net.now.nodes }
+        low high (slice_index run_state.old.done.items) run_state.old.states.items run_state.old.queues.items
+        × IsRow A.steps scene.now.net.now (slice_index run_state.old.done.items) high (row_actors row.now) }
+    requires counted { length run_state.old.done.items ≡ length scene.now.net.now.nodes }
     requires blocks { HaveBlocks A.steps scene.now.net.now jobs.old }
     requires few { length (firings row.now) ≤ length jobs.old }
     ensures between { (many low high : ℕ → ℕ) → IsBetween A.steps scene.now.net.now (lists scene.now.inputs.now) many
-        low high (slice_index stage.old.done.items) stage.old.states.items stage.old.queues.items →
-        IsRow A.steps scene.now.net.now (slice_index stage.old.done.items) high (row_actors row.now) →
+        low high (slice_index run_state.old.done.items) run_state.old.states.items run_state.old.queues.items →
+        IsRow A.steps scene.now.net.now (slice_index run_state.old.done.items) high (row_actors row.now) →
         IsBetween A.steps scene.now.net.now (lists scene.now.inputs.now) many low high
-        (slice_index stage.new.done.items) stage.new.states.items stage.new.queues.items }
-    ensures done { (a : ℕ) → slice_index stage.new.done.items a ≡
-        slice_index stage.old.done.items a + times (row_actors row.now) a }
-    ensures counts { length stage.new.done.items ≡ length stage.old.done.items }
+        (slice_index run_state.new.done.items) run_state.new.states.items run_state.new.queues.items }
+    ensures done { (a : ℕ) → slice_index run_state.new.done.items a ≡
+        slice_index run_state.old.done.items a + times (row_actors row.now) a }
+    ensures counts { length run_state.new.done.items ≡ length run_state.old.done.items }
     ensures blocks { KeepBlocks jobs.old jobs.new }
 {
-    let many = load_row(row, &stage.done, &mut stage.states, jobs);
+    let many = load_row(row, &run_state.done, &mut run_state.states, jobs);
     let (front, _) = jobs.split_at_mut(many);
-    fire_row(rt, scene, front, stage);
+    fire_row(rt, scene, front, run_state);
 }

@@ -4,15 +4,15 @@ ghost use Rattle.std.specs.Prelude.{◌≡◌, ◌*◌, length, MatchResult};
 ghost use Rattle.sdf_graph.specs.Rates.{rates};
 ghost use Rattle.sdf_actor.specs.Graphs.{graph_of};
 ghost use Rattle.sdf_actor.specs.Wires.{lists};
-ghost use Rattle.sdf_queues.specs.Answer.{HasInputs, AreOutputs, periods_of, IsRunFault};
+ghost use Rattle.sdf_queues.specs.RunResults.{HasInputs, AreOutputs, periods_of, IsRunFault};
 ghost use Rattle.sdf_prec.specs.BlockTables.{IsBlockTableOf};
 
 use crate::feed::feed_rows;
-use crate::fired::TableBlocks;
+use crate::table_blocks::TableBlocks;
 use sdf_actor::{Actor, Net};
-use sdf_queues::{Ran, RunFault};
 use sdf_node::Gate;
 use sdf_prec::BlockTable;
+use sdf_queues::{Ran, RunFault};
 use std::thread::Threads;
 
 /// Runs `net` for `blocks` blocks, as `table` says. The firings of a row run in parallel, each in a worker of its own,
@@ -31,7 +31,7 @@ pub fn run_rows<R: Threads + AllocGlobal + Sync, A: Actor, G: Gate>(
     gate: &G,
 ) -> Result<Ran<A::Token>, RunFault>
     requires fits { IsBlockTableOf (rates (graph_of A.steps net.now)) table.now }
-    ensures { let q = table.now.period.repetitions in let j = table.now.factor in MatchResult result
+    ensures { let q = table.now.period.repetitions in let j = table.now.blocking in MatchResult result
         (λ ran. HasInputs net.now q (blocks * j) (lists inputs.now)
         × AreOutputs A.steps net.now (lists inputs.now) (periods_of q (blocks * j)) (lists ran.outputs.items)
         × (ran.rounds ≡ blocks * length table.now.table.rows))

@@ -2,7 +2,7 @@
 
 ghost use Rattle.std.specs.Prelude.{◌≡◌, ◌<◌, ℕ, All, length, vec_len, IfOk};
 ghost use Rattle.sdf_actor.specs.Nets.{node};
-ghost use Rattle.sdf_node.specs.Nodes.{IsMost};
+ghost use Rattle.sdf_node.specs.Nodes.{IsMaxSamples};
 ghost use Rattle.sdf_rows.specs.Setup.{AreUnfired, HasPlaces};
 
 use crate::row_firing::RowFiring;
@@ -26,14 +26,14 @@ pub(crate) fn make_states<A: Actor>(
 }
 
 /// Returns the greatest number of samples that a firing of any node takes or puts.
-fn most<A: Actor>(net: &Net<A>) -> usize
-    ensures { (a : ℕ) → a < length net.now.nodes → IsMost A.steps (node net.now a) result }
+fn max_samples<A: Actor>(net: &Net<A>) -> usize
+    ensures { (a : ℕ) → a < length net.now.nodes → IsMaxSamples A.steps (node net.now a) result }
 {
-    let mut most = 0;
+    let mut max_samples = 0;
     for a in 0..net.len() {
-        most = most.max(sdf_node::most(net.node(a)));
+        max_samples = max_samples.max(sdf_node::max_samples(net.node(a)));
     }
-    most
+    max_samples
 }
 
 /// Makes a job with blocks of `places` samples, which is enough for any firing.
@@ -43,7 +43,7 @@ fn make_job<A: Actor>(
     places: usize,
     filler: A::Token,
 ) -> Result<RowFiring<A>, AllocError>
-    requires { (a : ℕ) → a < length net.now.nodes → IsMost A.steps (node net.now a) places }
+    requires { (a : ℕ) → a < length net.now.nodes → IsMaxSamples A.steps (node net.now a) places }
     ensures { IfOk result (HasPlaces A.steps net.now) }
 {
     let taken = Vec::with_capacity(alloc, places)?;
@@ -68,7 +68,7 @@ pub(crate) fn make_jobs<A: Actor>(
 ) -> Result<Vec<RowFiring<A>>, AllocError>
     ensures { IfOk result (λ v. (vec_len v ≡ width) × All (HasPlaces A.steps net.now) v.items) }
 {
-    let places = most(net);
+    let places = max_samples(net);
     let mut jobs = Vec::with_capacity(alloc, width)?;
     for _ in 0..width {
         jobs.push(make_job(alloc, net, places, filler)?)?;

@@ -7,15 +7,15 @@ use Rattle.std.proofs.lemmas.List.Sums.{sum_by-cons}
 use Rattle.std.proofs.lemmas.Nat.{div-mul-add, mod-mul-add}
 use Rattle.sdf_graph.specs.Rates.{rates}
 use Rattle.sdf_sched.specs.Period.{Schedule, IsPeriodOf}
-use Rattle.sdf_prec.specs.Tables.{Tabled}
+use Rattle.sdf_prec.specs.Tables.{TableValue}
 use Rattle.sdf_actor.specs.Graphs.{graph_of}
 use Rattle.sdf_actor.specs.Nets.{Netlist}
-use Rattle.sdf_actor.specs.Rests.{IsRest, AreJoined}
+use Rattle.sdf_actor.specs.NetStates.{IsNetState, AreJoined}
 use Rattle.sdf_actor.specs.Sides.{list_count, period_samples}
 use Rattle.sdf_actor.specs.Steps.{Steps}
-use Rattle.sdf_actor.specs.declared.rest.NetState.{NetState}
+use Rattle.sdf_actor.specs.declared.net_state.NetState.{NetState}
 use Rattle.sdf_actor.specs.declared.sides.Lists.TheVariants.{Inputs, Outputs}
-use Rattle.sdf_queues.specs.Answer.{HasInputs, periods_of, IsRunFault}
+use Rattle.sdf_queues.specs.RunResults.{HasInputs, periods_of, IsRunFault}
 use Rattle.sdf_queues.specs.Feeds.{HasRun, AreFull, GoesOnBy}
 use Rattle.sdf_prec.specs.BlockTables.{IsTableOf}
 use Rattle.sdf_queues.specs.declared.fault.RunFault.{RunFault}
@@ -85,10 +85,19 @@ blank_are : (T : Type 0) (k : ℕ) → AreNone k (blank {T = T} k)
 blank_are T k = record { count = blank_long T k; each = blank_at T k }
 
 -- a session that was fed nothing
-module _ {A S T : Type 0} (s : Steps A S T) (n : Netlist A T) (p : Schedule) (j : ℕ) (t : Tabled) (mode : Mode)
-    (rest : NetState T S) (first : (inputs : List (List T)) → IsRest s n inputs (λ _. 0) rest) where
+module _ {A S T : Type 0} (s : Steps A S T) (n : Netlist A T) (p : Schedule) (j : ℕ) (t : TableValue) (mode : Mode)
+    (rest : NetState T S) (first : (inputs : List (List T)) → IsNetState s n inputs (λ _. 0) rest) where
   abbrev opened : SessionValue A S T
-  opened = record { net = n; period = p; factor = j; table = t; mode = mode; rest = Some rest; blocks = 0; rounds = 0 }
+  opened = record {
+    net = n;
+    period = p;
+    blocking = j;
+    table = t;
+    mode = mode;
+    rest = Some rest;
+    blocks = 0;
+    rounds = 0;
+  }
 
   pub stands_first : (fed made : List (List T)) → AreNone (list_count Inputs n.nodes) fed →
       AreNone (list_count Outputs n.nodes) made → StandsAfter s opened 0 fed made
@@ -122,12 +131,12 @@ module _ {A S T : Type 0} (s : Steps A S T) (n : Netlist A T) (p : Schedule) (j 
     );
   }
 
--- where it stands after some lists, its rest is what they leave
+-- where it stands after some lists, its net state is what they leave
 pub rest_of : {A S T : Type 0} (s : Steps A S T) (v : SessionValue A S T) (old : NetState T S) → v.rest ≡ Some old →
     (few : ℕ) (fed made : List (List T)) → StandsAfter s v few fed made →
-    IsRest s v.net fed (periods_of v.period.repetitions (few * v.factor)) old
+    IsNetState s v.net fed (periods_of v.period.repetitions (few * v.blocking)) old
 rest_of s v old held few fed made stood =
-    subst (λ r. IsRest s v.net fed (periods_of v.period.repetitions (few * v.factor)) r)
+    subst (λ r. IsNetState s v.net fed (periods_of v.period.repetitions (few * v.blocking)) r)
     (some_is stood.rest old (sym stood.held ∙ held))
     (record { history = stood.run.history; is = stood.run.is; left = stood.run.left })
 
@@ -140,19 +149,20 @@ blocks_same many count j each samples blocks inputs many_is each_is =
 -- a run of blocks fails by memory alone
 pub feed_fault : {A S T : Type 0} (v : SessionValue A S T) (blocks : ℕ) (inputs : List (List T)) → IsLive v →
     FeedsBlocks v blocks inputs → (fault : RunFault) →
-    IsRunFault v.net v.period.repetitions (blocks * v.factor) inputs fault →
+    IsRunFault v.net v.period.repetitions (blocks * v.blocking) inputs fault →
     IsFeedFault v inputs fault × (record v { rest = None } ≡ after_fault v fault)
 feed_fault v blocks inputs live are OutOfMemory why = ((live, (blocks, are)), refl)
 feed_fault v blocks inputs live are InputLength why =
-    absurd (why (blocks_given v.net v.period.repetitions v.factor blocks inputs are))
+    absurd (why (blocks_given v.net v.period.repetitions v.blocking blocks inputs are))
 feed_fault v blocks inputs live are NotHomed why = absurd why
 feed_fault v blocks inputs live are Patience why = absurd why
 feed_fault v blocks inputs live are NoWorker why = absurd why
 feed_fault v blocks inputs live are SessionFailed why = absurd why
 
-module _ {A S T : Type 0} (s : Steps A S T) (v : SessionValue A S T) (old last : NetState T S) (held : v.rest ≡ Some old)
+module _ {A S T : Type 0} (s : Steps A S T) (v : SessionValue A S T) (old last : NetState T S)
+    (held : v.rest ≡ Some old)
     (blocks : ℕ) (fed made : List (List T)) (are : FeedsBlocks v blocks fed)
-    (on : GoesOnBy s v.net v.period.repetitions old (blocks * v.factor) fed made last) where
+    (on : GoesOnBy s v.net v.period.repetitions old (blocks * v.blocking) fed made last) where
   abbrev q : List ℕ
   q = v.period.repetitions
 
@@ -162,25 +172,25 @@ module _ {A S T : Type 0} (s : Steps A S T) (v : SessionValue A S T) (old last :
       length joined ≡ length before →
       StandsAfter s (record v { rest = Some last; blocks = seen; rounds = rounds }) (few + blocks) all joined
   stands_on seen rounds few first all before joined stood all_are all_long joined_are joined_long =
-      let sum : few * v.factor + blocks * v.factor ≡ (few + blocks) * v.factor = omega arith in
+      let sum : few * v.blocking + blocks * v.blocking ≡ (few + blocks) * v.blocking = omega arith in
       let same : stood.rest ≡ old = some_is stood.rest old (sym stood.held ∙ held) in
-      let before_is : HasRun s v.net first (periods_of q (few * v.factor)) before old =
-      subst (λ r. HasRun s v.net first (periods_of q (few * v.factor)) before r) same stood.run in
-      let run : HasRun s v.net all (periods_of q (few * v.factor + blocks * v.factor)) joined last =
-      on.runs (few * v.factor) first all before joined stood.given stood.full before_is all_are
+      let before_is : HasRun s v.net first (periods_of q (few * v.blocking)) before old =
+      subst (λ r. HasRun s v.net first (periods_of q (few * v.blocking)) before r) same stood.run in
+      let run : HasRun s v.net all (periods_of q (few * v.blocking + blocks * v.blocking)) joined last =
+      on.runs (few * v.blocking) first all before joined stood.given stood.full before_is all_are
       joined_are joined_long in
-      let full : AreFull v.net q ((few + blocks) * v.factor) all = λ e l.
+      let full : AreFull v.net q ((few + blocks) * v.blocking) all = λ e l.
       ap length (all_are e) ∙ (length-append (get_or first e []) (get_or fed e []) ∙ (
-      let one : length (get_or first e []) ≡ few * v.factor * period_samples v.net.nodes Inputs q =
+      let one : length (get_or first e []) ≡ few * v.blocking * period_samples v.net.nodes Inputs q =
       stood.full e (omega (arith, all_long)) in
-      let other : length (get_or fed e []) ≡ blocks * v.factor * period_samples v.net.nodes Inputs q =
-      blocks_full v.net q v.factor blocks fed are e (omega (arith, all_long, stood.given.count, are.count)) in
-      let split : few * v.factor * period_samples v.net.nodes Inputs q
-      + blocks * v.factor * period_samples v.net.nodes Inputs q ≡
-      (few + blocks) * v.factor * period_samples v.net.nodes Inputs q = omega arith in
+      let other : length (get_or fed e []) ≡ blocks * v.blocking * period_samples v.net.nodes Inputs q =
+      blocks_full v.net q v.blocking blocks fed are e (omega (arith, all_long, stood.given.count, are.count)) in
+      let split : few * v.blocking * period_samples v.net.nodes Inputs q
+      + blocks * v.blocking * period_samples v.net.nodes Inputs q ≡
+      (few + blocks) * v.blocking * period_samples v.net.nodes Inputs q = omega arith in
       omega (arith, one, other, split))) in
       record {
-        given = given_of v.net q ((few + blocks) * v.factor) all (all_long ∙ stood.given.count) full;
+        given = given_of v.net q ((few + blocks) * v.blocking) all (all_long ∙ stood.given.count) full;
         full = full;
         rest = last;
         held = refl;
@@ -203,10 +213,11 @@ module _ {A S T : Type 0} (s : Steps A S T) (v : SessionValue A S T) (old last :
       )
 
 -- what a feed does
-pub has_fed : {A S T : Type 0} (s : Steps A S T) (v : SessionValue A S T) (old last : NetState T S) → v.rest ≡ Some old →
+pub has_fed : {A S T : Type 0} (s : Steps A S T) (v : SessionValue A S T) (old last : NetState T S) →
+    v.rest ≡ Some old →
     (blocks rounds seen taken : ℕ) (fed made : List (List T)) → FeedsBlocks v blocks fed →
-    GoesOnBy s v.net v.period.repetitions old (blocks * v.factor) fed made last →
-    HasRounds v.table v.period.repetitions v.factor v.mode blocks rounds →
+    GoesOnBy s v.net v.period.repetitions old (blocks * v.blocking) fed made last →
+    HasRounds v.table v.period.repetitions v.blocking v.mode blocks rounds →
     seen ≡ counted (v.blocks + blocks) → taken ≡ counted (v.rounds + rounds) →
     HasFed s v (record v { rest = Some last; blocks = seen; rounds = taken }) blocks fed made rounds
 has_fed s v old last held blocks rounds seen taken fed made are on rounds_are seen_is taken_is = record {

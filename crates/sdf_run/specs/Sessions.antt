@@ -2,18 +2,18 @@
 use Rattle.std.specs.Prelude.{◌≡◌, ℕ, ◌+◌, ◌*◌, ◌-◌, ◌^◌, ◌≤◌, ◌<◌, min, List, [], ◌∷◌, ◌++◌, length, sum, Option, Some}
 use Rattle.std.specs.Prelude.{None, slice_index_or}
 use Rattle.std.specs.List.{flat_map, sum_by}
-use Rattle.sdf_limits.specs.declared.TheConstants.{MOST_PATIENCE}
+use Rattle.sdf_limits.specs.declared.TheConstants.{MAX_PATIENCE}
 use Rattle.sdf_graph.specs.Rates.{rates}
 use Rattle.sdf_sched.specs.Period.{Schedule, IsPeriodOf}
-use Rattle.sdf_prec.specs.Tables.{Tabled, IsHomed}
+use Rattle.sdf_prec.specs.Tables.{TableValue, IsHomed}
 use Rattle.sdf_actor.specs.Graphs.{graph_of}
 use Rattle.sdf_actor.specs.Nets.{Netlist}
-use Rattle.sdf_actor.specs.Rests.{AreJoined}
+use Rattle.sdf_actor.specs.NetStates.{AreJoined}
 use Rattle.sdf_actor.specs.Sides.{list_count, period_samples}
 use Rattle.sdf_actor.specs.Steps.{Steps}
-use Rattle.sdf_actor.specs.declared.rest.NetState.{NetState}
+use Rattle.sdf_actor.specs.declared.net_state.NetState.{NetState}
 use Rattle.sdf_actor.specs.declared.sides.Lists.TheVariants.{Inputs, Outputs}
-use Rattle.sdf_queues.specs.Answer.{HasInputs, periods_of}
+use Rattle.sdf_queues.specs.RunResults.{HasInputs, periods_of}
 use Rattle.sdf_queues.specs.Feeds.{HasRun, AreFull}
 use Rattle.sdf_prec.specs.BlockTables.{IsTableOf}
 use Rattle.sdf_queues.specs.declared.fault.RunFault.{RunFault}
@@ -28,34 +28,34 @@ pub record AreBlocks {T : Type 0} (many samples blocks : ℕ) (inputs : List (Li
   pub count : length inputs ≡ many
   pub each : (e : ℕ) → e < length inputs → length (slice_index_or inputs e []) ≡ blocks * samples
 
--- a net, a schedule of its period, and a table for blocks of `factor` periods; the net state that the feeds left,
+-- a net, a schedule of its period, and a table for blocks of `blocking` periods; the net state that the feeds left,
 -- unless the session is spent, and the counts
 pub record SessionValue (A S T : Type 0) : Type 0 where
   pub net : Netlist A T
   pub period : Schedule
-  pub factor : ℕ
-  pub table : Tabled
+  pub blocking : ℕ
+  pub table : TableValue
   pub mode : Mode
   pub rest : Option (NetState T S)
   pub blocks : ℕ
   pub rounds : ℕ
 
 -- a table can be run in a mode
-abbrev pub MayRun : Tabled → Mode → Type 0
+abbrev pub MayRun : TableValue → Mode → Type 0
 MayRun t Rows = Unit {0}
-MayRun t (Rings patience) = IsHomed t × (patience ≤ MOST_PATIENCE)
+MayRun t (Rings patience) = IsHomed t × (patience ≤ MAX_PATIENCE)
 
 -- the first test of MayRun that fails
-abbrev pub IsModeFault : Tabled → Mode → RunFault → Type 0
+abbrev pub IsModeFault : TableValue → Mode → RunFault → Type 0
 IsModeFault t mode OutOfMemory = Unit {0}
 IsModeFault t Rows fault = ⊥
 IsModeFault t (Rings patience) NotHomed = IsHomed t → ⊥
-IsModeFault t (Rings patience) Patience = IsHomed t × (MOST_PATIENCE < patience)
+IsModeFault t (Rings patience) Patience = IsHomed t × (MAX_PATIENCE < patience)
 IsModeFault t (Rings patience) fault = ⊥
 
 -- a run of `blocks` blocks can take this number of rounds: by rows, one for each row; over rings, at most one for each
 -- firing, and at least one if there are blocks
-abbrev pub HasRounds : Tabled → List ℕ → ℕ → Mode → ℕ → ℕ → Type 0
+abbrev pub HasRounds : TableValue → List ℕ → ℕ → Mode → ℕ → ℕ → Type 0
 HasRounds t q j Rows blocks rounds = rounds ≡ blocks * length t.rows
 HasRounds t q j (Rings patience) blocks rounds = (rounds ≤ blocks * (j * sum q)) × (0 < blocks → 0 < rounds)
 
@@ -70,22 +70,22 @@ IsLive {A} {S} {T} v = (rest : NetState T S) × (v.rest ≡ Some rest)
 -- the lists are this number of blocks for the session
 abbrev pub FeedsBlocks : {A S T : Type 0} → SessionValue A S T → ℕ → List (List T) → Type 0
 FeedsBlocks v blocks inputs = AreBlocks (list_count Inputs v.net.nodes)
-    (v.factor * period_samples v.net.nodes Inputs v.period.repetitions) blocks inputs
+    (v.blocking * period_samples v.net.nodes Inputs v.period.repetitions) blocks inputs
 
 -- the session is in the state after this number of blocks in the lists fed: it holds the net state that a run on them
 -- leaves, which makes the lists made
 pub record StandsAfter {A S T : Type 0} (s : Steps A S T) (v : SessionValue A S T) (blocks : ℕ)
     (fed made : List (List T)) : Type 0 where
-  pub given : HasInputs v.net v.period.repetitions (blocks * v.factor) fed
-  pub full : AreFull v.net v.period.repetitions (blocks * v.factor) fed
+  pub given : HasInputs v.net v.period.repetitions (blocks * v.blocking) fed
+  pub full : AreFull v.net v.period.repetitions (blocks * v.blocking) fed
   pub rest : NetState T S
   pub held : v.rest ≡ Some rest
-  pub run : HasRun s v.net fed (periods_of v.period.repetitions (blocks * v.factor)) made rest
+  pub run : HasRun s v.net fed (periods_of v.period.repetitions (blocks * v.blocking)) made rest
 
 -- what is true of every session; one that is not spent is in the state after some lists
 pub record IsSession {A S T : Type 0} (s : Steps A S T) (v : SessionValue A S T) : Type 0 where
   pub period : IsPeriodOf (rates (graph_of s v.net)) v.period
-  pub table : IsTableOf (rates (graph_of s v.net)) v.period.repetitions v.factor v.table
+  pub table : IsTableOf (rates (graph_of s v.net)) v.period.repetitions v.blocking v.table
   pub may : MayRun v.table v.mode
   pub stands : IsLive v → (blocks : ℕ) × (fed : List (List T)) × (made : List (List T))
       × StandsAfter s v blocks fed made
@@ -97,7 +97,7 @@ pub record HasFed {A S T : Type 0} (s : Steps A S T) (v w : SessionValue A S T) 
   pub live : IsLive v
   pub whole : FeedsBlocks v blocks fed
   pub count : length made ≡ list_count Outputs v.net.nodes
-  pub taken : HasRounds v.table v.period.repetitions v.factor v.mode blocks rounds
+  pub taken : HasRounds v.table v.period.repetitions v.blocking v.mode blocks rounds
   pub rest : NetState T S
   pub now : w ≡ record v {
     rest = Some rest;

@@ -10,10 +10,10 @@ pub mod mode;
 pub mod session;
 
 pub use mode::Mode;
-pub use sdf_queues::{Ran, RunFault, laws};
 pub use sdf_node::{ActorId, Gate, NoGate};
 pub use sdf_one::{RunInputs, SpareMemory, feed_one, resume_one, resume_one_in, run_one};
 pub use sdf_prec::BlockTable;
+pub use sdf_queues::{Ran, RunFault, laws};
 pub use sdf_rings::{Rings, Workers, run_rings};
 pub use sdf_rows::run_rows;
-pub use session::{Closed, Session};
+pub use session::{Closed, Session, SessionTerms};

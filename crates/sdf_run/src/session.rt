@@ -3,11 +3,11 @@
 ghost use Rattle.std.specs.Prelude.{◌≡◌, ◌*◌, ◌≤◌, ◌<◌, ℕ, List, length, MatchResult, IfSome, IfNone, IfOk, None};
 ghost use Rattle.sdf_graph.specs.Rates.{rates};
 ghost use Rattle.sdf_actor.specs.Graphs.{graph_of};
-ghost use Rattle.sdf_actor.specs.Rests.{IsRest};
+ghost use Rattle.sdf_actor.specs.NetStates.{IsNetState};
 ghost use Rattle.sdf_actor.specs.Sides.{list_count};
 ghost use Rattle.sdf_actor.specs.Wires.{lists};
 ghost use Rattle.sdf_actor.specs.declared.sides.Lists.TheVariants.{Inputs, Outputs};
-ghost use Rattle.sdf_queues.specs.Answer.{periods_of, IsRunFault};
+ghost use Rattle.sdf_queues.specs.RunResults.{periods_of, IsRunFault};
 ghost use Rattle.sdf_queues.specs.Feeds.{GoesOnBy};
 ghost use Rattle.sdf_prec.specs.BlockTables.{IsBlockTableOf};
 ghost use Rattle.sdf_queues.specs.declared.fault.RunFault.TheVariants.{SessionFailed};
@@ -16,11 +16,11 @@ ghost use Rattle.sdf_run.specs.Sessions.{StandsAfter, HasFed, IsFeedFault, after
 
 use crate::mode::Mode;
 use sdf_actor::{Actor, Net, NetState};
-use sdf_queues::inputs::are_inputs;
-use sdf_queues::{Ran, RunFault};
-use sdf_limits::MOST_PATIENCE;
+use sdf_limits::MAX_PATIENCE;
 use sdf_node::Gate;
 use sdf_prec::{BlockTable, Table};
+use sdf_queues::inputs::are_inputs;
+use sdf_queues::{Ran, RunFault};
 use sdf_rings::{Workers, resume_rings};
 use sdf_rows::{TableBlocks, resume_rows};
 use std::alloc::Global;
@@ -49,7 +49,7 @@ impl<'a, A: Actor> Model for Session<'a, A> {
     ghost view = { λ s. record {
       net = s.net.now;
       period = s.table.now.period;
-      factor = s.table.now.factor;
+      blocking = s.table.now.blocking;
       table = s.table.now.table;
       mode = s.mode;
       rest = s.rest;
@@ -60,7 +60,7 @@ impl<'a, A: Actor> Model for Session<'a, A> {
     ghost invariant = { λ s. IsSession A.steps (record {
       net = s.net.now;
       period = s.table.now.period;
-      factor = s.table.now.factor;
+      blocking = s.table.now.blocking;
       table = s.table.now.table;
       mode = s.mode;
       rest = s.rest;
@@ -77,7 +77,7 @@ pub struct Closed {
 }
 
 /// Checks whether `table` can be run in `mode`.
-fn may_run(table: &Table, mode: Mode) -> Result<(), RunFault>
+fn check_mode(table: &Table, mode: Mode) -> Result<(), RunFault>
     ensures { MatchResult result (λ _. MayRun table.now mode) (IsModeFault table.now mode) }
 {
     match mode {
@@ -86,7 +86,7 @@ fn may_run(table: &Table, mode: Mode) -> Result<(), RunFault>
             if !table.homed() {
                 return Err(RunFault::NotHomed);
             }
-            if patience > MOST_PATIENCE {
+            if patience > MAX_PATIENCE {
                 return Err(RunFault::Patience);
             }
             Ok(())
@@ -116,18 +116,18 @@ fn blocks_in<T>(inputs: &[Vec<T>], many: usize, samples: usize) -> Option<u32>
     Some(blocks as u32)
 }
 
-/// The terms of a session: a net, a table of its blocks, and how these are run.
+/// The terms of a session: a net, the table of blocks that its workers follow, and the mode in which they run them.
 #[derive_where(Clone, Copy)]
-struct Terms<'a, A: Actor> {
-    net: &'a Net<A>,
-    table: &'a BlockTable,
-    mode: Mode,
+pub struct SessionTerms<'a, A: Actor> {
+    pub net: &'a Net<A>,
+    pub table: &'a BlockTable,
+    pub mode: Mode,
 }
 
 /// Resumes a run from `rest` for `blocks` further blocks.
-fn go_on<R: Threads + AllocGlobal + Sync, A: Actor, G: Gate>(
+fn resume<R: Threads + AllocGlobal + Sync, A: Actor, G: Gate>(
     rt: &R,
-    terms: Terms<'_, A>,
+    terms: SessionTerms<'_, A>,
     rest: &NetState<A::Token, A::State>,
     blocks: u32,
     inputs: &[Vec<A::Token>],
@@ -136,14 +136,14 @@ fn go_on<R: Threads + AllocGlobal + Sync, A: Actor, G: Gate>(
     requires fits { IsBlockTableOf (rates (graph_of A.steps terms.net.now)) terms.table.now }
     requires may { MayRun terms.table.now.table terms.mode }
     requires rest { (first : List (List A.Token)) × (few : ℕ)
-        × IsRest A.steps terms.net.now first (periods_of terms.table.now.period.repetitions few) rest.now }
+        × IsNetState A.steps terms.net.now first (periods_of terms.table.now.period.repetitions few) rest.now }
     ensures { let n = terms.entry.net.now in let t = terms.entry.table.now in let q = t.period.repetitions in
         MatchResult result
-        (λ fed. GoesOnBy A.steps n q rest.now (blocks * t.factor) (lists inputs.now) (lists fed.0.outputs.items) fed.1
-        × HasRounds t.table q t.factor terms.entry.mode blocks fed.0.rounds)
-        (IsRunFault n q (blocks * t.factor) (lists inputs.now)) }
+        (λ fed. GoesOnBy A.steps n q rest.now (blocks * t.blocking) (lists inputs.now) (lists fed.0.outputs.items) fed.1
+        × HasRounds t.table q t.blocking terms.entry.mode blocks fed.0.rounds)
+        (IsRunFault n q (blocks * t.blocking) (lists inputs.now)) }
 {
-    let Terms { net, table, mode } = terms;
+    let SessionTerms { net, table, mode } = terms;
     match mode {
         Mode::Rows => {
             let plan = TableBlocks { table, blocks };
@@ -170,7 +170,7 @@ impl<'a, A: Actor> Session<'a, A> {
             record {
               net = net.now;
               period = table.now.period;
-              factor = table.now.factor;
+              blocking = table.now.blocking;
               table = table.now.table;
               mode = mode;
               rest = v.rest;
@@ -181,12 +181,12 @@ impl<'a, A: Actor> Session<'a, A> {
             AreNone (list_count Inputs net.now.nodes) fed → AreNone (list_count Outputs net.now.nodes) made →
             StandsAfter A.steps v 0 fed made) }
     {
-        may_run(&table.table, mode)?;
+        check_mode(&table.table, mode)?;
         Ok(Session {
             net,
             table,
             mode,
-            rest: Some(net.first_rest(alloc)?),
+            rest: Some(net.initial_state(alloc)?),
             blocks: 0,
             rounds: 0,
         })
@@ -212,16 +212,16 @@ impl<'a, A: Actor> Session<'a, A> {
         let Some(rest) = &self.rest else {
             return Err(RunFault::SessionFailed);
         };
-        let samples = self.table.factor as usize * self.net.samples_in();
+        let samples = self.table.blocking as usize * self.net.samples_in();
         let Some(blocks) = blocks_in(inputs, self.net.inputs(), samples) else {
             return Err(RunFault::InputLength);
         };
-        let terms = Terms {
+        let terms = SessionTerms {
             net: self.net,
             table: self.table,
             mode: self.mode,
         };
-        let fed = go_on(rt, terms, rest, blocks, inputs, gate);
+        let fed = resume(rt, terms, rest, blocks, inputs, gate);
         match fed {
             Ok((ran, last)) => {
                 self.rest = Some(last);

@@ -2,12 +2,12 @@
 use Rattle.std.proofs.Common.{◌≡◌, ℕ, ◌≤◌, ◌<◌, length, get_or, ◌∙◌, inl, inr, ◌⊎◌, arith}
 use Rattle.std.proofs.lemmas.List.{get_or_default}
 use Rattle.std.proofs.lemmas.Bool.{cases_lt}
-use Rattle.sdf_graph.specs.Rates.{Shape, rates}
+use Rattle.sdf_graph.specs.Rates.{GraphValue, rates}
 use Rattle.sdf_graph.specs.Sequences.{IsRunnable}
 use Rattle.sdf_sched.specs.Pick.{Chooses, IsChoice}
 use Rattle.sdf_sched.proofs.Updates.{place_of, not_falling}
 
-module _ (P : Type 0) (chooses : Chooses P) (g : Shape) (q k : ℕ → ℕ) (p p' : P) (a : ℕ)
+module _ (P : Type 0) (chooses : Chooses P) (g : GraphValue) (q k : ℕ → ℕ) (p p' : P) (a : ℕ)
     (c : IsChoice chooses g q p k a p') where
   pub is_runnable : IsRunnable (rates g) q k a
   is_runnable = (c.runnable.each a).0 (c.at, c.below, get_or_default c.among c.at a 0 c.below ∙ c.is)

@@ -3,10 +3,10 @@ use Rattle.std.proofs.Common.{◌≡◌, ℕ, zero, suc, ◌≤◌, ◌<◌, Lis
 use Rattle.std.proofs.Common.{false, sym, ap, ◌∙◌, subst, inl, inr, ◌⊎◌, arith}
 use Rattle.std.proofs.lemmas.List.{ext_get_or}
 use Rattle.std.proofs.lemmas.Bool.{cases_lt, eqb-true, false≢true}
-use Rattle.sdf_graph.specs.Rates.{Shape, IsSound, rates}
+use Rattle.sdf_graph.specs.Rates.{GraphValue, IsSound, rates}
 use Rattle.sdf_graph.specs.Sequences.{times, IsRunnable, IsAdmissible, IsPass, IsDeadlocked}
 use Rattle.sdf_graph.specs.Periods.{IsLeastPeriod}
-use Rattle.sdf_graph.specs.Tally.{Tally}
+use Rattle.sdf_graph.specs.CountsValue.{CountsValue}
 use Rattle.sdf_sched.specs.Pick.{Chooses, IsPicked, begins, fires}
 use Rattle.sdf_sched.specs.ClassS.{IsGoing}
 use Rattle.sdf_sched.specs.Period.{IsPeriodOf}
@@ -17,7 +17,7 @@ use Rattle.sdf_sched.proofs.Going.{each_more}
 use Rattle.sdf_sched.proofs.Choices.{is_runnable}
 
 -- each firing that a pick chooses is of a runnable actor
-module _ (P : Type 0) (chooses : Chooses P) (g : Shape) (q : ℕ → ℕ) (p : P) where
+module _ (P : Type 0) (chooses : Chooses P) (g : GraphValue) (q : ℕ → ℕ) (p : P) where
   pub each_runs : (w : List ℕ) (p' : P) → IsPicked chooses g q p w p' → (i : ℕ) → i < length w →
       IsRunnable (rates g) q (times (take i w)) (get_or w i 0)
   each_runs _ _ begins i h = absurd (omega arith)
@@ -25,8 +25,8 @@ module _ (P : Type 0) (chooses : Chooses P) (g : Shape) (q : ℕ → ℕ) (p : P
       each_more (λ v b. IsRunnable (rates g) q (times v) b) w a (each_runs w p' picked)
       (is_runnable P chooses g q (times w) p' p'' a choice) i h
 
-module _ (P : Type 0) (chooses : Chooses P) (g : Shape) (q : List ℕ) (p : P) where
-  module _ (t : Tally) (w : List ℕ) (p' : P) (now : IsGoing chooses g q p t w p' []) where
+module _ (P : Type 0) (chooses : Chooses P) (g : GraphValue) (q : List ℕ) (p : P) where
+  module _ (t : CountsValue) (w : List ℕ) (p' : P) (now : IsGoing chooses g q p t w p' []) where
     runnable : (i : ℕ) → i < length w → IsRunnable (rates g) (slice_index q) (times (take i w)) (get_or w i 0)
     runnable i h = each_runs P chooses g (slice_index q) p w p' now.picked i h
 

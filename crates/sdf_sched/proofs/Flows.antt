@@ -9,7 +9,7 @@ use Rattle.sdf_graph.specs.Adjacency.{ListsExactly, actor_at}
 use Rattle.sdf_graph.specs.declared.channel.End.{End}
 use Rattle.sdf_graph.specs.declared.channel.End.TheVariants.{Source, Target}
 use Rattle.sdf_graph.specs.Moved.{moves}
-use Rattle.sdf_graph.specs.Rates.{Shape, IsShape, rates, channel, sum_to}
+use Rattle.sdf_graph.specs.Rates.{GraphValue, IsShape, rates, channel, sum_to}
 use Rattle.sdf_sched.specs.Lean.{moved_by}
 use Rattle.sdf_graph.proofs.Theorems.{sums_grow}
 use Rattle.sdf_sched.proofs.Updates.{place_of, stands_at, apart, length_within}
@@ -128,7 +128,7 @@ flow_of of rate a n m xs lists i e j past total is =
     ∙ sym (sum_of_own of a (λ c. sum_to (rate c) (n + 1) - sum_to (rate c) n) m xs lists)))
 
 -- so it is at either end
-pub flow_at : (end : End) (g : Shape) (k : ℕ → ℕ) (a total : ℕ) →
+pub flow_at : (end : End) (g : GraphValue) (k : ℕ → ℕ) (a total : ℕ) →
     total ≡ sum_by (λ c. cond (eqb (actor_at end (channel g c)) a)
     (sum_to (moves end (channel g c)) (k a + 1) - sum_to (moves end (channel g c)) (k a)) 0)
     (range_with_len 0 (length g.channels)) →
@@ -137,7 +137,7 @@ flow_at Source g k a total is = is
 flow_at Target g k a total is = is
 
 -- and no rate is over the limit
-pub moves_small : (end : End) (g : Shape) → IsShape g → (c i : ℕ) → c < length g.channels →
+pub moves_small : (end : End) (g : GraphValue) → IsShape g → (c i : ℕ) → c < length g.channels →
     moves end (channel g c) i ≤ 1024
 moves_small Source g shape c i h = (shape.put c h).small (i % length (channel g c).put)
 moves_small Target g shape c i h = (shape.take c h).small (i % length (channel g c).take)

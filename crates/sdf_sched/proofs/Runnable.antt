@@ -5,10 +5,10 @@ use Rattle.std.specs.List.{Contains}
 use Rattle.std.specs.List.Sorted.{IsStrictlyIncreasing}
 use Rattle.std.proofs.lemmas.List.{get_or-set_same, get_or-set_other}
 use Rattle.std.proofs.lemmas.Bool.{cases_eq}
-use Rattle.sdf_graph.specs.Rates.{Rates, IsSound, Shape, rates, channel}
+use Rattle.sdf_graph.specs.Rates.{Rates, IsSound, GraphValue, rates, channel}
 use Rattle.std.specs.Prelude.{Option, Some, None}
 use Rattle.sdf_graph.specs.Sequences.{IsReady, IsRunnable}
-use Rattle.sdf_sched.specs.ClassS.{IsPlaced, listed, over, waits, IsTested, AreCandidates}
+use Rattle.sdf_sched.specs.ClassS.{HasStatus, listed, over, waits, IsTested, AreCandidates}
 use Rattle.sdf_sched.proofs.Greedy.{IsEnabled_rises}
 use Rattle.sdf_sched.proofs.Updates.{place_of}
 
@@ -17,11 +17,11 @@ pub record IsCaughtUp (r : Rates) (q k : ℕ → ℕ) (later : ℕ → Type 0) (
   pub rising : IsStrictlyIncreasing xs
   pub each : (b : ℕ) → Contains xs b → IsRunnable r q k b
   pub all : length ws ≡ r.actors
-  pub placed : (b : ℕ) → b < r.actors → IsPlaced r q k later xs ws b
+  pub placed : (b : ℕ) → b < r.actors → HasStatus r q k later xs ws b
 
 module _ (r : Rates) (q k : ℕ → ℕ) where
-  wider : (later : ℕ → Type 0) (xs : List ℕ) (ws : List (Option ℕ)) (a : ℕ) → IsPlaced r q k (λ _. ⊥) xs ws a →
-      IsPlaced r q k later xs ws a
+  wider : (later : ℕ → Type 0) (xs : List ℕ) (ws : List (Option ℕ)) (a : ℕ) → HasStatus r q k (λ _. ⊥) xs ws a →
+      HasStatus r q k later xs ws a
   wider later xs ws a (listed h) = listed h
   wider later xs ws a (over h) = over h
   wider later xs ws a (waits c e l t (inl x)) = absurd x
@@ -30,7 +30,7 @@ module _ (r : Rates) (q k : ℕ → ℕ) where
   -- where an actor stands beside one that is tested
   module _ (xs ys : List ℕ) (ws vs : List (Option ℕ)) (a : ℕ) (up : IsTested r q k a xs ws ys vs) where
     beside : (later then : ℕ → Type 0) (b : ℕ) → (b ≡ a → ⊥) → ((c : ℕ) → r.target c ≡ b → later c → then c) →
-        IsPlaced r q k later xs ws b → IsPlaced r q k then ys vs b
+        HasStatus r q k later xs ws b → HasStatus r q k then ys vs b
     beside later then b ne move (listed h) = listed ((up.list.others b ne).1 h)
     beside later then b ne move (over h) = over h
     beside later then b ne move (waits c e l t (inl x)) = waits c (up.others b ne ∙ e) l t (inl (move c t x))
@@ -78,13 +78,13 @@ module _ (r : Rates) (sound : IsSound r) (q k m : ℕ → ℕ) (a : ℕ) (own : 
       each b h (inr ne) = stays_runnable b ne ((was.list.each b).0 ((up.list.others b ne).0 h))
 
       waiting : (b c : ℕ) → (b ≡ a → ⊥) → get_or ws b None ≡ Some c → c < r.channels → r.target c ≡ b →
-          (IsReady r k c → ⊥) → (r.source c ≡ a) ⊎ (r.source c ≡ a → ⊥) → IsPlaced r q m later ys vs b
+          (IsReady r k c → ⊥) → (r.source c ≡ a) ⊎ (r.source c ≡ a → ⊥) → HasStatus r q m later ys vs b
       waiting b c ne e l t short (inl fed) = waits c (up.others b ne ∙ e) l t (inl (all c l fed))
       waiting b c ne e l t short (inr apart) =
           waits c (up.others b ne ∙ e) l t (inr (still_short c b t ne apart short))
 
-      place : (b : ℕ) → (b ≡ a) ⊎ (b ≡ a → ⊥) → IsPlaced r q k (λ _. ⊥) xs ws b → IsPlaced r q m later ys vs b
-      place b (inl e) z = subst (IsPlaced r q m later ys vs) (sym e) (wider r q m later ys vs a up.here)
+      place : (b : ℕ) → (b ≡ a) ⊎ (b ≡ a → ⊥) → HasStatus r q k (λ _. ⊥) xs ws b → HasStatus r q m later ys vs b
+      place b (inl e) z = subst (HasStatus r q m later ys vs) (sym e) (wider r q m later ys vs a up.here)
       place b (inr ne) (listed h) = listed ((up.list.others b ne).1 h)
       place b (inr ne) (over h) = over (omega (arith, other b ne))
       place b (inr ne) (waits c e l t (inl x)) = absurd x
@@ -107,8 +107,8 @@ module _ (r : Rates) (q k : ℕ → ℕ) (d : ℕ) (later then : ℕ → Type 0)
       each b h (inl e) = subst (IsRunnable r q k) (sym e) (up.list.here.0 (subst (Contains ys) e h))
       each b h (inr ne) = was.each b ((up.list.others b ne).0 h)
 
-      place : (b : ℕ) → b < r.actors → (b ≡ r.target d) ⊎ (b ≡ r.target d → ⊥) → IsPlaced r q k then ys vs b
-      place b l (inl e) = subst (IsPlaced r q k then ys vs) (sym e) (wider r q k then ys vs (r.target d) up.here)
+      place : (b : ℕ) → b < r.actors → (b ≡ r.target d) ⊎ (b ≡ r.target d → ⊥) → HasStatus r q k then ys vs b
+      place b l (inl e) = subst (HasStatus r q k then ys vs) (sym e) (wider r q k then ys vs (r.target d) up.here)
       place b l (inr ne) = beside r q k xs ys ws vs (r.target d) up later then b ne
           (λ c t x. rest c (λ is. ne (sym t ∙ ap r.target is)) x) (was.placed b l)
 
@@ -121,7 +121,7 @@ module _ (r : Rates) (q k : ℕ → ℕ) (d : ℕ) (later then : ℕ → Type 0)
     placed = λ b l. place b (was.placed b l);
   }
     where
-      place : (b : ℕ) → IsPlaced r q k later xs ws b → IsPlaced r q k then xs ws b
+      place : (b : ℕ) → HasStatus r q k later xs ws b → HasStatus r q k then xs ws b
       place b (listed h) = listed h
       place b (over h) = over h
       place b (waits c e l t (inl x)) = waits c e l t (inl (rest c (λ is. other
@@ -140,13 +140,13 @@ all_caught_up r q k later none xs ws was = record {
   placed = λ b l. place b (was.placed b l);
 }
   where
-    listed_of : (b : ℕ) → IsRunnable r q k b → IsPlaced r q k later xs ws b → Contains xs b
+    listed_of : (b : ℕ) → IsRunnable r q k b → HasStatus r q k later xs ws b → Contains xs b
     listed_of b on (listed h) = h
     listed_of b on (over h) = absurd (omega (arith, on.1))
     listed_of b on (waits c e l t (inl x)) = absurd (none c x)
     listed_of b on (waits c e l t (inr short)) = absurd (short (on.2 c l t))
 
-    place : (b : ℕ) → IsPlaced r q k later xs ws b → IsPlaced r q k (λ _. ⊥) xs ws b
+    place : (b : ℕ) → HasStatus r q k later xs ws b → HasStatus r q k (λ _. ⊥) xs ws b
     place b (listed h) = listed h
     place b (over h) = over h
     place b (waits c e l t (inl x)) = absurd (none c x)
@@ -158,7 +158,7 @@ pub record IsCollected (r : Rates) (q k : ℕ → ℕ) (n : ℕ) (xs : List ℕ)
   pub early : (a : ℕ) → Contains xs a → a < n
   pub each : (a : ℕ) → Contains xs a → IsRunnable r q k a
   pub all : length ws ≡ r.actors
-  pub placed : (a : ℕ) → a < n → IsPlaced r q k (λ _. ⊥) xs ws a
+  pub placed : (a : ℕ) → a < n → HasStatus r q k (λ _. ⊥) xs ws a
 
 pub collected_none : (r : Rates) (q k : ℕ → ℕ) (xs : List ℕ) (ws : List (Option ℕ)) → xs ≡ [] →
     length ws ≡ r.actors → IsCollected r q k 0 xs ws
@@ -188,8 +188,8 @@ collected_more r q k n xs ys ws vs was up = record {
     each a h (inl e) = subst (IsRunnable r q k) (sym e) (up.list.here.0 (subst (Contains ys) e h))
     each a h (inr ne) = was.each a ((up.list.others a ne).0 h)
 
-    place : (a : ℕ) → a < n + 1 → (a ≡ n) ⊎ (a ≡ n → ⊥) → IsPlaced r q k (λ _. ⊥) ys vs a
-    place a h (inl e) = subst (IsPlaced r q k (λ _. ⊥) ys vs) (sym e) up.here
+    place : (a : ℕ) → a < n + 1 → (a ≡ n) ⊎ (a ≡ n → ⊥) → HasStatus r q k (λ _. ⊥) ys vs a
+    place a h (inl e) = subst (HasStatus r q k (λ _. ⊥) ys vs) (sym e) up.here
     place a h (inr ne) = beside r q k xs ys ws vs n up (λ _. ⊥) (λ _. ⊥) a ne
         (λ c t x. x) (was.placed a (omega arith))
 
@@ -203,7 +203,7 @@ collected_all r q k n xs ws whole was = all_caught_up r q k (λ _. ⊥) (λ c x.
 })
 
 -- `fired`, of counts that are kept in a list
-pub after_firing : (g h : Shape) → h ≡ g → IsSound (rates g) → (q : ℕ → ℕ) (before now : List ℕ) (a : ℕ) →
+pub after_firing : (g h : GraphValue) → h ≡ g → IsSound (rates g) → (q : ℕ → ℕ) (before now : List ℕ) (a : ℕ) →
     a < length before → now ≡ set before a (get_or before a 0 + 1) →
     (xs ys : List ℕ) (ws vs : List (Option ℕ)) → AreCandidates (rates g) q (slice_index before) xs ws →
     IsTested (rates h) q (slice_index now) a xs ws ys vs →
@@ -213,7 +213,7 @@ after_firing g h same sound q before now a known is xs ys ws vs was up later all
     fired (rates g) sound q (slice_index before) (slice_index now) a
     (ap (λ (n : List ℕ). get_or n a 0) is ∙ get_or-set_same before a (get_or before a 0 + 1) 0 known)
     (λ b ne. ap (λ (n : List ℕ). get_or n b 0) is ∙ get_or-set_other before a b (get_or before a 0 + 1) 0 ne)
-    xs ys ws vs was (subst (λ (s : Shape). IsTested (rates s) q (slice_index now) a xs ws ys vs) same up) later all
+    xs ys ws vs was (subst (λ (s : GraphValue). IsTested (rates s) q (slice_index now) a xs ws ys vs) same up) later all
 
 -- c stands in xs at i or behind
 abbrev pub IsFrom : List ℕ → ℕ → ℕ → Type 0
@@ -232,18 +232,18 @@ from_none xs i c past (j, (h, (l, e))) = omega arith
 pub from_start : (xs : List ℕ) (c : ℕ) → Contains xs c → IsFrom xs 0 c
 from_start xs c h = let i = place_of xs c h in (i.0, (omega arith, i.1))
 
-module _ (g : Shape) (q k : ℕ → ℕ) (outs : List ℕ) (i t : ℕ) (is : t ≡ (channel g (get_or outs i 0)).to)
+module _ (g : GraphValue) (q k : ℕ → ℕ) (outs : List ℕ) (i t : ℕ) (is : t ≡ (channel g (get_or outs i 0)).to)
     (xs : List ℕ) (ws : List (Option ℕ)) (was : IsCaughtUp (rates g) q k (IsFrom outs i) xs ws) where
   rest : (c : ℕ) → (c ≡ get_or outs i 0 → ⊥) → IsFrom outs i c → IsFrom outs (i + 1) c
   rest c ne l = from_next outs i (get_or outs i 0) c refl ne l
 
   -- `tested`, as a loop's step tells it
-  pub next_tested : (h : Shape) → h ≡ g → (ys : List ℕ) (vs : List (Option ℕ)) →
+  pub next_tested : (h : GraphValue) → h ≡ g → (ys : List ℕ) (vs : List (Option ℕ)) →
       IsTested (rates h) q k t xs ws ys vs → IsCaughtUp (rates g) q k (IsFrom outs (i + 1)) ys vs
   next_tested h same ys vs up =
       tested (rates g) q k (get_or outs i 0) (IsFrom outs i) (IsFrom outs (i + 1)) rest xs ws was ys vs
       (subst (λ t. IsTested (rates g) q k t xs ws ys vs) is
-      (subst (λ (s : Shape). IsTested (rates s) q k t xs ws ys vs) same up))
+      (subst (λ (s : GraphValue). IsTested (rates s) q k t xs ws ys vs) same up))
 
   -- `passed`, as a loop's step tells it
   pub next_passed : (get_or ws t None ≡ Some (get_or outs i 0) → ⊥) →

@@ -3,7 +3,7 @@ use Rattle.std.proofs.Common.{◌≡◌, ℕ, ◌≤◌, ◌<◌, List, [], ◌�
 use Rattle.std.proofs.Common.{inr, ◌⊎◌, arith}
 use Rattle.std.proofs.lemmas.List.{get_or_push}
 use Rattle.std.proofs.lemmas.Bool.{cases_lt}
-use Rattle.sdf_graph.specs.Rates.{Rates, Shape, rates}
+use Rattle.sdf_graph.specs.Rates.{Rates, GraphValue, rates}
 use Rattle.sdf_graph.specs.Sequences.{times, IsRunnable}
 use Rattle.sdf_sched.specs.Pick.{IsPicked, IsChoice, begins, fires}
 use Rattle.sdf_sched.specs.Round.{IsNextInPass}
@@ -21,7 +21,7 @@ first_is_itself r q k a b next on = go (cases_lt a b) (cases_lt b a)
     go z (inl more) = absurd (next.first a on (inr (more, inl (omega arith))))
     go (inr h) (inr l) = omega arith
 
-module _ (g : Shape) (q : ℕ → ℕ) where
+module _ (g : GraphValue) (q : ℕ → ℕ) where
   chosen_is_next : (k : ℕ → ℕ) (last last' a : ℕ) → IsChoice IsRunsChoice g q last k a last' →
       IsNextFrom (rates g) q k last a
   chosen_is_next k last last' a c = record {

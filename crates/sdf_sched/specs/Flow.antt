@@ -1,6 +1,6 @@
 -- The samples that a firing moves, as the lean policy keeps them.
 use Rattle.std.specs.Prelude.{◌≡◌, ℕ, ◌*◌, ◌≤◌}
-use Rattle.sdf_limits.specs.declared.TheConstants.{MOST_RATE, MOST_LINKS}
+use Rattle.sdf_limits.specs.declared.TheConstants.{MAX_RATE, MAX_LINKS}
 use Rattle.sdf_graph.specs.Rates.{Rates}
 use Rattle.sdf_sched.specs.Lean.{puts, takes}
 use Rattle.sdf_sched.specs.declared.lean.Flow.{Flow}
@@ -12,5 +12,5 @@ pub record IsFlow (r : Rates) (k : ℕ → ℕ) (a : ℕ) (f : Flow) : Type 0 wh
 
 -- the samples put and taken are at most what all channels can move
 pub record AreSmall (f : Flow) : Type 0 where
-  pub put : f.put ≤ MOST_RATE * MOST_LINKS
-  pub taken : f.taken ≤ MOST_RATE * MOST_LINKS
+  pub put : f.put ≤ MAX_RATE * MAX_LINKS
+  pub taken : f.taken ≤ MAX_RATE * MAX_LINKS

@@ -1,13 +1,13 @@
 -- The policy of runs: it stays with an actor while it is runnable, and then goes to the next runnable one in file
 -- order.
 use Rattle.std.specs.Prelude.{◌≡◌, ℕ, ◌≤◌, ◌<◌, List, ◌∷◌, length, slice_index, take, ◌⊎◌}
-use Rattle.sdf_graph.specs.Rates.{Rates, Shape}
+use Rattle.sdf_graph.specs.Rates.{Rates, GraphValue}
 use Rattle.sdf_graph.specs.Sequences.{times, IsRunnable}
 use Rattle.sdf_sched.specs.Round.{IsNextInPass}
 
 -- the state of `Runs` is the actor that fired last: the first runnable actor from there on fires; if none is left, the
 -- first of all fires
-pub record IsRunsChoice (last : ℕ) (g : Shape) (k : ℕ → ℕ) (xs : List ℕ) (at : ℕ) (last' : ℕ) : Type 0 where
+pub record IsRunsChoice (last : ℕ) (g : GraphValue) (k : ℕ → ℕ) (xs : List ℕ) (at : ℕ) (last' : ℕ) : Type 0 where
   pub next : IsNextInPass last xs at
   pub after : last' ≡ slice_index xs at
 

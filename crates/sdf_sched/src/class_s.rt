@@ -11,14 +11,14 @@ ghost use Rattle.sdf_graph.specs.Periods.{IsLeastPeriod};
 ghost use Rattle.sdf_sched.specs.Pick.{IsPicked};
 ghost use Rattle.sdf_sched.specs.Period.{IsPeriodOf};
 ghost use Rattle.sdf_sched.specs.Stuck.{IsShortList, IsSchedFault};
-ghost use Rattle.sdf_sched.specs.ClassS.{IsGoing, IsUpdated, IsTold, IsTested, AreCandidates};
+ghost use Rattle.sdf_sched.specs.ClassS.{IsGoing, IsUpdated, IsShortOf, IsTested, AreCandidates};
 
 use crate::fault::SchedFault;
 use crate::period::Period;
 use crate::pick::Pick;
 use crate::stuck::Stuck;
 use sdf_graph::{Counts, Graph, Repetitions};
-use sdf_limits::MOST_PERIOD;
+use sdf_limits::MAX_PERIOD;
 use std::alloc::{AllocError, Global};
 
 /// The runnable actors in file order, and for each other actor with firings left the channel that it waits for.
@@ -32,7 +32,7 @@ struct Candidates {
 fn short_of(counts: &Counts, firings: &[u32], actor: usize) -> Option<usize>
     requires all { length firings.now ≡ counts.now.graph.actors }
     requires known { actor < length firings.now }
-    ensures { IsTold (rates counts.now.graph) (slice_index firings.now) (slice_index counts.now.fired) actor result }
+    ensures { IsShortOf (rates counts.now.graph) (slice_index firings.now) (slice_index counts.now.fired) actor result }
 {
     if counts.fired(actor) >= firings[actor] {
         return None;
@@ -42,13 +42,18 @@ fn short_of(counts: &Counts, firings: &[u32], actor: usize) -> Option<usize>
 
 /// Checks whether `actor` is runnable. Stores the channel that it waits for, or `None` if it is runnable or its firings
 /// are over.
-fn test(counts: &Counts, firings: &[u32], actor: usize, awaited: &mut [Option<usize>]) -> bool
+fn check_runnable(
+    counts: &Counts,
+    firings: &[u32],
+    actor: usize,
+    awaited: &mut [Option<usize>],
+) -> bool
     requires all { length firings.now ≡ counts.now.graph.actors }
     requires known { actor < length firings.now }
     requires each { length awaited.old ≡ length firings.now }
     ensures fires { IsTrue result ↔
         IsRunnable (rates counts.now.graph) (slice_index firings.now) (slice_index counts.now.fired) actor }
-    ensures here { IsTold (rates counts.now.graph) (slice_index firings.now) (slice_index counts.now.fired) actor
+    ensures here { IsShortOf (rates counts.now.graph) (slice_index firings.now) (slice_index counts.now.fired) actor
         (slice_index_or awaited.new actor None) }
     ensures each { length awaited.new ≡ length awaited.old }
     ensures others { (b : ℕ) → (b ≡ actor → ⊥) →
@@ -87,7 +92,7 @@ fn admit(counts: &Counts, firings: &[u32], actor: usize, candidates: &mut Candid
         candidates.new.runnable.items candidates.new.awaited.items }
     ensures capacity { vec_capacity candidates.new.runnable ≡ vec_capacity candidates.old.runnable }
 {
-    if test(counts, firings, actor, &mut candidates.awaited) {
+    if check_runnable(counts, firings, actor, &mut candidates.awaited) {
         insert(actor, &mut candidates.runnable);
     }
 }
@@ -106,13 +111,13 @@ fn dismiss(counts: &Counts, firings: &[u32], at: usize, candidates: &mut Candida
     ensures capacity { vec_capacity candidates.new.runnable ≡ vec_capacity candidates.old.runnable }
 {
     let actor = candidates.runnable[at];
-    if !test(counts, firings, actor, &mut candidates.awaited) {
+    if !check_runnable(counts, firings, actor, &mut candidates.awaited) {
         candidates.runnable.remove(at);
     }
 }
 
 /// Collects the actors that are runnable before the first firing.
-fn collect(counts: &Counts, firings: &[u32], candidates: &mut Candidates)
+fn collect_candidates(counts: &Counts, firings: &[u32], candidates: &mut Candidates)
     requires all { length firings.now ≡ counts.now.graph.actors }
     requires each { length candidates.old.awaited.items ≡ length firings.now }
     requires empty { candidates.old.runnable.items ≡ [] }
@@ -132,7 +137,7 @@ fn fire(graph: &Graph, firings: &[u32], at: usize, counts: &mut Counts, candidat
     requires same { counts.old.graph ≡ graph.now }
     requires all { length firings.now ≡ graph.now.actors }
     requires each { length counts.old.fired ≡ graph.now.actors }
-    requires short { sum firings.now ≤ MOST_PERIOD }
+    requires short { sum firings.now ≤ MAX_PERIOD }
     requires room { length firings.now ≤ vec_capacity candidates.old.runnable }
     requires list { AreCandidates (rates graph.now) (slice_index firings.now) (slice_index counts.old.fired)
         candidates.old.runnable.items candidates.old.awaited.items }
@@ -173,7 +178,7 @@ fn fire_all<P: Pick>(
     pick: &mut P,
 )
     requires all { length firings.now ≡ graph.now.actors }
-    requires short { sum firings.now ≤ MOST_PERIOD }
+    requires short { sum firings.now ≤ MAX_PERIOD }
     requires room { sum firings.now ≤ vec_capacity order.old }
     requires places { length firings.now ≤ vec_capacity candidates.old.runnable }
     requires begun { IsGoing P.chooses graph.now firings.now pick.old counts.old order.old.items pick.old
@@ -221,7 +226,7 @@ fn collect_done(counts: &Counts, reps: &Repetitions, done: &mut Vec<u32>)
 
 /// Returns the number of firings of all actors.
 fn total(firings: &[u32]) -> usize
-    requires { sum firings.now ≤ MOST_PERIOD }
+    requires { sum firings.now ≤ MAX_PERIOD }
     ensures { result ≡ sum firings.now }
 {
     let mut total = 0;
@@ -240,7 +245,7 @@ fn fire_greedily<'a, P: Pick>(
     pick: &mut P,
 ) -> Result<(Counts<'a>, Vec<usize>), AllocError>
     requires all { length firings.now ≡ graph.now.actors }
-    requires short { sum firings.now ≤ MOST_PERIOD }
+    requires short { sum firings.now ≤ MAX_PERIOD }
     ensures { MatchResult result
         (λ made. IsGoing P.chooses graph.now firings.now pick.old made.0 made.1.items pick.new [])
         (λ _. pick.new ≡ pick.old) }
@@ -250,7 +255,7 @@ fn fire_greedily<'a, P: Pick>(
     let runnable = Vec::with_capacity(alloc, firings.len())?;
     let awaited = vec![in alloc; None; firings.len()]?;
     let mut candidates = Candidates { runnable, awaited };
-    collect(&counts, firings, &mut candidates);
+    collect_candidates(&counts, firings, &mut candidates);
     fire_all(
         graph,
         firings,
@@ -280,7 +285,7 @@ pub fn class_s<P: Pick>(
         × IsPicked P.chooses graph.now (slice_index reps.now) pick.old s.order pick.new)
         (IsSchedFault P.chooses graph.now (slice_index reps.now) pick.old pick.new) }
 {
-    // the graph has a shape, so its rates are sound, and stuck counts mean a deadlock
+    // the graph is within the limits, so its rates are sound, and stuck counts mean a deadlock
     graph.channels();
     reps.period();
     let mut done = Vec::with_capacity(alloc, reps.len())?;
@@ -306,7 +311,7 @@ pub fn class_s_of<P: Pick>(
     pick: &mut P,
 ) -> Result<Vec<usize>, AllocError>
     requires all { length firings.now ≡ graph.now.actors }
-    requires short { sum firings.now ≤ MOST_PERIOD }
+    requires short { sum firings.now ≤ MAX_PERIOD }
     requires some { (v : List ℕ) × IsPass (rates graph.now) (slice_index firings.now) v }
     ensures pass { IfOk result (λ order. IsPass (rates graph.now) (slice_index firings.now) order.items) }
     ensures all { IfOk result (λ order. length order.items ≡ sum firings.now) }

@@ -7,7 +7,7 @@ ghost use Rattle.sdf_sched.specs.Flow.{IsFlow, AreSmall};
 
 use crate::pick::Pick;
 use sdf_graph::{Counts, End, Graph};
-use sdf_limits::{MOST_LINKS, MOST_RATE};
+use sdf_limits::{MAX_LINKS, MAX_RATE};
 
 /// The lean policy: it fires the runnable actor whose firing adds least to what the channels hold. Of several it fires
 /// the first in file order.
@@ -83,7 +83,7 @@ fn flow_of(graph: &Graph, counts: &Counts, actor: usize) -> Flow
 fn moved_by(graph: &Graph, actor: usize, end: End, i: u32) -> u64
     requires { actor < graph.now.actors }
     ensures sum { (k : ℕ → ℕ) → k actor ≡ i → result ≡ moved_by end (rates graph.now) k actor }
-    ensures small { result ≤ MOST_RATE * MOST_LINKS }
+    ensures small { result ≤ MAX_RATE * MAX_LINKS }
 {
     let channels = graph.channels();
     let mut moved = 0;

@@ -5,7 +5,7 @@ use Rattle.std.specs.Prelude.{◌==◌, if◌then◌else◌, T}
 use Rattle.std.proofs.Math.Dec.{eqb_refl}
 use Rattle.std.proofs.lemmas.Bool.{eqb-true}
 use Rattle.std.proofs.lemmas.List.{drop_more, drop_all}
-use Rattle.sdf_texts.specs.Schedules.{Stretch, stretched, stretches}
+use Rattle.sdf_texts.specs.Schedules.{Stretch, with_firing, stretches}
 
 same : (a : ℕ) → (a == a) ≡ true
 same a = is_true (a == a) (eqb_refl a)
@@ -24,7 +24,7 @@ differs a b h = is_false (a == b) (λ e. h (eqb-true a b e))
 -- n more firings of actor a before stretches
 abbrev pub grown : ℕ → ℕ → List Stretch → List Stretch
 grown zero a ss = ss
-grown (suc n) a ss = grown n a (stretched a ss)
+grown (suc n) a ss = grown n a (with_firing a ss)
 
 abbrev pub stretch : ℕ → ℕ → Stretch
 stretch a n = record { actor = a; firings = n }
@@ -40,7 +40,7 @@ abbrev pub BeginOther : ℕ → List Stretch → Type 0
 BeginOther a [] = Unit {0}
 BeginOther a (s ∷ ss) = (a == s.actor) ≡ false
 
-first_other : (a : ℕ) (ss : List Stretch) → BeginOther a ss → stretched a ss ≡ stretch a 1 ∷ ss
+first_other : (a : ℕ) (ss : List Stretch) → BeginOther a ss → with_firing a ss ≡ stretch a 1 ∷ ss
 first_other a [] other = refl
 first_other a (s ∷ ss) other = rw other refl
 
@@ -49,7 +49,7 @@ grown_other n a ss other =
     let on : 1 + n ≡ suc n = omega arith in
     ap (grown n a) (first_other a ss other) ∙ (grown_on n 1 a ss ∙ ap (λ m. stretch a m ∷ ss) on)
 
-stretched_begins : (a b : ℕ) (ss : List Stretch) → (a == b) ≡ false → BeginOther a (stretched b ss)
+stretched_begins : (a b : ℕ) (ss : List Stretch) → (a == b) ≡ false → BeginOther a (with_firing b ss)
 stretched_begins a b [] differ = differ
 stretched_begins a b (s ∷ ss) differ = stretched_by (b == s.actor)
   where
@@ -58,7 +58,7 @@ stretched_begins a b (s ∷ ss) differ = stretched_by (b == s.actor)
     stretched_by false = differ
 
 pub begins_with : (order : List ℕ) (past : ℕ) → past < length order →
-    stretches (drop past order) ≡ stretched (get_or order past 0) (stretches (drop (past + 1) order))
+    stretches (drop past order) ≡ with_firing (get_or order past 0) (stretches (drop (past + 1) order))
 begins_with order past within = ap stretches (drop_more order past 0 within)
 
 -- a stretch of actor a goes on
@@ -68,7 +68,7 @@ pub goes_on : (order : List ℕ) (at past a : ℕ) → at < past → past < leng
 goes_on order at past a after within is so_far =
     let on : suc (past - at) ≡ past + 1 - at = omega arith in
     let rest = stretches (drop (past + 1) order) in
-    so_far ∙ (ap (grown (past - at) a) (begins_with order past within ∙ ap (λ x. stretched x rest) (sym is))
+    so_far ∙ (ap (grown (past - at) a) (begins_with order past within ∙ ap (λ x. with_firing x rest) (sym is))
     ∙ ap (λ n. grown n a rest) on)
 
 ended : (order : List ℕ) (at past a : ℕ) → at < past → BeginOther a (stretches (drop past order))

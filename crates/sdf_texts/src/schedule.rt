@@ -7,14 +7,14 @@ ghost use Rattle.sdf_texts.specs.Schedules.{stretches, stretch_text, order_items
 ghost use Rattle.sdf_texts.specs.Schedules.{row_line, end_text, link_text, capacity_line, blocking_of, workers_of};
 ghost use Rattle.sdf_texts.specs.Schedules.{size_lines, table_text, schedule_text, IsScheduleText};
 ghost use Rattle.sdf_texts.specs.Schedules.{IsShown};
-ghost use Rattle.sdf_plan.specs.Schedules.{IsShowFault};
+ghost use Rattle.sdf_plan.specs.Schedules.{IsDesignScheduleFault};
 
 use crate::texts::push_period;
 use sdf_faults::Fault;
 use sdf_file::Design;
 use sdf_graph::Repetitions;
 use sdf_options::Options;
-use sdf_plan::schedule::{DesignSchedule, scheduled};
+use sdf_plan::schedule::{DesignSchedule, design_schedule};
 use sdf_prec::{Firing, Table};
 use sdf_sched::Period;
 use std::alloc::{AllocError, Global};
@@ -252,11 +252,11 @@ pub fn schedule_text(
 }
 
 /// Returns what the command `schedule` prints: the order by the policy, and the table by the placement. Its tests are
-/// the tests of `scheduled`.
+/// the tests of `design_schedule`.
 pub fn schedule(alloc: Global, design: &Design, options: &Options) -> Result<String, Fault>
     ensures { MatchResult result (λ s. IsShown design.now options.now (string_bytes s))
-        (IsShowFault design.now options.now) }
+        (IsDesignScheduleFault design.now options.now) }
 {
-    let DesignSchedule { period, block } = scheduled(alloc, design, options)?;
+    let DesignSchedule { period, block } = design_schedule(alloc, design, options)?;
     Ok(schedule_text(alloc, design, &period, &block.table)?)
 }

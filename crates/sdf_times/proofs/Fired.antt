@@ -5,7 +5,7 @@ use Rattle.std.proofs.lemmas.List.{get_or_append_left, get_or_push, get_or-set_s
 use Rattle.std.proofs.lemmas.List.{get_or-set_other, length-set, length_push}
 use Rattle.std.proofs.lemmas.Option.{same_Some}
 use Rattle.std.proofs.lemmas.Bool.{cases_lt, cases_eq}
-use Rattle.sdf_limits.specs.declared.TheConstants.{MOST_COST, MOST_BLOCK}
+use Rattle.sdf_limits.specs.declared.TheConstants.{MAX_COST, MAX_BLOCK}
 use Rattle.sdf_graph.specs.Rates.{Rates}
 use Rattle.sdf_prec.specs.declared.firing.Firing.{Firing}
 use Rattle.sdf_prec.specs.Precedence.{WaitsFor}
@@ -19,16 +19,16 @@ use Rattle.sdf_times.proofs.Walks.{before_earlier}
 
 module _ (r : Rates) (n cost : ℕ → ℕ) (rows : List (List (Option Firing))) (i j : ℕ) (f : Firing)
     (starts : List (List ℕ)) (until : List ℕ) (cells : AreCells r n rows)
-    (cheap : (a : ℕ) → a < r.actors → cost a ≤ MOST_COST) (here : cell rows i j ≡ Some f)
+    (cheap : (a : ℕ) → a < r.actors → cost a ≤ MAX_COST) (here : cell rows i j ≡ Some f)
     (w : IsWalk r cost rows (IsPast i j) starts until) where
   abbrev old : Firing → ℕ
   old = start_in starts
 
   -- a firing of an earlier row has ended by the row's number of greatest costs
-  end_early : (k m : ℕ) (g : Firing) → cell rows k m ≡ Some g → k < i → end_of cost old g ≤ MOST_COST * i
+  end_early : (k m : ℕ) (g : Firing) → cell rows k m ≡ Some g → k < i → end_of cost old g ≤ MAX_COST * i
   end_early k m g e low =
       let known = (cells.known k m g e).0 in
-      let more : MOST_COST * k + MOST_COST ≤ MOST_COST * i = omega arith in
+      let more : MAX_COST * k + MAX_COST ≤ MAX_COST * i = omega arith in
       omega (arith, w.early k m g e (inl low), cheap g.actor known)
 
   -- f has no start yet
@@ -58,10 +58,10 @@ module _ (r : Rates) (n cost : ℕ → ℕ) (rows : List (List (Option Firing)))
   known_here : f.actor < length starts
   known_here = omega (arith, (cells.known i j f here).0, w.actors)
 
-  small_of : i < MOST_BLOCK → MOST_COST * i < 2 ^ 40
+  small_of : i < MAX_BLOCK → MAX_COST * i < 2 ^ 40
   small_of l = omega arith
 
-  pub prepared : i < MOST_BLOCK → IsPrepared r cost starts f
+  pub prepared : i < MAX_BLOCK → IsPrepared r cost starts f
   prepared l = record {
     actors = w.actors;
     of = (cells.known i j f here).0;
@@ -82,15 +82,15 @@ module _ (r : Rates) (n cost : ℕ → ℕ) (rows : List (List (Option Firing)))
           omega (arith, low)
 
   -- the column is through by then
-  through_early : (t : ℕ) → (t ≡ 0) ⊎ IsColumnEnd cost rows (IsPast i j) old j t → t ≤ MOST_COST * i
+  through_early : (t : ℕ) → (t ≡ 0) ⊎ IsColumnEnd cost rows (IsPast i j) old j t → t ≤ MAX_COST * i
   through_early t (inl z) = omega arith
   through_early t (inr (k, g, e, p, is)) = go p
     where
-      go : IsPast i j k j → t ≤ MOST_COST * i
+      go : IsPast i j k j → t ≤ MAX_COST * i
       go (inl low) = omega (arith, end_early k j g e low, is)
       go (inr (same, low)) = absurd (omega arith)
 
-  pub until_small : i < MOST_BLOCK → j < length until → get_or until j 0 < 2 ^ 40
+  pub until_small : i < MAX_BLOCK → j < length until → get_or until j 0 < 2 ^ 40
   until_small l known = omega (arith, through_early (get_or until j 0) (w.through j known).reached, small_of l)
 
   module _ (starts' : List (List ℕ)) (until' : List ℕ) (column : j < length until)
@@ -256,21 +256,21 @@ module _ (r : Rates) (n cost : ℕ → ℕ) (rows : List (List (Option Firing)))
         (λ u x. (x.0, x.1, ap (λ t. t + cost x.0.actor) (ended k m g x.0 e p x.1) ∙ x.2))
         (λ u x. (x.0, x.1, ap (λ t. t + cost x.0.actor) (sym (ended k m g x.0 e p x.1)) ∙ x.2)) (w.each k m g e p))
 
-    start_early : fired.start ≤ MOST_COST * i
+    start_early : fired.start ≤ MAX_COST * i
     start_early = greatest_least (λ u. (u ≡ get_or until j 0) ⊎ IsNeedEnd r cost old f u) fired.start
-        (MOST_COST * i) fired.is low
+        (MAX_COST * i) fired.is low
       where
-        low : (u : ℕ) → (u ≡ get_or until j 0) ⊎ IsNeedEnd r cost old f u → u ≤ MOST_COST * i
+        low : (u : ℕ) → (u ≡ get_or until j 0) ⊎ IsNeedEnd r cost old f u → u ≤ MAX_COST * i
         low u (inl e) = omega (arith, e, through_early (get_or until j 0) (w.through j column).reached)
         low u (inr (g, waits, e)) = let at = cells.earlier i j f g here waits in
             omega (arith, end_early at.0 at.1 g at.3 at.2, e)
 
     early_more : (k m : ℕ) (g : Firing) → cell rows k m ≡ Some g → IsPast i j k m ⊎ ((k ≡ i) × (m ≡ j)) →
-        new g ≤ MOST_COST * k
+        new g ≤ MAX_COST * k
     early_more k m g e (inl p) = omega (arith, w.early k m g e p, kept g (w.known k m g e p))
     early_more k m g e (inr q) =
         let its : new f ≡ new g = ap new (at_here k m g e q) in
-        let bound : MOST_COST * i ≡ MOST_COST * k = ap (λ x. MOST_COST * x) (sym q.0) in
+        let bound : MAX_COST * i ≡ MAX_COST * k = ap (λ x. MAX_COST * x) (sym q.0) in
         omega (arith, start_early, own_start)
 
     through_here : IsGreatest (IsColumnEnd cost rows (IsPast i (j + 1)) new j) (fired.start + cost f.actor)

@@ -6,12 +6,12 @@ use Rattle.std.proofs.lemmas.Grind.{div_ceil_times}
 use Rattle.std.proofs.lemmas.List.{get_or_past}
 use Rattle.std.proofs.lemmas.List.Sums.{sum_by-cons}
 use Rattle.std.proofs.lemmas.Nat.{mul-le}
-use Rattle.sdf_limits.specs.declared.TheConstants.{MOST_BLOCK, MOST_COST}
+use Rattle.sdf_limits.specs.declared.TheConstants.{MAX_BLOCK, MAX_COST}
 use Rattle.sdf_graph.specs.Rates.{Rates}
 use Rattle.sdf_prec.specs.declared.firing.Firing.{Firing}
 use Rattle.sdf_prec.specs.Blocks.{block}
 use Rattle.sdf_prec.specs.Levels.{IsChain, total, IsLevel, AreLevels}
-use Rattle.sdf_prec.specs.Numbers.{Numbered, InBlock, number}
+use Rattle.sdf_prec.specs.Numbers.{NumbersValue, InBlock, number}
 use Rattle.sdf_prec.specs.Tables.{IsOfBlock}
 use Rattle.sdf_times.specs.Times.{IsGreatest, IsSpan, IsBound}
 use Rattle.sdf_times.proofs.Greatest.{greatest_more, greatest_same}
@@ -31,12 +31,12 @@ within_sum (x ∷ xs) zero = omega (arith, sum_by-cons (λ y. y) x xs)
 within_sum (x ∷ xs) (suc a) = let ih = within_sum xs a in omega (arith, ih, sum_by-cons (λ y. y) x xs)
 
 -- the firings of an actor in a block, and what they cost together
-pub firings_few : (j : ℕ) (reps : List ℕ) (a : ℕ) → j * sum reps ≤ MOST_BLOCK → j * get_or reps a 0 ≤ MOST_BLOCK
+pub firings_few : (j : ℕ) (reps : List ℕ) (a : ℕ) → j * sum reps ≤ MAX_BLOCK → j * get_or reps a 0 ≤ MAX_BLOCK
 firings_few j reps a short = let low = mul-le j (get_or reps a 0) j (sum reps) (omega arith) (within_sum reps a) in
     omega (arith, low)
 
-pub term_small : (k x : ℕ) → k ≤ MOST_BLOCK → x ≤ MOST_COST → k * x ≤ MOST_BLOCK * MOST_COST
-term_small k x h l = mul-le k x MOST_BLOCK MOST_COST h l
+pub term_small : (k x : ℕ) → k ≤ MAX_BLOCK → x ≤ MAX_COST → k * x ≤ MAX_BLOCK * MAX_COST
+term_small k x h l = mul-le k x MAX_BLOCK MAX_COST h l
 
 -- the first firing of an actor that fires is one of the block
 pub first_in : (n : List ℕ) (a : ℕ) → 0 < get_or n a 0 → InBlock n (record { actor = a; number = 0 })
@@ -52,10 +52,10 @@ pub count_is : (j : ℕ) (reps n : List ℕ) (a x y count : ℕ) → n ≡ block
 count_is j reps n a x y count is one two all =
     ap (λ n. get_or n a 0) is ∙ (block_at j reps a ∙ ((λ k. sym one k * sym two k) ∙ sym all))
 
-abbrev pub FirstLevel : Numbered → ℕ → ℕ → Type 0
+abbrev pub FirstLevel : NumbersValue → ℕ → ℕ → Type 0
 FirstLevel s i u = (a : ℕ) × (a < i) × (0 < get_or s.firings a 0) × (number s (record { actor = a; number = 0 }) ≡ u)
 
-pub first_more : (s : Numbered) (i t x : ℕ) → 0 < get_or s.firings i 0 →
+pub first_more : (s : NumbersValue) (i t x : ℕ) → 0 < get_or s.firings i 0 →
     x ≡ number s (record { actor = i; number = 0 }) → IsGreatest (FirstLevel s i) t →
     IsGreatest (FirstLevel s (i + 1)) (max t x)
 first_more s i t x fires is g =
@@ -70,7 +70,7 @@ first_more s i t x fires is g =
         let same : a ≡ i = omega arith in
         inr (omega (arith, is, e, ap (λ a. number s (record { actor = a; number = 0 })) same))
 
-pub first_skip : (s : Numbered) (i t : ℕ) → (0 < get_or s.firings i 0 → ⊥) →
+pub first_skip : (s : NumbersValue) (i t : ℕ) → (0 < get_or s.firings i 0 → ⊥) →
     IsGreatest (FirstLevel s i) t → IsGreatest (FirstLevel s (i + 1)) t
 first_skip s i t idle g =
     greatest_same (FirstLevel s i) (FirstLevel s (i + 1)) t (λ u w. (w.0, omega (arith, w.1), w.2, w.3))
@@ -83,7 +83,7 @@ first_skip s i t idle g =
         let same : a ≡ i = omega arith in
         absurd (idle (omega (arith, fire, ap (λ a. get_or s.firings a 0) same)))
 
-pub first_all : (s : Numbered) (i t : ℕ) → length s.firings ≤ i → IsGreatest (FirstLevel s i) t →
+pub first_all : (s : NumbersValue) (i t : ℕ) → length s.firings ≤ i → IsGreatest (FirstLevel s i) t →
     IsGreatest (λ u. (a : ℕ) × (0 < get_or s.firings a 0) × (number s (record { actor = a; number = 0 }) ≡ u)) t
 first_all s i t past g =
     greatest_same (FirstLevel s i) (λ u. (a : ℕ) × (0 < get_or s.firings a 0)
@@ -111,7 +111,7 @@ module _ (r : Rates) (n cost : ℕ → ℕ) (a : ℕ) where
       (x.0, x.1, omega (arith, x.2))
 
 -- the greatest level is that of a first firing
-pub span_is : (r : Rates) (n : List ℕ) (cost : ℕ → ℕ) (s : Numbered) (t : ℕ) → length n ≡ r.actors →
+pub span_is : (r : Rates) (n : List ℕ) (cost : ℕ → ℕ) (s : NumbersValue) (t : ℕ) → length n ≡ r.actors →
     AreLevels r n cost s →
     IsGreatest (λ u. (a : ℕ) × (0 < get_or s.firings a 0) × (number s (record { actor = a; number = 0 }) ≡ u)) t →
     IsSpan r (λ a. get_or n a 0) cost t

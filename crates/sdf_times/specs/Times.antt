@@ -5,7 +5,7 @@ use Rattle.sdf_graph.specs.Rates.{Rates, sum_to}
 use Rattle.sdf_prec.specs.declared.firing.Firing.{Firing}
 use Rattle.sdf_prec.specs.Precedence.{WaitsFor}
 use Rattle.sdf_prec.specs.Blocks.{block, IsShort}
-use Rattle.sdf_prec.specs.Tables.{cell, IsOfBlock, Tabled, IsTable}
+use Rattle.sdf_prec.specs.Tables.{cell, IsOfBlock, TableValue, IsTable}
 use Rattle.sdf_prec.specs.Levels.{IsLevel}
 
 -- the greatest of the numbers with the property P, or 0 if there are none
@@ -67,7 +67,7 @@ pub record IsBound (span work workers t : ℕ) : Type 0 where
   pub least : (u : ℕ) → span ≤ u → work ≤ u * workers → t ≤ u
 
 -- a table of m columns for a block of some periods
-pub record IsBlockTable (r : Rates) (m : ℕ) (t : Tabled) : Type 0 where
+pub record IsBlockTable (r : Rates) (m : ℕ) (t : TableValue) : Type 0 where
   pub periods : ℕ
   pub reps : List ℕ
   pub all : length reps ≡ r.actors
@@ -76,7 +76,7 @@ pub record IsBlockTable (r : Rates) (m : ℕ) (t : Tabled) : Type 0 where
 
 -- times as they are kept: the start times of each actor's first firings, the end of the last firing of all, and the
 -- load of each column
-pub record Timing : Type 0 where
+pub record TimesValue : Type 0 where
   pub starts : List (List ℕ)
   pub makespan : ℕ
   pub loads : List ℕ

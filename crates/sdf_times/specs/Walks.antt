@@ -1,7 +1,7 @@
 -- The state of the walk over a table's cells, row by row.
 use Rattle.std.specs.Prelude.{◌≡◌, ℕ, ◌+◌, ◌*◌, ◌≤◌, ◌<◌, ◌^◌, ◌⊎◌, List, [], ◌∷◌, ◌++◌, length, slice_index}
 use Rattle.std.specs.Prelude.{slice_index_or, slice_set, Option, Some}
-use Rattle.sdf_limits.specs.declared.TheConstants.{MOST_COST}
+use Rattle.sdf_limits.specs.declared.TheConstants.{MAX_COST}
 use Rattle.sdf_graph.specs.Rates.{Rates}
 use Rattle.sdf_prec.specs.declared.firing.Firing.{Firing}
 use Rattle.sdf_prec.specs.Precedence.{WaitsFor}
@@ -25,7 +25,7 @@ pub record IsWalk (r : Rates) (cost : ℕ → ℕ) (rows : List (List (Option Fi
   pub known : (k m : ℕ) (f : Firing) → cell rows k m ≡ Some f → Past k m → HasStart starts f
   pub only : (f : Firing) → HasStart starts f → (k : ℕ) × (m : ℕ) × (cell rows k m ≡ Some f) × Past k m
   pub each : (k m : ℕ) (f : Firing) → cell rows k m ≡ Some f → Past k m → IsStart r cost rows (start_in starts) f
-  pub early : (k m : ℕ) (f : Firing) → cell rows k m ≡ Some f → Past k m → start_in starts f ≤ MOST_COST * k
+  pub early : (k m : ℕ) (f : Firing) → cell rows k m ≡ Some f → Past k m → start_in starts f ≤ MAX_COST * k
   pub through : (m : ℕ) → m < length until → IsGreatest (IsColumnEnd cost rows Past (start_in starts) m)
       (slice_index until m)
 

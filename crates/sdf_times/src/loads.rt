@@ -5,7 +5,7 @@ ghost use Rattle.sdf_prec.specs.declared.firing.Firing.{Firing};
 ghost use Rattle.sdf_prec.specs.Tables.{row, cell};
 ghost use Rattle.sdf_times.specs.Times.{cost_in, load_of};
 
-use sdf_limits::{MOST_BLOCK, MOST_COST};
+use sdf_limits::{MAX_BLOCK, MAX_COST};
 use sdf_prec::{Costs, Firing, Table};
 use std::alloc::{AllocError, Global};
 
@@ -13,7 +13,7 @@ use std::alloc::{AllocError, Global};
 fn cost_at(costs: &Costs, cell: Option<Firing>) -> u64
     requires { (f : Firing) → cell ≡ Some f → f.actor < length costs.now }
     ensures is { result ≡ cost_in (slice_index costs.now) cell }
-    ensures small { result ≤ MOST_COST }
+    ensures small { result ≤ MAX_COST }
 {
     match cell {
         Some(firing) => u64::from(costs.of(firing.actor)),
@@ -30,7 +30,7 @@ fn add_row(table: &Table, costs: &Costs, i: usize, loads: &mut Vec<u64>)
     ensures all { length loads.new.items ≡ length loads.old.items }
     ensures each { (j : ℕ) → j < length loads.old.items → slice_index loads.new.items j ≡
         slice_index loads.old.items j + cost_in (slice_index costs.now) (cell table.now.rows i j) }
-    ensures small { (j : ℕ) → slice_index loads.new.items j ≤ slice_index loads.old.items j + MOST_COST }
+    ensures small { (j : ℕ) → slice_index loads.new.items j ≤ slice_index loads.old.items j + MAX_COST }
 {
     for (column, cell) in table.row(i).iter().enumerate() {
         loads[column] += cost_at(costs, *cell);
@@ -46,7 +46,7 @@ pub(crate) fn loads(
 ) -> Result<Vec<u64>, AllocError>
     requires wide { (i : ℕ) → i < length table.now.rows → length (row table.now.rows i) ≡ m }
     requires known { (i j : ℕ) (f : Firing) → cell table.now.rows i j ≡ Some f → f.actor < length costs.now }
-    requires short { length table.now.rows ≤ MOST_BLOCK }
+    requires short { length table.now.rows ≤ MAX_BLOCK }
     ensures all { IfOk result (λ v. length v.items ≡ m) }
     ensures each { IfOk result (λ v. (j : ℕ) → j < m →
         slice_index v.items j ≡ load_of (slice_index costs.now) table.now.rows j) }

@@ -11,7 +11,7 @@ use sdf_graph::Graph;
 use sdf_prec::{Costs, Firing, needed};
 
 /// Returns when the last of the first `count` firings of `actor` ends, or 0 if `count` is 0.
-fn ended(starts: &[Starts], costs: &Costs, actor: usize, count: u64) -> u64
+fn end_time(starts: &[Starts], costs: &Costs, actor: usize, count: u64) -> u64
     requires known { actor < length starts.now }
     requires costs { AreCosts (length starts.now) costs.now }
     requires started { count ≤ length (slice_index_or starts.now actor []) }
@@ -38,16 +38,16 @@ fn source_of(graph: &Graph, channel: usize) -> usize
 
 /// Returns when all firings that `firing` waits for have ended: its actor's firing before it, and on each channel into
 /// its actor the last one needed from the source.
-pub(crate) fn ready(graph: &Graph, starts: &[Starts], costs: &Costs, firing: Firing) -> u64
+pub(crate) fn ready_time(graph: &Graph, starts: &[Starts], costs: &Costs, firing: Firing) -> u64
     requires costs { AreCosts graph.now.actors costs.now }
     requires prepared { IsPrepared (rates graph.now) (slice_index costs.now) starts.now firing }
     ensures { IsGreatest (IsNeedEnd (rates graph.now) (slice_index costs.now) (start_in starts.now) firing) result }
 {
-    let mut time = ended(starts, costs, firing.actor, u64::from(firing.number));
+    let mut time = end_time(starts, costs, firing.actor, u64::from(firing.number));
     for number in graph.incoming(firing.actor) {
         let source = source_of(graph, *number);
         let count = needed(graph, *number, firing.number);
-        time = time.max(ended(starts, costs, source, count));
+        time = time.max(end_time(starts, costs, source, count));
     }
     time
 }

@@ -24,9 +24,9 @@ pub struct Times {
 }
 
 impl Model for Times {
-    ghost use Rattle.sdf_times.specs.Times.{Timing};
+    ghost use Rattle.sdf_times.specs.Times.{TimesValue};
 
-    ghost Value = { Timing };
+    ghost Value = { TimesValue };
 
     ghost view = { λ t. record { starts = t.starts.items; makespan = t.makespan; loads = t.loads.items } };
 }

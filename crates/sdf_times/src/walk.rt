@@ -7,10 +7,10 @@ ghost use Rattle.sdf_prec.specs.Costs.{AreCosts};
 ghost use Rattle.sdf_prec.specs.Tables.{IsTable};
 ghost use Rattle.sdf_times.specs.Walks.{IsPast, IsWalk, IsPrepared, IsFired};
 
-use crate::needs::ready;
+use crate::needs::ready_time;
 use crate::starts::Starts;
 use sdf_graph::Graph;
-use sdf_limits::MOST_BLOCK;
+use sdf_limits::MAX_BLOCK;
 use sdf_prec::{Costs, Firing, Table};
 use std::alloc::AllocError;
 
@@ -30,7 +30,7 @@ fn fire(
     ensures { IfOk result (λ _. IsFired (rates graph.now) (slice_index costs.now) firing column starts.old.items
         until.old.items starts.new.items until.new.items) }
 {
-    let start = until[column].max(ready(graph, starts, costs, firing));
+    let start = until[column].max(ready_time(graph, starts, costs, firing));
     until[column] = start + u64::from(costs.of(firing.actor));
     starts[firing.actor].push(start)?;
     Ok(())
@@ -48,7 +48,7 @@ pub(crate) fn fire_row(
     requires costs { AreCosts graph.now.actors costs.now }
     requires table { (n : ℕ → ℕ) × IsTable (rates graph.now) n (length until.old.items) table.now }
     requires within { i < length table.now.rows }
-    requires short { i < MOST_BLOCK }
+    requires short { i < MAX_BLOCK }
     requires walk { IsWalk (rates graph.now) (slice_index costs.now) table.now.rows (IsPast i 0) starts.old.items
         until.old.items }
     ensures walk { IfOk result (λ _. IsWalk (rates graph.now) (slice_index costs.now) table.now.rows (IsPast (i + 1) 0)

@@ -9,14 +9,14 @@ use Rattle.sdf_graph.specs.Rates.{sum_to}
 use Rattle.sdf_graph.specs.Periods.{Divides}
 use Rattle.sdf_actor.specs.declared.node.Node.{Node}
 use Rattle.sdf_actor.specs.declared.node.Node.TheVariants.{Source, Sink, Inner}
-use Rattle.sdf_actor.specs.declared.rest.NetState.{NetState}
+use Rattle.sdf_actor.specs.declared.net_state.NetState.{NetState}
 use Rattle.sdf_actor.specs.Histories.{IsWired, taken_before, size_in}
 use Rattle.sdf_actor.specs.Nets.{Netlist, node, wiring, answers, answer_of, inputs_of, consumed_at, cycle_of}
 use Rattle.sdf_actor.specs.Nets.{to_port, IsNet}
-use Rattle.sdf_actor.specs.Rests.{Leaves, state_left}
+use Rattle.sdf_actor.specs.NetStates.{Leaves, state_left}
 use Rattle.sdf_actor.specs.Steps.{Steps, phase, total_in, state_after}
 use Rattle.sdf_actor.proofs.Theorems.{nets_are_wired, ports_have_channels, between_past}
-use Rattle.sdf_warm_up.specs.Laws.{StartsLate, RestsForget}
+use Rattle.sdf_warm_up.specs.Laws.{StartsLate, StatesAgree}
 use Rattle.sdf_warm_up.specs.Warm.{AreTaken, Forgets, NodeForgets}
 use Rattle.sdf_warm_up.proofs.Counting.{length_taken_before, length_blocks, blocks}
 use Rattle.sdf_warm_up.proofs.Late.{AreSized, AnswersForget, IsLate, held_same, all_short, all_long}
@@ -148,6 +148,6 @@ module _ {A S T : Type 0} {s : Steps A S T} {n : Netlist A T} {first later all :
           held_same late c l (omega (arith, h.warm.within ((wiring s n).rates.target c) (here.sound.target_in c l)));
     }
 
-pub rests_forget : {A S T : Type 0} (s : Steps A S T) → RestsForget s
-rests_forget s n first later all k m memory since w V U rest h left =
+pub states_agree : {A S T : Type 0} (s : Steps A S T) → StatesAgree s
+states_agree s n first later all k m memory since w V U rest h left =
     leaves h rest left

@@ -15,22 +15,22 @@ use Rattle.sdf_graph.proofs.Theorems.{one_least_period}
 use Rattle.sdf_sched.specs.Period.{Schedule}
 use Rattle.sdf_actor.specs.declared.node.Node.{Node}
 use Rattle.sdf_actor.specs.declared.node.Node.TheVariants.{Source, Sink, Inner}
-use Rattle.sdf_actor.specs.declared.rest.NetState.{NetState}
+use Rattle.sdf_actor.specs.declared.net_state.NetState.{NetState}
 use Rattle.sdf_actor.specs.declared.sides.Lists.TheVariants.{Inputs, Outputs}
 use Rattle.sdf_actor.specs.Graphs.{graph_of}
 use Rattle.sdf_actor.specs.Histories.{put, taken, taken_before}
 use Rattle.sdf_actor.specs.NetFaults.{IsAccepted, HasList}
 use Rattle.sdf_actor.specs.Nets.{Netlist, node, wire, wiring, answer_of, arrived, from_port, outputs_of, produced_at}
 use Rattle.sdf_actor.specs.Nets.{IsHistoryOf}
-use Rattle.sdf_actor.specs.Rests.{IsRest}
-use Rattle.sdf_actor.specs.Sides.{block_of, first_on, list_count, list_of, period_samples}
+use Rattle.sdf_actor.specs.NetStates.{IsNetState}
+use Rattle.sdf_actor.specs.Sides.{block_of, first_with, list_count, list_of, period_samples}
 use Rattle.sdf_actor.specs.Steps.{Steps}
 use Rattle.sdf_actor.proofs.Theorems.{between_agree, list_below, ports_have_channels}
-use Rattle.sdf_queues.specs.Answer.{HasInputs, periods_of}
+use Rattle.sdf_queues.specs.RunResults.{HasInputs, periods_of}
 use Rattle.sdf_queues.specs.Feeds.{AreFull}
 use Rattle.sdf_queues.specs.Periods.{HasPeriod}
 use Rattle.sdf_queues.proofs.Theorems.{blocks_are_counted}
-use Rattle.sdf_warm_up.specs.Laws.{WasLeft, RestsWereLeft}
+use Rattle.sdf_warm_up.specs.Laws.{WasLeft, StatesWereLeft}
 
 -- the first place that passes a test
 passes : {X : Type 0} (p : X → Bool) (xs : List X) (d : X) → position_or_len p xs < length xs →
@@ -48,7 +48,8 @@ passes {X} p (x ∷ xs) d l = go (passes p xs d) (p x) refl
         ap (λ i. p (get_or (x ∷ xs) i d)) next ∙ later (omega (arith, next, l))
 
 module _ {A S T : Type 0} (s : Steps A S T) (n : Netlist A T) (p : Schedule) (periods : ℕ) (inputs : List (List T))
-    (rest : NetState T S) (has : HasPeriod s n p) (is : IsRest s n inputs (periods_of p.repetitions periods) rest) where
+    (rest : NetState T S) (has : HasPeriod s n p) (is : IsNetState s n inputs
+    (periods_of p.repetitions periods) rest) where
   abbrev q : List ℕ
   q = p.repetitions
 
@@ -158,7 +159,7 @@ module _ {A S T : Type 0} (s : Steps A S T) (n : Netlist A T) (p : Schedule) (pe
   some_list = go (cases_lt first (length n.nodes)) (node n first) refl
     where
       first : ℕ
-      first = first_on Inputs n.nodes
+      first = first_with Inputs n.nodes
 
       empty : block_of (node n first) ≡ 0 → (xs : List T) × (length xs ≡ size)
       empty z = (
@@ -323,5 +324,5 @@ module _ {A S T : Type 0} (s : Steps A S T) (n : Netlist A T) (p : Schedule) (pe
         };
       }
 
-pub were_left : {A S T : Type 0} (s : Steps A S T) → RestsWereLeft s
+pub were_left : {A S T : Type 0} (s : Steps A S T) → StatesWereLeft s
 were_left = was

@@ -6,13 +6,13 @@ use Rattle.std.proofs.lemmas.Bool.{cases_lt}
 use Rattle.std.proofs.lemmas.List.{get_or_past, length-append}
 use Rattle.std.proofs.lemmas.List.FromFn.{get_or-map-range_with_len, length-map-range_with_len}
 use Rattle.sdf_sched.specs.Period.{Schedule}
-use Rattle.sdf_actor.specs.declared.rest.NetState.{NetState}
+use Rattle.sdf_actor.specs.declared.net_state.NetState.{NetState}
 use Rattle.sdf_actor.specs.Nets.{Netlist}
-use Rattle.sdf_actor.specs.Rests.{AreJoined}
+use Rattle.sdf_actor.specs.NetStates.{AreJoined}
 use Rattle.sdf_actor.specs.Steps.{Steps}
-use Rattle.sdf_queues.specs.Answer.{HasInputs, periods_of}
+use Rattle.sdf_queues.specs.RunResults.{HasInputs, periods_of}
 use Rattle.sdf_queues.specs.Feeds.{HasRun, AreFull, GoesOnBy}
-use Rattle.sdf_warm_up.specs.Laws.{RunsLate, ArePartsOf, PartsGoOn, RunsGoOnTwice, RunsLeaveRests}
+use Rattle.sdf_warm_up.specs.Laws.{RunsLate, ArePartsOf, PartsGoOn, RunsGoOnTwice, RunsLeaveStates}
 use Rattle.sdf_warm_up.proofs.Running.{leave}
 
 -- lists joined, number by number
@@ -75,7 +75,7 @@ module _ {A T : Type 0} (n : Netlist A T) (q : List ℕ) (few more : ℕ) (first
     also e (omega (arith, many)),
   )
 
--- a run that goes on from a rest, and one that goes on from what it leaves
+-- a run that goes on from a net state, and one that goes on from what it leaves
 pub goes_twice : {A S T : Type 0} (s : Steps A S T) → RunsGoOnTwice s
 goes_twice s n q few more front after all on next joined rest mid last goes full later fronts as_many made_are
     made_many = record {
@@ -98,7 +98,7 @@ goes_twice s n q few more front after all on next joined rest mid last goes full
     }
 
 -- what such a run leaves, a run of all periods leaves
-pub left_on : {A S T : Type 0} (s : Steps A S T) → RunsLeaveRests s
+pub left_on : {A S T : Type 0} (s : Steps A S T) → RunsLeaveStates s
 left_on s n q more later on rest last was goes full =
     let same : length was.inputs ≡ length later = was.given.count ∙ sym goes.given.count in
     let joined = are_both was.inputs later same in

@@ -4,7 +4,7 @@ use Rattle.std.proofs.Common.{◌∙◌, ◌⊎◌, inl, inr, ⊎_elim, arith}
 use Rattle.std.specs.Prelude.{slice_index}
 use Rattle.std.proofs.lemmas.Bool.{cases_lt, cases_eq}
 use Rattle.std.proofs.lemmas.List.{get_or-set_same, get_or-set_other}
-use Rattle.sdf_graph.specs.Rates.{Shape, Edge, rates, channel, rate_at, sum_to}
+use Rattle.sdf_graph.specs.Rates.{GraphValue, ChannelValue, rates, channel, rate_at, sum_to}
 use Rattle.sdf_graph.proofs.Theorems.{sums_rise}
 use Rattle.sdf_warm_up.specs.declared.warm_up.TheConstants.{MAX_FIRINGS}
 use Rattle.sdf_warm_up.specs.declared.warm_up.Move.{Move}
@@ -14,14 +14,14 @@ use Rattle.sdf_warm_up.specs.WarmUps.{IsPass}
 
 -- the first i channels have been looked at. A walk of n channels ends at the source of each other one that is not late,
 -- and a longer one at theirs
-pub record ArePassed (g : Shape) (memory : ℕ → ℕ) (since : List ℕ) (n i : ℕ) : Type 0 where
+pub record ArePassed (g : GraphValue) (memory : ℕ → ℕ) (since : List ℕ) (n i : ℕ) : Type 0 where
   pub past : (c : ℕ) → c < i →
       IsLate (channel g c) memory (slice_index since) ⊎ EndsWalk (rates g) (n + 1) (channel g c).from
   pub next : (c : ℕ) → i ≤ c → c < length g.channels →
       IsLate (channel g c) memory (slice_index since) ⊎ EndsWalk (rates g) n (channel g c).from
 
-module _ (g : Shape) (memory : ℕ → ℕ) where
-  cold_rises : (e : Edge) (f h : ℕ → ℕ) → f e.from ≤ h e.from → cold e memory f ≤ cold e memory h
+module _ (g : GraphValue) (memory : ℕ → ℕ) where
+  cold_rises : (e : ChannelValue) (f h : ℕ → ℕ) → f e.from ≤ h e.from → cold e memory f ≤ cold e memory h
   cold_rises e f h l =
       let more = sums_rise (rate_at e.put) (f e.from + memory e.from) (h e.from + memory e.from) (omega arith) in
       omega (arith, more)
@@ -38,7 +38,7 @@ module _ (g : Shape) (memory : ℕ → ℕ) where
 
   module _ (i : ℕ) (known : i < length g.channels) (from : (channel g i).from < g.actors) (old new : List ℕ)
       (on_list : (channel g i).to < length old) (moved : IsMovedOn (channel g i) memory old new) where
-    edge : Edge
+    edge : ChannelValue
     edge = channel g i
 
     at : slice_index new (channel g i).to ≡ moved.firing
@@ -143,19 +143,19 @@ module _ (g : Shape) (memory : ℕ → ℕ) where
   }
 
 -- what is known once the first i channels have been looked at
-abbrev pub IsSoFar : Shape → (ℕ → ℕ) → List ℕ → List ℕ → ℕ → Move → Type 0
+abbrev pub IsSoFar : GraphValue → (ℕ → ℕ) → List ℕ → List ℕ → ℕ → Move → Type 0
 IsSoFar g memory old new i Stays = (c : ℕ) → c < i → IsLate (channel g c) memory (slice_index new)
 IsSoFar g memory old new i MovesOn =
     (n : ℕ) → AreBehind g memory old n → (a : ℕ) × EndsWalk (rates g) (n + 1) a
 IsSoFar g memory old new i TooFar = ⊥
 
-pub record IsPassing (g : Shape) (memory : ℕ → ℕ) (old new : List ℕ) (i : ℕ) (moves : Move) : Type 0 where
+pub record IsPassing (g : GraphValue) (memory : ℕ → ℕ) (old new : List ℕ) (i : ℕ) (moves : Move) : Type 0 where
   pub early : AreEarly g memory new
   pub passed : (n : ℕ) → AreBehind g memory old n → ArePassed g memory new n i
   pub so_far : IsSoFar g memory old new i moves
 
 -- so it is after a channel that is late
-so_far_late : (g : Shape) (memory : ℕ → ℕ) (old new : List ℕ) (i : ℕ) (moves : Move) →
+so_far_late : (g : GraphValue) (memory : ℕ → ℕ) (old new : List ℕ) (i : ℕ) (moves : Move) →
     IsLate (channel g i) memory (slice_index new) → IsSoFar g memory old new i moves →
     IsSoFar g memory old new (i + 1) moves
 so_far_late g memory old new i Stays late before = λ c l. ⊎_elim
@@ -165,7 +165,7 @@ so_far_late g memory old new i Stays late before = λ c l. ⊎_elim
 so_far_late g memory old new i MovesOn late before = before
 so_far_late g memory old new i TooFar late before = before
 
-pub passes_late : (g : Shape) (memory : ℕ → ℕ) (old new : List ℕ) (i : ℕ) (moves : Move) →
+pub passes_late : (g : GraphValue) (memory : ℕ → ℕ) (old new : List ℕ) (i : ℕ) (moves : Move) →
     IsLate (channel g i) memory (slice_index new) → IsPassing g memory old new i moves →
     IsPassing g memory old new (i + 1) moves
 passes_late g memory old new i moves late before = record {
@@ -175,7 +175,7 @@ passes_late g memory old new i moves late before = record {
 }
 
 -- and after one whose target is moved on
-pub passes_moved : (g : Shape) (memory : ℕ → ℕ) (old now new : List ℕ) (i : ℕ) (moves : Move) →
+pub passes_moved : (g : GraphValue) (memory : ℕ → ℕ) (old now new : List ℕ) (i : ℕ) (moves : Move) →
     i < length g.channels → (channel g i).from < g.actors → (channel g i).to < length now →
     IsMovedOn (channel g i) memory now new → IsPassing g memory old now i moves →
     IsPassing g memory old new (i + 1) MovesOn
@@ -189,7 +189,7 @@ passes_moved g memory old now new i moves known from to moved before = record {
 }
 
 -- and at the end
-pub is_pass : (g : Shape) (memory : ℕ → ℕ) (old new : List ℕ) (i : ℕ) (moves : Move) → i ≡ length g.channels →
+pub is_pass : (g : GraphValue) (memory : ℕ → ℕ) (old new : List ℕ) (i : ℕ) (moves : Move) → i ≡ length g.channels →
     IsPassing g memory old new i moves → IsPass g memory old new moves
 is_pass g memory old new i Stays all p = λ c l. p.so_far c (omega arith)
 is_pass g memory old new i MovesOn all p =

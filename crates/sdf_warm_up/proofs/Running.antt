@@ -9,15 +9,15 @@ use Rattle.sdf_actor.specs.declared.sides.Lists.TheVariants.{Inputs}
 use Rattle.sdf_actor.specs.Graphs.{graph_of}
 use Rattle.sdf_actor.specs.NetFaults.{IsAccepted}
 use Rattle.sdf_actor.specs.Nets.{Netlist, node, wiring, IsHistoryOf}
-use Rattle.sdf_actor.specs.Rests.{Leaves, AllRead}
+use Rattle.sdf_actor.specs.NetStates.{Leaves, AllRead}
 use Rattle.sdf_actor.specs.Sides.{list_of, block_of, period_samples}
 use Rattle.sdf_actor.specs.Steps.{Steps}
-use Rattle.sdf_queues.specs.Answer.{HasInputs, periods_of}
+use Rattle.sdf_queues.specs.RunResults.{HasInputs, periods_of}
 use Rattle.sdf_queues.specs.Feeds.{AreFull}
 use Rattle.sdf_queues.specs.Periods.{HasPeriod}
 use Rattle.sdf_queues.proofs.Theorems.{nets_can_run, periods_may_leave}
 use Rattle.sdf_warm_up.specs.Laws.{StartsLate, WarmRunsLeave, WarmRunsGoOn}
-use Rattle.sdf_warm_up.proofs.Forgetting.{rests_forget}
+use Rattle.sdf_warm_up.proofs.Forgetting.{states_agree}
 
 module _ {A S T : Type 0} (s : Steps A S T) where
   -- all sources read all of an input that is full
@@ -45,7 +45,7 @@ module _ {A S T : Type 0} (s : Steps A S T) where
     count = h.long.count;
     each = h.long.each;
     left = subst (λ j. Leaves s n j h.long.history rest) (sym counts)
-        (rests_forget s n first later all (periods_of q few) (periods_of q warm) h.memory h.since pass.0 h.long.history
+        (states_agree s n first later all (periods_of q few) (periods_of q warm) h.memory h.since pass.0 h.long.history
         h.short.history rest late h.short.left);
   }
     where

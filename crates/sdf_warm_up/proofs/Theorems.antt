@@ -1,14 +1,14 @@
 -- What proofs of other crates cite of this one: the laws of nets that forget, by their lemmas, for actors of any steps.
 use Rattle.sdf_actor.specs.Steps.{Steps}
-use Rattle.sdf_warm_up.specs.Laws.{RestsForget, WarmRunsLeave, WarmRunsGoOn, PartsGoOn, RunsGoOnTwice}
-use Rattle.sdf_warm_up.specs.Laws.{RestsWereLeft, RunsLeaveRests}
-use Rattle.sdf_warm_up.proofs.Forgetting.{rests_forget as all_forget}
+use Rattle.sdf_warm_up.specs.Laws.{StatesAgree, WarmRunsLeave, WarmRunsGoOn, PartsGoOn, RunsGoOnTwice}
+use Rattle.sdf_warm_up.specs.Laws.{StatesWereLeft, RunsLeaveStates}
+use Rattle.sdf_warm_up.proofs.Forgetting.{states_agree as all_forget}
 use Rattle.sdf_warm_up.proofs.Left.{were_left}
 use Rattle.sdf_warm_up.proofs.Parts.{parts, goes_twice, left_on}
 use Rattle.sdf_warm_up.proofs.Running.{leave, go_on}
 
-pub rests_forget : {A S T : Type 0} (s : Steps A S T) → RestsForget s
-rests_forget = all_forget
+pub states_agree : {A S T : Type 0} (s : Steps A S T) → StatesAgree s
+states_agree = all_forget
 
 pub warm_runs_leave : {A S T : Type 0} (s : Steps A S T) → WarmRunsLeave s
 warm_runs_leave = leave
@@ -22,8 +22,8 @@ parts_go_on = parts
 pub runs_go_on_twice : {A S T : Type 0} (s : Steps A S T) → RunsGoOnTwice s
 runs_go_on_twice = goes_twice
 
-pub runs_leave_rests : {A S T : Type 0} (s : Steps A S T) → RunsLeaveRests s
-runs_leave_rests = left_on
+pub runs_leave_states : {A S T : Type 0} (s : Steps A S T) → RunsLeaveStates s
+runs_leave_states = left_on
 
-pub rests_were_left : {A S T : Type 0} (s : Steps A S T) → RestsWereLeft s
-rests_were_left = were_left
+pub states_were_left : {A S T : Type 0} (s : Steps A S T) → StatesWereLeft s
+states_were_left = were_left

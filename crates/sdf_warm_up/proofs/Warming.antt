@@ -7,7 +7,7 @@ use Rattle.sdf_graph.proofs.Theorems.{sums_rise}
 use Rattle.sdf_actor.specs.Graphs.{graph_of, channel_of}
 use Rattle.sdf_actor.specs.Nets.{Netlist, wiring}
 use Rattle.sdf_actor.specs.Steps.{Steps}
-use Rattle.sdf_queues.specs.Answer.{periods_of}
+use Rattle.sdf_queues.specs.RunResults.{periods_of}
 use Rattle.sdf_warm_up.specs.Warm.{IsWarm, StaysCold}
 use Rattle.sdf_warm_up.specs.WarmUps.{WarmsIn, AreMemories, AreLate, AreEarly, NoneIsLate, AreWithin}
 

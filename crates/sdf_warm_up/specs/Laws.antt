@@ -2,12 +2,12 @@
 use Rattle.std.specs.Prelude.{◌≡◌, ℕ, ◌+◌, List, length}
 use Rattle.sdf_graph.specs.Sequences.{IsAdmissible}
 use Rattle.sdf_sched.specs.Period.{Schedule}
-use Rattle.sdf_actor.specs.declared.rest.NetState.{NetState}
+use Rattle.sdf_actor.specs.declared.net_state.NetState.{NetState}
 use Rattle.sdf_actor.specs.Laws.{AreCountsOf}
 use Rattle.sdf_actor.specs.Nets.{Netlist, wiring, IsNet, IsHistoryOf}
-use Rattle.sdf_actor.specs.Rests.{AreWhole, Leaves, IsRest, AllRead, AreJoined}
+use Rattle.sdf_actor.specs.NetStates.{AreWhole, Leaves, IsNetState, AllRead, AreJoined}
 use Rattle.sdf_actor.specs.Steps.{Steps}
-use Rattle.sdf_queues.specs.Answer.{HasInputs, periods_of}
+use Rattle.sdf_queues.specs.RunResults.{HasInputs, periods_of}
 use Rattle.sdf_queues.specs.Feeds.{HasRun, AreFull, GoesOnBy}
 use Rattle.sdf_queues.specs.Periods.{HasPeriod}
 use Rattle.sdf_warm_up.specs.Warm.{IsWarm}
@@ -29,8 +29,8 @@ pub record StartsLate {A S T : Type 0} (s : Steps A S T) (n : Netlist A T) (firs
   pub short : IsHistoryOf s n later m U
 
 -- both histories leave the same state
-abbrev pub RestsForget : {A S T : Type 0} → Steps A S T → Type 0
-RestsForget {A} {S} {T} s =
+abbrev pub StatesAgree : {A S T : Type 0} → Steps A S T → Type 0
+StatesAgree {A} {S} {T} s =
     (n : Netlist A T) (first later all : List (List T)) (k m memory since : ℕ → ℕ) (w : List ℕ) (V U : ℕ → List T)
     (rest : NetState T S) → StartsLate s n first later all k m memory since w V U →
     Leaves s n m U rest → Leaves s n (λ a. k a + m a) V rest
@@ -71,8 +71,8 @@ WarmRunsGoOn {A} {S} {T} s =
     AreJoined front later all → AreJoined outputs on joined → length joined ≡ length outputs →
     HasRun s n all (periods_of p.repetitions (few + warm + more)) joined last
 
--- A run goes on from a rest by some periods, and makes the lists `on`. A second run starts late, on the last `warm` of
--- these periods alone, and goes on from there with the lists after them
+-- A run goes on from a net state by some periods, and makes the lists `on`. A second run starts late, on the last
+-- `warm` of these periods alone, and goes on from there with the lists after them
 pub record ArePartsOf {A S T : Type 0} (s : Steps A S T) (n : Netlist A T) (p : Schedule) (spare warm more : ℕ)
     (before tail front after on next : List (List T)) (rest last end : NetState T S) : Type 0 where
   pub period : HasPeriod s n p
@@ -87,7 +87,7 @@ pub record ArePartsOf {A S T : Type 0} (s : Steps A S T) (n : Netlist A T) (p : 
   pub short : HasRun s n tail (periods_of p.repetitions warm) made back
   pub late : GoesOnBy s n p.repetitions back more after next end
 
--- the lists of both, joined, are the outputs of one run that goes on from the rest by all these periods
+-- the lists of both, joined, are the outputs of one run that goes on from that state by all these periods
 abbrev pub PartsGoOn : {A S T : Type 0} → Steps A S T → Type 0
 PartsGoOn {A} {S} {T} s =
     (n : Netlist A T) (p : Schedule) (spare warm more : ℕ) (before tail front after all on next joined : List (List T))
@@ -96,8 +96,9 @@ PartsGoOn {A} {S} {T} s =
     AreJoined front after all → length all ≡ length front → AreJoined on next joined → length joined ≡ length on →
     GoesOnBy s n p.repetitions rest (spare + warm + more) all joined end
 
--- A run of whole periods that read all of its input left the rest.
-pub record WasLeft {A S T : Type 0} (s : Steps A S T) (n : Netlist A T) (q : List ℕ) (rest : NetState T S) : Type 0 where
+-- A run of whole periods that read all of its input left this net state.
+pub record WasLeft {A S T : Type 0} (s : Steps A S T) (n : Netlist A T) (q : List ℕ)
+    (rest : NetState T S) : Type 0 where
   pub periods : ℕ
   pub inputs : List (List T)
   pub outputs : List (List T)
@@ -107,19 +108,19 @@ pub record WasLeft {A S T : Type 0} (s : Steps A S T) (n : Netlist A T) (q : Lis
 
 -- what any history leaves after whole periods is also left by a run that read all of its input, since unread input
 -- makes no sample
-abbrev pub RestsWereLeft : {A S T : Type 0} → Steps A S T → Type 0
-RestsWereLeft {A} {S} {T} s =
+abbrev pub StatesWereLeft : {A S T : Type 0} → Steps A S T → Type 0
+StatesWereLeft {A} {S} {T} s =
     (n : Netlist A T) (p : Schedule) (periods : ℕ) (inputs : List (List T)) (rest : NetState T S) →
-    HasPeriod s n p → IsRest s n inputs (periods_of p.repetitions periods) rest → WasLeft s n p.repetitions rest
+    HasPeriod s n p → IsNetState s n inputs (periods_of p.repetitions periods) rest → WasLeft s n p.repetitions rest
 
--- a run that goes on from a rest of WasLeft, by all periods of its input, leaves a rest of WasLeft again
-abbrev pub RunsLeaveRests : {A S T : Type 0} → Steps A S T → Type 0
-RunsLeaveRests {A} {S} {T} s =
+-- a run that goes on from a net state of WasLeft, by all periods of its input, leaves a net state of WasLeft again
+abbrev pub RunsLeaveStates : {A S T : Type 0} → Steps A S T → Type 0
+RunsLeaveStates {A} {S} {T} s =
     (n : Netlist A T) (q : List ℕ) (more : ℕ) (later on : List (List T)) (rest last : NetState T S) →
     WasLeft s n q rest → GoesOnBy s n q rest more later on last → AreFull n q more later → WasLeft s n q last
 
--- a run goes on from a rest, and another one from what it leaves: the lists of both, joined, are the outputs of one run
--- that goes on by the periods of both
+-- a run goes on from a net state, and another one from what it leaves: the lists of both, joined, are the outputs of
+-- one run that goes on by the periods of both
 abbrev pub RunsGoOnTwice : {A S T : Type 0} → Steps A S T → Type 0
 RunsGoOnTwice {A} {S} {T} s =
     (n : Netlist A T) (q : List ℕ) (few more : ℕ) (front after all on next joined : List (List T))

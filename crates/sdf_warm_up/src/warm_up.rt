@@ -115,7 +115,7 @@ fn move_target(channel: &Channel, memory: &[u32], since: &mut [u32]) -> Move
 }
 
 /// Moves the firing of each channel's target in `since` on to where the channel is late, one channel after another.
-fn move_on(graph: &Graph, memory: &[u32], since: &mut [u32]) -> Move
+fn move_targets(graph: &Graph, memory: &[u32], since: &mut [u32]) -> Move
     requires all { length since.old ≡ graph.now.actors }
     requires memory { AreFirings (length since.old) memory.now }
     requires since { AreFirings (length since.old) since.old }
@@ -150,7 +150,7 @@ fn settle(graph: &Graph, memory: &[u32], since: &mut [u32]) -> Move
         return Move::Stays;
     }
     for _ in 0..graph.actors() + 1 {
-        match move_on(graph, memory, since) {
+        match move_targets(graph, memory, since) {
             Move::MovesOn => {}
             end => return end,
         }

@@ -21,7 +21,8 @@ use Rattle.sdf_wav.specs.Grammar.{Chunk, Content, Place, IsWav}
 use Rattle.sdf_wav.specs.Parts.{riff_of}
 use Rattle.sdf_wav.specs.Fault.{HasFault}
 use Rattle.sdf_wav.specs.Steps.{◌>>=◌, Reads, riff_at, data_at, whole_at, open_at, wav_at}
-use Rattle.sdf_wav.specs.PiecesIn.{Reading, at_start, Opens, OpensAs, IsReadTo, FailsToOpen, AnswersOpening, OpensTo}
+use Rattle.sdf_wav.specs.PiecesIn.{ContentInValue, at_start, Opens, OpensAs, IsReadTo, FailsToOpen, AnswersOpening}
+use Rattle.sdf_wav.specs.PiecesIn.{OpensTo}
 use Rattle.sdf_wav.specs.PiecesIn.{RefusesToOpen}
 use Rattle.sdf_wav.proofs.Frames.{whole_is_even}
 use Rattle.sdf_wav.proofs.Known.{Known-weaker}
@@ -261,7 +262,7 @@ read_to_start bytes f size rest o = record {
 
 -- ---- what an opening answers
 
-abbrev begun : Result DataStart ReadFault → Result Reading WavFault
+abbrev begun : Result DataStart ReadFault → Result ContentInValue WavFault
 begun (Ok d) = Ok (at_start d.format d.size)
 begun (Err e) = Err (wav_fault e)
 

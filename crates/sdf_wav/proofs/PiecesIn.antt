@@ -18,14 +18,15 @@ use Rattle.sdf_wav.specs.declared.fault.ReadFault.{ReadFault}
 use Rattle.sdf_wav.specs.Steps.{Reads}
 use Rattle.sdf_wav.specs.Fault.{Answers}
 use Rattle.sdf_wav.proofs.Known.{Known-then, Known-weaker, LosesFront-then, Reads-same}
-use Rattle.sdf_wav.specs.PiecesIn.{IsReading, IsPiece, AnswersBy, AnswersOpening, Reading, format_read, Opens, IsWithin}
+use Rattle.sdf_wav.specs.PiecesIn.{IsReading, IsPiece, AnswersBy, AnswersOpening, ContentInValue, format_read, Opens}
+use Rattle.sdf_wav.specs.PiecesIn.{IsWithin}
 use Rattle.sdf_wav.specs.PiecesIn.{IsReadTo, IsEnded, sound_read, sized_piece, open_piece, next_at}
 use Rattle.sdf_wav.proofs.Samples.{pcm_count, pcm_samples-append}
 use Rattle.sdf_wav.proofs.Frames.{whole_is_even, past_whole, less_whole, asked_whole, smaller_whole, twice_whole}
 
 -- ---- the cases of a piece
 
-record Gives (r : Reading) (frames : ℕ) (bytes : List ℕ) : Type 0 where
+record Gives (r : ContentInValue) (frames : ℕ) (bytes : List ℕ) : Type 0 where
   n : ℕ
   there : n ≤ length bytes
   whole : n % (2 * r.channels) ≡ 0
@@ -34,7 +35,7 @@ record Gives (r : Reading) (frames : ℕ) (bytes : List ℕ) : Type 0 where
       ⊎ ((r.size ≡ 0xFFFFFFFF) × (n ≡ length bytes)))
   gives : next_at r frames bytes ≡ Ok (pcm_samples (take n bytes), drop n bytes)
 
-data Falls (r : Reading) (frames : ℕ) (bytes : List ℕ) : Type 0 where
+data Falls (r : ContentInValue) (frames : ℕ) (bytes : List ℕ) : Type 0 where
   falls_cut : r.size ≢ 0xFFFFFFFF → r.size % (2 * r.channels) ≡ 0 → r.gone + length bytes < r.size →
       next_at r frames bytes ≡ Err Truncated → Falls r frames bytes
   falls_long : r.size ≡ 0xFFFFFFFF → 4294967294 < r.gone + length bytes → next_at r frames bytes ≡ Err TooLong →
@@ -42,17 +43,17 @@ data Falls (r : Reading) (frames : ℕ) (bytes : List ℕ) : Type 0 where
   falls_partial : r.size ≡ 0xFFFFFFFF → r.gone + length bytes ≤ 4294967294 → length bytes % (2 * r.channels) ≢ 0 →
       next_at r frames bytes ≡ Err PartialFrame → Falls r frames bytes
 
-pub next_sized : (r : Reading) (frames : ℕ) (bytes : List ℕ) → r.size ≢ 0xFFFFFFFF →
+pub next_sized : (r : ContentInValue) (frames : ℕ) (bytes : List ℕ) → r.size ≢ 0xFFFFFFFF →
     next_at r frames bytes ≡ sized_piece (min (2 * (frames * r.channels)) (r.size - r.gone)) bytes
 unfolding next_at
 next_sized r frames bytes ne = rw (ne_eqb r.size 4294967295 ne) refl
 
-pub next_open : (r : Reading) (frames : ℕ) (bytes : List ℕ) → r.size ≡ 0xFFFFFFFF →
+pub next_open : (r : ContentInValue) (frames : ℕ) (bytes : List ℕ) → r.size ≡ 0xFFFFFFFF →
     next_at r frames bytes ≡ open_piece (2 * r.channels) r.gone (min (2 * (frames * r.channels)) (length bytes)) bytes
 unfolding next_at
 next_open r frames bytes e = rw (eq-eqb r.size 4294967295 e) refl
 
-piece_cases : (r : Reading) (frames : ℕ) (bytes : List ℕ) → r.gone % (2 * r.channels) ≡ 0 →
+piece_cases : (r : ContentInValue) (frames : ℕ) (bytes : List ℕ) → r.gone % (2 * r.channels) ≡ 0 →
     IsWithin (2 * r.channels) r.size r.gone → Gives r frames bytes ⊎ Falls r frames bytes
 piece_cases r frames bytes begun (inl (known, sized, le)) =
     let asked = 2 * (frames * r.channels) in
@@ -115,12 +116,12 @@ abbrev fault : FormatFault → Result (List ℤ × List ℕ) FormatFault
 fault f = Err f
 
 -- what was given is the piece
-record IsGiven (r : Reading) (frames : ℕ) (bytes : List ℕ) (samples : List ℤ) (rest : List ℕ) : Type 0 where
+record IsGiven (r : ContentInValue) (frames : ℕ) (bytes : List ℕ) (samples : List ℤ) (rest : List ℕ) : Type 0 where
   gives : Gives r frames bytes
   samples_are : samples ≡ pcm_samples (take gives.n bytes)
   rest_is : rest ≡ drop gives.n bytes
 
-given : (r : Reading) (frames : ℕ) (bytes rest : List ℕ) (samples : List ℤ) → r.gone % (2 * r.channels) ≡ 0 →
+given : (r : ContentInValue) (frames : ℕ) (bytes rest : List ℕ) (samples : List ℤ) → r.gone % (2 * r.channels) ≡ 0 →
     IsWithin (2 * r.channels) r.size r.gone
     → next_at r frames bytes ≡ Ok (samples, rest) → IsGiven r frames bytes samples rest
 given r frames bytes rest samples begun within e =
@@ -140,7 +141,7 @@ given r frames bytes rest samples begun within e =
     ]
 
 -- so many bytes make half as many samples
-given_count : (r : Reading) (frames : ℕ) (bytes rest : List ℕ) (samples : List ℤ)
+given_count : (r : ContentInValue) (frames : ℕ) (bytes rest : List ℕ) (samples : List ℤ)
     (p : IsGiven r frames bytes samples rest) → 2 * length samples ≡ p.gives.n
 given_count r frames bytes rest samples p =
     let n = p.gives.n in
@@ -150,7 +151,7 @@ given_count r frames bytes rest samples p =
 
 -- ---- pieces that were read
 
-pub reads_on : (input : List ℕ) (r : Reading) (before : List ℤ) (bytes : List ℕ) (frames : ℕ) (samples : List ℤ)
+pub reads_on : (input : List ℕ) (r : ContentInValue) (before : List ℤ) (bytes : List ℕ) (frames : ℕ) (samples : List ℤ)
     (rest : List ℕ) → IsReadTo input r before bytes
     → next_at r frames bytes ≡ Ok (samples, rest) →
     IsReadTo input (record r { gone = r.gone + 2 * length samples }) (before ++ samples) rest
@@ -177,7 +178,8 @@ reads_on input r before bytes frames samples rest q e =
     }
 
 -- fewer frames than were asked for come at the end alone
-pub few_at_end : (input : List ℕ) (r : Reading) (before : List ℤ) (bytes : List ℕ) (frames : ℕ) (samples : List ℤ)
+pub few_at_end : (input : List ℕ) (r : ContentInValue) (before : List ℤ) (bytes : List ℕ) (frames : ℕ)
+    (samples : List ℤ)
     (rest : List ℕ) → IsReadTo input r before bytes
     → next_at r frames bytes ≡ Ok (samples, rest) → length samples < frames * r.channels →
     IsEnded (record r { gone = r.gone + 2 * length samples }) rest
@@ -191,7 +193,7 @@ few_at_end input r before bytes frames samples rest q e few =
       | inr (inr (unknown, end)) ↦ inr (unknown, p.rest_is ∙ drop_all p.gives.n bytes (omega (arith, end)))
     ]
 
-content_ended : (size : List ℕ) (r : Reading) (gone rest : List ℕ) → little_number 4 size ≡ r.size →
+content_ended : (size : List ℕ) (r : ContentInValue) (gone rest : List ℕ) → little_number 4 size ≡ r.size →
     length gone ≡ r.gone → IsWithin (2 * r.channels) r.size r.gone → IsEnded r rest →
     Content (little_number 4 size) gone rest
 content_ended size r gone rest is count within (inl (known, end)) = inl (λ x. known (sym is ∙ x), count ∙ end ∙ sym is)
@@ -200,7 +202,8 @@ content_ended size r gone rest is count (inr (unsized, fits)) (inr (unknown, non
     inr (is ∙ unknown, omega (arith, count), none)
 
 -- at the content's end the input is a file of what was read
-pub ended_is_wav : (input : List ℕ) (r : Reading) (samples : List ℤ) (rest : List ℕ) → IsReadTo input r samples rest →
+pub ended_is_wav : (input : List ℕ) (r : ContentInValue) (samples : List ℤ) (rest : List ℕ) →
+    IsReadTo input r samples rest →
     IsEnded r rest → IsWav input (sound_read r samples) rest
 ended_is_wav input r samples rest q end = record {
   chunks = q.opens.chunks;
@@ -220,7 +223,8 @@ same_fault : (g f : FormatFault) → fault g ≡ fault f → g ≡ f
 same_fault g f e = cc
 
 -- a fault within a piece is the input's
-pub falls_with : (input : List ℕ) (r : Reading) (before : List ℤ) (bytes : List ℕ) (frames : ℕ) (f : FormatFault) →
+pub falls_with : (input : List ℕ) (r : ContentInValue) (before : List ℤ) (bytes : List ℕ) (frames : ℕ)
+    (f : FormatFault) →
     IsReadTo input r before bytes → next_at r frames bytes ≡ Err f → HasFault input f
 falls_with input r before bytes frames f q e =
     let begun : r.gone % (2 * r.channels) ≡ 0 = ap (λ n. n % (2 * r.channels)) (sym q.count) ∙ q.whole in
@@ -256,7 +260,7 @@ pub sized_asked : (all k size gone : ℕ) → k ≡ min (min all 184467440737095
     min (2 * k) (size - gone) ≡ min (2 * all) (size - gone)
 sized_asked all k size gone e fits = omega arith
 
-pub next_by_sized : {X : Type 0} (view : X → List ℤ) (a b : Option (List ℕ)) (r : Reading) (frames k n : ℕ)
+pub next_by_sized : {X : Type 0} (view : X → List ℤ) (a b : Option (List ℕ)) (r : ContentInValue) (frames k n : ℕ)
     (x : Result X ReadFault) → r.size ≢ 0xFFFFFFFF → r.size ≤ 0xFFFFFFFF
     → k ≡ min (min (frames * r.channels) 18446744073709551615) 2147483648 → n ≡ min (2 * k) (r.size - r.gone) →
     Reads view a b (sized_piece n) x → Reads view a b (next_at r frames) x
@@ -285,7 +289,7 @@ open_asked align gone all k bytes e =
       ]
     ]
 
-pub next_by_open : {X : Type 0} (view : X → List ℤ) (a b : Option (List ℕ)) (r : Reading) (frames k : ℕ)
+pub next_by_open : {X : Type 0} (view : X → List ℤ) (a b : Option (List ℕ)) (r : ContentInValue) (frames k : ℕ)
     (x : Result X ReadFault) → r.size ≡ 0xFFFFFFFF
     → k ≡ min (min (frames * r.channels) 18446744073709551615) 2147483648 →
     Reads view a b (λ bytes. open_piece (2 * r.channels) r.gone (min (2 * k) (length bytes)) bytes) x →
@@ -297,11 +301,12 @@ next_by_open view a b r frames k x unknown e h =
     ∙ sym (next_open r frames bytes unknown)) h
 
 -- a piece further on
-pub next_is_reading : (r old : Reading) (n samples frames : ℕ) → r ≡ old → n ≡ samples → IsReading r →
+pub next_is_reading : (r old : ContentInValue) (n samples frames : ℕ) → r ≡ old → n ≡ samples → IsReading r →
     IsPiece old frames samples → IsWithin (2 * old.channels) old.size (old.gone + 2 * samples)
     → IsReading (record r { gone = r.gone + 2 * n })
 next_is_reading r old n samples frames same count is piece within =
-    let whole : samples % r.channels ≡ 0 = (subst (λ (x : Reading). IsPiece x frames samples) (sym same) piece).whole in
+    let whole : samples % r.channels ≡ 0 = (subst (λ (x : ContentInValue). IsPiece x frames samples) (sym same)
+    piece).whole in
     let all : samples ≡ n = sym count in
     record {
       some_rate = is.some_rate;
@@ -311,18 +316,19 @@ next_is_reading r old n samples frames same count is piece within =
       whole = past_whole r.gone (2 * n) (2 * r.channels) is.whole
           ∙ twice_whole n r.channels (subst (λ j. j % r.channels ≡ 0) all whole);
       within = subst (λ j. IsWithin (2 * r.channels) r.size (r.gone + 2 * j)) all
-          (subst (λ (x : Reading). IsWithin (2 * x.channels) x.size (x.gone + 2 * samples)) (sym same) within);
+          (subst (λ (x : ContentInValue). IsWithin (2 * x.channels) x.size (x.gone + 2 * samples)) (sym same) within);
       fault = is.fault;
     }
 
 -- ---- a whole content in one piece
 
-few_samples : (r : Reading) (samples : ℕ) → IsReading r → IsWithin (2 * r.channels) r.size (r.gone + 2 * samples) →
+few_samples : (r : ContentInValue) (samples : ℕ) → IsReading r →
+    IsWithin (2 * r.channels) r.size (r.gone + 2 * samples) →
     samples < 18446744073709551615 * r.channels
 few_samples r samples is (inl (known, sized, le)) = omega (arith, is.size_fits, is.one_channel)
 few_samples r samples is (inr (unknown, fits)) = omega (arith, is.one_channel)
 
-whole_is_wav : (input : List ℕ) (r : Reading) (bytes rest : List ℕ) (s : Sound) → IsReading r →
+whole_is_wav : (input : List ℕ) (r : ContentInValue) (bytes rest : List ℕ) (s : Sound) → IsReading r →
     IsReadTo input r [] bytes → next_at r 18446744073709551615 bytes ≡ Ok (s.samples, rest)
     → s.rate ≡ r.rate → s.channels ≡ r.channels → IsWav input s rest
 whole_is_wav input r bytes rest s is q e rate channels =
@@ -333,7 +339,7 @@ whole_is_wav input r bytes rest s is q e rate channels =
     subst (λ (t : Sound). IsWav input t rest) made
     (ended_is_wav input (record r { gone = r.gone + 2 * length s.samples }) s.samples rest on end)
 
-pub whole_answers : (a b c : Option (List ℕ)) (r : Reading) (x : Result Sound WavFault) → IsReading r →
+pub whole_answers : (a b c : Option (List ℕ)) (r : ContentInValue) (x : Result Sound WavFault) → IsReading r →
     AnswersOpening a b (Ok r) → AnswersBy (λ s. s.samples) b c (next_at r 18446744073709551615) x
     → IfOk x (λ s. (s.rate ≡ r.rate) × (s.channels ≡ r.channels)) → Answers a c x
 whole_answers a b c r (Ok s) is p q same = Known-then p q (λ x y z p q. whole_is_wav x r y z s is p.0 q.0 same.0 same.1)

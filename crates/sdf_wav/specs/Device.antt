@@ -19,9 +19,9 @@ pub record WriterState : Type 0 where
   pub failures : ℕ
 
 -- what a device's call returns if the one call of the device inside returned this
-abbrev pub answered : {E : Type 0} → Result ℕ E → Result ℕ DeviceFault
-answered (Ok n) = Ok n
-answered (Err e) = Err (record {})
+abbrev pub device_result : {E : Type 0} → Result ℕ E → Result ℕ DeviceFault
+device_result (Ok n) = Ok n
+device_result (Err e) = Err (record {})
 
 -- the greatest u64
 abbrev pub most_failures : ℕ

@@ -6,7 +6,7 @@ use Rattle.byteorder.specs.Endian.{little_number}
 use Rattle.sdf_wav.specs.declared.format.Format.{Format}
 use Rattle.sdf_wav.specs.Parts.{pcm_guid}
 use Rattle.sdf_wav.specs.Sound.{Sound, pcm_samples}
-use Rattle.sdf_wav.specs.declared.wav.TheConstants.{MOST_CHANNELS}
+use Rattle.sdf_wav.specs.declared.wav.TheConstants.{MAX_CHANNELS}
 
 -- an id, a size and a content; behind a content of odd size there is one more byte
 pub record Chunk : Type 0 where
@@ -38,7 +38,7 @@ pub record IsContentOf (content : List ℕ) (f : Format) : Type 0 where
   pub bits : little_number 2 (drop 14 content) ≡ 16
   pub channels : little_number 2 (drop 2 content) ≡ f.channels
   pub one_channel : 1 ≤ f.channels
-  pub few_channels : f.channels ≤ MOST_CHANNELS
+  pub few_channels : f.channels ≤ MAX_CHANNELS
   pub rate : little_number 4 (drop 4 content) ≡ f.rate
   pub some_rate : 1 ≤ f.rate
   pub align : little_number 2 (drop 12 content) ≡ 2 * f.channels

@@ -4,11 +4,11 @@ use Rattle.std.specs.Prelude.{Err}
 use Rattle.std.specs.Io.KnownBytes.{Appends}
 use Rattle.sdf_wav.specs.declared.fault.FormatFault.{FormatFault}
 use Rattle.sdf_wav.specs.declared.format.Format.{Format}
-use Rattle.sdf_wav.specs.declared.wav.TheConstants.{MOST_CHANNELS}
+use Rattle.sdf_wav.specs.declared.wav.TheConstants.{MAX_CHANNELS}
 use Rattle.sdf_wav.specs.Canonical.{IsCanonical, canonical_wav, sample_bytes, write_fault}
 use Rattle.sdf_wav.specs.Fault.{HasFault}
 use Rattle.sdf_wav.specs.Grammar.{IsWav}
-use Rattle.sdf_wav.specs.PiecesIn.{Reading, Opens, OpensAs, IsReadTo, IsEnded, sound_read, next_at}
+use Rattle.sdf_wav.specs.PiecesIn.{ContentInValue, Opens, OpensAs, IsReadTo, IsEnded, sound_read, next_at}
 use Rattle.sdf_wav.specs.Sound.{Sound, IsSound}
 
 -- ---- files of a sound
@@ -20,7 +20,7 @@ CanonicalIsWav = (s : Sound) → IsSound s → write_fault s ≡ None → IsWav 
 -- the canonical file of whole frames is the file of a sound, whatever numbers its samples are
 abbrev pub FilesAreCanonical : Type 0
 FilesAreCanonical =
-    (s : Sound) → 1 ≤ s.rate → s.rate < 2 ^ 32 → 1 ≤ s.channels → s.channels ≤ MOST_CHANNELS →
+    (s : Sound) → 1 ≤ s.rate → s.rate < 2 ^ 32 → 1 ≤ s.channels → s.channels ≤ MAX_CHANNELS →
     length s.samples % s.channels ≡ 0 → write_fault s ≡ None → IsCanonical (canonical_wav s)
 
 -- samples written in turn are written as one list
@@ -63,25 +63,27 @@ FilesOpenAs = (input : List ℕ) (s : Sound) (rest : List ℕ) → IsWav input s
 -- the pieces, joined, are the samples of the content that is gone
 abbrev pub PiecesGoOn : Type 0
 PiecesGoOn =
-    (input : List ℕ) (r : Reading) (before : List ℤ) (bytes : List ℕ) (frames : ℕ) (samples : List ℤ) (rest : List ℕ) →
+    (input : List ℕ) (r : ContentInValue) (before : List ℤ) (bytes : List ℕ) (frames : ℕ) (samples : List ℤ)
+    (rest : List ℕ) →
     IsReadTo input r before bytes → next_at r frames bytes ≡ Ok (samples, rest) →
     IsReadTo input (record r { gone = r.gone + 2 * length samples }) (before ++ samples) rest
 
 -- fewer frames than were asked for come only at the end
 abbrev pub FewEnd : Type 0
 FewEnd =
-    (input : List ℕ) (r : Reading) (before : List ℤ) (bytes : List ℕ) (frames : ℕ) (samples : List ℤ) (rest : List ℕ) →
+    (input : List ℕ) (r : ContentInValue) (before : List ℤ) (bytes : List ℕ) (frames : ℕ) (samples : List ℤ)
+    (rest : List ℕ) →
     IsReadTo input r before bytes → next_at r frames bytes ≡ Ok (samples, rest) →
     length samples < frames * r.channels → IsEnded (record r { gone = r.gone + 2 * length samples }) rest
 
 -- at the end the input is a file of the samples read
 abbrev pub PiecesEnd : Type 0
 PiecesEnd =
-    (input : List ℕ) (r : Reading) (samples : List ℤ) (rest : List ℕ) → IsReadTo input r samples rest →
+    (input : List ℕ) (r : ContentInValue) (samples : List ℤ) (rest : List ℕ) → IsReadTo input r samples rest →
     IsEnded r rest → IsWav input (sound_read r samples) rest
 
 -- a fault of a piece is a fault of the input
 abbrev pub PiecesFall : Type 0
 PiecesFall =
-    (input : List ℕ) (r : Reading) (before : List ℤ) (bytes : List ℕ) (frames : ℕ) (f : FormatFault) →
+    (input : List ℕ) (r : ContentInValue) (before : List ℤ) (bytes : List ℕ) (frames : ℕ) (f : FormatFault) →
     IsReadTo input r before bytes → next_at r frames bytes ≡ Err f → HasFault input f

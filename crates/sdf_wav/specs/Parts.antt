@@ -12,7 +12,7 @@ use Rattle.sdf_wav.specs.declared.parts.ChunkHeader.{ChunkHeader}
 use Rattle.sdf_wav.specs.declared.format.Format.{Format}
 use Rattle.sdf_wav.specs.declared.parts.Fields.{Fields}
 use Rattle.sdf_wav.specs.declared.parts.DataStart.{DataStart}
-use Rattle.sdf_wav.specs.declared.wav.TheConstants.{MOST_CHANNELS}
+use Rattle.sdf_wav.specs.declared.wav.TheConstants.{MAX_CHANNELS}
 
 -- the first twelve bytes, or all if there are fewer
 abbrev pub riff_of : List ℕ → Result (Unit {0}) FormatFault
@@ -57,7 +57,7 @@ abbrev pub checked : Fields → List ℕ → Result Format FormatFault
 checked fields content =
     if (fields.tag == 0xFFFE) && nat_lt (length content) 40 then Err ShortFormat
     else (if not (is_pcm16 fields content) then Err NotPcm16
-    else (if (fields.channels == 0) || nat_lt MOST_CHANNELS fields.channels then Err Channels
+    else (if (fields.channels == 0) || nat_lt MAX_CHANNELS fields.channels then Err Channels
     else (if fields.rate == 0 then Err RateZero
     else (if not (fields.align == 2 * fields.channels) then Err BadAlign
     else Ok (record { rate = fields.rate; channels = fields.channels })))))

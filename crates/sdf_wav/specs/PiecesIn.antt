@@ -7,29 +7,29 @@ use Rattle.sdf_wav.specs.declared.fault.FormatFault.TheVariants.{Truncated, Part
 use Rattle.sdf_wav.specs.declared.fault.WavFault.{WavFault}
 use Rattle.sdf_wav.specs.declared.fault.WavFault.TheVariants as faults
 use Rattle.sdf_wav.specs.declared.format.Format.{Format}
-use Rattle.sdf_wav.specs.declared.wav.TheConstants.{MOST_CHANNELS}
+use Rattle.sdf_wav.specs.declared.wav.TheConstants.{MAX_CHANNELS}
 use Rattle.sdf_wav.specs.Device.{Known, LosesFront}
 use Rattle.sdf_wav.specs.Sound.{Sound, pcm_samples}
 use Rattle.sdf_wav.specs.Grammar.{Chunk, Place}
 use Rattle.sdf_wav.specs.Fault.{HasFault, IsReadingFault, IsFromOutside}
 
 -- where a file is read on: what its parts say, how many bytes of its content are gone, and the fault that occurred
-pub record Reading : Type 0 where
+pub record ContentInValue : Type 0 where
   pub rate : ℕ
   pub channels : ℕ
   pub size : ℕ
   pub gone : ℕ
   pub fault : Option WavFault
 
-abbrev pub format_read : Reading → Format
+abbrev pub format_read : ContentInValue → Format
 format_read r = record { rate = r.rate; channels = r.channels }
 
 -- a content of which nothing is read yet
-abbrev pub at_start : Format → ℕ → Reading
+abbrev pub at_start : Format → ℕ → ContentInValue
 at_start f size = record { rate = f.rate; channels = f.channels; size = size; gone = 0; fault = None }
 
 -- how many frames there are, if the size of the data was filled in
-abbrev pub known_frames : Reading → Option ℕ
+abbrev pub known_frames : ContentInValue → Option ℕ
 known_frames r = if r.size == 0xFFFFFFFF then None else Some (r.size / (2 * r.channels))
 
 -- The bytes begin as a WAV file does, up to the size of its data. Then comes the rest.
@@ -48,10 +48,10 @@ IsWithin align size gone =
     ((size ≢ 0xFFFFFFFF) × (size % align ≡ 0) × (gone ≤ size)) ⊎ ((size ≡ 0xFFFFFFFF) × (gone ≤ 4294967294))
 
 -- a possible state of a reading
-pub record IsReading (r : Reading) : Type 0 where
+pub record IsReading (r : ContentInValue) : Type 0 where
   pub some_rate : 1 ≤ r.rate
   pub one_channel : 1 ≤ r.channels
-  pub few_channels : r.channels ≤ MOST_CHANNELS
+  pub few_channels : r.channels ≤ MAX_CHANNELS
   pub size_fits : r.size ≤ 0xFFFFFFFF
   pub whole : r.gone % (2 * r.channels) ≡ 0
   pub within : IsWithin (2 * r.channels) r.size r.gone
@@ -59,7 +59,7 @@ pub record IsReading (r : Reading) : Type 0 where
 
 -- An input was read up to here. It opens, these are the samples of the bytes of its content that are gone, and then
 -- comes the rest.
-pub record IsReadTo (input : List ℕ) (r : Reading) (samples : List ℤ) (rest : List ℕ) : Type 0 where
+pub record IsReadTo (input : List ℕ) (r : ContentInValue) (samples : List ℤ) (rest : List ℕ) : Type 0 where
   pub gone : List ℕ
   pub opens : Opens input (format_read r) r.size (gone ++ rest)
   pub count : length gone ≡ r.gone
@@ -68,11 +68,11 @@ pub record IsReadTo (input : List ℕ) (r : Reading) (samples : List ℤ) (rest 
   pub within : IsWithin (2 * r.channels) r.size r.gone
 
 -- nothing of the content is left
-abbrev pub IsEnded : Reading → List ℕ → Type 0
+abbrev pub IsEnded : ContentInValue → List ℕ → Type 0
 IsEnded r rest = ((r.size ≢ 0xFFFFFFFF) × (r.gone ≡ r.size)) ⊎ ((r.size ≡ 0xFFFFFFFF) × (rest ≡ []))
 
 -- what was read, as a sound
-abbrev pub sound_read : Reading → List ℤ → Sound
+abbrev pub sound_read : ContentInValue → List ℤ → Sound
 sound_read r samples = record { rate = r.rate; channels = r.channels; samples = samples }
 
 -- the next n bytes of a content of a known size
@@ -88,7 +88,7 @@ open_piece align gone n bytes =
 
 -- the samples of the next frames and the bytes behind them, or the fault among them. These are all frames asked for, or
 -- all up to the content's end
-unfoldable pub next_at : Reading → ℕ → List ℕ → Result (List ℤ × List ℕ) FormatFault
+unfoldable pub next_at : ContentInValue → ℕ → List ℕ → Result (List ℤ × List ℕ) FormatFault
 next_at r frames bytes =
     let asked = 2 * (frames * r.channels) in
     if r.size == 0xFFFFFFFF then open_piece (2 * r.channels) r.gone (min asked (length bytes)) bytes
@@ -96,7 +96,7 @@ next_at r frames bytes =
 
 -- This number of samples can be read as the next frames, whatever is known of the bytes. It is whole frames, at most
 -- what was asked for. For a known size it is exactly that, or all that is left if this is less.
-pub record IsPiece (r : Reading) (frames samples : ℕ) : Type 0 where
+pub record IsPiece (r : ContentInValue) (frames samples : ℕ) : Type 0 where
   pub most : samples ≤ frames * r.channels
   pub whole : samples % r.channels ≡ 0
   pub sized : r.size ≢ 0xFFFFFFFF → 2 * samples ≡ min (2 * (frames * r.channels)) (r.size - r.gone)
@@ -135,7 +135,7 @@ pub record FailsToOpen (input : List ℕ) (f : FormatFault) : Type 0 where
 
 -- What the result of an opening says of the bytes before it and after it, if they are known. The input opens and its
 -- content is before the reader, or it fails to open and lost a front, or only a front is gone.
-abbrev pub AnswersOpening : Option (List ℕ) → Option (List ℕ) → Result Reading WavFault → Type 0
+abbrev pub AnswersOpening : Option (List ℕ) → Option (List ℕ) → Result ContentInValue WavFault → Type 0
 AnswersOpening old new (Ok r) = Known old new (λ input left. IsReadTo input r [] left × LosesFront input left)
 AnswersOpening old new (Err (faults.Format f)) =
     Known old new (λ input left. FailsToOpen input f × LosesFront input left)
@@ -144,12 +144,12 @@ AnswersOpening old new (Err faults.Read) = Known old new LosesFront
 AnswersOpening old new (Err faults.Write) = ⊥
 
 -- the content is before the reader, unless memory or the reader failed
-abbrev pub OpensTo : Option (List ℕ) → Format → ℕ → List ℕ → Result Reading WavFault → Type 0
+abbrev pub OpensTo : Option (List ℕ) → Format → ℕ → List ℕ → Result ContentInValue WavFault → Type 0
 OpensTo new f size rest (Ok r) = (r ≡ at_start f size) × (new ≡ Some rest)
 OpensTo new f size rest (Err e) = IsFromOutside e
 
 -- the fault is returned, unless memory or the reader failed
-abbrev pub RefusesToOpen : FormatFault → Result Reading WavFault → Type 0
+abbrev pub RefusesToOpen : FormatFault → Result ContentInValue WavFault → Type 0
 RefusesToOpen f (Ok r) = ⊥
 RefusesToOpen f (Err e) = (e ≡ faults.Format f) ⊎ IsFromOutside e
 

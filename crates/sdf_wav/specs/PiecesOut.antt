@@ -6,12 +6,12 @@ use Rattle.sdf_wav.specs.declared.fault.FormatFault.{FormatFault}
 use Rattle.sdf_wav.specs.declared.fault.FormatFault.TheVariants.{Channels, RateZero}
 use Rattle.sdf_wav.specs.declared.fault.WavFault.{WavFault}
 use Rattle.sdf_wav.specs.declared.fault.WavFault.TheVariants as faults
-use Rattle.sdf_wav.specs.declared.wav.TheConstants.{MOST_CHANNELS}
+use Rattle.sdf_wav.specs.declared.wav.TheConstants.{MAX_CHANNELS}
 use Rattle.sdf_wav.specs.Canonical.{header, size_fault}
 use Rattle.sdf_wav.specs.Device.{AppendsFront}
 
 -- what a writing owes: its missing frames, each of this number of channels, or nothing once its writer failed
-pub record Owed : Type 0 where
+pub record ContentOutValue : Type 0 where
   pub channels : ℕ
   pub missing : ℕ
   pub spent : Bool
@@ -19,7 +19,7 @@ pub record Owed : Type 0 where
 -- why no file has this rate and these numbers of channels and frames, if there is none
 abbrev pub start_fault : ℕ → ℕ → ℕ → Option FormatFault
 start_fault rate channels frames =
-    if (channels == 0) || nat_lt MOST_CHANNELS channels then Some Channels
+    if (channels == 0) || nat_lt MAX_CHANNELS channels then Some Channels
     else (if rate == 0 then Some RateZero
     else size_fault rate channels (frames * channels))
 
@@ -36,10 +36,10 @@ Puts old new bytes (Err faults.Read) = ⊥
 Puts old new bytes (Err faults.OutOfMemory) = ⊥
 
 -- what is owed after a call that should write this number of samples
-abbrev pub owed_after : {X : Type 0} → Owed → ℕ → Result X WavFault → Owed
+abbrev pub owed_after : {X : Type 0} → ContentOutValue → ℕ → Result X WavFault → ContentOutValue
 owed_after w samples (Ok x) = record w { missing = w.missing - samples / w.channels }
 owed_after w samples (Err e) = record w { spent = true }
 
 -- the result of a call that writes nothing: the fault if there was one
-abbrev pub ended : Bool → Result (Unit {0}) WavFault
-ended spent = if spent then Err faults.Write else Ok tt
+abbrev pub end_result : Bool → Result (Unit {0}) WavFault
+end_result spent = if spent then Err faults.Write else Ok tt

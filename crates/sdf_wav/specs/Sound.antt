@@ -7,7 +7,7 @@ use Rattle.byteorder.specs.Endian.{little_number}
 use Rattle.sdf_wav.specs.declared.fault.FormatFault.TheVariants.{Channels, RateZero, PartialFrame}
 use Rattle.sdf_wav.specs.declared.fault.WavFault.{WavFault}
 use Rattle.sdf_wav.specs.declared.fault.WavFault.TheVariants.{Format}
-use Rattle.sdf_wav.specs.declared.wav.TheConstants.{MOST_CHANNELS}
+use Rattle.sdf_wav.specs.declared.wav.TheConstants.{MAX_CHANNELS}
 
 pub record Sound : Type 0 where
   pub rate : ℕ
@@ -21,7 +21,7 @@ frames_of s = length s.samples / s.channels
 -- a sound from its parts, or the first fault in them
 abbrev pub sound_of : ℕ → ℕ → List ℤ → Result Sound WavFault
 sound_of rate channels samples =
-    if (channels == 0) || nat_lt MOST_CHANNELS channels then Err (Format Channels)
+    if (channels == 0) || nat_lt MAX_CHANNELS channels then Err (Format Channels)
     else (if rate == 0 then Err (Format RateZero)
     else (if not (length samples % channels == 0) then Err (Format PartialFrame)
     else Ok (record { rate = rate; channels = channels; samples = samples })))
@@ -37,6 +37,6 @@ pub record IsSound (s : Sound) : Type 0 where
   pub some_rate : 1 ≤ s.rate
   pub rate_fits : s.rate < 2 ^ 32
   pub one_channel : 1 ≤ s.channels
-  pub few_channels : s.channels ≤ MOST_CHANNELS
+  pub few_channels : s.channels ≤ MAX_CHANNELS
   pub samples_fit : AllByRecursion (FitsSigned w16) s.samples
   pub whole : length s.samples % s.channels ≡ 0

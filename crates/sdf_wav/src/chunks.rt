@@ -90,7 +90,7 @@ fn skip_content<R: Reader>(reader: &mut R, size: u32) -> Result<(), ReadFault>
 
 /// Reads a content of `size` bytes. Its first bytes fill `front`, and the others are skipped.
 #[tactic(auto, unfolding(crate::specs::Steps::looked_at))]
-fn read_looked<R: Reader>(reader: &mut R, front: &mut [u8], size: u32) -> Result<(), ReadFault>
+fn read_and_skip<R: Reader>(reader: &mut R, front: &mut [u8], size: u32) -> Result<(), ReadFault>
     requires { length front.old ≤ size }
     ensures bytes { Reads (λ _. front.new) (R.state reader.old).remaining (R.state reader.new).remaining
         (looked_at (length front.old) size) result }
@@ -117,7 +117,7 @@ fn read_pcm<R: Reader>(reader: &mut R, size: u32) -> Result<Format, ReadFault>
     let mut front = [0u8; 40];
     let len = size.min(LONGEST_FORMAT);
     let content = &mut front[..len as usize];
-    read_looked(reader, content, size)?;
+    read_and_skip(reader, content, size)?;
     Ok(format_of(content)?)
 }
 
@@ -140,7 +140,7 @@ fn read_format<R: Reader>(reader: &mut R, size: u32) -> Result<Format, ReadFault
 
 /// Passes a chunk before the data: reads the first format chunk, and skips any other. Returns the format known after
 /// it.
-fn pass<R: Reader>(
+fn read_or_skip<R: Reader>(
     reader: &mut R,
     header: ChunkHeader,
     seen: Option<Format>,
@@ -173,7 +173,7 @@ enum Step {
 
 /// Reads what is at the place of a chunk. If it is the data, this stops before the samples.
 #[tactic(auto, unfolding(crate::specs::Steps::step_at))]
-fn next_part<R: Reader>(reader: &mut R, seen: Option<Format>) -> Result<Step, ReadFault>
+fn read_chunk<R: Reader>(reader: &mut R, seen: Option<Format>) -> Result<Step, ReadFault>
     requires { IsKnown seen }
     ensures bytes { Reads (λ x. x) (R.state reader.old).remaining (R.state reader.new).remaining (step_at seen) result }
     ensures counted { (R.state reader.new).failures ≡ failures_after (widened result) (R.state reader.old).failures }
@@ -187,7 +187,7 @@ fn next_part<R: Reader>(reader: &mut R, seen: Option<Format>) -> Result<Step, Re
             Ok(Step::Data(start))
         }
         _ => {
-            let now = pass(reader, header, seen)?;
+            let now = read_or_skip(reader, header, seen)?;
             Ok(Step::Passed(now))
         }
     }
@@ -195,7 +195,7 @@ fn next_part<R: Reader>(reader: &mut R, seen: Option<Format>) -> Result<Step, Re
 
 /// Reads the header of the data at a place where no other chunk is accepted. Fails with `TooLong` at another chunk.
 #[tactic(auto, unfolding(crate::specs::Steps::last_at))]
-fn read_last<R: Reader>(reader: &mut R, seen: Option<Format>) -> Result<DataStart, ReadFault>
+fn read_data_header<R: Reader>(reader: &mut R, seen: Option<Format>) -> Result<DataStart, ReadFault>
     requires { IsKnown seen }
     ensures bytes { Reads (λ x. x) (R.state reader.old).remaining (R.state reader.new).remaining (last_at seen) result }
     ensures counted { (R.state reader.new).failures ≡ failures_after (widened result) (R.state reader.old).failures }
@@ -210,7 +210,7 @@ fn read_last<R: Reader>(reader: &mut R, seen: Option<Format>) -> Result<DataStar
 }
 
 /// The most chunks before the data.
-const MOST_CHUNKS: u32 = 65_536;
+const MAX_CHUNKS: u32 = 65_536;
 
 /// Reads up to the samples.
 fn find_data<R: Reader>(reader: &mut R) -> Result<DataStart, ReadFault>
@@ -221,13 +221,13 @@ fn find_data<R: Reader>(reader: &mut R) -> Result<DataStart, ReadFault>
     ensures valid { IfOk result (λ start. IsFormat start.format) }
 {
     let mut seen = None;
-    for _ in 0..MOST_CHUNKS {
-        match next_part(reader, seen)? {
+    for _ in 0..MAX_CHUNKS {
+        match read_chunk(reader, seen)? {
             Step::Data(start) => return Ok(start),
             Step::Passed(now) => seen = now,
         }
     }
-    read_last(reader, seen)
+    read_data_header(reader, seen)
 }
 
 /// Reads a file up to the size of its data. A known size must be whole frames.

@@ -11,7 +11,7 @@ ghost use Rattle.sdf_wav.specs.Steps.{Reads};
 use crate::device::Reader;
 use crate::fault::{FormatFault, ReadFault};
 use crate::moving::fill;
-use crate::wav::MOST_CHANNELS;
+use crate::wav::MAX_CHANNELS;
 use byteorder::{ByteOrder, LittleEndian};
 use std::alloc::{AllocError, Global};
 
@@ -69,13 +69,13 @@ fn read_samples<R: Reader>(alloc: Global, reader: &mut R, limit: u64) -> Result<
 pub const UNKNOWN_SIZE: u32 = 0xFFFF_FFFF;
 
 /// The most bytes of data whose size was never filled in.
-const MOST_BYTES: u64 = 4_294_967_294;
+const MAX_BYTES: u64 = 4_294_967_294;
 
-/// One sample more than `MOST_BYTES`.
+/// One sample more than `MAX_BYTES`.
 const LIMIT: u64 = 4_294_967_296;
 
 /// Reads at most `asked` bytes of data that goes to the end of the input. `gone` bytes of it were read before.
-pub(crate) fn read_open<R: Reader>(
+pub(crate) fn read_unsized<R: Reader>(
     alloc: Global,
     reader: &mut R,
     channels: u16,
@@ -83,7 +83,7 @@ pub(crate) fn read_open<R: Reader>(
     asked: u64,
 ) -> Result<Vec<i16>, ReadFault>
     requires low { 1 ≤ channels }
-    requires high { channels ≤ MOST_CHANNELS }
+    requires high { channels ≤ MAX_CHANNELS }
     requires within { gone ≤ 4294967294 }
     requires whole { gone % 2 ≡ 0 }
     requires even { asked % 2 ≡ 0 }
@@ -96,7 +96,7 @@ pub(crate) fn read_open<R: Reader>(
     ensures fault { IfErr (widened result) IsReadingFault }
 {
     let content = read_samples(alloc, reader, asked.min(LIMIT - gone))?;
-    if gone + content.bytes > MOST_BYTES {
+    if gone + content.bytes > MAX_BYTES {
         return Err(ReadFault::Format(FormatFault::TooLong));
     }
     if content.bytes % u64::from(2 * channels) != 0 {

@@ -5,7 +5,7 @@ ghost use Rattle.std.specs.Prelude.{IsErrOf, Err};
 ghost use Rattle.sdf_wav.specs.declared.fault.FormatFault.{FormatFault};
 ghost use Rattle.sdf_wav.specs.declared.fault.WavFault.{WavFault};
 ghost use Rattle.sdf_wav.specs.declared.format.Format.{Format};
-ghost use Rattle.sdf_wav.specs.declared.wav.TheConstants.{MOST_CHANNELS};
+ghost use Rattle.sdf_wav.specs.declared.wav.TheConstants.{MAX_CHANNELS};
 ghost use Rattle.sdf_wav.specs.Device.{failures_after, widened, Failed};
 ghost use Rattle.sdf_wav.specs.Fault.{HasFault, IsOpeningFault, IsReadingFault};
 ghost use Rattle.sdf_wav.specs.PiecesIn.{IsReading, IsPiece, IsWithin, IsSizedFault, Opens, AnswersOpening, OpensTo};
@@ -13,7 +13,7 @@ ghost use Rattle.sdf_wav.specs.PiecesIn.{RefusesToOpen, AnswersBy, known_frames,
 ghost use Rattle.sdf_wav.specs.Steps.{Reads};
 
 use crate::chunks::open_data;
-use crate::content::{UNKNOWN_SIZE, read_open, read_sized};
+use crate::content::{UNKNOWN_SIZE, read_sized, read_unsized};
 use crate::device::Reader;
 use crate::fault::{ReadFault, WavFault};
 use crate::format::Format;
@@ -31,9 +31,9 @@ pub struct ContentIn {
 }
 
 impl Model for ContentIn {
-    ghost use Rattle.sdf_wav.specs.PiecesIn.{Reading, IsReading};
+    ghost use Rattle.sdf_wav.specs.PiecesIn.{ContentInValue, IsReading};
 
-    ghost Value = { Reading };
+    ghost Value = { ContentInValue };
 
     ghost view = { λ c. record {
       rate = c.format.rate;
@@ -102,7 +102,7 @@ impl ContentIn {
     pub fn channels(&self) -> u16
         ensures value { result ≡ self.now.channels }
         ensures above_0 { 1 ≤ result }
-        ensures few { result ≤ MOST_CHANNELS }
+        ensures few { result ≤ MAX_CHANNELS }
     {
         self.format.channels
     }
@@ -145,7 +145,7 @@ impl ContentIn {
         let samples = (frames as u64).saturating_mul(u64::from(self.format.channels));
         let asked = 2 * samples.min(OVER_ALL_SAMPLES);
         if self.size == UNKNOWN_SIZE {
-            return read_open(alloc, reader, self.format.channels, self.gone, asked);
+            return read_unsized(alloc, reader, self.format.channels, self.gone, asked);
         }
         let left = u64::from(self.size) - self.gone;
         read_sized(alloc, reader, asked.min(left))

@@ -3,13 +3,13 @@
 ghost use Rattle.std.specs.Prelude.{◌≡◌, ◌≤◌, ◌*◌, ◌%◌, ◌⊎◌, Bool, true, false, length, IfOk, IfErr, IsErrOf};
 ghost use Rattle.sdf_wav.specs.Canonical.{sample_bytes, Writes};
 ghost use Rattle.sdf_wav.specs.Device.{failures_after, Failed};
-ghost use Rattle.sdf_wav.specs.PiecesOut.{start_fault, file_header, Puts, owed_after, ended};
+ghost use Rattle.sdf_wav.specs.PiecesOut.{start_fault, file_header, Puts, owed_after, end_result};
 
 use crate::device::Writer;
 use crate::fault::{FormatFault, WavFault};
 use crate::moving::put_all;
-use crate::wav::MOST_CHANNELS;
-use crate::writing::{MOST_BYTES_A_SECOND, MOST_DATA_BYTES, header, put_samples};
+use crate::wav::MAX_CHANNELS;
+use crate::writing::{MAX_BYTES_A_SECOND, MAX_DATA_BYTES, header, put_samples};
 use std::marker::Model;
 
 /// What is still to be written of a file after its header, and whether its writer failed. It holds no writer: each call
@@ -23,9 +23,9 @@ pub struct ContentOut {
 
 impl Model for ContentOut {
     ghost use Rattle.std.specs.Prelude.{◌≤◌};
-    ghost use Rattle.sdf_wav.specs.PiecesOut.{Owed};
+    ghost use Rattle.sdf_wav.specs.PiecesOut.{ContentOutValue};
 
-    ghost Value = { Owed };
+    ghost Value = { ContentOutValue };
 
     ghost view = { λ c. record { channels = c.channels; missing = c.missing; spent = c.spent } };
 
@@ -50,17 +50,17 @@ impl ContentOut {
         ensures device { IsErrOf result WavFault.Write →
             Failed (W.state writer.old).failures (W.state writer.new).failures }
     {
-        if channels == 0 || channels > MOST_CHANNELS {
+        if channels == 0 || channels > MAX_CHANNELS {
             return Err(WavFault::Format(FormatFault::Channels));
         }
         if rate == 0 {
             return Err(WavFault::Format(FormatFault::RateZero));
         }
-        if rate.saturating_mul(2 * u64::from(channels)) > MOST_BYTES_A_SECOND {
+        if rate.saturating_mul(2 * u64::from(channels)) > MAX_BYTES_A_SECOND {
             return Err(WavFault::Format(FormatFault::RateTooLarge));
         }
         let samples = frames.saturating_mul(u64::from(channels));
-        if samples > MOST_DATA_BYTES / 2 {
+        if samples > MAX_DATA_BYTES / 2 {
             return Err(WavFault::Format(FormatFault::TooLong));
         }
         let header = header(rate as u32, channels, (2 * samples) as u32);
@@ -116,7 +116,7 @@ impl ContentOut {
     /// Ends the file, and fails with `Write` if its writer failed.
     pub fn end(self) -> Result<(), WavFault>
         requires { (self.missing ≡ 0) ⊎ (self.spent ≡ true) }
-        ensures { result ≡ ended self.spent }
+        ensures { result ≡ end_result self.spent }
     {
         if self.spent {
             Err(WavFault::Write)

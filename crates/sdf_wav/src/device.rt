@@ -3,7 +3,8 @@
 ghost use Rattle.std.specs.Prelude.{◌≡◌};
 ghost use Rattle.std.specs.Io.{ReadsAtMost, WritesAtMost};
 ghost use Rattle.std.specs.Io.KnownBytes.{ReadConsumes, WriteAppends};
-ghost use Rattle.sdf_wav.specs.Device.{answered, failures_after_read, failures_after_write, ReaderState, WriterState};
+ghost use Rattle.sdf_wav.specs.Device.{device_result, failures_after_read, failures_after_write, ReaderState};
+ghost use Rattle.sdf_wav.specs.Device.{WriterState};
 
 use std::io;
 
@@ -39,7 +40,7 @@ pub trait Writer {
 /// Converts the result of a call of std to a device's result, and counts an error in `failed`. An interrupted call is
 /// an error too.
 pub(crate) fn counted(answer: io::Result<usize>, failed: &mut u64) -> Result<usize, DeviceFault>
-    ensures value { result ≡ answered answer }
+    ensures value { result ≡ device_result answer }
     ensures count { failed.new ≡ failures_after_read answer failed.old }
 {
     match answer {

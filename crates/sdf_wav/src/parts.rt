@@ -9,7 +9,7 @@ ghost use Rattle.sdf_wav.specs.Parts.{riff_of, kind_of, header_of, fields_of, is
 
 use crate::fault::FormatFault;
 use crate::format::Format;
-use crate::wav::MOST_CHANNELS;
+use crate::wav::MAX_CHANNELS;
 use byteorder::{ByteOrder, LittleEndian};
 
 /// What a chunk is for.
@@ -145,7 +145,7 @@ pub(crate) fn format_of(content: &[u8]) -> Result<Format, FormatFault>
     if !is_pcm16(fields, content) {
         return Err(FormatFault::NotPcm16);
     }
-    if fields.channels == 0 || fields.channels > MOST_CHANNELS {
+    if fields.channels == 0 || fields.channels > MAX_CHANNELS {
         return Err(FormatFault::Channels);
     }
     if fields.rate == 0 {

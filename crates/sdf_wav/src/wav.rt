@@ -9,7 +9,7 @@ use crate::format::Format;
 use std::marker::Model;
 
 /// The most channels of a sound. It has at least one.
-pub const MOST_CHANNELS: u16 = 8;
+pub const MAX_CHANNELS: u16 = 8;
 
 /// A sound: at least one frame a second, 1 to 8 channels, and whole frames of one sample for each channel.
 #[derive(Debug, Drop)]
@@ -22,13 +22,13 @@ pub struct Wav {
 impl Model for Wav {
     ghost use Rattle.std.specs.Prelude.{◌≡◌, ◌≤◌, ◌%◌, length};
     ghost use Rattle.sdf_wav.specs.Sound.{Sound};
-    ghost use Rattle.sdf_wav.specs.declared.wav.TheConstants.{MOST_CHANNELS};
+    ghost use Rattle.sdf_wav.specs.declared.wav.TheConstants.{MAX_CHANNELS};
 
     ghost Value = { Sound };
 
     ghost view = { λ w. record { rate = w.rate; channels = w.channels; samples = w.samples.items } };
 
-    ghost invariant = { λ w. (1 ≤ w.rate) × (1 ≤ w.channels) × (w.channels ≤ MOST_CHANNELS)
+    ghost invariant = { λ w. (1 ≤ w.rate) × (1 ≤ w.channels) × (w.channels ≤ MAX_CHANNELS)
         × (length w.samples.items % w.channels ≡ 0) };
 }
 
@@ -38,7 +38,7 @@ impl Wav {
     pub fn new(rate: u32, channels: u16, samples: Vec<i16>) -> Result<Wav, WavFault>
         ensures { result ≡ sound_of rate channels samples.items }
     {
-        if channels == 0 || channels > MOST_CHANNELS {
+        if channels == 0 || channels > MAX_CHANNELS {
             return Err(WavFault::Format(FormatFault::Channels));
         }
         if rate == 0 {
@@ -79,7 +79,7 @@ impl Wav {
     pub fn channels(&self) -> u16
         ensures value { result ≡ self.now.channels }
         ensures above_0 { 1 ≤ result }
-        ensures few { result ≤ MOST_CHANNELS }
+        ensures few { result ≤ MAX_CHANNELS }
     {
         self.channels
     }

@@ -3,7 +3,7 @@
 ghost use Rattle.std.specs.Prelude.{◌≡◌, ◌≢◌, ◌≤◌, ◌+◌, ◌*◌, ◌%◌, ℕ, List, Option, Some, None, [], length, IfOk, IfErr};
 ghost use Rattle.std.specs.Prelude.{IsErrOf, Err};
 ghost use Rattle.sdf_wav.specs.declared.fault.WavFault.{WavFault};
-ghost use Rattle.sdf_wav.specs.declared.wav.TheConstants.{MOST_CHANNELS};
+ghost use Rattle.sdf_wav.specs.declared.wav.TheConstants.{MAX_CHANNELS};
 ghost use Rattle.sdf_wav.specs.Device.{failures_after, one_more, Known, LosesFront};
 ghost use Rattle.sdf_wav.specs.Fault.{IsOpeningFault, IsReadingFault};
 ghost use Rattle.sdf_wav.specs.PiecesIn.{IsReading, IsPiece, IsReadTo, IsSizedFault, OpenFails, AnswersBy};
@@ -70,7 +70,7 @@ impl<'a, R: Reader> WavIn<'a, R> {
     pub fn channels(&self) -> u16
         ensures value { result ≡ (reading self.now).channels }
         ensures above_0 { 1 ≤ result }
-        ensures few { result ≤ MOST_CHANNELS }
+        ensures few { result ≤ MAX_CHANNELS }
     {
         self.content.channels()
     }

@@ -4,7 +4,7 @@ ghost use Rattle.std.specs.Prelude.{◌≡◌, ◌≤◌, ◌*◌, ◌%◌, ◌�
 ghost use Rattle.std.specs.Io.KnownBytes.{Appends};
 ghost use Rattle.sdf_wav.specs.Canonical.{sample_bytes};
 ghost use Rattle.sdf_wav.specs.Device.{failures_after, one_more};
-ghost use Rattle.sdf_wav.specs.PiecesOut.{start_fault, file_header, Puts, owed_after, ended};
+ghost use Rattle.sdf_wav.specs.PiecesOut.{start_fault, file_header, Puts, owed_after, end_result};
 ghost use Rattle.sdf_wav.specs.WavOut.{writer_of, writer_name, owed, StartFails};
 
 use crate::content_out::ContentOut;
@@ -86,7 +86,7 @@ impl<'a, W: Writer> WavOut<'a, W> {
     /// Ends the file, and fails with `Write` if its writer failed. Nothing is written.
     pub fn end(self) -> Result<(), WavFault>
         requires { ((owed self).missing ≡ 0) ⊎ ((owed self).spent ≡ true) }
-        ensures value { result ≡ ended (owed self.entry).spent }
+        ensures value { result ≡ end_result (owed self.entry).spent }
         ensures unwritten { self.exit.0.now ≡ writer_of self.entry }
     {
         let WavOut {

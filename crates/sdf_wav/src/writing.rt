@@ -13,7 +13,7 @@ use crate::content_out::ContentOut;
 use crate::device::{DeviceFault, Writer};
 use crate::fault::WavFault;
 use crate::moving::put_all;
-use crate::wav::{MOST_CHANNELS, Wav};
+use crate::wav::{MAX_CHANNELS, Wav};
 use crate::wav_out::WavOut;
 use byteorder::{ByteOrder, LittleEndian};
 
@@ -37,17 +37,17 @@ fn bytes_of_u32(n: u32) -> [u8; 4]
 pub const HEADER_BYTES: usize = 44;
 
 /// The most bytes a second that a header can state.
-pub const MOST_BYTES_A_SECOND: u64 = 4_294_967_295;
+pub const MAX_BYTES_A_SECOND: u64 = 4_294_967_295;
 
 /// The most bytes of data that a header can state. Its RIFF size is 36 bytes more.
-pub const MOST_DATA_BYTES: u64 = 4_294_967_259;
+pub const MAX_DATA_BYTES: u64 = 4_294_967_259;
 
 /// Returns the 44 bytes before `size` bytes of data.
 #[tactic(auto, unfolding(crate::specs::Canonical::header))]
 pub(crate) fn header(rate: u32, channels: u16, size: u32) -> [u8; HEADER_BYTES]
-    requires size { size ≤ MOST_DATA_BYTES }
+    requires size { size ≤ MAX_DATA_BYTES }
     requires rate { rate * (2 * channels) < 2 ^ 32 }
-    requires channels { channels ≤ MOST_CHANNELS }
+    requires channels { channels ≤ MAX_CHANNELS }
     ensures { result ≡ header rate channels size }
 {
     let s = bytes_of_u32(36 + size);

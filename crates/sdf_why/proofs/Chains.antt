@@ -12,7 +12,7 @@ use Rattle.std.proofs.lemmas.List.{length-replicate, get_or-replicate, get_or_pa
 use Rattle.std.proofs.lemmas.List.{get_or-set_other, drop-append-le, length-drop}
 use Rattle.std.proofs.lemmas.List.Sums.{sum_by-set}
 use Rattle.std.proofs.lemmas.List.Elements.{All-nil, All-cons}
-use Rattle.sdf_graph.specs.Rates.{Shape}
+use Rattle.sdf_graph.specs.Rates.{GraphValue}
 use Rattle.sdf_why.specs.declared.cycle.Halt.{Halt}
 use Rattle.sdf_why.specs.Cycles.{Waits, IsChain, IsCycle, IsWalk}
 
@@ -24,7 +24,7 @@ none_left n a = go (cases_lt a n)
     go (inl known) = get_or-replicate n a None None known
     go (inr past) = get_or_past (replicate n None) a None (omega (arith, length-replicate {A = Option ℕ} n None))
 
-module _ (g : Shape) (halts : List Halt) where
+module _ (g : GraphValue) (halts : List Halt) where
   -- one more channel at its end
   pub chain_more : (a : ℕ) (cs : List ℕ) (b c m : ℕ) → IsChain g halts a cs b → Waits g halts b c m →
       IsChain g halts a (cs ++ c ∷ []) m

@@ -3,7 +3,7 @@ use Rattle.std.proofs.Common.{◌≡◌, ℕ, ◌+◌, ◌<◌, ◌≤◌, ℤ, 
 use Rattle.std.proofs.Common.{◌∙◌, arith}
 use Rattle.std.proofs.lemmas.List.{map_push, take_more, get_or-map, get_or_past, length-map}
 use Rattle.std.specs.List.{range_with_len}
-use Rattle.sdf_graph.specs.Rates.{Edge}
+use Rattle.sdf_graph.specs.Rates.{ChannelValue}
 use Rattle.sdf_actor.specs.declared.node.Node.{Node}
 use Rattle.sdf_actor.specs.declared.node.Node.TheVariants.{Sink}
 use Rattle.sdf_actor.specs.declared.sides.Side.TheVariants.{Input, Output}
@@ -41,7 +41,7 @@ pub channel_is : (nodes : List (Node Kit)) (w : Wire ℤ) (from to : Ports) (put
     ArePortsOf from (get_or nodes w.from.0 (Sink 0 0)) → ArePortsOf to (get_or nodes w.to.0 (Sink 0 0)) →
     put ≡ map (moved from.outputs w.from.1) (range_with_len 0 from.cycle) →
     take ≡ map (moved to.inputs w.to.1) (range_with_len 0 to.cycle) → n ≡ length w.initial →
-    (let e : Edge = record { from = w.from.0; put = put; to = w.to.0; take = take; initial = n } in
+    (let e : ChannelValue = record { from = w.from.0; put = put; to = w.to.0; take = take; initial = n } in
     e ≡ channel_of kit_steps nodes w)
 channel_is nodes w from to put take n source target puts takes many =
     rw (
@@ -53,7 +53,7 @@ channel_is nodes w from to put take n source target puts takes many =
     ) refl
 
 -- the channel of one more link
-pub channels_more : (f : Wire ℤ → Edge) (links : List LinkEntry) (i : ℕ) (x : LinkEntry) → i < length links →
+pub channels_more : (f : Wire ℤ → ChannelValue) (links : List LinkEntry) (i : ℕ) (x : LinkEntry) → i < length links →
     x ≡ get_or links i x →
     map f (map wire_of (map link_view (take (i + 1) links))) ≡
     map f (map wire_of (map link_view (take i links))) ++ f (wire_of (link_view x)) ∷ []

@@ -10,7 +10,7 @@ use Rattle.std.proofs.Common.{All, reverse}
 use Rattle.std.proofs.lemmas.List.{get_or-set_same, get_or-set_other, get_or_past, reverse-append}
 use Rattle.std.proofs.lemmas.List.Elements.{All-nil, All-cons, All-head, All-tail, All-append}
 use Rattle.std.proofs.lemmas.Option.{none-some, slice_get_past}
-use Rattle.sdf_graph.specs.Rates.{Shape, channel}
+use Rattle.sdf_graph.specs.Rates.{GraphValue, channel}
 use Rattle.sdf_why.specs.declared.cycle.Halt.{Halt}
 use Rattle.sdf_why.specs.Cycles.{short_at, HasNoCycle, IsChain, IsCycle, none_waits, ends}
 use Rattle.sdf_graph.specs.Marks.{is_marked}
@@ -60,7 +60,7 @@ some_is : (o : Option ℕ) → is_some o ≡ true → (c : ℕ) × (o ≡ Some c
 some_is None is = absurd (false≢true is)
 some_is (Some c) is = (c, refl)
 
-module _ (g : Shape) where
+module _ (g : GraphValue) where
   -- one more channel at the end of a walk back
   back_more : (a : ℕ) (cs : List ℕ) (b c : ℕ) → LeadBack g a cs b → c < length g.channels → (channel g c).to ≡ b →
       LeadBack g a (cs ++ c ∷ []) (channel g c).from

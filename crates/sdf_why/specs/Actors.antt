@@ -2,10 +2,10 @@
 use Rattle.std.specs.Prelude.{ℕ, List, [], ◌++◌, codes, Option, option_and_then}
 use Rattle.std.specs.Option.{option_map_or}
 use Rattle.toml.specs.Data.{Data, get}
-use Rattle.sdf_limits.specs.declared.TheConstants.{MOST_ACTORS}
+use Rattle.sdf_limits.specs.declared.TheConstants.{MAX_ACTORS}
 use Rattle.sdf_why.specs.Limits.{limits_of}
 use Rattle.sdf_why.specs.Words.{actor_line, key_line}
-use Rattle.sdf_why.specs.Tables.{text_at, entry, first_saying}
+use Rattle.sdf_why.specs.Tables.{text_at, entry, first_with_text}
 
 -- the lines of a value, or nothing if there is none
 abbrev pub lines_of : {A : Type 0} → (A → List ℕ) → Option A → List ℕ
@@ -31,4 +31,4 @@ actor_key a key limits d = lines_of (actor_key_is a key limits) (entry (codes "a
 
 -- the line of the first actor that has this text at a key
 unfoldable pub first_told : List ℕ → List ℕ → Data → List ℕ
-first_told key text d = lines_of (actor_told d) (first_saying key text d MOST_ACTORS)
+first_told key text d = lines_of (actor_told d) (first_with_text key text d MAX_ACTORS)

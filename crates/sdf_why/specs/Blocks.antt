@@ -1,6 +1,6 @@
 -- The diagnostic for a block that is too long for a table.
 use Rattle.std.specs.Prelude.{ℕ, ◌/◌, max, List, ◌++◌, codes, decimal}
-use Rattle.sdf_limits.specs.declared.TheConstants.{MOST_BLOCK}
+use Rattle.sdf_limits.specs.declared.TheConstants.{MAX_BLOCK}
 use Rattle.sdf_why.specs.Words.{end}
 
 -- how many firings a period has
@@ -12,4 +12,4 @@ unfoldable pub most_text : ℕ → List ℕ
 most_text periods = codes ", so --blocking can be at most " ++ decimal periods ++ end
 
 unfoldable pub block_line : ℕ → List ℕ
-block_line firings = firings_text firings ++ most_text (MOST_BLOCK / max firings 1)
+block_line firings = firings_text firings ++ most_text (MAX_BLOCK / max firings 1)

@@ -1,6 +1,6 @@
 -- The graph that the actors and links of a document make.
 use Rattle.std.specs.Prelude.{◌≡◌, ℕ, List, map}
-use Rattle.sdf_graph.specs.Rates.{Shape}
+use Rattle.sdf_graph.specs.Rates.{GraphValue}
 use Rattle.sdf_actor.specs.declared.node.Node.{Node}
 use Rattle.sdf_actor.specs.declared.sides.Side.TheVariants.{Input, Output}
 use Rattle.sdf_actor.specs.Nets.{cycle_of, inputs_of, outputs_of}
@@ -26,5 +26,5 @@ abbrev pub nodes_of : List ActorValue → List (Node Kit)
 nodes_of actors = map (λ (a : ActorValue). node_of a.kind) actors
 
 -- the graph of a document's net
-abbrev pub graph_in : DocumentValue → Shape
+abbrev pub graph_in : DocumentValue → GraphValue
 graph_in d = graph_of kit_steps (design_of d).net

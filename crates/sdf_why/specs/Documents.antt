@@ -1,16 +1,16 @@
 -- The diagnostic for a graph file that is not read, by the first test that it fails.
 use Rattle.std.specs.Prelude.{ℕ, List, [], ◌++◌, codes, decimal, Some, None, is_some, bytes_eq, if◌then◌else◌}
 use Rattle.toml.specs.Data.{Data, get}
-use Rattle.sdf_limits.specs.declared.TheConstants.{MOST_ACTORS, MOST_LINKS}
+use Rattle.sdf_limits.specs.declared.TheConstants.{MAX_ACTORS, MAX_LINKS}
 use Rattle.sdf_document.specs.Fault.{Place, actor, file, Fault, actor_count, channel_count, kit_value}
 use Rattle.sdf_document.specs.Fault.{not_toml, bad_format, unknown_key, missing_key, wrong_type, bad_name, name_twice}
 use Rattle.sdf_document.specs.Fault.{unknown_kind, bad_port, no_file}
-use Rattle.sdf_kinds.specs.Rows.{KeyRow}
+use Rattle.sdf_kinds.specs.Rows.{KeyFormValue}
 use Rattle.sdf_kinds.specs.Listing.{keys_text}
 use Rattle.sdf_document.specs.Lists.{Files}
 use Rattle.sdf_why.specs.Limits.{keys_of}
 use Rattle.sdf_why.specs.Words.{end, key_line}
-use Rattle.sdf_why.specs.Tables.{root, text_at, entry, actor_text, first_saying}
+use Rattle.sdf_why.specs.Tables.{root, text_at, entry, actor_text, first_with_text}
 use Rattle.sdf_why.specs.Actors.{lines_of, actor_told}
 use Rattle.sdf_why.specs.Links.{link_key}
 use Rattle.sdf_why.specs.Coefficients.{file_user, values_told}
@@ -43,7 +43,7 @@ beside_is key d =
 -- the row of a kind in the table of kinds
 unfoldable pub row_is : List ℕ → List ℕ
 row_is word =
-    lines_of (λ (keys : List KeyRow). codes "  " ++ word ++ codes ": " ++ keys_text keys ++ end) (keys_of word)
+    lines_of (λ (keys : List KeyFormValue). codes "  " ++ word ++ codes ": " ++ keys_text keys ++ end) (keys_of word)
 
 unfoldable pub keys_are : List ℕ → Data → List ℕ
 keys_are key d = beside_is key d ++ lines_of row_is (text_at (codes "kind") d)
@@ -55,10 +55,10 @@ known_keys place key d = []
 
 -- the first actor before actor a that has this name
 abbrev pub same_name : ℕ → Data → List ℕ → List ℕ
-same_name a d name = lines_of (actor_told d) (first_saying (codes "name") name d a)
+same_name a d name = lines_of (actor_told d) (first_with_text (codes "name") name d a)
 
-unfoldable pub twice : ℕ → Data → List ℕ
-twice a d = actor_told d a
+unfoldable pub name_twice_lines : ℕ → Data → List ℕ
+name_twice_lines a d = actor_told d a
     ++ lines_of (same_name a d) (actor_text (codes "name") d a)
 
 -- the rule for a name at a key
@@ -77,8 +77,8 @@ abbrev pub counted : List ℕ → ℕ → ℕ → Data → List ℕ
 counted key least most d = key_line key (get key d) (Some (up_to least most))
 
 abbrev pub told : Fault → Data → Files → List ℕ
-told actor_count d files = counted (codes "actor") 1 MOST_ACTORS d
-told channel_count d files = counted (codes "link") 0 MOST_LINKS d
+told actor_count d files = counted (codes "actor") 1 MAX_ACTORS d
+told channel_count d files = counted (codes "link") 0 MAX_LINKS d
 told (kit_value place key) d files = place_within place key d files ++ values_told place key d files
 told (not_toml place) d files = []
 told (bad_format place) d files = place_format place d files
@@ -87,7 +87,7 @@ told (unknown_key place key) d files =
 told (missing_key place key) d files = place_within place key d files
 told (wrong_type place key) d files = type_told place key d files
 told (bad_name place key) d files = place_key place key None d files ++ name_rule key
-told (name_twice a) d files = twice a d
+told (name_twice a) d files = name_twice_lines a d
 told (unknown_kind a) d files = actor_told d a ++ kind_told a d
 told (bad_port c key) d files =
     link_key c key (Some (codes "NAME or NAME:PORT, a port of 0..15")) d ++ near_end c key d

@@ -18,7 +18,7 @@ pub mod Blocks
 pub mod Channels
 pub mod Ports
 pub mod More
-pub mod Told
-pub mod Said
+pub mod Diagnostics
+pub mod Messages
 pub mod Near
 pub mod Laws

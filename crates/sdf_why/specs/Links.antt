@@ -4,7 +4,7 @@ use Rattle.std.specs.Prelude.{bytes_eq}
 use Rattle.std.specs.Prelude.{find, if◌then◌else◌}
 use Rattle.std.specs.List.{range_with_len}
 use Rattle.toml.specs.Data.{Data, get}
-use Rattle.sdf_why.specs.Marks.{before, behind, has}
+use Rattle.sdf_why.specs.Marks.{before, after_mark, has_mark}
 use Rattle.sdf_why.specs.Words.{link_line, key_line}
 use Rattle.sdf_why.specs.Tables.{text_at, entry}
 use Rattle.sdf_why.specs.Actors.{lines_of, first_told}
@@ -40,7 +40,7 @@ ends_told d c = link_told d c ++ end_told (codes "from") d c ++ end_told (codes 
 
 -- the port that an end names, 0 if it names none
 unfoldable pub port_of : List ℕ → List ℕ
-port_of s = if has 58 s then behind 58 s else codes "0"
+port_of s = if has_mark 58 s then after_mark 58 s else codes "0"
 
 unfoldable pub same_port : List ℕ → List ℕ → Bool
 same_port s t = bytes_eq (before 58 s) (before 58 t) && bytes_eq (port_of s) (port_of t)

@@ -6,8 +6,8 @@ use Rattle.std.specs.List.{before_first, after_first, position_or_len}
 unfoldable pub before : ℕ → List ℕ → List ℕ
 before mark text = before_first (λ b. b == mark) text
 
-unfoldable pub behind : ℕ → List ℕ → List ℕ
-behind mark text = after_first (λ b. b == mark) text
+unfoldable pub after_mark : ℕ → List ℕ → List ℕ
+after_mark mark text = after_first (λ b. b == mark) text
 
-unfoldable pub has : ℕ → List ℕ → Bool
-has mark text = nat_lt (position_or_len (λ b. b == mark) text) (length text)
+unfoldable pub has_mark : ℕ → List ℕ → Bool
+has_mark mark text = nat_lt (position_or_len (λ b. b == mark) text) (length text)

@@ -3,13 +3,13 @@ use Rattle.std.specs.Prelude.{ℕ, List, [], ◌∷◌, ◌++◌, codes, Option,
 use Rattle.std.specs.Option.{option_map_or}
 use Rattle.std.specs.List.{flat_map, range_with_len}
 use Rattle.toml.specs.Data.{Data}
-use Rattle.sdf_limits.specs.declared.TheConstants.{MOST_ACTORS}
+use Rattle.sdf_limits.specs.declared.TheConstants.{MAX_ACTORS}
 use Rattle.sdf_similar.specs.Similar.{nearest}
 use Rattle.sdf_kinds.specs.declared.row.Form.{Form}
 use Rattle.sdf_kinds.specs.declared.row.Form.TheVariants.{Natural, Optional, Integer, FromLeast}
 use Rattle.sdf_kinds.specs.declared.row.Form.TheVariants.{List as ListForm}
 use Rattle.sdf_document.specs.Fault.{Place, top, actor, link, file}
-use Rattle.sdf_kinds.specs.Rows.{KeyRow, shared_keys}
+use Rattle.sdf_kinds.specs.Rows.{KeyFormValue, shared_keys}
 use Rattle.sdf_document.specs.Document.{top_keys}
 use Rattle.sdf_document.specs.Links.{link_keys}
 use Rattle.sdf_document.specs.Lists.{file_keys}
@@ -39,7 +39,7 @@ file_beside (Integer least most absent) = []
 file_beside (FromLeast least most absent) = []
 file_beside (ListForm most width) = codes "file" ∷ []
 
-abbrev pub key_names : KeyRow → List (List ℕ)
+abbrev pub key_names : KeyFormValue → List (List ℕ)
 key_names k = k.name ∷ file_beside k.form
 
 -- the names of the keys of a kind, in any format
@@ -68,7 +68,7 @@ unfoldable pub name_in : Data → ℕ → List (List ℕ)
 name_in d a = option_map_or (λ name. name ∷ []) (actor_text (codes "name") d a) []
 
 abbrev pub actor_names : Data → List (List ℕ)
-actor_names d = flat_map (name_in d) (range_with_len 0 MOST_ACTORS)
+actor_names d = flat_map (name_in d) (range_with_len 0 MAX_ACTORS)
 
 -- the actor that may have been meant by an end of link c
 abbrev pub near_actor : Data → List ℕ → List ℕ

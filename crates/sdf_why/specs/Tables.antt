@@ -35,5 +35,5 @@ unfoldable pub says : List ℕ → List ℕ → Data → ℕ → Bool
 says key text d a = is_text text (actor_text key d a)
 
 -- the first of n actors that has this text at a key
-unfoldable pub first_saying : List ℕ → List ℕ → Data → ℕ → Option ℕ
-first_saying key text d n = find (says key text d) (range_with_len 0 n)
+unfoldable pub first_with_text : List ℕ → List ℕ → Data → ℕ → Option ℕ
+first_with_text key text d n = find (says key text d) (range_with_len 0 n)

@@ -46,10 +46,10 @@ table_of (link c) d files = entry (codes "link") c d
 table_of (file name) d files = file_root name files
 
 -- the first value that is not a whole number in the list at a key of a place
-abbrev pub unwhole_told : Place → List ℕ → Data → Files → List ℕ
-unwhole_told place key d files = lines_of (unfit_at_key key None) (table_of place d files)
+abbrev pub non_integer_told : Place → List ℕ → Data → Files → List ℕ
+non_integer_told place key d files = lines_of (unfit_at_key key None) (table_of place d files)
 
 -- the line of a key of another type, and for a list the first value that is not a whole number
 abbrev pub type_told : Place → List ℕ → Data → Files → List ℕ
 type_told place key d files =
-    place_type place key d files ++ (if is_list_key key then unwhole_told place key d files else [])
+    place_type place key d files ++ (if is_list_key key then non_integer_told place key d files else [])

@@ -4,7 +4,7 @@ use Rattle.std.specs.Prelude.{slice_index, if◌then◌else◌}
 use Rattle.std.specs.Fmt.{signed_decimal}
 use Rattle.toml.specs.Data.{Data, Items, no_items, item, as_str, as_integer, as_array, type_name}
 use Rattle.sdf_options.specs.Printable.{printable_text}
-use Rattle.sdf_why.specs.Marks.{has}
+use Rattle.sdf_why.specs.Marks.{has_mark}
 
 -- a line feed
 abbrev pub end : List ℕ
@@ -46,7 +46,7 @@ kind_text (Some s) = article s ++ printable_text s
 -- an end of a link as the file has it, with port 0 if it names no port
 abbrev pub end_text : Option (List ℕ) → List ℕ
 end_text None = codes "?"
-end_text (Some s) = printable_text s ++ (if has 58 s then [] else codes ":0")
+end_text (Some s) = printable_text s ++ (if has_mark 58 s then [] else codes ":0")
 
 -- the line of an actor, with its name and its kind
 unfoldable pub actor_line : ℕ → Option (List ℕ) → Option (List ℕ) → List ℕ
@@ -82,5 +82,5 @@ unfoldable pub hint_line : List ℕ → List ℕ
 hint_line name = codes "  did you mean " ++ quoted name ++ codes "?" ++ end
 
 -- the line of a file with a message
-unfoldable pub said_line : List ℕ → List ℕ → List ℕ
-said_line name said = codes "  " ++ quoted name ++ codes ": " ++ printable_text said ++ end
+unfoldable pub message_line : List ℕ → List ℕ → List ℕ
+message_line name said = codes "  " ++ quoted name ++ codes ": " ++ printable_text said ++ end

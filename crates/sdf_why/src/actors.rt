@@ -5,9 +5,9 @@ ghost use Rattle.toml.specs.View.{view};
 ghost use Rattle.sdf_why.specs.Actors.{actor_is, actor_told, actor_limits, actor_key, first_told};
 
 use crate::limits::limits_of;
-use crate::tables::{entry, first_saying, text_at, value_at};
+use crate::tables::{entry, first_with_text, text_at, value_at};
 use crate::words::{push_actor, push_key};
-use sdf_limits::MOST_ACTORS;
+use sdf_limits::MAX_ACTORS;
 use std::alloc::{AllocError, Global};
 use toml::Value;
 
@@ -92,7 +92,7 @@ pub(crate) fn push_first(
     ensures { OnOk result (string_bytes text.new ≡ string_bytes text.old
         ++ first_told key.now said.now (view graph.now)) }
 {
-    match first_saying(graph, key, said, MOST_ACTORS) {
+    match first_with_text(graph, key, said, MAX_ACTORS) {
         Some(actor) => push_actor_of(alloc, text, graph, actor),
         None => Ok(()),
     }

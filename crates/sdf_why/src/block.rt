@@ -3,7 +3,7 @@
 ghost use Rattle.std.specs.Prelude.{◌≡◌, ◌++◌, OnOk, string_bytes};
 ghost use Rattle.sdf_why.specs.Blocks.{firings_text, most_text, block_line};
 
-use sdf_limits::MOST_BLOCK;
+use sdf_limits::MAX_BLOCK;
 use std::alloc::AllocError;
 
 /// Adds how many firings a period has.
@@ -30,5 +30,5 @@ pub(crate) fn push_block(text: &mut String, firings: u32) -> Result<(), AllocErr
     ensures { OnOk result (string_bytes text.new ≡ string_bytes text.old ++ block_line firings) }
 {
     push_firings(text, firings)?;
-    push_most(text, MOST_BLOCK / u64::from(firings.max(1)))
+    push_most(text, MAX_BLOCK / u64::from(firings.max(1)))
 }

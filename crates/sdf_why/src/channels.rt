@@ -40,7 +40,7 @@ pub(crate) fn ports_of(kind: &KindEntry) -> Ports
 }
 
 /// Returns the ports of an output that moves no samples.
-fn nothing() -> Ports
+fn no_ports() -> Ports
     ensures { ArePortsOf result (Sink 0 0) }
 {
     Ports::steady(1, 0, 0, 0)
@@ -53,7 +53,7 @@ fn ports_at(actors: &[ActorEntry], actor: usize) -> Ports
     if actor < actors.len() {
         ports_of(&actors[actor].kind)
     } else {
-        nothing()
+        no_ports()
     }
 }
 

@@ -11,7 +11,7 @@ use crate::links::push_link_of;
 use crate::tables::{entry, text_at};
 use crate::words::{Lack, push_lack};
 use sdf_graph::{Channel, Graph, moved_by};
-use sdf_limits::MOST_INITIAL;
+use sdf_limits::MAX_INITIAL;
 use std::alloc::{AllocError, Global};
 use toml::Value;
 
@@ -63,7 +63,7 @@ fn next(graph: &Graph, halts: &[Halt], actor: usize) -> Option<(usize, usize)>
 }
 
 /// Returns the channels of the cycle that a walk from `first` reaches. Each actor on the way waits for the next one.
-fn cycle_behind(
+fn cycle_from(
     alloc: Global,
     graph: &Graph,
     halts: &[Halt],
@@ -96,14 +96,14 @@ pub(crate) fn cycle_of(
         (λ v. IsCycle graph.now halts.now v.items)) }
 {
     match first_waiting(halts) {
-        Some(actor) => cycle_behind(alloc, graph, halts, actor),
+        Some(actor) => cycle_from(alloc, graph, halts, actor),
         None => Ok(None),
     }
 }
 
 /// Returns the number of samples that `channel` holds after `put` samples were put and `taken` samples were taken.
 fn held(channel: &Channel, put: u64, taken: u64) -> u64
-    requires initial { channel.now.initial ≤ MOST_INITIAL }
+    requires initial { channel.now.initial ≤ MAX_INITIAL }
     requires put { put ≤ 2 ^ 63 }
     ensures { result ≡ channel.now.initial + put - taken }
 {

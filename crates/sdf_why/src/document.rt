@@ -6,7 +6,7 @@ ghost use Rattle.sdf_document.specs.Fault.{place_view, fault_view, kit_value, un
 ghost use Rattle.sdf_document.specs.Fault.{bad_port};
 ghost use Rattle.sdf_document.specs.Lists.{files_view};
 ghost use Rattle.sdf_why.specs.Documents.{place_within, place_format, beside_is, listed_at, row_is};
-ghost use Rattle.sdf_why.specs.Documents.{keys_are, known_keys, same_name, twice, counted, name_rule, told};
+ghost use Rattle.sdf_why.specs.Documents.{keys_are, known_keys, same_name, name_twice_lines, counted, name_rule, told};
 ghost use Rattle.sdf_why.specs.Documents.{document_text};
 
 use crate::actors::{push_actor_of, push_first};
@@ -16,12 +16,12 @@ use crate::limits::keys_of;
 use crate::links::push_link_key;
 use crate::near::{push_near_end, push_near_key};
 use crate::places::{limits_at, push_place_key};
-use crate::tables::{Source, actor_text, entry, first_saying, root, text_at, value_at};
+use crate::tables::{Source, actor_text, entry, first_with_text, root, text_at, value_at};
 use crate::types::push_type;
 use crate::words::push_key;
 use sdf_document::{CoefficientFile, DocumentFault, Place};
 use sdf_kinds::keys_text;
-use sdf_limits::{MOST_ACTORS, MOST_LINKS};
+use sdf_limits::{MAX_ACTORS, MAX_LINKS};
 use std::alloc::{AllocError, Global};
 use toml::Value;
 
@@ -136,21 +136,21 @@ fn push_same_name(
     ensures { OnOk result (string_bytes text.new ≡ string_bytes text.old
         ++ same_name number (view graph.now) name.now) }
 {
-    match first_saying(graph, "name", name, number) {
+    match first_with_text(graph, "name", name, number) {
         Some(earlier) => push_actor_of(alloc, text, graph, earlier),
         None => Ok(()),
     }
 }
 
 /// Adds the actor `number`, and the earlier actor with its name.
-#[tactic(auto, unfolding(crate::specs::Documents::twice))]
-fn push_twice(
+#[tactic(auto, unfolding(crate::specs::Documents::name_twice_lines))]
+fn push_name_twice(
     alloc: Global,
     text: &mut String,
     graph: &Value,
     number: usize,
 ) -> Result<(), AllocError>
-    ensures { OnOk result (string_bytes text.new ≡ string_bytes text.old ++ twice number (view graph.now)) }
+    ensures { OnOk result (string_bytes text.new ≡ string_bytes text.old ++ name_twice_lines number (view graph.now)) }
 {
     push_actor_of(alloc, text, graph, number)?;
     match actor_text(graph, "name", number) {
@@ -273,7 +273,7 @@ fn push_bad_port(
 }
 
 /// Adds the lines of a fault.
-fn push_told(
+fn push_fault(
     alloc: Global,
     text: &mut String,
     source: Source<'_>,
@@ -285,8 +285,8 @@ fn push_told(
 {
     let graph = source.graph;
     match fault {
-        DocumentFault::ActorCount => push_counted(alloc, text, graph, "actor", 1, MOST_ACTORS),
-        DocumentFault::ChannelCount => push_counted(alloc, text, graph, "link", 0, MOST_LINKS),
+        DocumentFault::ActorCount => push_counted(alloc, text, graph, "actor", 1, MAX_ACTORS),
+        DocumentFault::ChannelCount => push_counted(alloc, text, graph, "link", 0, MAX_LINKS),
         DocumentFault::KitValue(place, key) => push_bad_value(alloc, text, source, place, key),
         DocumentFault::MissingKey(place, key) => push_place(alloc, text, source, place, key),
         DocumentFault::WrongType(place, key) => push_type(alloc, text, source, place, key),
@@ -296,7 +296,7 @@ fn push_told(
         DocumentFault::UnknownKey(place, key) => {
             push_unknown_key(alloc, text, source, place, key.as_str())
         }
-        DocumentFault::NameTwice(number) => push_twice(alloc, text, graph, *number),
+        DocumentFault::NameTwice(number) => push_name_twice(alloc, text, graph, *number),
         DocumentFault::UnknownKind(number) => push_unknown_kind(alloc, text, source, *number),
         DocumentFault::BadPort(number, key) => push_bad_port(alloc, text, source, *number, key),
         DocumentFault::NoFile(name) => push_first(alloc, text, graph, "file", name.as_str()),
@@ -321,7 +321,7 @@ pub fn document_text(
             graph: &graph,
             files,
         };
-        push_told(alloc, &mut text, source, fault)?;
+        push_fault(alloc, &mut text, source, fault)?;
     }
     Ok(text)
 }

@@ -2,12 +2,12 @@
 //!
 //! It depends on `sdf_document`, whose faults it explains, and on the table of `sdf_kinds`. `sdf_file` reads a design
 //! again, and its net needs `sdf_actor`, `sdf_graph` and `sdf_kit`. `sdf_options` makes a text printable, and
-//! `sdf_similar` finds names that are like a word. Begin at `told`. `document`, `net`, `cycle`, `block` and `sound`
-//! have the lines of each fault, `loops` a loop that may keep samples. `limits` has the limits of a key, `places` its
-//! line at a place, `types` its type, `values` the first value of a list that does not fit, and `coefficients` the
-//! lines of a coefficient file. `near` has what may have been meant, and `kind` also the format that it needs. `more`
-//! has what the tables of a net do not show. It needs the graph that `channels` makes, and `ports` for the ports of its
-//! actors. The definitions are in `specs/`, a file for each module; begin at `specs/Told.antt`.
+//! `sdf_similar` finds names that are like a word. Begin at `diagnostics`. `document`, `net`, `cycle`, `block` and
+//! `sound` have the lines of each fault, `loops` a loop that may keep samples. `limits` has the limits of a key,
+//! `places` its line at a place, `types` its type, `values` the first value of a list that does not fit, and
+//! `coefficients` the lines of a coefficient file. `near` has what may have been meant, and `kind` also the format that
+//! it needs. `more` has what the tables of a net do not show. It needs the graph that `channels` makes, and `ports` for
+//! the ports of its actors. The definitions are in `specs/`, a file for each module; begin at `specs/Diagnostics.antt`.
 #![tactic(auto)]
 
 mod actors;
@@ -15,30 +15,30 @@ mod block;
 mod channels;
 mod coefficients;
 mod cycle;
+mod diagnostics;
 mod document;
 mod kind;
 mod limits;
 mod links;
 mod loops;
 mod marks;
+mod messages;
 mod more;
 mod near;
 mod net;
 mod places;
 mod ports;
-mod said;
 mod sound;
 mod tables;
-mod told;
 mod types;
 mod values;
 mod words;
 
 pub use cycle::Halt;
+pub use diagnostics::{
+    DesignFiles, block_text, channels_text, deadlock_text, file_text, home_text, rate_text,
+};
 pub use document::document_text;
 pub use loops::loop_text;
-pub use said::{device_text, toml_text};
+pub use messages::{device_text, toml_text};
 pub use sound::Header;
-pub use told::{
-    DesignFiles, block_text, channels_text, file_text, home_text, rate_text, stall_text,
-};

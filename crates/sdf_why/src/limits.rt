@@ -2,7 +2,7 @@
 
 ghost use Rattle.std.specs.Prelude.{◌≡◌, IfOk, option_map, option_and_then, string_bytes};
 ghost use Rattle.sdf_kinds.specs.Rows.{key_view, keys_view};
-ghost use Rattle.sdf_why.specs.Limits.{keys_of, list_limits, keys_limits, kind_limits, is_of, form_among};
+ghost use Rattle.sdf_why.specs.Limits.{keys_of, list_limits, keys_limits, kind_limits, has_name, form_among};
 ghost use Rattle.sdf_why.specs.Limits.{form_of, limits_of};
 
 use sdf_document::{Limits, kind_named};
@@ -51,9 +51,9 @@ pub(crate) fn kind_limits(word: &str) -> Option<Limits>
 }
 
 /// Checks whether `name` is the name of `key`, or `file` in place of its list.
-#[tactic(auto, unfolding(crate::specs::Limits::is_of))]
-fn is_of(name: &str, key: &KeyForm) -> bool
-    ensures { result ≡ is_of name.now (key_view key.now) }
+#[tactic(auto, unfolding(crate::specs::Limits::has_name))]
+fn has_name(name: &str, key: &KeyForm) -> bool
+    ensures { result ≡ has_name name.now (key_view key.now) }
 {
     name == key.0.name() || name == "file" && list_limits(key.1).is_some()
 }
@@ -64,7 +64,7 @@ fn form_among(name: &str, keys: &[KeyForm]) -> Option<Form>
     ensures { result ≡ form_among name.now (keys_view keys.now) }
 {
     for key in keys {
-        if is_of(name, key) {
+        if has_name(name, key) {
             return Some(key.1);
         }
     }

@@ -6,7 +6,7 @@ ghost use Rattle.sdf_why.specs.Links.{link_is, link_told, link_key, end_at, end_
 ghost use Rattle.sdf_why.specs.Links.{same_end, share_end, first_sharing};
 
 use crate::actors::push_first;
-use crate::marks::{before, behind, has};
+use crate::marks::{after_mark, before, has_mark};
 use crate::tables::{entry, text_at, value_at};
 use crate::words::{push_key, push_link};
 use std::alloc::{AllocError, Global};
@@ -111,7 +111,11 @@ pub(crate) fn push_ends(
 fn port_of(end: &str) -> &str
     ensures { result.now ≡ port_of end.now }
 {
-    if has(end, ':') { behind(end, ':') } else { "0" }
+    if has_mark(end, ':') {
+        after_mark(end, ':')
+    } else {
+        "0"
+    }
 }
 
 /// Checks whether two ends are the same port.

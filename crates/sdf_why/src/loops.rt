@@ -30,7 +30,7 @@ fn feeder(graph: &Graph, kept: &[bool], actor: usize) -> Option<usize>
 }
 
 /// Returns the first kept actor that has no channel from a kept actor.
-fn unfed(graph: &Graph, kept: &[bool]) -> Option<usize>
+fn first_unfed(graph: &Graph, kept: &[bool]) -> Option<usize>
     ensures { MatchOption result ((a : ℕ) → IsUnfed graph.now kept.now a → ⊥) (IsUnfed graph.now kept.now) }
 {
     for actor in 0..kept.len() {
@@ -58,7 +58,7 @@ fn kept_by_loops(alloc: Global, graph: &Graph) -> Result<Vec<bool>, AllocError>
     ensures fed { IfOk result (λ v. (a : ℕ) → IsUnfed graph.now v.items a → ⊥) }
 {
     let mut kept = targets(alloc, graph)?;
-    while let Some(actor) = unfed(graph, &kept) {
+    while let Some(actor) = first_unfed(graph, &kept) {
         kept[actor] = false;
     }
     Ok(kept)

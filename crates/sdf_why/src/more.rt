@@ -5,26 +5,26 @@ ghost use Rattle.std.specs.Prelude.{◌≡◌, ℕ, ◌++◌, [], None, IfOk, On
 ghost use Rattle.std.specs.Prelude.{string_bytes};
 ghost use Rattle.std.specs.List.{flat_map, range_with_len};
 ghost use Rattle.toml.specs.View.{view};
-ghost use Rattle.sdf_graph.specs.Rates.{Shape};
+ghost use Rattle.sdf_graph.specs.Rates.{GraphValue};
 ghost use Rattle.sdf_graph.specs.Faults.{numbers_fault};
 ghost use Rattle.sdf_graph.specs.Marks.{is_marked};
 ghost use Rattle.sdf_document.specs.Document.{document_view};
 ghost use Rattle.sdf_document.specs.Lists.{files_view};
 ghost use Rattle.sdf_why.specs.Channels.{graph_in};
-ghost use Rattle.sdf_why.specs.More.{apart_told, IsApartText, so_many, firings_line, moves_text};
-ghost use Rattle.sdf_why.specs.More.{samples_line, firings_told, samples_told, meeting_told, IsGraphMore, IsMoreOf};
+ghost use Rattle.sdf_why.specs.More.{unlinked_told, IsUnlinkedText, count_of, firings_line, moves_text};
+ghost use Rattle.sdf_why.specs.More.{samples_line, firings_told, samples_told, balance_told, IsGraphMore, IsMoreOf};
 ghost use Rattle.sdf_why.specs.More.{IsMore};
 
 use crate::actors::push_actor_of;
 use crate::channels::channels_of;
+use crate::diagnostics::DesignFiles;
 use crate::links::end_at;
 use crate::ports::ports_text;
 use crate::tables::{actor_text, root};
-use crate::told::DesignFiles;
 use crate::words::{push_end, push_name};
 use sdf_actor::NetFault;
 use sdf_document::{Document, ReadFault, read_document};
-use sdf_graph::{Channel, GraphFault, Balance, joined};
+use sdf_graph::{Balance, Channel, GraphFault, joined};
 use std::alloc::{AllocError, Global};
 use toml::Value;
 
@@ -39,8 +39,8 @@ pub(crate) fn is_marked(marked: &[bool], actor: usize) -> bool
 }
 
 /// Adds the line of `actor`, if it has no mark.
-#[tactic(auto, unfolding(crate::specs::More::apart_told))]
-fn push_apart(
+#[tactic(auto, unfolding(crate::specs::More::unlinked_told))]
+fn push_unlinked(
     alloc: Global,
     text: &mut String,
     tables: &Value,
@@ -48,7 +48,7 @@ fn push_apart(
     actor: usize,
 ) -> Result<(), AllocError>
     ensures { OnOk result (string_bytes text.new ≡ string_bytes text.old
-        ++ apart_told (view tables.now) marked.now actor) }
+        ++ unlinked_told (view tables.now) marked.now actor) }
 {
     if is_marked(marked, actor) {
         Ok(())
@@ -58,7 +58,7 @@ fn push_apart(
 }
 
 /// Adds the lines of the actors without a mark among the first `actors` actors.
-fn push_all_apart(
+fn push_all_unlinked(
     alloc: Global,
     text: &mut String,
     tables: &Value,
@@ -66,42 +66,42 @@ fn push_all_apart(
     actors: usize,
 ) -> Result<(), AllocError>
     ensures { OnOk result (string_bytes text.new ≡ string_bytes text.old
-        ++ flat_map (apart_told (view tables.now) marked.now) (range_with_len 0 actors)) }
+        ++ flat_map (unlinked_told (view tables.now) marked.now) (range_with_len 0 actors)) }
 {
     for actor in 0..actors {
-        push_apart(alloc, text, tables, marked, actor)?;
+        push_unlinked(alloc, text, tables, marked, actor)?;
     }
     Ok(())
 }
 
 /// Returns the lines of all actors that links do not join to actor 0.
-fn apart_text(
+fn unlinked_text(
     alloc: Global,
     tables: &Value,
     actors: usize,
     channels: &[Channel],
 ) -> Result<String, AllocError>
-    ensures { let shape : Shape = record { actors = actors; channels = channels.now } in
-        IfOk result (λ text. numbers_fault shape ≡ None → IsApartText (view tables.now) shape (string_bytes text)) }
+    ensures { let shape : GraphValue = record { actors = actors; channels = channels.now } in
+        IfOk result (λ text. numbers_fault shape ≡ None → IsUnlinkedText (view tables.now) shape (string_bytes text)) }
 {
     let mut text = String::new(alloc);
     let Ok(marked) = joined(actors, channels) else {
         return Ok(text);
     };
-    push_all_apart(alloc, &mut text, tables, &marked, actors)?;
+    push_all_unlinked(alloc, &mut text, tables, &marked, actors)?;
     Ok(text)
 }
 
 /// Adds `count` and the `name` of what is counted.
-#[tactic(auto, unfolding(crate::specs::More::so_many))]
-fn push_so_many(
+#[tactic(auto, unfolding(crate::specs::More::count_of))]
+fn push_count_of(
     alloc: Global,
     text: &mut String,
     count: u64,
     name: Option<&str>,
 ) -> Result<(), AllocError>
     ensures { OnOk result (string_bytes text.new ≡ string_bytes text.old
-        ++ so_many count (option_map (λ s. s.now) name.entry)) }
+        ++ count_of count (option_map (λ s. s.now) name.entry)) }
 {
     write!(text, "{count} of ")?;
     push_name(alloc, text, name)
@@ -112,17 +112,17 @@ fn push_so_many(
 fn push_firings(
     alloc: Global,
     text: &mut String,
-    meeting: Balance,
+    balance: Balance,
     source: Option<&str>,
     target: Option<&str>,
 ) -> Result<(), AllocError>
-    ensures { OnOk result (string_bytes text.new ≡ string_bytes text.old ++ firings_line meeting
+    ensures { OnOk result (string_bytes text.new ≡ string_bytes text.old ++ firings_line balance
         (option_map (λ s. s.now) source.entry) (option_map (λ s. s.now) target.entry)) }
 {
     text.push_str("  firings by the other links: ")?;
-    push_so_many(alloc, text, meeting.source, source)?;
+    push_count_of(alloc, text, balance.source, source)?;
     text.push_str(", ")?;
-    push_so_many(alloc, text, meeting.target, target)?;
+    push_count_of(alloc, text, balance.target, target)?;
     Ok(text.push_str("\n")?)
 }
 
@@ -142,22 +142,22 @@ fn push_moves(
     write!(text, "{verb}{samples}")
 }
 
-/// Adds the line with the samples that the firings of `meeting` put on a link and take from it.
+/// Adds the line with the samples that the firings of `balance` put on a link and take from it.
 #[tactic(auto, unfolding(crate::specs::More::samples_line))]
 fn push_samples(
     alloc: Global,
     text: &mut String,
-    meeting: Balance,
+    balance: Balance,
     from: Option<&str>,
     to: Option<&str>,
 ) -> Result<(), AllocError>
-    ensures { OnOk result (string_bytes text.new ≡ string_bytes text.old ++ samples_line meeting
+    ensures { OnOk result (string_bytes text.new ≡ string_bytes text.old ++ samples_line balance
         (option_map (λ s. s.now) from.entry) (option_map (λ s. s.now) to.entry)) }
 {
     text.push_str("  samples on this link: ")?;
-    push_moves(alloc, text, from, " puts ", meeting.puts)?;
+    push_moves(alloc, text, from, " puts ", balance.puts)?;
     text.push_str(", ")?;
-    push_moves(alloc, text, to, " takes ", meeting.takes)?;
+    push_moves(alloc, text, to, " takes ", balance.takes)?;
     Ok(text.push_str("\n")?)
 }
 
@@ -167,14 +167,14 @@ fn push_firings_of(
     text: &mut String,
     tables: &Value,
     channel: &Channel,
-    meeting: Balance,
+    balance: Balance,
 ) -> Result<(), AllocError>
     ensures { OnOk result (string_bytes text.new ≡ string_bytes text.old
-        ++ firings_told (view tables.now) channel.now meeting) }
+        ++ firings_told (view tables.now) channel.now balance) }
 {
     let source = actor_text(tables, "name", channel.from);
     let target = actor_text(tables, "name", channel.to);
-    push_firings(alloc, text, meeting, source, target)
+    push_firings(alloc, text, balance, source, target)
 }
 
 #[tactic(auto, unfolding(crate::specs::More::samples_told))]
@@ -183,31 +183,31 @@ fn push_samples_of(
     text: &mut String,
     tables: &Value,
     link: usize,
-    meeting: Balance,
+    balance: Balance,
 ) -> Result<(), AllocError>
     ensures { OnOk result (string_bytes text.new ≡ string_bytes text.old
-        ++ samples_told (view tables.now) link meeting) }
+        ++ samples_told (view tables.now) link balance) }
 {
     let from = end_at(tables, "from", link);
     let to = end_at(tables, "to", link);
-    push_samples(alloc, text, meeting, from, to)
+    push_samples(alloc, text, balance, from, to)
 }
 
 /// Returns the lines about the channel balance at `link`, or nothing if there is no link with this number.
-#[tactic(auto, unfolding(crate::specs::More::meeting_told))]
-fn meeting_text(
+#[tactic(auto, unfolding(crate::specs::More::balance_told))]
+fn balance_text(
     alloc: Global,
     tables: &Value,
     channels: &[Channel],
     link: usize,
-    meeting: Balance,
+    balance: Balance,
 ) -> Result<String, AllocError>
-    ensures { IfOk result (λ text. string_bytes text ≡ meeting_told (view tables.now) channels.now link meeting) }
+    ensures { IfOk result (λ text. string_bytes text ≡ balance_told (view tables.now) channels.now link balance) }
 {
     let mut text = String::new(alloc);
     if link < channels.len() {
-        push_firings_of(alloc, &mut text, tables, &channels[link], meeting)?;
-        push_samples_of(alloc, &mut text, tables, link, meeting)?;
+        push_firings_of(alloc, &mut text, tables, &channels[link], balance)?;
+        push_samples_of(alloc, &mut text, tables, link, balance)?;
     }
     Ok(text)
 }
@@ -225,9 +225,9 @@ fn graph_more(
     let actors = document.actors.len();
     let channels = channels_of(alloc, &document.actors, &document.links)?;
     match fault {
-        GraphFault::NotConnected { .. } => apart_text(alloc, tables, actors, &channels),
-        GraphFault::Inconsistent { channel, meeting } => {
-            meeting_text(alloc, tables, &channels, channel, meeting)
+        GraphFault::NotConnected { .. } => unlinked_text(alloc, tables, actors, &channels),
+        GraphFault::Inconsistent { channel, balance } => {
+            balance_text(alloc, tables, &channels, channel, balance)
         }
         _ => Ok(String::new(alloc)),
     }

@@ -15,7 +15,7 @@ use crate::tables::actor_text;
 use crate::words::push_hint;
 use sdf_document::{Place, file_keys, link_keys, top_keys};
 use sdf_kinds::{Form, KeyForm, shared_keys};
-use sdf_limits::MOST_ACTORS;
+use sdf_limits::MAX_ACTORS;
 use sdf_similar::nearest;
 use std::alloc::{AllocError, Global};
 use toml::Value;
@@ -152,7 +152,7 @@ fn actor_names<'a>(alloc: Global, graph: &'a Value) -> Result<Vec<&'a str>, Allo
     ensures { IfOk result (λ names. map (λ name. name.now) names.items ≡ actor_names (view graph.now)) }
 {
     let mut names = Vec::new(alloc);
-    for actor in 0..MOST_ACTORS {
+    for actor in 0..MAX_ACTORS {
         push_name_of(&mut names, graph, actor)?;
     }
     Ok(names)

@@ -3,14 +3,14 @@
 ghost use Rattle.std.specs.Prelude.{◌≡◌, ◌++◌, OnOk, option_map, string_bytes};
 ghost use Rattle.toml.specs.View.{view};
 ghost use Rattle.sdf_why.specs.Nets.{first_of, one_of, all_of, number_at, same_number, same_text, rival, first_rival};
-ghost use Rattle.sdf_why.specs.Nets.{rivals, beside_first, sharing_told, begun, graph_told, net_told};
+ghost use Rattle.sdf_why.specs.Nets.{rival_lines, differing_blocks, sharing_told, initial_line, graph_told, net_told};
 
 use crate::actors::{push_actor_key, push_actor_of};
 use crate::links::{first_sharing, push_ends, push_link_key, push_link_of};
-use crate::tables::{actor_text, entry, first_saying, says, value_at};
+use crate::tables::{actor_text, entry, first_with_text, says, value_at};
 use sdf_actor::NetFault;
 use sdf_graph::GraphFault;
-use sdf_limits::{MOST_ACTORS, MOST_INITIAL};
+use sdf_limits::{MAX_ACTORS, MAX_INITIAL};
 use std::alloc::{AllocError, Global};
 use toml::Value;
 
@@ -26,7 +26,7 @@ fn push_first_of(
     ensures { OnOk result (string_bytes text.new ≡ string_bytes text.old
         ++ first_of kind.now key.now (view graph.now)) }
 {
-    match first_saying(graph, "kind", kind, MOST_ACTORS) {
+    match first_with_text(graph, "kind", kind, MAX_ACTORS) {
         Some(actor) => push_actor_key(alloc, text, graph, actor, key, None),
         None => Ok(()),
     }
@@ -64,7 +64,7 @@ pub(crate) fn push_all_of(
     ensures { OnOk result (string_bytes text.new ≡ string_bytes text.old
         ++ all_of kind.now key.now (view graph.now)) }
 {
-    for actor in 0..MOST_ACTORS {
+    for actor in 0..MAX_ACTORS {
         push_one_of(alloc, text, graph, kind, key, actor)?;
     }
     Ok(())
@@ -119,7 +119,7 @@ fn first_rival(graph: &Value, actor: usize, actors: usize) -> Option<usize>
 }
 
 /// Adds `actor`, its channel, and the earlier actor with the same kind and channel.
-#[tactic(auto, unfolding(crate::specs::Nets::rivals))]
+#[tactic(auto, unfolding(crate::specs::Nets::rival_lines))]
 fn push_rivals(
     alloc: Global,
     text: &mut String,
@@ -127,7 +127,7 @@ fn push_rivals(
     actor: usize,
 ) -> Result<(), AllocError>
     ensures { OnOk result (string_bytes text.new ≡ string_bytes text.old
-        ++ rivals (view graph.now) actor) }
+        ++ rival_lines (view graph.now) actor) }
 {
     push_actor_key(alloc, text, graph, actor, "channel", None)?;
     match first_rival(graph, actor, actor) {
@@ -137,8 +137,8 @@ fn push_rivals(
 }
 
 /// Adds `actor` with its block, and the first actor of this `kind` with its block.
-#[tactic(auto, unfolding(crate::specs::Nets::beside_first))]
-fn push_beside_first(
+#[tactic(auto, unfolding(crate::specs::Nets::differing_blocks))]
+fn push_differing_blocks(
     alloc: Global,
     text: &mut String,
     graph: &Value,
@@ -146,7 +146,7 @@ fn push_beside_first(
     actor: usize,
 ) -> Result<(), AllocError>
     ensures { OnOk result (string_bytes text.new ≡ string_bytes text.old
-        ++ beside_first kind.now (view graph.now) actor) }
+        ++ differing_blocks kind.now (view graph.now) actor) }
 {
     push_actor_key(alloc, text, graph, actor, "block", None)?;
     push_first_of(alloc, text, graph, kind, "block")
@@ -170,16 +170,16 @@ fn push_sharing(
 }
 
 /// Adds `link` and its initial samples, with their limit.
-#[tactic(auto, unfolding(crate::specs::Nets::begun))]
-fn push_begun(
+#[tactic(auto, unfolding(crate::specs::Nets::initial_line))]
+fn push_initial(
     alloc: Global,
     text: &mut String,
     graph: &Value,
     link: usize,
 ) -> Result<(), AllocError>
-    ensures { OnOk result (string_bytes text.new ≡ string_bytes text.old ++ begun (view graph.now) link) }
+    ensures { OnOk result (string_bytes text.new ≡ string_bytes text.old ++ initial_line (view graph.now) link) }
 {
-    let most = MOST_INITIAL;
+    let most = MAX_INITIAL;
     let limits = format!(in alloc; "at most {most}")?;
     push_link_key(alloc, text, graph, link, "initial", Some(limits.as_str()))
 }
@@ -203,7 +203,7 @@ fn push_graph(
         | GraphFault::BadRate { channel }
         | GraphFault::CycleLength { channel }
         | GraphFault::Inconsistent { channel, .. } => push_ends(alloc, text, graph, channel),
-        GraphFault::InitialCount { channel } => push_begun(alloc, text, graph, channel),
+        GraphFault::InitialCount { channel } => push_initial(alloc, text, graph, channel),
     }
 }
 
@@ -224,9 +224,9 @@ pub(crate) fn push_net(
         NetFault::PortTwice { link } => push_sharing(alloc, text, graph, link),
         NetFault::PortOpen { actor, .. } => push_actor_key(alloc, text, graph, actor, "ways", None),
         NetFault::ExtTwice { actor } => push_rivals(alloc, text, graph, actor),
-        NetFault::InputRates { actor } => push_beside_first(alloc, text, graph, "input", actor),
+        NetFault::InputRates { actor } => push_differing_blocks(alloc, text, graph, "input", actor),
         NetFault::OutputRates { actor } => {
-            push_beside_first(alloc, text, graph, "output", actor)
+            push_differing_blocks(alloc, text, graph, "output", actor)
         }
         NetFault::NoOutput { .. } => push_all_of(alloc, text, graph, "output", "channel"),
     }

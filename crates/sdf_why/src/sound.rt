@@ -2,7 +2,7 @@
 
 ghost use Rattle.std.specs.Prelude.{◌≡◌, ◌++◌, ◌*◌, ◌<◌, ◌≤◌, OnOk, string_bytes};
 ghost use Rattle.toml.specs.View.{view};
-ghost use Rattle.sdf_limits.specs.declared.TheConstants.{MOST_PERIOD, MOST_RATE};
+ghost use Rattle.sdf_limits.specs.declared.TheConstants.{MAX_PERIOD, MAX_RATE};
 ghost use Rattle.sdf_why.specs.Sounds.{needs_text, has_text, channels_told, product_text, quotient_text, rate_line};
 
 use crate::net::push_all_of;
@@ -81,7 +81,7 @@ pub(crate) fn push_rate(
     made: usize,
     taken: usize,
 ) -> Result<(), AllocError>
-    requires made { made ≤ MOST_RATE * MOST_PERIOD }
+    requires made { made ≤ MAX_RATE * MAX_PERIOD }
     requires taken { 0 < taken }
     ensures { OnOk result (string_bytes text.new ≡ string_bytes text.old ++ rate_line rate made taken) }
 {

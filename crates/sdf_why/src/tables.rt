@@ -4,7 +4,7 @@ ghost use Rattle.std.specs.Prelude.{◌≡◌, IfOk, option_map};
 ghost use Rattle.toml.specs.View.{view};
 ghost use Rattle.toml.specs.Data.{get};
 ghost use Rattle.sdf_document.specs.Lists.{files_view};
-ghost use Rattle.sdf_why.specs.Tables.{root, file_root, text_at, entry, actor_text, says, first_saying};
+ghost use Rattle.sdf_why.specs.Tables.{root, file_root, text_at, entry, actor_text, says, first_with_text};
 
 use sdf_document::{CoefficientFile, file_named};
 use std::alloc::{AllocError, Global};
@@ -86,9 +86,9 @@ pub(crate) fn says(value: &Value, key: &str, text: &str, actor: usize) -> bool
 }
 
 /// Returns the first of `actors` actors that has `text` at `key`.
-#[tactic(auto, unfolding(crate::specs::Tables::first_saying))]
-pub(crate) fn first_saying(value: &Value, key: &str, text: &str, actors: usize) -> Option<usize>
-    ensures { result ≡ first_saying key.now text.now (view value.now) actors }
+#[tactic(auto, unfolding(crate::specs::Tables::first_with_text))]
+pub(crate) fn first_with_text(value: &Value, key: &str, text: &str, actors: usize) -> Option<usize>
+    ensures { result ≡ first_with_text key.now text.now (view value.now) actors }
 {
     (0..actors).find(|actor| says(value, key, text, *actor))
 }

@@ -8,7 +8,7 @@ ghost use Rattle.sdf_why.specs.Tables.{file_root};
 ghost use Rattle.sdf_why.specs.Actors.{lines_of};
 ghost use Rattle.sdf_why.specs.Values.{unfit_at_key};
 ghost use Rattle.sdf_why.specs.Types.{is_text_key, is_list_key, type_of, limits_behind, type_within};
-ghost use Rattle.sdf_why.specs.Types.{place_type, unwhole_told, type_told};
+ghost use Rattle.sdf_why.specs.Types.{place_type, non_integer_told, type_told};
 
 use crate::places::{limits_at, push_place_key};
 use crate::tables::{Source, entry, file_root};
@@ -86,7 +86,7 @@ fn push_place(
 }
 
 /// Adds the first value that is not a whole number in the list at `key` of `table`, if there is a table.
-fn push_unwhole_at(
+fn push_non_integer_at(
     alloc: Global,
     text: &mut String,
     key: &str,
@@ -102,7 +102,7 @@ fn push_unwhole_at(
 }
 
 /// Adds the first value that is not a whole number in the list at `key` of the file `name`.
-fn push_unwhole_in_file(
+fn push_non_integer_in_file(
     alloc: Global,
     text: &mut String,
     files: &[CoefficientFile],
@@ -119,22 +119,33 @@ fn push_unwhole_in_file(
 }
 
 /// Adds the first value that is not a whole number in the list at `key` of `place`.
-fn push_unwhole(
+fn push_non_integer(
     alloc: Global,
     text: &mut String,
     source: Source<'_>,
     place: &Place,
     key: &str,
 ) -> Result<(), AllocError>
-    ensures { OnOk result (string_bytes text.new ≡ string_bytes text.old ++ unwhole_told
+    ensures { OnOk result (string_bytes text.new ≡ string_bytes text.old ++ non_integer_told
         (place_view place.now) key.now (view source.entry.graph.now) (files_view source.entry.files.now)) }
 {
     let graph = source.graph;
     match place {
-        Place::Top => push_unwhole_at(alloc, text, key, Some(graph)),
-        Place::Actor(number) => push_unwhole_at(alloc, text, key, entry(graph, "actor", *number)),
-        Place::Link(number) => push_unwhole_at(alloc, text, key, entry(graph, "link", *number)),
-        Place::File(name) => push_unwhole_in_file(alloc, text, source.files, name.as_str(), key),
+        Place::Top => push_non_integer_at(alloc, text, key, Some(graph)),
+        Place::Actor(number) => push_non_integer_at(
+            alloc,
+            text,
+            key,
+            entry(graph, "actor", *number),
+        ),
+        Place::Link(number) => push_non_integer_at(alloc, text, key, entry(graph, "link", *number)),
+        Place::File(name) => push_non_integer_in_file(
+            alloc,
+            text,
+            source.files,
+            name.as_str(),
+            key,
+        ),
     }
 }
 
@@ -151,7 +162,7 @@ pub(crate) fn push_type(
 {
     push_place(alloc, text, source, place, key)?;
     if is_list_key(key) {
-        push_unwhole(alloc, text, source, place, key)
+        push_non_integer(alloc, text, source, place, key)
     } else {
         Ok(())
     }

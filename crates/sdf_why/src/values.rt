@@ -8,7 +8,7 @@ ghost use Rattle.sdf_why.specs.Values.{value_line, value_told, unfit_told, key_l
 
 use crate::tables::value_at;
 use crate::words::push_value;
-use sdf_document::fitting;
+use sdf_document::fit_width;
 use sdf_kinds::Width;
 use std::alloc::{AllocError, Global};
 use toml::Value;
@@ -25,7 +25,7 @@ fn is_within(width: Option<Width>, number: i64) -> bool
     ensures { result ≡ is_within width number }
 {
     match width {
-        Some(width) => fitting(width, number).is_some(),
+        Some(width) => fit_width(width, number).is_some(),
         None => true,
     }
 }

@@ -4,10 +4,10 @@ ghost use Rattle.std.specs.Prelude.{◌≡◌, ◌++◌, OnOk, option_map, strin
 ghost use Rattle.toml.specs.View.{view};
 ghost use Rattle.sdf_why.specs.Words.{quoted, value_text, article, name_text, kind_text, end_text, actor_line};
 ghost use Rattle.sdf_why.specs.Words.{link_words, hint_line};
-ghost use Rattle.sdf_why.specs.Words.{link_line, lack_line, limits_text, key_line, is_vowel, said_line};
+ghost use Rattle.sdf_why.specs.Words.{link_line, lack_line, limits_text, key_line, is_vowel, message_line};
 ghost use Rattle.sdf_options.specs.Printable.{printable_text};
 
-use crate::marks::has;
+use crate::marks::has_mark;
 use sdf_options::printable::printable;
 use std::alloc::{AllocError, Global};
 use toml::Value;
@@ -104,7 +104,7 @@ pub(crate) fn push_end(
     match end {
         Some(end) => {
             push_printable(alloc, text, end)?;
-            Ok(text.push_str(if has(end, ':') { "" } else { ":0" })?)
+            Ok(text.push_str(if has_mark(end, ':') { "" } else { ":0" })?)
         }
         None => Ok(text.push_str("?")?),
     }
@@ -237,14 +237,14 @@ pub(crate) fn push_hint(alloc: Global, text: &mut String, name: &str) -> Result<
 }
 
 /// Adds the line of the file `name` with the message `said`.
-#[tactic(auto, unfolding(crate::specs::Words::said_line))]
-pub(crate) fn push_said(
+#[tactic(auto, unfolding(crate::specs::Words::message_line))]
+pub(crate) fn push_message(
     alloc: Global,
     text: &mut String,
     name: &str,
     said: &str,
 ) -> Result<(), AllocError>
-    ensures { OnOk result (string_bytes text.new ≡ string_bytes text.old ++ said_line name.now said.now) }
+    ensures { OnOk result (string_bytes text.new ≡ string_bytes text.old ++ message_line name.now said.now) }
 {
     text.push_str("  ")?;
     push_quoted(alloc, text, name)?;

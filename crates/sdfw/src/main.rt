@@ -5,20 +5,20 @@
 //! there, at `program::serve`.
 #![tactic(auto)]
 
-use sdf_io::files::MOST_BYTES;
+use sdf_cli::arguments::read_arguments;
+use sdf_io::files::MAX_BYTES;
 use sdf_io::storage::Disk;
 use sdf_io::world::World;
 use sdf_program::program::serve;
-use sdf_cli::arguments::arguments;
 use std::io::IsTerminal;
 use std::process::ExitCode;
 
 fn main(rt: HostRuntime) -> ExitCode {
-    let given = arguments(&rt, rt.alloc());
+    let arguments = read_arguments(&rt, rt.alloc());
     let world = World {
         storage: &Disk { rt: &rt },
         threads: &rt,
-        most: MOST_BYTES,
+        most: MAX_BYTES,
         terminal: rt.stderr().is_terminal(),
     };
     ExitCode::from(serve(
@@ -26,6 +26,6 @@ fn main(rt: HostRuntime) -> ExitCode {
         &mut rt.stdin(),
         &mut rt.stdout(),
         &mut rt.stderr(),
-        given,
+        arguments,
     ))
 }

@@ -8,7 +8,7 @@ ghost use Rattle.sdf_times.specs.Times.{IsBlockTable};
 use crate::graphs::{BLOCKS, FORK, LONGER_FORK, costs_of, fault_of, period_of};
 use sdf_graph::Graph;
 use sdf_prec::hu::hu;
-use sdf_prec::{Costs, Table, Columns};
+use sdf_prec::{Columns, Costs, Table};
 use std::alloc::Global;
 use std::test::Fail;
 use test_actors::graphs::{Row, graph};

@@ -1,11 +1,11 @@
 -- The channels and links that `graph` and `links` make.
 use Rattle.std.specs.Prelude.{ℕ, List, [], map, slice_index}
 use Rattle.std.specs.Borrow.{Bor}
-use Rattle.sdf_graph.specs.Rates.{Edge}
+use Rattle.sdf_graph.specs.Rates.{ChannelValue}
 use Rattle.sdf_actor.specs.Nets.{Wire}
 
 -- channels by rows: from, put, take, to, initial
-abbrev pub edges : List (ℕ × Bor (List ℕ) × Bor (List ℕ) × ℕ × ℕ) → List Edge
+abbrev pub edges : List (ℕ × Bor (List ℕ) × Bor (List ℕ) × ℕ × ℕ) → List ChannelValue
 edges rows = map (λ row. record { from = row.0; put = row.1.now; to = row.3; take = row.2.now; initial = row.4 }) rows
 
 -- wires without initial samples, by their ends, each a node and a port

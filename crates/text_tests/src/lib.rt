@@ -12,12 +12,12 @@ mod analyses;
 #[cfg(test)]
 mod designs;
 #[cfg(test)]
+mod document_diagnostics;
+#[cfg(test)]
 mod faults;
+#[cfg(test)]
+mod net_diagnostics;
 #[cfg(test)]
 mod pictures;
 #[cfg(test)]
-mod told_documents;
-#[cfg(test)]
-mod told_nets;
-#[cfg(test)]
-mod told_sounds;
+mod sound_diagnostics;

@@ -9,7 +9,7 @@ use crate::fault::NetFault;
 use crate::link::Link;
 use crate::node::Node;
 use sdf_graph::GraphFault;
-use sdf_limits::{MOST_ACTORS, MOST_LINKS};
+use sdf_limits::{MAX_ACTORS, MAX_LINKS};
 
 /// Tests the numbers of nodes and links.
 pub(crate) fn check_counts<A: Actor>(
@@ -18,10 +18,10 @@ pub(crate) fn check_counts<A: Actor>(
 ) -> Result<(), NetFault>
     ensures { let n = netlist nodes.now links.now in MatchResult result (λ _. HasCounts n) (CountFault n) }
 {
-    if nodes.is_empty() || nodes.len() > MOST_ACTORS {
+    if nodes.is_empty() || nodes.len() > MAX_ACTORS {
         return Err(NetFault::Graph(GraphFault::ActorCount));
     }
-    if links.len() > MOST_LINKS {
+    if links.len() > MAX_LINKS {
         return Err(NetFault::Graph(GraphFault::ChannelCount));
     }
     Ok(())

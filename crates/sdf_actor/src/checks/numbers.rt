@@ -15,7 +15,7 @@ use crate::link::Link;
 use crate::node::Node;
 use crate::sides::Side;
 use sdf_graph::GraphFault;
-use sdf_limits::{MOST_CYCLE, MOST_INITIAL};
+use sdf_limits::{MAX_CYCLE, MAX_INITIAL};
 
 /// Checks the rates, cycles and initial samples of each channel, and returns the first fault.
 pub(crate) fn check_numbers<A: Actor>(
@@ -48,8 +48,8 @@ fn channel_fault<A: Actor>(
     ensures { let put = rates_at A.steps Output from.now link.now.from.1 in
         let take = rates_at A.steps Input to.now link.now.to.1 in
         result ≡ if are_rates put && are_rates take then (
-        if is_within 1 MOST_CYCLE (cycle_of A.steps from.now) && is_within 1 MOST_CYCLE (cycle_of A.steps to.now) then (
-        if nat_le (length link.now.initial.items) MOST_INITIAL then None else Some (InitialCount c)
+        if is_within 1 MAX_CYCLE (cycle_of A.steps from.now) && is_within 1 MAX_CYCLE (cycle_of A.steps to.now) then (
+        if nat_le (length link.now.initial.items) MAX_INITIAL then None else Some (InitialCount c)
         ) else Some (CycleLength c)
         ) else Some (BadRate c) }
 {
@@ -57,7 +57,7 @@ fn channel_fault<A: Actor>(
         Some(GraphFault::BadRate { channel: c })
     } else if !from.has_cycle() || !to.has_cycle() {
         Some(GraphFault::CycleLength { channel: c })
-    } else if link.initial.len() > MOST_INITIAL {
+    } else if link.initial.len() > MAX_INITIAL {
         Some(GraphFault::InitialCount { channel: c })
     } else {
         None

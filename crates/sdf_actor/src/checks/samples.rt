@@ -4,7 +4,7 @@ ghost use Rattle.std.specs.Prelude.{◌≡◌, ◌*◌, ◌<◌, ◌≤◌, ◌�
 ghost use Rattle.std.specs.Prelude.{MatchOption, MatchResult};
 ghost use Rattle.sdf_actor.specs.declared.node.Node.TheVariants.{Sink};
 ghost use Rattle.sdf_actor.specs.declared.sides.Lists.TheVariants.{Inputs, Outputs};
-ghost use Rattle.sdf_actor.specs.Sides.{list_of, block_of, first_on, period_samples};
+ghost use Rattle.sdf_actor.specs.Sides.{list_of, block_of, first_with, period_samples};
 ghost use Rattle.sdf_actor.specs.NetFaults.{Agree, Differs, RateFault};
 
 use crate::fault::NetFault;
@@ -25,20 +25,20 @@ pub(crate) fn samples<A>(
         × (k.1 ≡ period_samples nodes.now Outputs repetitions.now))
         (RateFault nodes.now repetitions.now) }
 {
-    let samples_in = node_samples(nodes, repetitions, first_on(nodes, Lists::Inputs));
-    if let Some(actor) = differing(nodes, repetitions, Lists::Inputs, samples_in) {
+    let samples_in = node_samples(nodes, repetitions, first_with(nodes, Lists::Inputs));
+    if let Some(actor) = first_differing(nodes, repetitions, Lists::Inputs, samples_in) {
         return Err(NetFault::InputRates { actor });
     }
-    let samples_out = node_samples(nodes, repetitions, first_on(nodes, Lists::Outputs));
-    if let Some(actor) = differing(nodes, repetitions, Lists::Outputs, samples_out) {
+    let samples_out = node_samples(nodes, repetitions, first_with(nodes, Lists::Outputs));
+    if let Some(actor) = first_differing(nodes, repetitions, Lists::Outputs, samples_out) {
         return Err(NetFault::OutputRates { actor });
     }
     Ok((samples_in, samples_out))
 }
 
 /// Returns the first node with a list among `lists`, or the number of nodes if there is none.
-fn first_on<A>(nodes: &[Node<A>], lists: Lists) -> usize
-    ensures { result ≡ first_on lists nodes.now }
+fn first_with<A>(nodes: &[Node<A>], lists: Lists) -> usize
+    ensures { result ≡ first_with lists nodes.now }
 {
     for (a, node) in nodes.iter().enumerate() {
         if node.list(lists).is_some() {
@@ -49,7 +49,7 @@ fn first_on<A>(nodes: &[Node<A>], lists: Lists) -> usize
 }
 
 /// Returns the first node with a list among `lists` that does not move `samples` samples in a period.
-fn differing<A>(
+fn first_differing<A>(
     nodes: &[Node<A>],
     repetitions: &Repetitions,
     lists: Lists,

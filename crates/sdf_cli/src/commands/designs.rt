@@ -1,7 +1,7 @@
 //! The commands that check, schedule and run a design: their arguments and help texts.
 
-use super::{Argument, PLAIN, CommandRow, Switch, Syntax, Values};
-use sdf_limits::{MOST_BLOCKING, MOST_PATIENCE, MOST_WORKERS};
+use super::{Argument, CommandRow, PLAIN, Switch, Syntax, Values};
+use sdf_limits::{MAX_BLOCKING, MAX_PATIENCE, MAX_WORKERS};
 use sdf_options::{PLACEMENT_WORDS, POLICY_WORDS, RUNNER_WORDS};
 
 pub(super) const GRAPH: Argument = Argument {
@@ -50,7 +50,7 @@ const BLOCKING: Argument = Argument {
     more: "Periods in a block, 1 to 64. The table has the firings of one block: in a longer block more of
 them can be done at the same time, and links hold more samples.
 In `run` it has no effect without `--runner rows` or `--runner rings`",
-    syntax: Syntax::Choice("J", Values::Signed(1, MOST_BLOCKING as i64), Some("1")),
+    syntax: Syntax::Choice("J", Values::Signed(1, MAX_BLOCKING as i64), Some("1")),
 };
 
 const WORKERS: Argument = Argument {
@@ -58,7 +58,7 @@ const WORKERS: Argument = Argument {
     help: "Workers, 1 to 16",
     more: "Workers, 1 to 16: the columns of the table, each of which does its firings in a thread.
 In `run` it has no effect without `--runner rows` or `--runner rings`",
-    syntax: Syntax::Choice("M", Values::Unsigned(1, MOST_WORKERS as u64), Some("1")),
+    syntax: Syntax::Choice("M", Values::Unsigned(1, MAX_WORKERS as u64), Some("1")),
 };
 
 const POLICY: Argument = Argument {
@@ -104,7 +104,7 @@ const PATIENCE: Argument = Argument {
     more: "How often a worker whose next firing lacks samples or room tests again, in all, before its round
 ends; at most 1000000.
 It has no effect without `--runner rings`",
-    syntax: Syntax::Choice("T", Values::Signed(0, MOST_PATIENCE as i64), Some("1000")),
+    syntax: Syntax::Choice("T", Values::Signed(0, MAX_PATIENCE as i64), Some("1000")),
 };
 
 const PARALLEL: Argument = Argument {
@@ -124,7 +124,7 @@ It can't be combined with `--blocking`, `--workers`, `--policy`, `--placement`, 
             "runner",
             "patience",
         ],
-        value: Some(("M", Values::Unsigned(1, MOST_WORKERS as u64))),
+        value: Some(("M", Values::Unsigned(1, MAX_WORKERS as u64))),
     }),
 };
 

@@ -1,8 +1,8 @@
 //! The commands that make filters and converters: their arguments and help texts.
 
 use super::{Argument, CommandRow, Syntax, Values};
-use sdf_filters::MOST_ATTENUATION;
-use sdf_limits::{MOST_CHANNEL, MOST_FACTOR, MOST_SHIFT};
+use sdf_filters::MAX_ATTENUATION;
+use sdf_limits::{MAX_CHANNEL, MAX_FACTOR, MAX_SHIFT};
 
 const SHAPE: Argument = Argument {
     name: "SHAPE",
@@ -59,7 +59,7 @@ const ATTENUATION: Argument = Argument {
 says what a filter reaches",
     syntax: Syntax::Choice(
         "DB",
-        Values::Unsigned(0, MOST_ATTENUATION as u64),
+        Values::Unsigned(0, MAX_ATTENUATION as u64),
         Some("96"),
     ),
 };
@@ -70,14 +70,14 @@ const UP: Argument = Argument {
     more: "The actor's key `up`, 1 to 64: the number of phases of the taps. The taps of each phase of a low-pass sum
 to 2^shift, so a constant stays what it is; those of a high-pass and a band-pass sum to 0. The `up` of a
 high-pass is 1",
-    syntax: Syntax::Choice("U", Values::Unsigned(1, MOST_FACTOR as u64), Some("1")),
+    syntax: Syntax::Choice("U", Values::Unsigned(1, MAX_FACTOR as u64), Some("1")),
 };
 
 const SHIFT: Argument = Argument {
     name: "shift",
     help: "The actor's key `shift`, at most 15",
     more: "The actor's key `shift`, at most 15",
-    syntax: Syntax::Choice("S", Values::Unsigned(0, MOST_SHIFT as u64), Some("15")),
+    syntax: Syntax::Choice("S", Values::Unsigned(0, MAX_SHIFT as u64), Some("15")),
 };
 
 const FROM: Argument = Argument {
@@ -106,7 +106,7 @@ const CHANNELS: Argument = Argument {
     name: "channels",
     help: "Channels, 1 to 8",
     more: "Channels, 1 to 8: each has the same stages",
-    syntax: Syntax::Choice("N", Values::Unsigned(1, MOST_CHANNEL as u64 + 1), Some("1")),
+    syntax: Syntax::Choice("N", Values::Unsigned(1, MAX_CHANNEL as u64 + 1), Some("1")),
 };
 
 pub(super) const ROWS: &[CommandRow] = &[

@@ -1,7 +1,7 @@
 //! The commands that show what a schedule does and what a run costs: their arguments and help texts.
 
 use super::designs::{GRAPH, IN, JSON, NO_WHY, WHY};
-use super::{Argument, PLAIN, CommandRow, Syntax, Values};
+use super::{Argument, CommandRow, PLAIN, Syntax, Values};
 
 const COMPARE: Argument = Argument {
     name: "compare",

@@ -79,7 +79,7 @@ fn mark(graph: &Graph, actor: usize, marks: &mut Marks) -> Result<(), AllocError
 }
 
 /// Ends the firings that end at time `now`, and marks the actors that may be ready then.
-pub(crate) fn end_by(
+pub(crate) fn end_firings(
     now: u64,
     graph: &Graph,
     whose: &[usize],

@@ -34,7 +34,12 @@ fn is_open(until: &[u64], now: u64, cells: &[Option<Firing>], column: usize) -> 
 }
 
 /// Checks whether `column` has less load than `best`, or there is no `best` column yet.
-fn is_lighter(weights: &[u64], homes: &[Option<usize>], column: usize, best: Option<usize>) -> bool
+fn is_less_loaded(
+    weights: &[u64],
+    homes: &[Option<usize>],
+    column: usize,
+    best: Option<usize>,
+) -> bool
     requires weights { AreWeights weights.now homes.now }
     ensures { IsTrue result ↔ ((b : ℕ) → best ≡ Some b →
         load_by weights.now homes.now column < load_by weights.now homes.now b) }
@@ -59,7 +64,7 @@ fn least_open(
 {
     let mut best = None;
     for column in 0..until.len() {
-        if is_open(until, now, cells, column) && is_lighter(weights, homes, column, best) {
+        if is_open(until, now, cells, column) && is_less_loaded(weights, homes, column, best) {
             best = Some(column);
         }
     }

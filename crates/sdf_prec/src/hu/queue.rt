@@ -11,8 +11,8 @@ ghost use Rattle.sdf_prec.specs.Floor.{IsNextReady};
 ghost use Rattle.sdf_prec.specs.Queued.{AreInTurn, IsQueueOf, IsUnmarked, is_next};
 
 use crate::firing::Firing;
-use crate::levels::level::Levels;
 use crate::hu::marked::Marks;
+use crate::levels::level::Levels;
 use sdf_graph::Counts;
 use std::alloc::AllocError;
 
@@ -85,7 +85,7 @@ fn add(queue: &mut Vec<Firing>, levels: &Levels, ready: Firing) -> Result<(), Al
 }
 
 /// Adds the firings of marked actors that have become ready to `queue`, and removes the marks.
-pub(crate) fn renew(
+pub(crate) fn add_ready(
     queue: &mut Vec<Firing>,
     counts: &Counts,
     started: &[u32],
@@ -122,7 +122,7 @@ fn is_next(started: &[u32], firing: &Firing) -> bool
 }
 
 /// Removes the firings that have started from `queue`.
-pub(crate) fn leave(queue: &mut Vec<Firing>, started: &[u32])
+pub(crate) fn remove_started(queue: &mut Vec<Firing>, started: &[u32])
     ensures { queue.new.items ≡ filter (is_next started.now) queue.old.items }
 {
     queue.retain(|firing| is_next(started, firing));

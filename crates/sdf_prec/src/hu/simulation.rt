@@ -7,17 +7,18 @@ ghost use Rattle.sdf_prec.specs.Tables.{IsValid};
 ghost use Rattle.sdf_prec.specs.Numbers.{number};
 ghost use Rattle.sdf_prec.specs.TimedRows.{Timed, AreHuRows};
 ghost use Rattle.sdf_prec.specs.Floor.{AreStarted, IsNextEnd};
-ghost use Rattle.sdf_prec.specs.Crew.{IsJobFor, IsCrew, idle, IsDueTo, IsDueAfter, IsDoneAfter, IsRowFor};
-ghost use Rattle.sdf_prec.specs.Crew.{IsQueued, IsQueuedBut};
+ghost use Rattle.sdf_prec.specs.Simulations.{AreInputsFor, IsSimulation, idle, IsDueTo, IsDueAfter, IsDoneAfter};
+ghost use Rattle.sdf_prec.specs.Simulations.{IsRowFor};
+ghost use Rattle.sdf_prec.specs.Simulations.{IsQueued, IsQueuedBut};
 
 use crate::costs::Costs;
-use crate::hu::filling::fill;
 use crate::firing::Firing;
-use crate::hu::floor::{end_by, next_end, start};
+use crate::hu::filling::fill;
+use crate::hu::floor::{end_firings, next_end, start};
 use crate::hu::homing::place;
-use crate::levels::level::Levels;
 use crate::hu::marked::Marks;
-use crate::hu::queue::{leave, renew};
+use crate::hu::queue::{add_ready, remove_started};
+use crate::levels::level::Levels;
 use crate::table::rows::Rows;
 use crate::table::tidy::has_firing;
 use sdf_graph::{Counts, Graph};
@@ -35,7 +36,7 @@ pub(crate) struct HuInputs<'a> {
     pub(crate) homed: bool,
 }
 
-/// The work at a time: the counts of ended and of started firings, the actor that each column fired last and when that
+/// The state at a time: the counts of ended and of started firings, the actor that each column fired last, when that
 /// firing ends, and the homes. Ready firings are in a queue, and actors that may have become ready are marked.
 #[derive(Drop)]
 struct Simulation<'a> {
@@ -50,9 +51,9 @@ struct Simulation<'a> {
 }
 
 impl<'a> Model for Simulation<'a> {
-    ghost use Rattle.sdf_prec.specs.Crew.{Crewed, IsCrew};
+    ghost use Rattle.sdf_prec.specs.Simulations.{SimulationValue, IsSimulation};
 
-    ghost Value = { Crewed };
+    ghost Value = { SimulationValue };
 
     ghost view = { λ c. record {
       time = c.time;
@@ -65,7 +66,7 @@ impl<'a> Model for Simulation<'a> {
       marks = c.marks;
     } };
 
-    ghost invariant = { λ c. IsCrew (record {
+    ghost invariant = { λ c. IsSimulation (record {
       time = c.time;
       counts = c.counts;
       started = c.started.items;
@@ -80,7 +81,7 @@ impl<'a> Model for Simulation<'a> {
 impl<'a> Simulation<'a> {
     /// Returns the state at time 0, with idle columns.
     fn new(alloc: Global, graph: &'a Graph, width: usize) -> Result<Simulation<'a>, AllocError>
-        ensures { IfOk result (λ crew. crew ≡ idle graph.now width) }
+        ensures { IfOk result (λ state. state ≡ idle graph.now width) }
     {
         let actors = graph.actors();
         Ok(Simulation {
@@ -96,38 +97,42 @@ impl<'a> Simulation<'a> {
     }
 
     /// Puts the firings that have become ready into the queue.
-    fn renew_queue(&mut self, job: &HuInputs) -> Result<(), AllocError>
-        requires job { IsJobFor self.old.counts.graph job.now }
-        requires queue { IsQueuedBut job.now self.old }
+    fn renew_queue(&mut self, inputs: &HuInputs) -> Result<(), AllocError>
+        requires inputs { AreInputsFor self.old.counts.graph inputs.now }
+        requires queue { IsQueuedBut inputs.now self.old }
         ensures others { self.new ≡ record self.old { queue = self.new.queue; marks = self.new.marks } }
-        ensures queue { IfOk result (λ _. IsQueued job.now self.new) }
+        ensures queue { IfOk result (λ _. IsQueued inputs.now self.new) }
     {
-        renew(
+        add_ready(
             &mut self.queue,
             &self.counts,
             &self.started,
-            job.firings,
-            job.levels,
+            inputs.firings,
+            inputs.levels,
             &mut self.marks,
         )
     }
 
     /// Makes `cells` the row of the current time, which may be empty. Actors whose first firing is in it get their
     /// homes.
-    fn next_cells(&mut self, job: &HuInputs, cells: &mut Vec<Option<Firing>>) -> Result<(), AllocError>
-        requires job { IsJobFor self.old.counts.graph job.now }
-        requires queue { IsQueued job.now self.old }
+    fn next_cells(
+        &mut self,
+        inputs: &HuInputs,
+        cells: &mut Vec<Option<Firing>>,
+    ) -> Result<(), AllocError>
+        requires inputs { AreInputsFor self.old.counts.graph inputs.now }
+        requires queue { IsQueued inputs.now self.old }
         ensures others { self.new ≡ record self.old { homes = self.new.homes } }
         ensures sound { IsSound (rates self.old.counts.graph) }
-        ensures row { IfOk result (λ _. (past : List Timed) → IsDueTo job.now self.old past →
-            IsRowFor job.now self.new past cells.new.items) }
+        ensures row { IfOk result (λ _. (past : List Timed) → IsDueTo inputs.now self.old past →
+            IsRowFor inputs.now self.new past cells.new.items) }
     {
-        if job.homed {
+        if inputs.homed {
             place(
                 &self.queue,
                 &self.until,
                 self.time,
-                job.weights,
+                inputs.weights,
                 &mut self.homes,
                 cells,
             )?;
@@ -139,10 +144,10 @@ impl<'a> Simulation<'a> {
     }
 
     /// Starts the firings of the row `cells`, which leave the queue.
-    fn start(&mut self, job: &HuInputs, cells: &[Option<Firing>])
-        requires job { IsJobFor self.old.counts.graph job.now }
-        requires row { (past : List Timed) × IsRowFor job.now self.old past cells.now }
-        requires queue { IsQueued job.now self.old }
+    fn start(&mut self, inputs: &HuInputs, cells: &[Option<Firing>])
+        requires inputs { AreInputsFor self.old.counts.graph inputs.now }
+        requires row { (past : List Timed) × IsRowFor inputs.now self.old past cells.now }
+        requires queue { IsQueued inputs.now self.old }
         ensures others { self.new ≡ record self.old {
           started = self.new.started;
           whose = self.new.whose;
@@ -150,43 +155,43 @@ impl<'a> Simulation<'a> {
           queue = self.new.queue;
         } }
         ensures columns { length self.new.until ≡ length self.old.until }
-        ensures started { AreStarted (slice_index job.now.costs.now) self.old.time (length cells.now) cells.now
+        ensures started { AreStarted (slice_index inputs.now.costs.now) self.old.time (length cells.now) cells.now
             (slice_index self.old.started) (slice_index self.old.whose) (slice_index self.old.until)
             (slice_index self.new.started) (slice_index self.new.whose) (slice_index self.new.until) }
-        ensures queue { IsQueued job.now self.new }
+        ensures queue { IsQueued inputs.now self.new }
     {
         start(
             cells,
             self.time,
-            job.costs,
+            inputs.costs,
             &mut self.started,
             &mut self.whose,
             &mut self.until,
         );
-        leave(&mut self.queue, &self.started);
+        remove_started(&mut self.queue, &self.started);
     }
 
     /// Makes the row of the current time in `cells`, and appends it to `rows` if it has a firing.
     fn add_row(
         &mut self,
-        job: &HuInputs,
+        inputs: &HuInputs,
         rows: &mut Rows,
         cells: &mut Vec<Option<Firing>>,
     ) -> Result<(), AllocError>
-        requires job { IsJobFor self.old.counts.graph job.now }
+        requires inputs { AreInputsFor self.old.counts.graph inputs.now }
         requires wide { rows.old.width ≡ length self.old.until }
-        requires due { IsDueAfter job.now self.old rows.old.rows }
-        requires queue { IsQueuedBut job.now self.old }
+        requires due { IsDueAfter inputs.now self.old rows.old.rows }
+        requires queue { IsQueuedBut inputs.now self.old }
         ensures counts { self.new.counts ≡ self.old.counts }
         ensures columns { length self.new.until ≡ length self.old.until }
         ensures wide { rows.new.width ≡ rows.old.width }
-        ensures done { IfOk result (λ _. IsDoneAfter job.now self.new rows.new.rows) }
-        ensures queue { IfOk result (λ _. IsQueued job.now self.new) }
+        ensures done { IfOk result (λ _. IsDoneAfter inputs.now self.new rows.new.rows) }
+        ensures queue { IfOk result (λ _. IsQueued inputs.now self.new) }
     {
-        self.renew_queue(job)?;
-        self.next_cells(job, cells)?;
+        self.renew_queue(inputs)?;
+        self.next_cells(inputs, cells)?;
         if has_firing(cells) {
-            self.start(job, cells);
+            self.start(inputs, cells);
             rows.push(cells)?;
         }
         Ok(())
@@ -194,35 +199,35 @@ impl<'a> Simulation<'a> {
 
     /// Returns the earliest later time at which a column's firing ends.
     fn next_end(&self) -> Option<u64>
-        ensures crew { IsCrew self.now }
+        ensures state { IsSimulation self.now }
         ensures next { IsNextEnd self.now.until self.now.time (length self.now.until) result }
     {
         next_end(&self.until, self.time)
     }
 
     /// Goes on to time `next`, the next time at which a column's firing ends, and adds its row.
-    fn turn(
+    fn advance(
         &mut self,
         graph: &Graph,
-        job: &HuInputs,
+        inputs: &HuInputs,
         next: u64,
         rows: &mut Rows,
         cells: &mut Vec<Option<Firing>>,
     ) -> Result<(), AllocError>
         requires graph { self.old.counts.graph ≡ graph.now }
-        requires job { IsJobFor self.old.counts.graph job.now }
+        requires inputs { AreInputsFor self.old.counts.graph inputs.now }
         requires next { IsNextEnd self.old.until self.old.time (length self.old.until) (Some next) }
         requires wide { rows.old.width ≡ length self.old.until }
-        requires done { IsDoneAfter job.now self.old rows.old.rows }
-        requires queue { IsQueued job.now self.old }
+        requires done { IsDoneAfter inputs.now self.old rows.old.rows }
+        requires queue { IsQueued inputs.now self.old }
         ensures graph { self.new.counts.graph ≡ self.old.counts.graph }
         ensures columns { length self.new.until ≡ length self.old.until }
         ensures wide { rows.new.width ≡ rows.old.width }
         ensures more { IfOk result (λ _. sum self.old.counts.fired < sum self.new.counts.fired) }
-        ensures done { IfOk result (λ _. IsDoneAfter job.now self.new rows.new.rows) }
-        ensures queue { IfOk result (λ _. IsQueued job.now self.new) }
+        ensures done { IfOk result (λ _. IsDoneAfter inputs.now self.new rows.new.rows) }
+        ensures queue { IfOk result (λ _. IsQueued inputs.now self.new) }
     {
-        end_by(
+        end_firings(
             next,
             graph,
             &self.whose,
@@ -231,7 +236,7 @@ impl<'a> Simulation<'a> {
             &mut self.marks,
         )?;
         self.time = next;
-        self.add_row(job, rows, cells)
+        self.add_row(inputs, rows, cells)
     }
 }
 
@@ -239,22 +244,22 @@ impl<'a> Simulation<'a> {
 pub(crate) fn timed_rows(
     alloc: Global,
     graph: &Graph,
-    job: &HuInputs,
+    inputs: &HuInputs,
     width: usize,
 ) -> Result<Rows, AllocError>
-    requires job { IsJobFor graph.now job.now }
+    requires inputs { AreInputsFor graph.now inputs.now }
     requires width { 0 < width }
-    requires pass { (w : List ℕ) × IsPass (rates graph.now) (slice_index job.now.firings.now) w }
-    ensures rows { IfOk result (λ rows. AreHuRows (rates graph.now) (slice_index job.now.firings.now)
-        (slice_index job.now.costs.now) (number job.now.levels.now) width job.now.homed rows.rows) }
-    ensures valid { IfOk result (λ rows. IsValid (rates graph.now) (slice_index job.now.firings.now) rows.rows) }
+    requires pass { (w : List ℕ) × IsPass (rates graph.now) (slice_index inputs.now.firings.now) w }
+    ensures rows { IfOk result (λ rows. AreHuRows (rates graph.now) (slice_index inputs.now.firings.now)
+        (slice_index inputs.now.costs.now) (number inputs.now.levels.now) width inputs.now.homed rows.rows) }
+    ensures valid { IfOk result (λ rows. IsValid (rates graph.now) (slice_index inputs.now.firings.now) rows.rows) }
 {
-    let mut crew = Simulation::new(alloc, graph, width)?;
+    let mut state = Simulation::new(alloc, graph, width)?;
     let mut rows = Rows::new(alloc, width);
     let mut cells = Vec::new(alloc);
-    crew.add_row(job, &mut rows, &mut cells)?;
-    while let Some(next) = crew.next_end() {
-        crew.turn(graph, job, next, &mut rows, &mut cells)?;
+    state.add_row(inputs, &mut rows, &mut cells)?;
+    while let Some(next) = state.next_end() {
+        state.advance(graph, inputs, next, &mut rows, &mut cells)?;
     }
     Ok(rows)
 }

@@ -3,7 +3,7 @@
 ghost use Rattle.std.specs.Prelude.{◌≡◌, ℕ, ◌+◌, ◌<◌, ◌↔◌, length, map, slice_index_or, slice_set, IfOk, Some, None};
 ghost use Rattle.sdf_prec.specs.declared.firing.Firing.{Firing};
 ghost use Rattle.sdf_prec.specs.Tables.{firings, row, Stands, IsHome};
-ghost use Rattle.sdf_prec.specs.Homes.{AreStanding, also, home_of, standing_of};
+ghost use Rattle.sdf_prec.specs.Homes.{AreHomeColumns, with_column, home_of, home_columns_of};
 
 use crate::firing::Firing;
 use crate::table::rows::Rows;
@@ -19,8 +19,8 @@ pub(crate) enum HomeColumns {
 
 impl HomeColumns {
     /// Returns the columns with `column` added.
-    fn also(self, column: usize) -> HomeColumns
-        ensures { result ≡ also self column }
+    fn with_column(self, column: usize) -> HomeColumns
+        ensures { result ≡ with_column self column }
     {
         match self {
             HomeColumns::Nowhere => HomeColumns::In(column),
@@ -47,33 +47,34 @@ impl HomeColumns {
 }
 
 /// Adds `column` to the columns of the actor of `firing`.
-fn see(standing: &mut [HomeColumns], firing: Firing, column: usize)
-    requires { firing.actor < length standing.old }
-    ensures { standing.new ≡ slice_set standing.old firing.actor (also (standing_of standing.old firing.actor) column) }
+fn add_column(home_columns: &mut [HomeColumns], firing: Firing, column: usize)
+    requires { firing.actor < length home_columns.old }
+    ensures { home_columns.new ≡ slice_set home_columns.old firing.actor
+        (with_column (home_columns_of home_columns.old firing.actor) column) }
 {
-    standing[firing.actor] = standing[firing.actor].also(column);
+    home_columns[firing.actor] = home_columns[firing.actor].with_column(column);
 }
 
 /// Adds the columns of the firings in row `i` to their actors' columns.
-fn see_row(rows: &Rows, i: usize, standing: &mut [HomeColumns])
+fn add_row_columns(rows: &Rows, i: usize, home_columns: &mut [HomeColumns])
     requires within { i < length rows.now.rows }
-    requires known { (f : Firing) → Stands (firings (row rows.now.rows i)) f → f.actor < length standing.old }
-    requires before { AreStanding rows.now.rows i 0 standing.old }
-    ensures { AreStanding rows.now.rows (i + 1) 0 standing.new }
+    requires known { (f : Firing) → Stands (firings (row rows.now.rows i)) f → f.actor < length home_columns.old }
+    requires before { AreHomeColumns rows.now.rows i 0 home_columns.old }
+    ensures { AreHomeColumns rows.now.rows (i + 1) 0 home_columns.new }
 {
     for (column, cell) in rows.row(i).iter().enumerate() {
         if let Some(firing) = cell {
-            see(standing, *firing, column);
+            add_column(home_columns, *firing, column);
         }
     }
 }
 
 /// Returns for each actor its column, if it has exactly one.
-fn homes_of(alloc: Global, standing: &[HomeColumns]) -> Result<Vec<Option<usize>>, AllocError>
-    ensures { IfOk result (λ v. v.items ≡ map home_of standing.now) }
+fn homes_of(alloc: Global, home_columns: &[HomeColumns]) -> Result<Vec<Option<usize>>, AllocError>
+    ensures { IfOk result (λ v. v.items ≡ map home_of home_columns.now) }
 {
     let mut homes = Vec::new(alloc);
-    for one in standing {
+    for one in home_columns {
         homes.push(one.home())?;
     }
     Ok(homes)
@@ -91,9 +92,9 @@ pub(crate) fn homes(
     ensures each { IfOk result (λ v. (a j : ℕ) → a < actors →
         (slice_index_or v.items a None ≡ Some j) ↔ IsHome rows.now.rows a j) }
 {
-    let mut standing = vec![in alloc; HomeColumns::Nowhere; actors]?;
+    let mut home_columns = vec![in alloc; HomeColumns::Nowhere; actors]?;
     for i in 0..rows.len() {
-        see_row(rows, i, &mut standing);
+        add_row_columns(rows, i, &mut home_columns);
     }
-    homes_of(alloc, &standing)
+    homes_of(alloc, &home_columns)
 }

@@ -3,7 +3,7 @@
 ghost use Rattle.std.specs.Prelude.{◌≡◌, ℕ, ◌<◌, ◌↔◌, length, map, IfOk, IsTrue};
 ghost use Rattle.sdf_prec.specs.Tables.{firings};
 ghost use Rattle.sdf_prec.specs.Refusals.{AreNarrow};
-ghost use Rattle.sdf_prec.specs.Tidied.{tidied};
+ghost use Rattle.sdf_prec.specs.Tidied.{tidy_rows};
 
 use crate::firing::Firing;
 use crate::table::rows::Rows;
@@ -23,13 +23,13 @@ pub(crate) fn has_firing(row: &[Option<Firing>]) -> bool
 }
 
 /// Returns the rows with a firing, filled up to `width` cells.
-pub(crate) fn tidied(
+pub(crate) fn tidy_rows(
     alloc: Global,
     width: usize,
     rows: &[Vec<Option<Firing>>],
 ) -> Result<Rows, AllocError>
     requires { AreNarrow width (map (λ r. r.items) rows.now) (length rows.now) }
-    ensures { IfOk result (λ t. t.rows ≡ tidied width (map (λ r. r.items) rows.now)) }
+    ensures { IfOk result (λ t. t.rows ≡ tidy_rows width (map (λ r. r.items) rows.now)) }
 {
     let mut kept = Rows::new(alloc, width);
     let mut full = Vec::new(alloc);

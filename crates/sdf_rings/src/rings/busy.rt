@@ -30,7 +30,7 @@ fn some_busy<T: Busy>(s: &[T]) -> bool
 }
 
 /// Calls `f` with `i` and one element.
-fn at_one<T, F: Fn(usize, &mut T)>(f: &F, i: usize, it: &mut T)
+fn call_at<T, F: Fn(usize, &mut T)>(f: &F, i: usize, it: &mut T)
     requires { AcceptsAt F.Fn f.now i it.old }
     ensures { ChangesAt F.Fn f.now i it.old it.new }
 {
@@ -38,12 +38,12 @@ fn at_one<T, F: Fn(usize, &mut T)>(f: &F, i: usize, it: &mut T)
 }
 
 /// Calls `f` at each element, one after another. The first is number `base`.
-fn in_turn<T, F: Fn(usize, &mut T)>(f: &F, base: usize, s: &mut [T])
+fn call_each<T, F: Fn(usize, &mut T)>(f: &F, base: usize, s: &mut [T])
     requires { HoldsFrom (AcceptsAt F.Fn f.now) base s.old }
     ensures { BecameFrom (ChangesAt F.Fn f.now) base s.old s.new }
 {
     for k in 0..s.len() {
-        at_one(f, base + k, &mut s[k]);
+        call_at(f, base + k, &mut s[k]);
     }
 }
 
@@ -62,13 +62,13 @@ pub fn for_each_busy<R: Threads + Sync, T: Send + Busy, F: Fn(usize, &mut T) + S
     ensures { BecameFrom (ChangesAt F.Fn f.now) base s.old s.new }
 {
     if s.len() < 2 {
-        in_turn(f, base, s);
+        call_each(f, base, s);
         return;
     }
     let mid = s.len() / 2;
     let (front, back) = s.split_at_mut(mid);
     if some_busy(front) && some_busy(back) {
-        both_halves(rt, f, base, front, base + mid, back);
+        join_halves(rt, f, base, front, base + mid, back);
     } else {
         for_each_busy(rt, f, base, front);
         for_each_busy(rt, f, base + mid, back);
@@ -78,7 +78,7 @@ pub fn for_each_busy<R: Threads + Sync, T: Send + Busy, F: Fn(usize, &mut T) + S
 /// Calls `f` at each element of `front` and of `back`, both slices at once. Their first elements are numbers `base` and
 /// `up`.
 #[cycle(halves)]
-fn both_halves<R: Threads + Sync, T: Send + Busy, F: Fn(usize, &mut T) + Sync>(
+fn join_halves<R: Threads + Sync, T: Send + Busy, F: Fn(usize, &mut T) + Sync>(
     rt: &R,
     f: &F,
     base: usize,

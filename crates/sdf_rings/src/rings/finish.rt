@@ -5,28 +5,29 @@ ghost use Rattle.sdf_actor.specs.declared.node.Node.TheVariants as kind;
 ghost use Rattle.sdf_actor.specs.declared.sides.Lists.TheVariants.{Outputs};
 ghost use Rattle.sdf_actor.specs.Sides.{list_count};
 ghost use Rattle.sdf_node.specs.Collected.{IsCollected};
-ghost use Rattle.sdf_rings.specs.Places.{HasStand, HoldsOfStand, OnlyStand};
+ghost use Rattle.sdf_rings.specs.Places.{HasRingNode, HoldsOfRingNode, OnlyRingNode};
 ghost use Rattle.sdf_rings.specs.Rests.{IsPlaced, AreGiven};
 
 use crate::seat::Seat;
 use sdf_actor::{Actor, Net, Node};
 use sdf_node::collect_at;
 
-/// Moves the list of `node` from its stand to its number in `outputs`, if the node is a sink.
+/// Moves the list of `node` from its ring node to its number in `outputs`, if the node is a sink.
 fn collect_from<A: Actor>(
     node: &Node<A>,
     seats: &mut [Seat<A>],
     seat: usize,
-    stand: usize,
+    ring_node: usize,
     outputs: &mut [Vec<A::Token>],
 )
     requires seat { seat < length seats.old }
-    requires stand { HasStand seats.old seat stand }
+    requires ring_node { HasRingNode seats.old seat ring_node }
     requires list { (ext block : ℕ) → node.now ≡ kind.Sink ext block → ext < length outputs.old }
-    ensures list { HoldsOfStand (λ x. IsCollected node.now x.state outputs.old outputs.new) seats.old seat stand }
-    ensures seats { OnlyStand seats.old seats.new seat stand }
+    ensures list { HoldsOfRingNode (λ x. IsCollected node.now x.state outputs.old outputs.new) seats.old
+        seat ring_node }
+    ensures seats { OnlyRingNode seats.old seats.new seat ring_node }
 {
-    collect_at(node, &mut seats[seat].stands[stand].state, outputs);
+    collect_at(node, &mut seats[seat].ring_nodes[ring_node].state, outputs);
 }
 
 /// Moves the list of each sink to its number in `outputs`. It takes no memory.

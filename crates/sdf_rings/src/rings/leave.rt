@@ -3,8 +3,8 @@
 ghost use Rattle.std.specs.Prelude.{◌≡◌, List, length, IfOk, OnOk};
 ghost use Rattle.rtrb.specs.Ring.{known_items};
 ghost use Rattle.sdf_actor.specs.Wires.{lists};
-ghost use Rattle.sdf_rings.specs.Places.{TakesAt, HoldsOfConsumer, SameButEnds, IsEmptied};
-ghost use Rattle.sdf_rings.specs.Rests.{IsPlaced, AreRings, HoldStates, HoldItems, HoldRest};
+ghost use Rattle.sdf_rings.specs.Places.{TakesAt, HoldsOfConsumer, SameButEnds, IsDrained};
+ghost use Rattle.sdf_rings.specs.Rests.{IsPlaced, AreRings, HoldStates, HoldItems, HoldNetState};
 
 use crate::rings::meet::{RingEnd, end_at, swap_ins};
 use crate::seat::Seat;
@@ -28,14 +28,14 @@ fn states_of<A: Actor>(
     let mut states = Vec::with_capacity(alloc, net.len())?;
     for a in 0..net.len() {
         let place = places[a];
-        let stand = &seats[place.0].stands[place.1];
-        states.push(kept(alloc, net.node(a), &stand.state)?)?;
+        let ring_node = &seats[place.0].ring_nodes[place.1];
+        states.push(kept(alloc, net.node(a), &ring_node.state)?)?;
     }
     Ok(states)
 }
 
 /// Takes all items that `end` is known to hold.
-fn empty<T: Copy>(alloc: Global, end: &mut Consumer<T, Global>) -> Result<Vec<T>, AllocError>
+fn drain<T: Copy>(alloc: Global, end: &mut Consumer<T, Global>) -> Result<Vec<T>, AllocError>
     ensures { IfOk result (λ v. v.items ≡ known_items end.old) }
 {
     let mut items = Vec::with_capacity(alloc, end.cached_slots())?;
@@ -46,24 +46,24 @@ fn empty<T: Copy>(alloc: Global, end: &mut Consumer<T, Global>) -> Result<Vec<T>
 }
 
 /// Takes all items that the consumer at `at` is known to hold.
-fn empty_at<A: Actor>(
+fn drain_at<A: Actor>(
     alloc: Global,
     seats: &mut [Seat<A>],
     at: RingEnd,
 ) -> Result<Vec<A::Token>, AllocError>
     requires there { TakesAt seats.old at }
     ensures items { IfOk result (λ v. HoldsOfConsumer (λ x. v.items ≡ known_items x) seats.old at) }
-    ensures kept { OnOk result (IsEmptied seats.old seats.new at) }
+    ensures kept { OnOk result (IsDrained seats.old seats.new at) }
 {
     let mut ins = Vec::new(alloc);
-    swap_ins(seats, at.seat, at.stand, &mut ins);
-    let items = empty(alloc, &mut ins[at.port])?;
-    swap_ins(seats, at.seat, at.stand, &mut ins);
+    swap_ins(seats, at.seat, at.ring_node, &mut ins);
+    let items = drain(alloc, &mut ins[at.port])?;
+    swap_ins(seats, at.seat, at.ring_node, &mut ins);
     Ok(items)
 }
 
 /// Takes the samples that each channel is known to hold.
-fn empty_all<A: Actor>(
+fn drain_all<A: Actor>(
     alloc: Global,
     net: &Net<A>,
     seats: &mut [Seat<A>],
@@ -78,7 +78,7 @@ fn empty_all<A: Actor>(
     let mut held = Vec::with_capacity(alloc, net.channels())?;
     for c in 0..net.channels() {
         let at = end_at(places, net.link(c).to);
-        held.push(empty_at(alloc, seats, at)?)?;
+        held.push(drain_at(alloc, seats, at)?)?;
     }
     Ok(held)
 }
@@ -93,11 +93,11 @@ pub(crate) fn leave<A: Actor>(
 ) -> Result<NetState<A::Token, A::State>, AllocError>
     requires rings { (inputs : List (List A.Token))
         × AreRings A.steps (record { net = net.now; inputs = inputs; seats = seats.old; places = places.now }) }
-    ensures rest { IfOk result (λ rest. HoldRest net.now seats.old places.now rest) }
+    ensures rest { IfOk result (λ rest. HoldNetState net.now seats.old places.now rest) }
     ensures kept { OnOk result (SameButEnds seats.old seats.new) }
 {
     Ok(NetState {
         states: states_of(alloc, net, seats, places)?,
-        held: empty_all(alloc, net, seats, places)?,
+        held: drain_all(alloc, net, seats, places)?,
     })
 }

@@ -4,11 +4,11 @@ ghost use Rattle.std.specs.Prelude.{◌≡◌, ◌<◌, length};
 ghost use Rattle.rtrb.specs.Ring.{known_items, IsPair, ConsumerLooked, ProducerLooked};
 ghost use Rattle.sdf_rings.specs.Ends.{IsMet};
 ghost use Rattle.sdf_rings.specs.Changes.{AllBecame};
-ghost use Rattle.sdf_rings.specs.Places.{HasStand, HoldsOfStand, HoldsOfProducer, OnlyIns, OnlyProducer, PutsAt};
-ghost use Rattle.sdf_rings.specs.Places.{ProducerLookedAt, IsRing, IsTold};
+ghost use Rattle.sdf_rings.specs.Places.{HasRingNode, HoldsOfRingNode, HoldsOfProducer, OnlyIns, OnlyProducer, PutsAt};
+ghost use Rattle.sdf_rings.specs.Places.{ProducerLookedAt, IsRing, HasSynced};
 ghost use Rattle.sdf_actor.specs.Wires.{lists};
 ghost use Rattle.sdf_rings.specs.Seats.{HasIdled};
-ghost use Rattle.sdf_rings.specs.Rests.{spot_of, AreRings, HaveMet};
+ghost use Rattle.sdf_rings.specs.Rests.{ring_end_of, AreRings, HaveMet};
 
 use crate::seat::Seat;
 use rtrb::{Consumer, Producer};
@@ -20,12 +20,12 @@ use std::mem;
 #[derive(Clone, Copy)]
 pub struct RingEnd {
     pub seat: usize,
-    pub stand: usize,
+    pub ring_node: usize,
     pub port: usize,
 }
 
 /// Synchronizes both ends of a ring, and returns how many items it holds.
-pub(crate) fn tell<T>(
+pub(crate) fn sync_ring<T>(
     consumer: &mut Consumer<T, Global>,
     producer: &mut Producer<T, Global>,
 ) -> usize
@@ -39,23 +39,23 @@ pub(crate) fn tell<T>(
     consumer.slots_beside(producer)
 }
 
-/// Swaps the consumers of a stand with `ins`.
+/// Swaps the consumers of a ring node with `ins`.
 pub(crate) fn swap_ins<A: Actor>(
     seats: &mut [Seat<A>],
     seat: usize,
-    stand: usize,
+    ring_node: usize,
     ins: &mut Vec<Consumer<A::Token, Global>>,
 )
     requires seat { seat < length seats.old }
-    requires stand { HasStand seats.old seat stand }
-    ensures ins { HoldsOfStand (λ x. ins.new ≡ x.ins) seats.old seat stand }
-    ensures seats { OnlyIns seats.old seats.new seat stand ins.old }
+    requires ring_node { HasRingNode seats.old seat ring_node }
+    ensures ins { HoldsOfRingNode (λ x. ins.new ≡ x.ins) seats.old seat ring_node }
+    ensures seats { OnlyIns seats.old seats.new seat ring_node ins.old }
 {
-    mem::swap(&mut seats[seat].stands[stand].ins, ins);
+    mem::swap(&mut seats[seat].ring_nodes[ring_node].ins, ins);
 }
 
 /// Synchronizes `consumer` with the producer at `at`.
-fn tell_producer<A: Actor>(
+fn sync_producer<A: Actor>(
     seats: &mut [Seat<A>],
     at: RingEnd,
     consumer: &mut Consumer<A::Token, Global>,
@@ -67,35 +67,38 @@ fn tell_producer<A: Actor>(
     ensures met { HoldsOfProducer (λ y. IsMet y consumer.new) seats.new at }
     ensures seats { OnlyProducer seats.old seats.new at }
 {
-    tell(consumer, &mut seats[at.seat].stands[at.stand].outs[at.port]);
+    sync_ring(
+        consumer,
+        &mut seats[at.seat].ring_nodes[at.ring_node].outs[at.port],
+    );
 }
 
 /// Synchronizes the ring from the producer at `from` to the consumer at `to`.
-fn tell_at<A: Actor>(alloc: Global, seats: &mut [Seat<A>], from: RingEnd, to: RingEnd)
+fn sync_at<A: Actor>(alloc: Global, seats: &mut [Seat<A>], from: RingEnd, to: RingEnd)
     requires ring { IsRing seats.old from to }
-    ensures { IsTold seats.old seats.new from to }
+    ensures { HasSynced seats.old seats.new from to }
 {
     let mut ins = Vec::new(alloc);
-    swap_ins(seats, to.seat, to.stand, &mut ins);
-    tell_producer(seats, from, &mut ins[to.port]);
-    swap_ins(seats, to.seat, to.stand, &mut ins);
+    swap_ins(seats, to.seat, to.ring_node, &mut ins);
+    sync_producer(seats, from, &mut ins[to.port]);
+    swap_ins(seats, to.seat, to.ring_node, &mut ins);
 }
 
 /// Returns the place of the ring end at `end`, a node and its port. `places` has the seat and index of each node.
 pub(crate) fn end_at(places: &[(usize, usize)], end: (usize, usize)) -> RingEnd
     requires { end.0 < length places.now }
-    ensures { result ≡ spot_of places.now end }
+    ensures { result ≡ ring_end_of places.now end }
 {
     let place = places[end.0];
     RingEnd {
         seat: place.0,
-        stand: place.1,
+        ring_node: place.1,
         port: end.1,
     }
 }
 
 /// Synchronizes both ends of every ring. It takes no memory.
-pub(crate) fn meet_all<A: Actor>(
+pub(crate) fn sync_all<A: Actor>(
     alloc: Global,
     net: &Net<A>,
     inputs: &[Vec<A::Token>],
@@ -121,6 +124,6 @@ pub(crate) fn meet_all<A: Actor>(
         let link = net.link(c);
         let from = end_at(places, link.from);
         let to = end_at(places, link.to);
-        tell_at(alloc, seats, from, to);
+        sync_at(alloc, seats, from, to);
     }
 }

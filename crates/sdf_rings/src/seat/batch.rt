@@ -5,17 +5,17 @@ ghost use Rattle.sdf_actor.specs.Nets.{answer_of, wire, IsNet};
 ghost use Rattle.sdf_actor.specs.Wires.{lists};
 ghost use Rattle.sdf_node.specs.Nodes.{takes_of, puts_of, IsAt};
 ghost use Rattle.sdf_node.specs.Many.{nth_block, listed, AreFullBlocks, CanStepMany};
-ghost use Rattle.sdf_rings.specs.Stands.{IsStand, HasMoved};
-ghost use Rattle.sdf_rings.specs.Together.{GoesInRuns, CanRun};
+ghost use Rattle.sdf_rings.specs.RingNodes.{IsRingNode, HasMoved};
+ghost use Rattle.sdf_rings.specs.Batches.{CanBatch, CanRun};
 
-use crate::seat::run_ends::{RunBlocks, blocks_free, blocks_held};
 use crate::seat::ring_node::{RingNode, row};
+use crate::seat::run_ends::{BatchBlocks, blocks_free, blocks_held};
 use sdf_actor::{Actor, Net, Node};
-use sdf_queues::many_blocks::whole_blocks;
 use sdf_node::{ActorId, Gate, NodeState, puts, step_many, takes};
+use sdf_queues::many_blocks::whole_blocks;
 
 /// Checks whether node `actor` has no channel to itself.
-fn is_apart<A: Actor>(net: &Net<A>, actor: ActorId) -> bool
+fn has_no_self_loop<A: Actor>(net: &Net<A>, actor: ActorId) -> bool
     requires net { IsNet A.steps net.now }
     requires known { actor < length net.now.nodes }
     ensures { IsTrue result → (c : ℕ) → c < length net.now.wires → (wire net.now c).from.0 ≡ actor →
@@ -31,12 +31,12 @@ fn is_apart<A: Actor>(net: &Net<A>, actor: ActorId) -> bool
 }
 
 /// Checks whether the firings of `actor` can be batched: it has one phase and no channel to itself.
-fn goes_in_runs<A: Actor>(net: &Net<A>, actor: ActorId) -> bool
+fn can_batch<A: Actor>(net: &Net<A>, actor: ActorId) -> bool
     requires net { IsNet A.steps net.now }
     requires known { actor < length net.now.nodes }
-    ensures { IsTrue result → GoesInRuns A.steps net.now actor }
+    ensures { IsTrue result → CanBatch A.steps net.now actor }
 {
-    net.node(actor).cycle() == 1 && is_apart(net, actor)
+    net.node(actor).cycle() == 1 && has_no_self_loop(net, actor)
 }
 
 /// Passes `gate` before each of `many` firings, in order. The first has number `done`.
@@ -54,7 +54,7 @@ fn step_front_many<A: Actor>(
     inputs: &[Vec<A::Token>],
     state: &mut NodeState<A::Token, A::State>,
     taken: &[A::Token],
-    outs: &RunBlocks<'_>,
+    outs: &BatchBlocks<'_>,
     put: &mut [A::Token],
 )
     requires can { CanStepMany A.steps (lists inputs.now) node.now state.old outs.now.many (length taken.now)
@@ -77,109 +77,110 @@ fn step_front_many<A: Actor>(
 }
 
 /// Takes the blocks of `many` firings, fires, and puts their blocks. The caller has to count the firings.
-fn fire_run_blocks<A: Actor>(
+fn fire_batch_blocks<A: Actor>(
     net: &Net<A>,
     inputs: &[Vec<A::Token>],
-    stand: &mut RingNode<A>,
+    ring_node: &mut RingNode<A>,
     many: usize,
 )
     requires net { IsNet A.steps net.now }
-    requires stand { IsStand A.steps net.now (lists inputs.now) stand.old }
-    requires can { CanRun A.steps net.now stand.old many }
-    ensures fired { IsStand A.steps net.now (lists inputs.now) (record stand.new { done = stand.old.done + many })
-        × HasMoved A.steps net.now stand.old (record stand.new { done = stand.old.done + many }) }
-    ensures done { stand.new.done ≡ stand.old.done }
-    ensures asked { stand.new.asked ≡ stand.old.asked }
+    requires ring_node { IsRingNode A.steps net.now (lists inputs.now) ring_node.old }
+    requires can { CanRun A.steps net.now ring_node.old many }
+    ensures fired { IsRingNode A.steps net.now (lists inputs.now)
+        (record ring_node.new { done = ring_node.old.done + many })
+        × HasMoved A.steps net.now ring_node.old (record ring_node.new { done = ring_node.old.done + many }) }
+    ensures done { ring_node.new.done ≡ ring_node.old.done }
+    ensures asked { ring_node.new.asked ≡ ring_node.old.asked }
 {
-    let node = net.node(stand.actor);
-    let ins = RunBlocks {
-        sizes: row(&stand.takes, 0),
+    let node = net.node(ring_node.actor);
+    let ins = BatchBlocks {
+        sizes: row(&ring_node.takes, 0),
         size: takes(node, 0),
         many,
     };
-    let outs = RunBlocks {
-        sizes: row(&stand.puts, 0),
+    let outs = BatchBlocks {
+        sizes: row(&ring_node.puts, 0),
         size: puts(node, 0),
         many,
     };
     ins.take_front(
-        stand.ins.as_mut_slice(),
-        stand.taken.as_mut_slice(),
-        stand.put.as_mut_slice(),
+        ring_node.ins.as_mut_slice(),
+        ring_node.taken.as_mut_slice(),
+        ring_node.put.as_mut_slice(),
     );
     step_front_many(
         node,
         inputs,
-        &mut stand.state,
-        &stand.taken[..ins.size * many],
+        &mut ring_node.state,
+        &ring_node.taken[..ins.size * many],
         &outs,
-        stand.put.as_mut_slice(),
+        ring_node.put.as_mut_slice(),
     );
     outs.put(
-        stand.outs.as_mut_slice(),
-        &stand.put[..outs.size * many],
-        stand.taken.as_mut_slice(),
+        ring_node.outs.as_mut_slice(),
+        &ring_node.put[..outs.size * many],
+        ring_node.taken.as_mut_slice(),
     );
 }
 
-/// Returns how many firings of `stand` in a row are known to be possible, at most `most`. Its node must have one phase
-/// and no channel to itself.
-fn possible<A: Actor>(
+/// Returns how many firings of `ring_node` in a row are known to be possible, at most `most`. Its node must have one
+/// phase and no channel to itself.
+fn ready_firings<A: Actor>(
     net: &Net<A>,
     inputs: &[Vec<A::Token>],
-    stand: &RingNode<A>,
+    ring_node: &RingNode<A>,
     most: usize,
 ) -> usize
     requires net { IsNet A.steps net.now }
-    requires stand { IsStand A.steps net.now (lists inputs.now) stand.now }
-    requires goes { GoesInRuns A.steps net.now stand.now.actor }
-    requires left { stand.now.done + most ≤ stand.now.asked }
+    requires ring_node { IsRingNode A.steps net.now (lists inputs.now) ring_node.now }
+    requires goes { CanBatch A.steps net.now ring_node.now.actor }
+    requires left { ring_node.now.done + most ≤ ring_node.now.asked }
     ensures within { result ≤ most }
-    ensures can { CanRun A.steps net.now stand.now result }
+    ensures can { CanRun A.steps net.now ring_node.now result }
 {
-    let node = net.node(stand.actor);
-    let mut many = whole_blocks(stand.taken.len(), takes(node, 0), most);
-    many = whole_blocks(stand.put.len(), puts(node, 0), many);
-    many = blocks_held(row(&stand.takes, 0), stand.ins.as_slice(), many);
-    blocks_free(row(&stand.puts, 0), stand.outs.as_slice(), many)
+    let node = net.node(ring_node.actor);
+    let mut many = whole_blocks(ring_node.taken.len(), takes(node, 0), most);
+    many = whole_blocks(ring_node.put.len(), puts(node, 0), many);
+    many = blocks_held(row(&ring_node.takes, 0), ring_node.ins.as_slice(), many);
+    blocks_free(row(&ring_node.puts, 0), ring_node.outs.as_slice(), many)
 }
 
-/// Fires `stand` `many` times in one batch. Before that it passes `gate` once for each firing.
-pub(crate) fn fire_run<A: Actor, G: Gate>(
+/// Fires `ring_node` `many` times in one batch. Before that it passes `gate` once for each firing.
+pub(crate) fn fire_batch<A: Actor, G: Gate>(
     net: &Net<A>,
     inputs: &[Vec<A::Token>],
-    stand: &mut RingNode<A>,
+    ring_node: &mut RingNode<A>,
     processor: usize,
     many: usize,
     gate: &G,
 )
     requires net { IsNet A.steps net.now }
-    requires stand { IsStand A.steps net.now (lists inputs.now) stand.old }
-    requires can { CanRun A.steps net.now stand.old many }
-    ensures stand { IsStand A.steps net.now (lists inputs.now) stand.new }
-    ensures moved { HasMoved A.steps net.now stand.old stand.new }
-    ensures done { stand.new.done ≡ stand.old.done + many }
+    requires ring_node { IsRingNode A.steps net.now (lists inputs.now) ring_node.old }
+    requires can { CanRun A.steps net.now ring_node.old many }
+    ensures ring_node { IsRingNode A.steps net.now (lists inputs.now) ring_node.new }
+    ensures moved { HasMoved A.steps net.now ring_node.old ring_node.new }
+    ensures done { ring_node.new.done ≡ ring_node.old.done + many }
 {
-    pass_gate(gate, processor, stand.actor, stand.done, many);
-    fire_run_blocks(net, inputs, stand, many);
-    stand.done += many as u64;
+    pass_gate(gate, processor, ring_node.actor, ring_node.done, many);
+    fire_batch_blocks(net, inputs, ring_node, many);
+    ring_node.done += many as u64;
 }
 
-/// Returns how many firings of `stand` go in one batch, at most `most`: 0 if the node's firings cannot be batched.
-pub(crate) fn in_one_run<A: Actor>(
+/// Returns how many firings of `ring_node` go in one batch, at most `most`: 0 if the node's firings cannot be batched.
+pub(crate) fn batch_size<A: Actor>(
     net: &Net<A>,
     inputs: &[Vec<A::Token>],
-    stand: &RingNode<A>,
+    ring_node: &RingNode<A>,
     most: usize,
 ) -> usize
     requires net { IsNet A.steps net.now }
-    requires stand { IsStand A.steps net.now (lists inputs.now) stand.now }
-    requires left { stand.now.done + most ≤ stand.now.asked }
+    requires ring_node { IsRingNode A.steps net.now (lists inputs.now) ring_node.now }
+    requires left { ring_node.now.done + most ≤ ring_node.now.asked }
     ensures within { result ≤ most }
-    ensures can { 0 < result → CanRun A.steps net.now stand.now result }
+    ensures can { 0 < result → CanRun A.steps net.now ring_node.now result }
 {
-    if goes_in_runs(net, stand.actor) {
-        possible(net, inputs, stand, most)
+    if can_batch(net, ring_node.actor) {
+        ready_firings(net, inputs, ring_node, most)
     } else {
         0
     }

@@ -92,7 +92,7 @@ fn has_room<T>(end: &mut Producer<T, Global>, size: usize) -> bool
 }
 
 /// Checks whether each port is known to hold its block.
-pub(crate) fn hold_each<T>(sizes: &[usize], ends: &mut [Consumer<T, Global>]) -> bool
+pub(crate) fn each_holds<T>(sizes: &[usize], ends: &mut [Consumer<T, Global>]) -> bool
     requires { length ends.old ≡ length sizes.now }
     ensures looked { DrewEach ends.old ends.new (λ _. []) }
     ensures yes { IsTrue result → HoldsEach (slice_index sizes.now) ends.new }
@@ -107,7 +107,7 @@ pub(crate) fn hold_each<T>(sizes: &[usize], ends: &mut [Consumer<T, Global>]) ->
 }
 
 /// Checks whether each port is known to have room for its block.
-pub(crate) fn have_room_each<T>(sizes: &[usize], ends: &mut [Producer<T, Global>]) -> bool
+pub(crate) fn each_has_room<T>(sizes: &[usize], ends: &mut [Producer<T, Global>]) -> bool
     requires { length ends.old ≡ length sizes.now }
     ensures looked { GaveEach ends.old ends.new (λ _. []) }
     ensures yes { IsTrue result → HasRoomEach (slice_index sizes.now) ends.new }

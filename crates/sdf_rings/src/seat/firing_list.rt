@@ -6,8 +6,8 @@ ghost use Rattle.sdf_graph.specs.Sequences.{repeated};
 use std::alloc::AllocError;
 use std::marker::Model;
 
-/// A worker's firing list: the stands to fire, in order. It repeats the list of one block `blocks` times, but stores it
-/// once.
+/// A worker's firing list: the ring nodes to fire, in order. It repeats the list of one block `blocks` times, but
+/// stores it once.
 #[derive(Drop)]
 pub struct FiringList {
     block: Vec<usize>,
@@ -29,9 +29,9 @@ impl Model for FiringList {
 impl FiringList {
     /// Returns `blocks` repetitions of the list `block`. Fails with `AllocError` if their length does not fit into a
     /// `usize`.
-    #[tactic(auto, using(crate::proofs::Courses::long))]
+    #[tactic(auto, using(crate::proofs::ListLaws::long))]
     pub(crate) fn new(block: Vec<usize>, blocks: u32) -> Result<FiringList, AllocError>
-        ensures { IfOk result (λ course. course ≡ repeated blocks block.items) }
+        ensures { IfOk result (λ list. list ≡ repeated blocks block.items) }
     {
         match block.len().checked_mul(blocks as usize) {
             Some(len) => Ok(FiringList { block, blocks, len }),
@@ -46,18 +46,18 @@ impl FiringList {
         self.len
     }
 
-    /// Returns the stand of the firing at `place`.
-    #[tactic(auto, using(crate::proofs::Courses::some, crate::proofs::Courses::here))]
-    pub(crate) fn stand(&self, place: usize) -> usize
+    /// Returns the ring node of the firing at `place`.
+    #[tactic(auto, using(crate::proofs::ListLaws::some, crate::proofs::ListLaws::here))]
+    pub(crate) fn ring_node(&self, place: usize) -> usize
         requires { place < length self.now }
         ensures { result ≡ slice_index self.now place }
     {
         self.block[place % self.block.len()]
     }
 
-    /// Returns how many firings in a row, from `place` on, are of the stand there: within one block, and at most
+    /// Returns how many firings in a row, from `place` on, are of the ring node there: within one block, and at most
     /// `most`.
-    #[tactic(auto, using(crate::proofs::Courses::some, crate::proofs::Courses::row, crate::proofs::Courses::inside))]
+    #[tactic(auto, using(crate::proofs::ListLaws::some, crate::proofs::ListLaws::row, crate::proofs::ListLaws::inside))]
     pub(crate) fn in_a_row(&self, place: usize, most: usize) -> usize
         requires { place < length self.now }
         ensures within { result ≤ most }

@@ -1,20 +1,20 @@
-//! Channels from a node to itself. Each of them is a ring too, and the node's stand has both its ends. A firing must
+//! Channels from a node to itself. Each of them is a ring too, and the ring node has both its ends. A firing must
 //! know the room for what it puts before it takes. The ring is therefore larger than the channel's capacity, by the
 //! greatest block that is put there.
 
 ghost use Rattle.std.specs.Prelude.{◌≡◌, ◌<◌, [], length};
 ghost use Rattle.sdf_actor.specs.Nets.{IsNet, node, inputs_of, outputs_of};
 ghost use Rattle.sdf_rings.specs.Ends.{DrewEach, GaveEach};
-ghost use Rattle.sdf_rings.specs.Stands.{OwnArePairs, OwnBegin};
+ghost use Rattle.sdf_rings.specs.RingNodes.{OwnArePairs, OwnBegin};
 
-use crate::rings::meet::tell;
+use crate::rings::meet::sync_ring;
 use rtrb::{Consumer, Producer};
 use sdf_actor::{Actor, Net};
 use sdf_node::ActorId;
 use std::alloc::Global;
 
 /// Synchronizes both ends of each ring from node `actor` to itself. `ins` and `outs` are by port.
-pub(crate) fn tell_own<A: Actor>(
+pub(crate) fn sync_own<A: Actor>(
     net: &Net<A>,
     actor: ActorId,
     ins: &mut [Consumer<A::Token, Global>],
@@ -33,7 +33,7 @@ pub(crate) fn tell_own<A: Actor>(
     for i in 0..channels.len() {
         let link = net.link(channels[i]);
         if link.from.0 == actor {
-            tell(&mut ins[i], &mut outs[link.from.1]);
+            sync_ring(&mut ins[i], &mut outs[link.from.1]);
         }
     }
 }

@@ -8,10 +8,10 @@ ghost use Rattle.sdf_node.specs.Nodes.{CanStep, IsAt};
 ghost use Rattle.sdf_rings.specs.Blocks.{start_at, block_of};
 ghost use Rattle.sdf_rings.specs.Ends.{DrewEach, GaveEach, HoldsEach, HasRoomEach};
 ghost use Rattle.sdf_queues.specs.Sizes.{at_phase};
-ghost use Rattle.sdf_rings.specs.Stands.{OwnArePairs, OwnBegin, IsStand, CanFire, HasMoved};
+ghost use Rattle.sdf_rings.specs.RingNodes.{OwnArePairs, OwnBegin, IsRingNode, CanFire, HasMoved};
 
-use crate::seat::ends::{have_room_each, hold_each, put_each, take_each};
-use crate::seat::own_rings::tell_own;
+use crate::seat::ends::{each_has_room, each_holds, put_each, take_each};
+use crate::seat::own_rings::sync_own;
 use rtrb::{Consumer, Producer};
 use sdf_actor::{Actor, Net, Node};
 use sdf_node::{ActorId, NodeState, puts, step, takes};
@@ -85,7 +85,7 @@ fn step_front<A: Actor>(
 }
 
 /// Puts a block at each port, after the rings from the node to itself are synchronized.
-fn put_told<A: Actor>(
+fn sync_and_put<A: Actor>(
     net: &Net<A>,
     actor: ActorId,
     sizes: &[usize],
@@ -105,78 +105,83 @@ fn put_told<A: Actor>(
     ensures gave { GaveEach outs.old outs.new (λ i. block_of (slice_index sizes.now) i put.now) }
     ensures begin { OwnBegin net.now actor ins.new outs.old }
 {
-    tell_own(net, actor, ins, outs);
+    sync_own(net, actor, ins, outs);
     put_each(sizes, outs, put);
 }
 
 /// Takes all blocks, fires, and puts all blocks. The caller has to count the firing.
-fn fire_blocks<A: Actor>(net: &Net<A>, inputs: &[Vec<A::Token>], stand: &mut RingNode<A>)
+fn fire_blocks<A: Actor>(net: &Net<A>, inputs: &[Vec<A::Token>], ring_node: &mut RingNode<A>)
     requires net { IsNet A.steps net.now }
-    requires stand { IsStand A.steps net.now (lists inputs.now) stand.old }
-    requires can { CanFire A.steps net.now stand.old }
-    requires left { stand.old.done < stand.old.asked }
-    ensures fired { IsStand A.steps net.now (lists inputs.now) (record stand.new { done = stand.old.done + 1 })
-        × HasMoved A.steps net.now stand.old (record stand.new { done = stand.old.done + 1 }) }
-    ensures done { stand.new.done ≡ stand.old.done }
+    requires ring_node { IsRingNode A.steps net.now (lists inputs.now) ring_node.old }
+    requires can { CanFire A.steps net.now ring_node.old }
+    requires left { ring_node.old.done < ring_node.old.asked }
+    ensures fired { IsRingNode A.steps net.now (lists inputs.now)
+        (record ring_node.new { done = ring_node.old.done + 1 })
+        × HasMoved A.steps net.now ring_node.old (record ring_node.new { done = ring_node.old.done + 1 }) }
+    ensures done { ring_node.new.done ≡ ring_node.old.done }
 {
-    let node = net.node(stand.actor);
-    let phase = stand.state.phase();
+    let node = net.node(ring_node.actor);
+    let phase = ring_node.state.phase();
     let many = takes(node, phase);
     let more = puts(node, phase);
     take_front(
-        row(&stand.takes, phase),
-        stand.ins.as_mut_slice(),
-        stand.taken.as_mut_slice(),
+        row(&ring_node.takes, phase),
+        ring_node.ins.as_mut_slice(),
+        ring_node.taken.as_mut_slice(),
         many,
     );
     step_front(
         node,
         inputs,
-        &mut stand.state,
-        &stand.taken[..many],
-        stand.put.as_mut_slice(),
+        &mut ring_node.state,
+        &ring_node.taken[..many],
+        ring_node.put.as_mut_slice(),
         more,
     );
-    put_told(
+    sync_and_put(
         net,
-        stand.actor,
-        row(&stand.puts, phase),
-        stand.ins.as_mut_slice(),
-        stand.outs.as_mut_slice(),
-        &stand.put[..more],
+        ring_node.actor,
+        row(&ring_node.puts, phase),
+        ring_node.ins.as_mut_slice(),
+        ring_node.outs.as_mut_slice(),
+        &ring_node.put[..more],
     );
 }
 
-/// Does one firing of `stand` and counts it.
-pub(crate) fn fire_one<A: Actor>(net: &Net<A>, inputs: &[Vec<A::Token>], stand: &mut RingNode<A>)
+/// Does one firing of `ring_node` and counts it.
+pub(crate) fn fire_one<A: Actor>(
+    net: &Net<A>,
+    inputs: &[Vec<A::Token>],
+    ring_node: &mut RingNode<A>,
+)
     requires net { IsNet A.steps net.now }
-    requires stand { IsStand A.steps net.now (lists inputs.now) stand.old }
-    requires can { CanFire A.steps net.now stand.old }
-    requires left { stand.old.done < stand.old.asked }
-    ensures stand { IsStand A.steps net.now (lists inputs.now) stand.new }
-    ensures moved { HasMoved A.steps net.now stand.old stand.new }
-    ensures done { stand.new.done ≡ stand.old.done + 1 }
+    requires ring_node { IsRingNode A.steps net.now (lists inputs.now) ring_node.old }
+    requires can { CanFire A.steps net.now ring_node.old }
+    requires left { ring_node.old.done < ring_node.old.asked }
+    ensures ring_node { IsRingNode A.steps net.now (lists inputs.now) ring_node.new }
+    ensures moved { HasMoved A.steps net.now ring_node.old ring_node.new }
+    ensures done { ring_node.new.done ≡ ring_node.old.done + 1 }
 {
-    fire_blocks(net, inputs, stand);
-    stand.done += 1;
+    fire_blocks(net, inputs, ring_node);
+    ring_node.done += 1;
 }
 
-/// Checks whether the next firing of `stand` is known to be possible.
+/// Checks whether the next firing of `ring_node` is known to be possible.
 pub(crate) fn is_ready<A: Actor>(
     net: &Net<A>,
     inputs: &[Vec<A::Token>],
-    stand: &mut RingNode<A>,
+    ring_node: &mut RingNode<A>,
 ) -> bool
-    requires { IsStand A.steps net.now (lists inputs.now) stand.old }
-    ensures stand { IsStand A.steps net.now (lists inputs.now) stand.new }
-    ensures moved { HasMoved A.steps net.now stand.old stand.new }
-    ensures done { stand.new.done ≡ stand.old.done }
-    ensures yes { IsTrue result → CanFire A.steps net.now stand.new }
-    ensures no { IsFalse result → CanFire A.steps net.now stand.new → ⊥ }
+    requires { IsRingNode A.steps net.now (lists inputs.now) ring_node.old }
+    ensures ring_node { IsRingNode A.steps net.now (lists inputs.now) ring_node.new }
+    ensures moved { HasMoved A.steps net.now ring_node.old ring_node.new }
+    ensures done { ring_node.new.done ≡ ring_node.old.done }
+    ensures yes { IsTrue result → CanFire A.steps net.now ring_node.new }
+    ensures no { IsFalse result → CanFire A.steps net.now ring_node.new → ⊥ }
 {
-    let phase = stand.state.phase();
-    if !hold_each(row(&stand.takes, phase), stand.ins.as_mut_slice()) {
+    let phase = ring_node.state.phase();
+    if !each_holds(row(&ring_node.takes, phase), ring_node.ins.as_mut_slice()) {
         return false;
     }
-    have_room_each(row(&stand.puts, phase), stand.outs.as_mut_slice())
+    each_has_room(row(&ring_node.puts, phase), ring_node.outs.as_mut_slice())
 }

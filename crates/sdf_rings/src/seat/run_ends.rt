@@ -6,7 +6,7 @@ ghost use Rattle.rtrb.specs.Ring.{known_items, known_free};
 ghost use Rattle.sdf_node.specs.Many.{nth_block, joined};
 ghost use Rattle.sdf_rings.specs.Blocks.{block_of};
 ghost use Rattle.sdf_rings.specs.Ends.{Drew, Gave, DrewEach, GaveEach, HoldsEach, HasRoomEach};
-ghost use Rattle.sdf_rings.specs.RunBlocks.{HasPorts, sizes_of_run, port_blocks};
+ghost use Rattle.sdf_rings.specs.BatchBlocks.{HasPorts, batch_sizes, port_blocks};
 
 use crate::seat::ends::{put_block, put_each, take_block, take_each};
 use rtrb::{Consumer, Producer};
@@ -42,7 +42,7 @@ pub(crate) fn blocks_free<T>(sizes: &[usize], ends: &[Producer<T, Global>], most
 
 /// The blocks of a batch of a node's firings, at its input ports or at its output ports.
 #[derive(Clone, Copy)]
-pub(crate) struct RunBlocks<'a> {
+pub(crate) struct BatchBlocks<'a> {
     /// Samples that one firing moves at each port.
     pub(crate) sizes: &'a [usize],
     /// Samples that one firing moves at all ports together.
@@ -51,7 +51,7 @@ pub(crate) struct RunBlocks<'a> {
     pub(crate) many: usize,
 }
 
-impl<'a> RunBlocks<'a> {
+impl<'a> BatchBlocks<'a> {
     /// Takes the blocks of one firing into `taken`, from offset `at` on.
     fn take_firing<T: Copy>(&self, ends: &mut [Consumer<T, Global>], taken: &mut [T], at: usize)
         requires ports { HasPorts self.now (length ends.old) }
@@ -68,7 +68,7 @@ impl<'a> RunBlocks<'a> {
     fn take_by_firing<T: Copy>(&self, ends: &mut [Consumer<T, Global>], taken: &mut [T])
         requires ports { HasPorts self.now (length ends.old) }
         requires length { length taken.old ≡ self.now.size * self.now.many }
-        requires known { HoldsEach (sizes_of_run self.now) ends.old }
+        requires known { HoldsEach (batch_sizes self.now) ends.old }
         ensures { DrewEach ends.old ends.new (port_blocks self.now taken.new) }
     {
         let mut at = 0;
@@ -115,7 +115,7 @@ impl<'a> RunBlocks<'a> {
         requires ports { HasPorts self.now (length ends.old) }
         requires length { length taken.old ≡ self.now.size * self.now.many }
         requires long { length taken.old ≤ length scratch.old }
-        requires known { HoldsEach (sizes_of_run self.now) ends.old }
+        requires known { HoldsEach (batch_sizes self.now) ends.old }
         ensures { DrewEach ends.old ends.new (port_blocks self.now taken.new) }
     {
         let mut at = 0;
@@ -130,7 +130,7 @@ impl<'a> RunBlocks<'a> {
     fn take<T: Copy>(&self, ends: &mut [Consumer<T, Global>], taken: &mut [T], scratch: &mut [T])
         requires ports { HasPorts self.now (length ends.old) }
         requires length { length taken.old ≡ self.now.size * self.now.many }
-        requires known { HoldsEach (sizes_of_run self.now) ends.old }
+        requires known { HoldsEach (batch_sizes self.now) ends.old }
         ensures { DrewEach ends.old ends.new (port_blocks self.now taken.new) }
     {
         if ends.len() == 1 {
@@ -151,7 +151,7 @@ impl<'a> RunBlocks<'a> {
     )
         requires ports { HasPorts self.now (length ends.old) }
         requires long { self.now.size * self.now.many ≤ length taken.old }
-        requires known { HoldsEach (sizes_of_run self.now) ends.old }
+        requires known { HoldsEach (batch_sizes self.now) ends.old }
         ensures { DrewEach ends.old ends.new
             (port_blocks self.now (take (self.now.size * self.now.many) taken.new)) }
     {
@@ -174,7 +174,7 @@ impl<'a> RunBlocks<'a> {
     fn put_by_firing<T: Copy>(&self, ends: &mut [Producer<T, Global>], put: &[T])
         requires ports { HasPorts self.now (length ends.old) }
         requires length { length put.now ≡ self.now.size * self.now.many }
-        requires room { HasRoomEach (sizes_of_run self.now) ends.old }
+        requires room { HasRoomEach (batch_sizes self.now) ends.old }
         ensures { GaveEach ends.old ends.new (port_blocks self.now put.now) }
     {
         let mut at = 0;
@@ -212,7 +212,7 @@ impl<'a> RunBlocks<'a> {
         requires ports { HasPorts self.now (length ends.old) }
         requires length { length put.now ≡ self.now.size * self.now.many }
         requires long { length put.now ≤ length scratch.old }
-        requires room { HasRoomEach (sizes_of_run self.now) ends.old }
+        requires room { HasRoomEach (batch_sizes self.now) ends.old }
         ensures { GaveEach ends.old ends.new (port_blocks self.now put.now) }
     {
         let mut at = 0;
@@ -232,7 +232,7 @@ impl<'a> RunBlocks<'a> {
     )
         requires ports { HasPorts self.now (length ends.old) }
         requires length { length put.now ≡ self.now.size * self.now.many }
-        requires room { HasRoomEach (sizes_of_run self.now) ends.old }
+        requires room { HasRoomEach (batch_sizes self.now) ends.old }
         ensures { GaveEach ends.old ends.new (port_blocks self.now put.now) }
     {
         if ends.len() == 1 {

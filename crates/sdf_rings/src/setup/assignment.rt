@@ -3,7 +3,7 @@
 ghost use Rattle.std.specs.Prelude.{◌≡◌, ◌==◌, ◌++◌, ◌∷◌, [], if◌then◌else◌, map, IfOk, OnOk};
 ghost use Rattle.sdf_graph.specs.Sequences.{repeated};
 ghost use Rattle.sdf_rings.specs.Asks.{dealt};
-ghost use Rattle.sdf_rings.specs.Begun.{place, IsRoster};
+ghost use Rattle.sdf_rings.specs.Begun.{place, IsAssignment};
 
 use crate::seat::firing_list::FiringList;
 use std::alloc::{AllocError, Global};
@@ -29,9 +29,9 @@ pub(crate) struct Assignment<'a> {
 }
 
 impl<'a> Assignment<'a> {
-    /// Returns the firings that `seat` does in one block, by stand.
+    /// Returns the firings that `seat` does in one block, by ring node.
     fn block_of(&self, alloc: Global, seat: usize) -> Result<Vec<usize>, AllocError>
-        requires { IsRoster self.now }
+        requires { IsAssignment self.now }
         ensures { IfOk result (λ left. left.items ≡ map (λ a. (place self.now.places.now a).1)
             (dealt self.now.places.now self.now.order.now seat)) }
     {
@@ -43,8 +43,8 @@ impl<'a> Assignment<'a> {
     }
 
     /// Returns the firing list of `seat` over all blocks.
-    pub(crate) fn course_of(&self, alloc: Global, seat: usize) -> Result<FiringList, AllocError>
-        requires { IsRoster self.now }
+    pub(crate) fn list_for(&self, alloc: Global, seat: usize) -> Result<FiringList, AllocError>
+        requires { IsAssignment self.now }
         ensures { IfOk result (λ left. left ≡ map (λ a. (place self.now.places.now a).1)
             (dealt self.now.places.now (repeated self.now.blocks self.now.order.now) seat)) }
     {

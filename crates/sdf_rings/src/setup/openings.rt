@@ -6,7 +6,7 @@ ghost use Rattle.sdf_actor.specs.Nets.{wire, wiring};
 ghost use Rattle.sdf_rings.specs.Asks.{IsRoomOf};
 ghost use Rattle.sdf_rings.specs.Openings.{IsOpened, IsGreatestOf, HaveRings};
 
-use crate::rings::meet::tell;
+use crate::rings::meet::sync_ring;
 use rtrb::{Consumer, Producer, RingBuffer};
 use sdf_actor::{Actor, Net};
 use sdf_graph::Channel;
@@ -32,7 +32,7 @@ fn open_ring<T: Copy>(
 {
     let (mut producer, mut consumer) = RingBuffer::new(alloc, places)?;
     let _ = producer.push_entire_slice(samples);
-    tell(&mut consumer, &mut producer);
+    sync_ring(&mut consumer, &mut producer);
     Ok((producer, consumer))
 }
 

@@ -2,14 +2,14 @@
 
 ghost use Rattle.std.specs.Prelude.{◌≡◌, ◌<◌, ℕ, None, Some, length, vec_len, IfOk};
 ghost use Rattle.sdf_prec.specs.Tables.{home_in};
-ghost use Rattle.sdf_rings.specs.Begun.{place, standing, AreNext};
+ghost use Rattle.sdf_rings.specs.Begun.{place, count_on_seat, AreNext};
 
 use sdf_prec::Table;
 use std::alloc::{AllocError, Global};
 
 /// Returns how many of `places` are on `seat`.
-fn standing(places: &[(usize, usize)], seat: usize) -> usize
-    ensures { result ≡ standing places.now seat }
+fn count_on_seat(places: &[(usize, usize)], seat: usize) -> usize
+    ensures { result ≡ count_on_seat places.now seat }
 {
     let mut many = 0;
     for place in places {
@@ -47,7 +47,7 @@ pub(crate) fn places(
     let mut places = Vec::with_capacity(alloc, actors)?;
     for actor in 0..actors {
         let seat = home(table, actor);
-        let before = standing(&places, seat);
+        let before = count_on_seat(&places, seat);
         places.push((seat, before))?;
     }
     Ok(places)

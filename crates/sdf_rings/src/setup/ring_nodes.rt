@@ -6,19 +6,19 @@ ghost use Rattle.sdf_actor.specs.Nets.{wire, node};
 ghost use Rattle.sdf_actor.specs.Wires.{lists};
 ghost use Rattle.sdf_rings.specs.Openings.{end_at, AreEndsAt, HasEnds};
 ghost use Rattle.sdf_rings.specs.Begun.{IsStart, HasIns, HasOuts, HasBegun};
-ghost use Rattle.sdf_rings.specs.Stands.{OwnArePairs, IsStand};
+ghost use Rattle.sdf_rings.specs.RingNodes.{OwnArePairs, IsRingNode};
 
-use crate::setup::openings::OpenEnds;
 use crate::seat::ring_node::RingNode;
+use crate::setup::openings::OpenEnds;
 use rtrb::{Consumer, Producer};
 use sdf_actor::{Actor, Net, Side};
+use sdf_node::{begin, max_samples};
 use sdf_queues::Sizes;
-use sdf_node::{begin, most};
 use std::alloc::{AllocError, Global};
 use std::mem;
 
 /// Samples in a working block of a node, unless one firing moves more.
-const SAMPLES_AT_ONCE: usize = 4_096;
+const MIN_WORKING_BLOCK: usize = 4_096;
 
 /// What the nodes of a run begin with.
 #[derive(Drop)]
@@ -80,7 +80,7 @@ fn fillers<T: Copy>(alloc: Global, filler: Option<T>, many: usize) -> Result<Vec
 }
 
 /// Returns node `a` before its first firing, with the ring ends `ins` and `outs`.
-fn make_stand<A: Actor>(
+fn make_node<A: Actor>(
     alloc: Global,
     start: &Start<A>,
     a: usize,
@@ -92,12 +92,12 @@ fn make_stand<A: Actor>(
     requires ins { HasIns A.steps start.now.net.now a ins.items }
     requires outs { HasOuts A.steps start.now.net.now a outs.items }
     requires own { OwnArePairs start.now.net.now a ins.items outs.items }
-    ensures stand { IfOk result (IsStand A.steps start.now.net.now (lists start.now.inputs.now)) }
+    ensures ring_node { IfOk result (IsRingNode A.steps start.now.net.now (lists start.now.inputs.now)) }
     ensures begun { IfOk result (λ x. (x.actor ≡ a) × (x.done ≡ 0) × (x.asked ≡ slice_index start.now.asked.items a)) }
     ensures ends { IfOk result (λ x. (x.ins ≡ ins) × (x.outs ≡ outs)) }
 {
     let node = start.net.node(a);
-    let many = most(node).max(SAMPLES_AT_ONCE);
+    let many = max_samples(node).max(MIN_WORKING_BLOCK);
     Ok(RingNode {
         actor: a,
         state: begin(alloc, node, start.room)?,
@@ -113,7 +113,7 @@ fn make_stand<A: Actor>(
 }
 
 /// Returns node `a` before its first firing. The ring ends at its ports are taken out of `ends`.
-pub(crate) fn begin_stand<A: Actor>(
+pub(crate) fn begin_node<A: Actor>(
     alloc: Global,
     start: &Start<A>,
     ends: &mut OpenEnds<A::Token>,
@@ -131,5 +131,5 @@ pub(crate) fn begin_stand<A: Actor>(
 {
     let ins = take_ends(alloc, &mut ends.consumers, start.net.channels_in(a))?;
     let outs = take_ends(alloc, &mut ends.producers, start.net.channels_out(a))?;
-    make_stand(alloc, start, a, ins, outs)
+    make_node(alloc, start, a, ins, outs)
 }

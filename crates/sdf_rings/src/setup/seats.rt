@@ -5,18 +5,18 @@ ghost use Rattle.sdf_graph.specs.Sequences.{repeated};
 ghost use Rattle.sdf_actor.specs.Nets.{wire};
 ghost use Rattle.sdf_actor.specs.Wires.{lists};
 ghost use Rattle.sdf_rings.specs.Openings.{end_at, HasEnds};
-ghost use Rattle.sdf_rings.specs.Begun.{place, AreNext, IsRoster, IsStart, AreBegun, IsBegun, HaveBegun};
+ghost use Rattle.sdf_rings.specs.Begun.{place, AreNext, IsAssignment, IsStart, AreBegun, IsBegun, HaveBegun};
 
 use crate::seat::Seat;
-use crate::setup::openings::OpenEnds;
-use crate::setup::assignment::Assignment;
-use crate::setup::ring_nodes::{Start, begin_stand};
 use crate::seat::ring_node::RingNode;
+use crate::setup::assignment::Assignment;
+use crate::setup::openings::OpenEnds;
+use crate::setup::ring_nodes::{Start, begin_node};
 use sdf_actor::Actor;
 use std::alloc::{AllocError, Global};
 
 /// Returns the nodes of `seat`, each at its index. Their ring ends are taken out of `ends`.
-fn stands<A: Actor>(
+fn ring_nodes<A: Actor>(
     alloc: Global,
     start: &Start<A>,
     places: &[(usize, usize)],
@@ -36,44 +36,44 @@ fn stands<A: Actor>(
     ensures consumers { OnOk result ((c : ℕ) → ((place places.now (wire start.now.net.now c).to.0).0 ≡ seat → ⊥) →
         end_at ends.new.consumers.items c ≡ end_at ends.old.consumers.items c) }
 {
-    let mut stands = Vec::new(alloc);
+    let mut ring_nodes = Vec::new(alloc);
     for a in 0..places.len() {
         if places[a].0 == seat {
-            stands.push(begin_stand(alloc, start, ends, a)?)?;
+            ring_nodes.push(begin_node(alloc, start, ends, a)?)?;
         }
     }
-    Ok(stands)
+    Ok(ring_nodes)
 }
 
 /// Returns seat number `seat` with its nodes and its firing list.
 fn begin_seat<A: Actor>(
     alloc: Global,
     start: &Start<A>,
-    roster: &Assignment<'_>,
+    assigned: &Assignment<'_>,
     ends: &mut OpenEnds<A::Token>,
     seat: usize,
 ) -> Result<Seat<A>, AllocError>
     requires start { IsStart A.steps start.now }
-    requires all { length roster.now.places.now ≡ length start.now.net.now.nodes }
-    requires next { AreNext roster.now.places.now }
-    requires roster { IsRoster roster.now }
-    requires ends { (a : ℕ) → a < length roster.now.places.now → (place roster.now.places.now a).0 ≡ seat →
+    requires all { length assigned.now.places.now ≡ length start.now.net.now.nodes }
+    requires next { AreNext assigned.now.places.now }
+    requires assigned { IsAssignment assigned.now }
+    requires ends { (a : ℕ) → a < length assigned.now.places.now → (place assigned.now.places.now a).0 ≡ seat →
         HasEnds start.now.net.now a ends.old.producers.items ends.old.consumers.items }
     ensures begun { IfOk result (IsBegun A.steps start.now.net.now (lists start.now.inputs.now)
-        (slice_index start.now.asked.items) ends.old.producers.items ends.old.consumers.items roster.now.places.now
-        (repeated roster.now.blocks roster.now.order.now) seat) }
-    ensures producers { OnOk result ((c : ℕ) → ((place roster.now.places.now
+        (slice_index start.now.asked.items) ends.old.producers.items ends.old.consumers.items assigned.now.places.now
+        (repeated assigned.now.blocks assigned.now.order.now) seat) }
+    ensures producers { OnOk result ((c : ℕ) → ((place assigned.now.places.now
         (wire start.now.net.now c).from.0).0 ≡ seat → ⊥) →
         end_at ends.new.producers.items c ≡ end_at ends.old.producers.items c) }
-    ensures consumers { OnOk result ((c : ℕ) → ((place roster.now.places.now
+    ensures consumers { OnOk result ((c : ℕ) → ((place assigned.now.places.now
         (wire start.now.net.now c).to.0).0 ≡ seat → ⊥) →
         end_at ends.new.consumers.items c ≡ end_at ends.old.consumers.items c) }
 {
-    let stands = stands(alloc, start, roster.places, ends, seat)?;
-    let left = roster.course_of(alloc, seat)?;
+    let ring_nodes = ring_nodes(alloc, start, assigned.places, ends, seat)?;
+    let left = assigned.list_for(alloc, seat)?;
     Ok(Seat {
         processor: seat,
-        stands,
+        ring_nodes,
         left,
         next: 0,
     })
@@ -83,24 +83,24 @@ fn begin_seat<A: Actor>(
 pub(crate) fn seats<A: Actor>(
     alloc: Global,
     start: &Start<A>,
-    roster: &Assignment<'_>,
+    assigned: &Assignment<'_>,
     ends: &mut OpenEnds<A::Token>,
     many: usize,
 ) -> Result<Vec<Seat<A>>, AllocError>
     requires start { IsStart A.steps start.now }
-    requires all { length roster.now.places.now ≡ length start.now.net.now.nodes }
-    requires next { AreNext roster.now.places.now }
-    requires roster { IsRoster roster.now }
-    requires ends { (a : ℕ) → a < length roster.now.places.now →
+    requires all { length assigned.now.places.now ≡ length start.now.net.now.nodes }
+    requires next { AreNext assigned.now.places.now }
+    requires assigned { IsAssignment assigned.now }
+    requires ends { (a : ℕ) → a < length assigned.now.places.now →
         HasEnds start.now.net.now a ends.old.producers.items ends.old.consumers.items }
     ensures all { IfOk result (λ v. vec_len v ≡ many) }
     ensures each { IfOk result (λ v. HaveBegun A.steps start.now.net.now (lists start.now.inputs.now)
-        (slice_index start.now.asked.items) ends.old.producers.items ends.old.consumers.items roster.now.places.now
-        (repeated roster.now.blocks roster.now.order.now) many v.items) }
+        (slice_index start.now.asked.items) ends.old.producers.items ends.old.consumers.items assigned.now.places.now
+        (repeated assigned.now.blocks assigned.now.order.now) many v.items) }
 {
     let mut seats = Vec::with_capacity(alloc, many)?;
     for seat in 0..many {
-        seats.push(begin_seat(alloc, start, roster, ends, seat)?)?;
+        seats.push(begin_seat(alloc, start, assigned, ends, seat)?)?;
     }
     Ok(seats)
 }

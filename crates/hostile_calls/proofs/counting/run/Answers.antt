@@ -12,10 +12,10 @@ run_blocks-made-requires-clause-fits g c κs within =
           c.in_ok-period.ensures.0;
       table = record {
         width = c.args.sizes.workers;
-        some = c.in_ok-table.ensures.0.factor.0;
+        some = c.in_ok-table.ensures.0.blocking.0;
         workers = c.in_ok-table.ensures.0.workers;
         short = c.in_ok-table.ensures.0.short;
-        table = subst (λ x. IsTable (rates x) (slice_index (block c.args.sizes.j c.in_ok-period.period.repetitions))
+        table = subst (λ x. IsTable (rates x) (slice_index (block c.args.sizes.blocking c.in_ok-period.period.repetitions))
             c.args.sizes.workers c.in_ok-table.table) c.graph-graph.ensures.value c.in_ok-table.ensures.1.table;
       };
     }

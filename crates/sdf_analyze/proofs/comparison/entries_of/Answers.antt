@@ -11,7 +11,7 @@ loop-options-preserved c = record {
   ways_are =
       rw (c.in_ok-push.ensures.items, map_push, c.loop-options.invariant.ways_are)
       (sym (take_more c.args.ways.now c.loop-options.options-index _ c.loop-options-test.true));
-  spans = c.outcome_beside.ensures.spans;
+  spans = c.outcome_once.ensures.spans;
   each =
       subst (All (λ (e : Entry). IsOutcome c.args.design.now e.options e.outcome)) (sym c.in_ok-push.ensures.items)
       (All-push (λ (e : Entry). IsOutcome c.args.design.now e.options e.outcome) c.loop-options.entries.items _

@@ -1,6 +1,6 @@
 use Rattle.std.proofs.Common.{◌≡◌, ℕ, ◌+◌, ◌≤◌, ◌<◌, List, length, get_or, max, sym, ap, ◌∙◌, subst, arith}
 use Rattle.std.proofs.lemmas.List.{get_or_read}
-use Rattle.sdf_graph.specs.Rates.{Edge, rates, channel, no_channel}
+use Rattle.sdf_graph.specs.Rates.{ChannelValue, rates, channel, no_channel}
 use Rattle.sdf_times.specs.Times.{IsGreatest}
 use Rattle.sdf_draw.specs.Feeds.{IsInDepth}
 use Rattle.sdf_draw.proofs.Greatest.{greatest_place, greatest_same, greatest_least}
@@ -20,7 +20,8 @@ loop-number-preserved c =
     get_or_read c.channels-channels.result.now d c.index-channels-number.result (omega (arith, chans, here.0))
     c.index-channels-number.is no_channel ∙
     ap (λ cs. get_or cs d no_channel) c.channels-channels.ensures.list in
-    let from : c.channel.inside.from ≡ (channel g d).from = ap (λ (e : Edge). e.from) (c.channel.view_is ∙ read) in
+    let from : c.channel.inside.from ≡ (channel g d).from =
+    ap (λ (e : ChannelValue). e.from) (c.channel.view_is ∙ read) in
     let f : ℕ → ℕ = λ j. get_or c.args.depths.now (channel g (get_or ins j 0)).from 0 in
     let same : c.max-most.result ≡ max c.loop-number.most (f i) =
     c.max-most.ensures ∙ ap (λ a. max c.loop-number.most (get_or c.args.depths.now a 0)) from in

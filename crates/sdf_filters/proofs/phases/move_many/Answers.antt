@@ -12,5 +12,5 @@ pub loop-preserved : goal.loop-preserved
 loop-preserved c = (
   moved_step c.args.way.up c.args.way.phase (weight c.args.way.up c.args.way.phase) c.args.way.rise c.loop.counter
       c.args.taps.now c.loop.taps c.step_turn.new.taps c.loop.invariant.0 c.in_ok-step_turn.ensures.moves,
-  c.renew.ensures,
+  c.update_tree.ensures,
 )

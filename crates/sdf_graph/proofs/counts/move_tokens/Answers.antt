@@ -1,6 +1,6 @@
 use Rattle.std.proofs.Common.{◌<◌, length, get_or, sym, ap, ◌∙◌, subst, arith}
 use Rattle.std.proofs.lemmas.List.{get_or_read}
-use Rattle.sdf_graph.specs.Rates.{Edge, no_channel}
+use Rattle.sdf_graph.specs.Rates.{ChannelValue, no_channel}
 use Rattle.sdf_graph.specs.Moved.{CanMove, moved_at}
 use Rattle.sdf_graph.proofs.Moves.{not_yet, moved_more}
 use Rattle.sdf_graph.proofs.counts.move_tokens.Goals as goal
@@ -12,7 +12,7 @@ after_firing-requires c =
     let known = c.requires.known c.loop-number.number-index (omega arith) in
     let read = get_or_read c.args.channels.now (get_or c.args.numbers.now c.loop-number.number-index 0)
     c.index-channels-number.result known c.index-channels-number.is no_channel in
-    subst (λ (e : Edge). record {
+    subst (λ (e : ChannelValue). record {
       puts : 0 < length e.put;
       takes : 0 < length e.take;
       can : CanMove c.args.end e c.args.i (get_or c.loop-number.held
@@ -34,5 +34,5 @@ loop-number-preserved c =
     c.index-channels-number.result known c.index-channels-number.is no_channel in
     moved_more c.args.channels.now c.args.end c.args.i c.args.numbers.now c.loop-number.number-index c.args.held.now
     c.loop-number.held c.requires.rising (omega arith) c.loop-number.invariant c.after_firing.result within
-    (c.after_firing.ensures ∙ ap (λ (e : Edge). moved_at c.args.end e c.args.i
+    (c.after_firing.ensures ∙ ap (λ (e : ChannelValue). moved_at c.args.end e c.args.i
     (get_or c.loop-number.held (get_or c.args.numbers.now c.loop-number.number-index 0) 0)) read)

@@ -1,7 +1,7 @@
 use Rattle.std.proofs.Common.{◌≡◌, ◌∷◌, [], ◌++◌, ℕ, ◌≤◌, List, length, get_or, map, take, sym, ap, ◌∙◌, subst}
 use Rattle.std.proofs.lemmas.List.{get_or_read, map_more, take_all}
-use Rattle.sdf_graph.specs.Rates.{Edge, IsCycle, cycle_among, no_channel}
-use Rattle.sdf_graph.specs.Shares.{totals}
+use Rattle.sdf_graph.specs.Rates.{ChannelValue, IsCycle, cycle_length, no_channel}
+use Rattle.sdf_graph.specs.RelativeRates.{totals}
 use Rattle.sdf_graph.specs.declared.channel.Totals.{Totals}
 use Rattle.sdf_graph.proofs.graph.totals_of.Goals as goal
 
@@ -10,9 +10,9 @@ totals-requires-clause-put c =
     let chs = c.args.channels.now in
     let i : ℕ = c.loop-channel.channel-index in
     let read = get_or_read chs i c.channel-item.result c.loop-channel-test.true c.channel-item.is no_channel in
-    let at : Edge = get_or chs i no_channel in (
-      cycle_among chs at.from,
-      subst (λ (e : Edge). IsCycle (cycle_among chs at.from) e.put) (sym read)
+    let at : ChannelValue = get_or chs i no_channel in (
+      cycle_length chs at.from,
+      subst (λ (e : ChannelValue). IsCycle (cycle_length chs at.from) e.put) (sym read)
           (c.requires.put i c.loop-channel-test.true),
     )
 
@@ -21,9 +21,9 @@ totals-requires-clause-take c =
     let chs = c.args.channels.now in
     let i : ℕ = c.loop-channel.channel-index in
     let read = get_or_read chs i c.channel-item.result c.loop-channel-test.true c.channel-item.is no_channel in
-    let at : Edge = get_or chs i no_channel in (
-      cycle_among chs at.to,
-      subst (λ (e : Edge). IsCycle (cycle_among chs at.to) e.take) (sym read)
+    let at : ChannelValue = get_or chs i no_channel in (
+      cycle_length chs at.to,
+      subst (λ (e : ChannelValue). IsCycle (cycle_length chs at.to) e.take) (sym read)
           (c.requires.take i c.loop-channel-test.true),
     )
 

@@ -7,5 +7,5 @@ use Rattle.sdf_json.proofs.analyses.analysis_json.Goals as goal
 pub line_of-requires : goal.line_of-requires
 line_of-requires c =
     subst (λ v. depth v ≤ max_depth) (sym c.in_ok-value.ensures)
-    (analysis_flat c.args.design.now (record c.args.options.now { blocking = c.in_ok-block.field-0.block.periods })
+    (analysis_flat c.args.design.now (record c.args.options.now { blocking = c.in_ok-block.field-0.block.blocking })
     c.in_ok-block.field-0.block.table c.in_ok-block.field-0.figures)

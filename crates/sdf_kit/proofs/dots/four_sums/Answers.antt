@@ -17,38 +17,38 @@ chunks-preserved c = record {
   within = omega (arith, c.requires.whole, c.chunks.invariant.whole, c.chunks-test.true);
   whole = omega (arith, c.chunks.invariant.whole);
   a = so_far_on c.args.h.now c.args.x.now (map (to_z w32) c.chunks.a)
-      c.load-taps.result c.load.result c.more-a.result c.chunks.at c.chunks.invariant.whole
+      c.load-taps.result c.load.result c.mac-a.result c.chunks.at c.chunks.invariant.whole
       c.chunks.invariant.a c.load-taps.ensures.lanes c.load-taps.ensures.value
-      c.load.ensures.lanes c.load.ensures.value c.more-a.ensures.lanes c.more-a.ensures.value
-      c.more-a.ensures.exact;
+      c.load.ensures.lanes c.load.ensures.value c.mac-a.ensures.lanes c.mac-a.ensures.value
+      c.mac-a.ensures.exact;
   b = so_far_on c.args.h.now c.args.y.now (map (to_z w32) c.chunks.b)
-      c.load-taps.result c.load-in-chunks.result c.more-b.result c.chunks.at c.chunks.invariant.whole
+      c.load-taps.result c.load-in-chunks.result c.mac-b.result c.chunks.at c.chunks.invariant.whole
       c.chunks.invariant.b c.load-taps.ensures.lanes c.load-taps.ensures.value
-      c.load-in-chunks.ensures.lanes c.load-in-chunks.ensures.value c.more-b.ensures.lanes c.more-b.ensures.value
-      c.more-b.ensures.exact;
+      c.load-in-chunks.ensures.lanes c.load-in-chunks.ensures.value c.mac-b.ensures.lanes c.mac-b.ensures.value
+      c.mac-b.ensures.exact;
   c = so_far_on c.args.h.now c.args.z.now (map (to_z w32) c.chunks.c)
-      c.load-taps.result c.load-in-chunks-2.result c.more-c.result c.chunks.at c.chunks.invariant.whole
+      c.load-taps.result c.load-in-chunks-2.result c.mac-c.result c.chunks.at c.chunks.invariant.whole
       c.chunks.invariant.c c.load-taps.ensures.lanes c.load-taps.ensures.value
-      c.load-in-chunks-2.ensures.lanes c.load-in-chunks-2.ensures.value c.more-c.ensures.lanes c.more-c.ensures.value
-      c.more-c.ensures.exact;
+      c.load-in-chunks-2.ensures.lanes c.load-in-chunks-2.ensures.value c.mac-c.ensures.lanes c.mac-c.ensures.value
+      c.mac-c.ensures.exact;
   d = so_far_on c.args.h.now c.args.w.now (map (to_z w32) c.chunks.d)
-      c.load-taps.result c.load-in-chunks-3.result c.more-d.result c.chunks.at c.chunks.invariant.whole
+      c.load-taps.result c.load-in-chunks-3.result c.mac-d.result c.chunks.at c.chunks.invariant.whole
       c.chunks.invariant.d c.load-taps.ensures.lanes c.load-taps.ensures.value
-      c.load-in-chunks-3.ensures.lanes c.load-in-chunks-3.ensures.value c.more-d.ensures.lanes c.more-d.ensures.value
-      c.more-d.ensures.exact;
+      c.load-in-chunks-3.ensures.lanes c.load-in-chunks-3.ensures.value c.mac-d.ensures.lanes c.mac-d.ensures.value
+      c.mac-d.ensures.exact;
 }
 
-pub more-a-requires-clause-sums : goal.more-a-requires-clause-sums
-more-a-requires-clause-sums c = c.chunks.invariant.a.some.lanes
+pub mac-a-requires-clause-sums : goal.mac-a-requires-clause-sums
+mac-a-requires-clause-sums c = c.chunks.invariant.a.some.lanes
 
-pub more-b-requires-clause-sums : goal.more-b-requires-clause-sums
-more-b-requires-clause-sums c = c.chunks.invariant.b.some.lanes
+pub mac-b-requires-clause-sums : goal.mac-b-requires-clause-sums
+mac-b-requires-clause-sums c = c.chunks.invariant.b.some.lanes
 
-pub more-c-requires-clause-sums : goal.more-c-requires-clause-sums
-more-c-requires-clause-sums c = c.chunks.invariant.c.some.lanes
+pub mac-c-requires-clause-sums : goal.mac-c-requires-clause-sums
+mac-c-requires-clause-sums c = c.chunks.invariant.c.some.lanes
 
-pub more-d-requires-clause-sums : goal.more-d-requires-clause-sums
-more-d-requires-clause-sums c = c.chunks.invariant.d.some.lanes
+pub mac-d-requires-clause-sums : goal.mac-d-requires-clause-sums
+mac-d-requires-clause-sums c = c.chunks.invariant.d.some.lanes
 
 pub returns-clause-a : goal.returns-clause-a
 returns-clause-a c =

@@ -14,13 +14,13 @@ chunks-preserved c = record {
   within = omega (arith, c.requires.whole, c.chunks.invariant.whole, c.chunks-test.true);
   whole = omega (arith, c.chunks.invariant.whole);
   a = so_far_on c.args.h.now c.args.x.now (map (to_z w32) c.chunks.a) c.load.result c.load-in-chunks.result
-      c.more-a.result c.chunks.at c.chunks.invariant.whole c.chunks.invariant.a
+      c.mac-a.result c.chunks.at c.chunks.invariant.whole c.chunks.invariant.a
       c.load.ensures.lanes c.load.ensures.value c.load-in-chunks.ensures.lanes c.load-in-chunks.ensures.value
-      c.more-a.ensures.lanes c.more-a.ensures.value c.more-a.ensures.exact;
+      c.mac-a.ensures.lanes c.mac-a.ensures.value c.mac-a.ensures.exact;
 }
 
-pub more-a-requires-clause-sums : goal.more-a-requires-clause-sums
-more-a-requires-clause-sums c = c.chunks.invariant.a.some.lanes
+pub mac-a-requires-clause-sums : goal.mac-a-requires-clause-sums
+mac-a-requires-clause-sums c = c.chunks.invariant.a.some.lanes
 
 pub returns : goal.returns
 returns c =

@@ -1,6 +1,6 @@
 use Rattle.std.proofs.Common.{◌+◌, ◌*◌, ◌++◌, length, pos, arith}
 use Rattle.std.proofs.lemmas.List.FromFn.{fill_by_all}
-use Rattle.sdf_kit.specs.Samples.{settled}
+use Rattle.sdf_kit.specs.Samples.{rescaled}
 use Rattle.sdf_kit.specs.Samples.{upsampled}
 use Rattle.sdf_kit.specs.Fir.{convolved}
 use Rattle.sdf_kit.proofs.Blocks.{place_in}
@@ -8,7 +8,7 @@ use Rattle.sdf_kit.proofs.fir.put_plain.Goals as goal
 
 pub returns : goal.returns
 returns g c =
-    fill_by_all (λ k. settled (convolved c.args.taps.now
+    fill_by_all (λ k. rescaled (convolved c.args.taps.now
     (upsampled c.args.firings.up (c.args.kept.now ++ c.args.taken.now))
     (length c.args.kept.now * c.args.firings.up + k * c.args.firings.down)) c.args.firings.shift) c.loop-j.put
     (c.args.firings.many * c.args.firings.up) (pos 0)

@@ -1,6 +1,6 @@
 use Rattle.std.proofs.Common.{◌≡◌, ◌+◌, ◌*◌, ◌∙◌, length, take, drop, refl, ap, to_z, of_z, w32, FitsSigned, arith}
 use Rattle.std.proofs.lemmas.Int.{to_z-of_z}
-use Rattle.sdf_kit.specs.Samples.{settled}
+use Rattle.sdf_kit.specs.Samples.{rescaled}
 use Rattle.sdf_kit.specs.Dots.{dot}
 use Rattle.sdf_kit.proofs.Written.{put_more, fours_more, further, outputs_fit, windows_fit}
 use Rattle.sdf_kit.proofs.polyphase.put_branch.Goals as goal
@@ -29,29 +29,29 @@ fours-preserved c =
     let three : c.args.first + c.fours.done * c.args.firings.down + 3 * c.args.firings.down ≡
     c.args.first + (c.fours.done + 3) * c.args.firings.down = further c.args.first c.fours.done 3 c.args.firings.down in
     record {
-      put = fours_more (λ i. settled (dot c.args.branch.taps.now
+      put = fours_more (λ i. rescaled (dot c.args.branch.taps.now
           (take (length c.args.branch.taps.now) (drop (c.args.first + i * c.args.firings.down)
           c.args.window.now.samples)))
           c.args.firings.shift) c.args.firings.up c.args.at c.args.put.now c.fours.put c.put_four.new.put c.fours.done
           (c.args.at + c.fours.done * c.args.firings.up)
-          (settled (dot c.args.branch.taps.now (take (length c.args.branch.taps.now)
+          (rescaled (dot c.args.branch.taps.now (take (length c.args.branch.taps.now)
           (drop (c.args.first + c.fours.done * c.args.firings.down) c.args.window.now.samples))) c.args.firings.shift)
-          (settled (dot c.args.branch.taps.now (take (length c.args.branch.taps.now)
+          (rescaled (dot c.args.branch.taps.now (take (length c.args.branch.taps.now)
           (drop (c.args.first + c.fours.done * c.args.firings.down + c.args.firings.down) c.args.window.now.samples)))
-          c.args.firings.shift) (settled (dot c.args.branch.taps.now
+          c.args.firings.shift) (rescaled (dot c.args.branch.taps.now
           (take (length c.args.branch.taps.now) (drop (c.args.first + c.fours.done * c.args.firings.down
           + 2 * c.args.firings.down)
           c.args.window.now.samples))) c.args.firings.shift)
-          (settled (dot c.args.branch.taps.now (take (length c.args.branch.taps.now)
+          (rescaled (dot c.args.branch.taps.now (take (length c.args.branch.taps.now)
           (drop (c.args.first + c.fours.done * c.args.firings.down + 3 * c.args.firings.down)
           c.args.window.now.samples))) c.args.firings.shift)
           c.fours.invariant.put c.requires.at refl (omega (arith, fit, c.fours.invariant.put.len, c.requires.put))
           c.put_four.ensures c.four-sums.ensures
-          refl (ap (λ n. settled (dot c.args.branch.taps.now
+          refl (ap (λ n. rescaled (dot c.args.branch.taps.now
           (take (length c.args.branch.taps.now) (drop n c.args.window.now.samples))) c.args.firings.shift) one)
-          (ap (λ n. settled (dot c.args.branch.taps.now (take (length c.args.branch.taps.now)
+          (ap (λ n. rescaled (dot c.args.branch.taps.now (take (length c.args.branch.taps.now)
           (drop n c.args.window.now.samples))) c.args.firings.shift) two)
-          (ap (λ n. settled (dot c.args.branch.taps.now (take (length c.args.branch.taps.now)
+          (ap (λ n. rescaled (dot c.args.branch.taps.now (take (length c.args.branch.taps.now)
           (drop n c.args.window.now.samples))) c.args.firings.shift) three);
       few = few;
     }
@@ -63,7 +63,7 @@ ones-preserved c =
     (omega (arith, few)) in
     let fits : FitsSigned w32 c.one-sum.result = record { sfits = c.one-sum.type_inv } in
     record {
-      put = put_more (λ i. settled (dot c.args.branch.taps.now
+      put = put_more (λ i. rescaled (dot c.args.branch.taps.now
           (take (length c.args.branch.taps.now) (drop (c.args.first + i * c.args.firings.down)
           c.args.window.now.samples)))
           c.args.firings.shift) c.args.firings.up c.args.at c.args.put.now c.ones.put c.ones.done

@@ -28,5 +28,5 @@ sixteens-preserved c =
     record {
       within = omega (arith, c.requires.whole, c.from.ensures, c.sixteens-test.true);
       total = omega (arith, here, next, c.sixteens.invariant.total);
-      small = c.if-total-gt-MOST_WEIGHT.false;
+      small = c.if-total-gt-MAX_WEIGHT.false;
     }

@@ -1,6 +1,6 @@
 use Rattle.std.proofs.Common.{◌≡◌, ◌<◌, ℕ, length, get_or, ap, ◌∙◌, subst, arith, below_more}
 use Rattle.std.proofs.lemmas.List.{get_or_append_left, get_or_push, length-map}
-use Rattle.sdf_graph.specs.Rates.{Shape, IsShape, IsAlike, rates, sum_to, rate_at, channel}
+use Rattle.sdf_graph.specs.Rates.{GraphValue, IsShape, IsAlike, rates, sum_to, rate_at, channel}
 use Rattle.sdf_actor.specs.Graphs.{graph_of, channel_of}
 use Rattle.sdf_actor.specs.Nets.{node, wiring, cycle_of}
 use Rattle.sdf_one.proofs.Readings.{the_channel, vec_long}
@@ -13,7 +13,7 @@ edge : (g : Rattle.sdf_one.proofs.cycles.make_cycles.Given.Over) (c : After-chan
     × (c.channel-item.result ≡ channel (graph_of g.A.Actor.steps c.args.net.now) c.loop-channel.channel-index)
 edge g c =
     let list : c.channels-channels.result.now ≡ (graph_of g.A.Actor.steps c.args.net.now).channels =
-    c.channels-channels.ensures.list ∙ ap (λ (x : Shape). x.channels) c.graph.ensures.value in (
+    c.channels-channels.ensures.list ∙ ap (λ (x : GraphValue). x.channels) c.graph.ensures.value in (
       omega (arith, c.loop-channel-test.true, ap length list),
       the_channel c.channels-channels.result.now (graph_of g.A.Actor.steps c.args.net.now) c.channel-item.result
           c.loop-channel.channel-index c.channel-item.is c.loop-channel-test.true list,
@@ -23,17 +23,17 @@ shape : (g : Rattle.sdf_one.proofs.cycles.make_cycles.Given.Over) (c : After-cha
     IsShape (graph_of g.A.Actor.steps c.args.net.now)
 shape g c = subst IsShape c.graph.ensures.value c.channels-channels.ensures.shape
 
-pub moved-requires-clause-put : goal.moved-requires-clause-put
-moved-requires-clause-put g c =
-    let e = edge g (goal.at.moved-requires-clause-put g c).After-channel-item in
-    let cycle = (shape g (goal.at.moved-requires-clause-put g c).After-channel-item).put
+pub samples_moved-requires-clause-put : goal.samples_moved-requires-clause-put
+samples_moved-requires-clause-put g c =
+    let e = edge g (goal.at.samples_moved-requires-clause-put g c).After-channel-item in
+    let cycle = (shape g (goal.at.samples_moved-requires-clause-put g c).After-channel-item).put
     c.loop-channel.channel-index e.0 in
     omega (arith, cycle.all, cycle.some, ap (λ x. length x.put) e.1)
 
-pub moved-requires-clause-take : goal.moved-requires-clause-take
-moved-requires-clause-take g c =
-    let e = edge g (goal.at.moved-requires-clause-take g c).After-channel-item in
-    let cycle = (shape g (goal.at.moved-requires-clause-take g c).After-channel-item).take
+pub samples_moved-requires-clause-take : goal.samples_moved-requires-clause-take
+samples_moved-requires-clause-take g c =
+    let e = edge g (goal.at.samples_moved-requires-clause-take g c).After-channel-item in
+    let cycle = (shape g (goal.at.samples_moved-requires-clause-take g c).After-channel-item).take
     c.loop-channel.channel-index e.0 in
     omega (arith, cycle.all, cycle.some, ap (λ x. length x.take) e.1)
 
@@ -47,17 +47,17 @@ node-requires-in-loop-channel-after_bounds g c κs within =
       ap (λ x. x.from) (c.channel.view_is ∙ e.1),
     )
 
-pub moved-requires-in-loop-channel-clause-put : goal.moved-requires-in-loop-channel-clause-put
-moved-requires-in-loop-channel-clause-put g c =
-    let e = edge g (goal.at.moved-requires-in-loop-channel-clause-put g c).After-channel-item in
-    let cycle = (shape g (goal.at.moved-requires-in-loop-channel-clause-put g c).After-channel-item).put
+pub samples_moved-requires-in-loop-channel-clause-put : goal.samples_moved-requires-in-loop-channel-clause-put
+samples_moved-requires-in-loop-channel-clause-put g c =
+    let e = edge g (goal.at.samples_moved-requires-in-loop-channel-clause-put g c).After-channel-item in
+    let cycle = (shape g (goal.at.samples_moved-requires-in-loop-channel-clause-put g c).After-channel-item).put
     c.loop-channel.channel-index e.0 in
     omega (arith, cycle.all, cycle.some, ap (λ x. length x.put) e.1)
 
-pub moved-requires-in-loop-channel-clause-take : goal.moved-requires-in-loop-channel-clause-take
-moved-requires-in-loop-channel-clause-take g c =
-    let e = edge g (goal.at.moved-requires-in-loop-channel-clause-take g c).After-channel-item in
-    let cycle = (shape g (goal.at.moved-requires-in-loop-channel-clause-take g c).After-channel-item).take
+pub samples_moved-requires-in-loop-channel-clause-take : goal.samples_moved-requires-in-loop-channel-clause-take
+samples_moved-requires-in-loop-channel-clause-take g c =
+    let e = edge g (goal.at.samples_moved-requires-in-loop-channel-clause-take g c).After-channel-item in
+    let cycle = (shape g (goal.at.samples_moved-requires-in-loop-channel-clause-take g c).After-channel-item).take
     c.loop-channel.channel-index e.0 in
     omega (arith, cycle.all, cycle.some, ap (λ x. length x.take) e.1)
 
@@ -66,7 +66,7 @@ loop-channel-preserved g c =
     let i : ℕ = c.loop-channel.channel-index in
     let s = g.A.Actor.steps in
     let n = c.args.net.now in
-    let graph : Shape = graph_of s n in
+    let graph : GraphValue = graph_of s n in
     let inv = c.loop-channel.invariant in
     let e = edge g (goal.at.loop-channel-preserved g c).After-channel-item in
     let its = c.channel.view_is ∙ e.1 in
@@ -86,7 +86,7 @@ loop-channel-preserved g c =
           ∙ inv.takes_are k h))
           (ap (λ xs. get_or xs i 0) c.in_ok-push.ensures.items
           ∙ (get_or_push c.loop-channel.takes.items _ 0 i (vec_long c.loop-channel.takes ∙ inv.takes_all)
-          ∙ (c.moved.ensures ∙ (λ κ. sum_to (rate_at (e.1 κ).take) (takes_turns κ)))));
+          ∙ (c.samples_moved.ensures ∙ (λ κ. sum_to (rate_at (e.1 κ).take) (takes_turns κ)))));
       puts_are = below_more (λ k. get_or c.push-in-loop-channel.new.self.items k 0 ≡
           sum_to (rate_at (channel graph k).put) (cycle_of s (node n (channel graph k).from))) i
           (λ k h. ap (λ xs. get_or xs k 0) c.in_ok-push-2.ensures.items
@@ -95,18 +95,18 @@ loop-channel-preserved g c =
           ∙ inv.puts_are k h))
           (ap (λ xs. get_or xs i 0) c.in_ok-push-2.ensures.items
           ∙ (get_or_push c.loop-channel.puts.items _ 0 i (vec_long c.loop-channel.puts ∙ inv.puts_all)
-          ∙ (c.moved-in-loop-channel.ensures ∙ (λ κ. sum_to (rate_at (e.1 κ).put) (puts_turns κ)))));
+          ∙ (c.samples_moved-in-loop-channel.ensures ∙ (λ κ. sum_to (rate_at (e.1 κ).put) (puts_turns κ)))));
     }
 
 pub returns : goal.returns
 returns g c =
     let s = g.A.Actor.steps in
     let n = c.args.net.now in
-    let graph : Shape = graph_of s n in
+    let graph : GraphValue = graph_of s n in
     let inv = c.loop-channel.invariant in
     let alike = subst (λ x. IsAlike (rates x) (wiring s n).rates) c.graph.ensures.value c.graph.ensures.rates in
     let list : c.channels-channels.result.now ≡ graph.channels =
-    c.channels-channels.ensures.list ∙ ap (λ (x : Shape). x.channels) c.graph.ensures.value in
+    c.channels-channels.ensures.list ∙ ap (λ (x : GraphValue). x.channels) c.graph.ensures.value in
     let wires : length graph.channels ≡ length n.wires = length-map n.wires (channel_of s n.nodes) in
     let all : c.loop-channel.channel-index ≡ length n.wires = omega (
       arith,

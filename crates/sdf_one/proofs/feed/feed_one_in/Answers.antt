@@ -2,7 +2,7 @@ use Rattle.std.proofs.Common.{◌*◌, refl, ap, subst}
 use Rattle.sdf_actor.specs.Sides.{period_samples}
 use Rattle.sdf_actor.specs.Wires.{lists}
 use Rattle.sdf_actor.specs.declared.sides.Lists.TheVariants.{Inputs}
-use Rattle.sdf_queues.specs.Answer.{AreInputs}
+use Rattle.sdf_queues.specs.RunResults.{AreInputs}
 use Rattle.sdf_one.proofs.feed.feed_one_in.Goals as goal
 
 pub returns : goal.returns

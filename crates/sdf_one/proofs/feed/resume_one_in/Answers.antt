@@ -3,22 +3,22 @@ use Rattle.std.specs.Prelude.{MatchResult}
 use Rattle.sdf_graph.specs.Rates.{rates}
 use Rattle.sdf_sched.specs.Period.{IsPeriodOf}
 use Rattle.sdf_actor.specs.Wires.{lists}
-use Rattle.sdf_queues.specs.Answer.{periods_of}
+use Rattle.sdf_queues.specs.RunResults.{periods_of}
 use Rattle.sdf_queues.proofs.Theorems.{begun_runs_fail, begun_runs_go_on, periods_may_leave}
 use Rattle.sdf_one.proofs.feed.resume_one_in.Goals as goal
 
 pub begun-requires-clause-rest : goal.begun-requires-clause-rest
 begun-requires-clause-rest g c κs within =
-    let q = c.args.passage.period.now.repetitions in (
+    let q = c.args.run_inputs.period.now.repetitions in (
       c.requires.rest.0,
       periods_of q c.requires.rest.1,
-      periods_may_leave g.A.Actor.steps c.args.passage.net.now c.args.passage.period.now c.requires.rest.1
-          (c.nets_have_periods.ensures c.args.passage.period.now c.requires.period),
+      periods_may_leave g.A.Actor.steps c.args.run_inputs.net.now c.args.run_inputs.period.now c.requires.rest.1
+          (c.nets_have_periods.ensures c.args.run_inputs.period.now c.requires.period),
       c.requires.rest.2,
     )
 
 pub feed_one_in-requires-clause-period : goal.feed_one_in-requires-clause-period
-feed_one_in-requires-clause-period g c κs within = subst (λ x. IsPeriodOf (rates x) c.args.passage.period.now)
+feed_one_in-requires-clause-period g c κs within = subst (λ x. IsPeriodOf (rates x) c.args.run_inputs.period.now)
     (sym c.in_ok-begun.ensures.graph) c.requires.period
 
 -- what holds of a result's parts
@@ -29,11 +29,11 @@ matched P Q F G ok err (Err e) h = err e h
 
 pub returns : goal.returns
 returns g c =
-    let n = c.args.passage.net.now in
+    let n = c.args.run_inputs.net.now in
     let m = c.in_ok-begun.begun in
-    let p = c.args.passage.period.now in
-    let many = c.args.passage.periods in
-    let later = lists c.args.passage.inputs.now in
+    let p = c.args.run_inputs.period.now in
+    let many = c.args.run_inputs.periods in
+    let later = lists c.args.run_inputs.inputs.now in
     let begins = c.in_ok-begun.ensures.begins in
     matched _ _ _ _
     (λ fed made. (

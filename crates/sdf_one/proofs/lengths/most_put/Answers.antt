@@ -2,7 +2,7 @@ use Rattle.std.proofs.Common.{◌≡◌, ◌*◌, ◌≤◌, ℕ, length, get_or
 use Rattle.std.proofs.Common.{⊎_elim}
 use Rattle.std.proofs.lemmas.Bool.{cases_lt}
 use Rattle.std.proofs.lemmas.List.{length-map}
-use Rattle.sdf_graph.specs.Rates.{Shape, rates, rate_at, sum_to}
+use Rattle.sdf_graph.specs.Rates.{GraphValue, rates, rate_at, sum_to}
 use Rattle.sdf_actor.specs.Graphs.{channel_of, graph_of}
 use Rattle.sdf_one.specs.Lengths.{IsMostPut}
 use Rattle.sdf_one.proofs.Readings.{the_channel}
@@ -20,7 +20,8 @@ loop-channel-preserved g c =
     let q = c.args.repetitions.now in
     let was = c.loop-channel.invariant in
     let max = c.max-most.ensures in
-    let list = c.channels-channel-items.ensures.list ∙ ap (λ (y : Shape). y.channels) c.graph-graph.ensures.value in
+    let list = c.channels-channel-items.ensures.list
+    ∙ ap (λ (y : GraphValue). y.channels) c.graph-graph.ensures.value in
     let edge = the_channel c.channels-channel-items.result.now x c.channel-item.result i c.channel-item.is
     c.loop-channel-test.true list in
     let times : c.put_in.result ≡ 1 * r.produced i (get_or q (r.source i) 0) = c.put_in.ensures.value
@@ -40,7 +41,8 @@ loop-channel-preserved g c =
 pub returns : goal.returns
 returns g c =
     let n = c.args.net.now in
-    let list = c.channels-channel-items.ensures.list ∙ ap (λ (y : Shape). y.channels) c.graph-graph.ensures.value in
+    let list = c.channels-channel-items.ensures.list
+    ∙ ap (λ (y : GraphValue). y.channels) c.graph-graph.ensures.value in
     let all : c.loop-channel.channel-index ≡ length n.wires = omega (
       arith,
       c.loop-channel-test.false,

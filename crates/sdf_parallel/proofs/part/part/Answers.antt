@@ -1,5 +1,5 @@
 use Rattle.std.proofs.Common.{◌≡◌, ◌-◌, ◌<◌, arith, refl, subst}
-use Rattle.sdf_queues.specs.Answer.{HasInputs}
+use Rattle.sdf_queues.specs.RunResults.{HasInputs}
 use Rattle.sdf_queues.specs.Feeds.{AreFull}
 use Rattle.sdf_parallel.specs.Parts.{read_by}
 use Rattle.sdf_parallel.proofs.Cutting.{are_full, are_given, matched}
@@ -10,7 +10,7 @@ stretches-requires-2-clause-begin g c κs within =
     let w = c.args.split in
     let n = w.net.now in
     let q = w.period.now.repetitions in
-    let inputs = g.E.PartIo.inputs c.args.ends.now in
+    let inputs = g.E.PartIo.inputs c.args.io.now in
     let at = c.args.from in
     let start = at - w.warm in
     let tail = read_by n q inputs start at in

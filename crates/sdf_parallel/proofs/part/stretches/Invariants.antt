@@ -8,8 +8,8 @@ invariant-loop-at g l = record {
   order : l.from ≤ l.at;
   within : l.at ≤ l.to;
   left : WasLeft g.A.Actor.steps l.split.net.now l.split.period.now.repetitions l.rest;
-  run : AreStretches g.A.Actor.steps l.split.net.now l.split.period.now.repetitions (g.E.PartIo.inputs l.ends)
-      (g.E.PartIo.makes l.ends) l.begin l.from l.at l.all.items l.rest;
+  run : AreStretches g.A.Actor.steps l.split.net.now l.split.period.now.repetitions (g.E.PartIo.inputs l.io)
+      (g.E.PartIo.makes l.io) l.begin l.from l.at l.all.items l.rest;
 }
 
 abbrev pub decreases-loop-at : goal.decreases-loop-at

@@ -1,8 +1,8 @@
-use Rattle.sdf_parallel.specs.Parts.{AreDone, AreMade}
+use Rattle.sdf_parallel.specs.Parts.{AreFinished, AreResults}
 use Rattle.sdf_parallel.proofs.split.place.Given as goal
 
 abbrev pub invariant-loop : goal.invariant-loop
 invariant-loop g l = record {
-  done : AreDone g.A.Actor.steps (g.E.PartIo.inputs l.ends) (g.E.PartIo.makes l.ends) l.split l.rest l.done.items;
-  made : AreMade g.A.Actor.steps (g.E.PartIo.inputs l.ends) (g.E.PartIo.makes l.ends) l.split l.rest l.places;
+  done : AreFinished g.A.Actor.steps (g.E.PartIo.inputs l.io) (g.E.PartIo.makes l.io) l.split l.rest l.done.items;
+  made : AreResults g.A.Actor.steps (g.E.PartIo.inputs l.io) (g.E.PartIo.makes l.io) l.split l.rest l.places;
 }

@@ -1,13 +1,13 @@
 use Rattle.std.proofs.Common.{◌≡◌, ◌≤◌, ◌<◌, ℕ, length, get_or}
-use Rattle.sdf_parallel.specs.declared.workers.Worker.{Worker}
-use Rattle.sdf_parallel.specs.Parts.{AreDone, AreMade, part_count}
+use Rattle.sdf_parallel.specs.declared.part_workers.Worker.{Worker}
+use Rattle.sdf_parallel.specs.Parts.{AreFinished, AreResults, part_count}
 use Rattle.sdf_parallel.proofs.split.place_all.Given as goal
 
 abbrev pub invariant-loop-i : goal.invariant-loop-i
 invariant-loop-i g l = record {
   left : (k : ℕ) (d : Worker _ _ _) → l.i ≤ k → k < length l.workers →
-      AreDone g.A.Actor.steps (g.E.PartIo.inputs l.ends) (g.E.PartIo.makes l.ends) l.split l.rest
+      AreFinished g.A.Actor.steps (g.E.PartIo.inputs l.io) (g.E.PartIo.makes l.io) l.split l.rest
       (get_or l.workers k d).done.items;
-  made : AreMade g.A.Actor.steps (g.E.PartIo.inputs l.ends) (g.E.PartIo.makes l.ends) l.split l.rest l.places;
+  made : AreResults g.A.Actor.steps (g.E.PartIo.inputs l.io) (g.E.PartIo.makes l.io) l.split l.rest l.places;
   all : length l.places ≡ part_count l.split;
 }

@@ -26,8 +26,8 @@ by_parts-requires-clause-warm_up c =
 
 pub returns-in-None-clause-answers : goal.returns-in-None-clause-answers
 returns-in-None-clause-answers c = (
-  is_alone c.args.design.now c.in_ok-period.period c.in_ok-period.ensures c.alone-in-None.result
-      c.alone-in-None.ensures,
+  is_alone c.args.design.now c.in_ok-period.period c.in_ok-period.ensures c.on_one_thread-in-None.result
+      c.on_one_thread-in-None.ensures,
   c.if-workers-eq1.false,
   subst (IsLasting kit_steps) c.net.ensures.value
       (subst (λ o. IfNone o (IsLasting kit_steps c.net.result.now)) c.in-None.is c.in_ok-periods.ensures.lasts),

@@ -9,7 +9,7 @@ use Rattle.sdf_plan.proofs.Suiting.{suits_of}
 use Rattle.sdf_plan.proofs.planning.plan.Goals as goal
 
 pub returns-clause-suits : goal.returns-clause-suits
-returns-clause-suits c = suits_of c.args.design.now c.args.options.now c.planned.result c.planned.ensures
+returns-clause-suits c = suits_of c.args.design.now c.args.options.now c.make_plan.result c.make_plan.ensures
 
 pub returns-clause-decides : goal.returns-clause-decides
 returns-clause-decides c passed =
@@ -18,5 +18,5 @@ returns-clause-decides c passed =
     let accepted = c.repetitions.ensures.accepted in
     let lawful = accepted_is_lawful kit_steps c.net.result.now c.repetitions.result.now accepted in
     let shape = subst (λ n. IsShape (graph_of kit_steps n)) c.net.ensures.value lawful.graph in
-    decides_of c.args.design.now c.args.options.now c.planned.result passed c.planned.ensures
+    decides_of c.args.design.now c.args.options.now c.make_plan.result passed c.make_plan.ensures
     (live_or_not c.args.design.now c.repetitions.result.now least shape)

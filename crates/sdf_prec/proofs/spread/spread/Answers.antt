@@ -6,8 +6,9 @@ use Rattle.sdf_prec.proofs.spread.spread.Goals as goal
 pub loop-actor-preserved : goal.loop-actor-preserved
 loop-actor-preserved c = rw c.in_ok-push.ensures.items
     (one_home_more (rates c.args.graph.now) c.args.weights.now c.args.m c.loop-actor.homes.items c.loop-actor.actor
-    c.loop-actor.invariant.all c.loop-actor.invariant.each c.first_of-first.result c.past_of-past.result c.share.result
-    c.first_of-first.ensures c.past_of-past.ensures c.share.ensures.is)
+    c.loop-actor.invariant.all c.loop-actor.invariant.each c.stretch_start-first.result
+    c.stretch_end-past.result c.share.result
+    c.stretch_start-first.ensures c.stretch_end-past.ensures c.share.ensures.is)
 
 pub returns-clause-homed : goal.returns-clause-homed
 returns-clause-homed c =

@@ -5,7 +5,7 @@ use Rattle.sdf_graph.specs.Rates.{rates}
 use Rattle.sdf_actor.specs.Graphs.{graph_of}
 use Rattle.sdf_kit.specs.Kit.{kit_steps}
 use Rattle.sdf_process.specs.Cuts.{AreAtOnce, IsPartOf}
-use Rattle.sdf_process.specs.Output.{exchange_of}
+use Rattle.sdf_process.specs.Output.{io_rates_of}
 use Rattle.sdf_process.proofs.part_sizes.parts_at_once.Goals as goal
 
 pub returns-clause-few : goal.returns-clause-few
@@ -15,9 +15,9 @@ pub returns-clause-parts : goal.returns-clause-parts
 returns-clause-parts c = λ q period.
     let least : IsLeastPeriod (rates (graph_of kit_steps c.net.result.now)) q =
     subst (λ n. IsLeastPeriod (rates (graph_of kit_steps n)) q) (sym c.net.ensures.value) period in
-    let same : c.of_net-exchange.result ≡ exchange_of c.args.design.now.net q =
-    c.of_net-exchange.ensures.value q least ∙ ap (λ n. exchange_of n q) c.net.ensures.value in
-    let periods : c.min-periods.result ≡ min (div_ceil c.args.frames c.of_net-exchange.result.made) 4294967295 =
+    let same : c.of_net-io.result ≡ io_rates_of c.args.design.now.net q =
+    c.of_net-io.ensures.value q least ∙ ap (λ n. io_rates_of n q) c.net.ensures.value in
+    let periods : c.min-periods.result ≡ min (div_ceil c.args.frames c.of_net-io.result.made) 4294967295 =
     c.min-periods.ensures ∙ (ap (min c.div_ceil.result) c.from.ensures ∙
     ap (λ k. min k 4294967295) c.div_ceil.ensures) in
     let piece = c.min-piece.ensures ∙ ap (min c.piece_periods.result) periods in
@@ -26,7 +26,7 @@ returns-clause-parts c = λ q period.
       c.piece_periods.result,
       c.piece_periods.ensures.piece,
       c.part_of-part.result,
-      subst (λ k. IsPartOf c.of_net-exchange.result (record { parts = c.args.workers; warm = c.args.warm }) k
+      subst (λ k. IsPartOf c.of_net-io.result (record { parts = c.args.workers; warm = c.args.warm }) k
           c.part_of-part.result) piece c.part_of-part.ensures.part,
       c.min.ensures ∙ (ap (λ k. min k c.max.result)
           (c.div_ceil-2.ensures ∙ ap (λ k. div_ceil k c.part_of-part.result) piece)

@@ -11,12 +11,12 @@ loop-at-preserved c =
     let list = c.args.list.now in
     let sample : ℤ = get_or list a (pos 0) in
     let read : FitsSigned w32 sample = search rules in
-    let written : FitsSigned w16 c.clamped.result = record { sfits = c.clamped.type_inv } in
+    let written : FitsSigned w16 c.clamp_sample.result = record { sfits = c.clamp_sample.type_inv } in
     let place = mul-add-lt a c.args.channels c.args.channel (length list) c.loop-at-test.true c.requires.channel in
     record {
       put = channel_more c.loop-at.samples list c.args.channels c.args.channel a _ c.requires.channel
           (omega (arith, place, c.requires.room, c.loop-at.auto.samples))
-          (to_z-of_z w16 c.clamped.result written ∙ c.clamped.ensures
+          (to_z-of_z w16 c.clamp_sample.result written ∙ c.clamp_sample.ensures
           ∙ ap (saturate_signed w16) (to_z-of_z w32 sample read)) c.loop-at.invariant.put;
       kept = λ i e in_frame other. other_channel c.loop-at.samples c.args.channels c.args.channel a _ i e
           c.requires.channel in_frame other ∙ c.loop-at.invariant.kept i e in_frame other;

@@ -1,5 +1,5 @@
 use Rattle.std.proofs.Common.{◌≡◌, ◌*◌, ◌≤◌, length, refl, sym, ap, ◌∙◌, subst}
-use Rattle.sdf_wav.specs.PiecesIn.{Reading}
+use Rattle.sdf_wav.specs.PiecesIn.{ContentInValue}
 use Rattle.sdf_wav.specs.Sound.{Sound, sound_of}
 use Rattle.sdf_process.proofs.Contents.{content_failed, content_read, few_read, sound_made}
 use Rattle.sdf_process.proofs.stages.read_content.Given.{Over}
@@ -14,10 +14,10 @@ returns-in_err-samples-clause-reads g c =
     (c.in_err-samples.ensures.cut c.requires.unspoilt) c.from_residual.ensures.1
 
 rate_same : (g : Over) (c : goal.In_ok-new g) → c.rate.result ≡ c.args.content.rate
-rate_same g c = c.rate.ensures.value ∙ ap (λ (r : Reading). r.rate) c.in_ok-samples.ensures.goes_on
+rate_same g c = c.rate.ensures.value ∙ ap (λ (r : ContentInValue). r.rate) c.in_ok-samples.ensures.goes_on
 
 channels_same : (g : Over) (c : goal.In_ok-new g) → c.channels.result ≡ c.args.content.channels
-channels_same g c = c.channels.ensures.value ∙ ap (λ (r : Reading). r.channels) c.in_ok-samples.ensures.goes_on
+channels_same g c = c.channels.ensures.value ∙ ap (λ (r : ContentInValue). r.channels) c.in_ok-samples.ensures.goes_on
 
 sound_read : (g : Over) (c : goal.In_ok-new g) → c.in_ok-new.field-0 ≡
     record { rate = c.args.content.rate; channels = c.args.content.channels; samples = c.in_ok-samples.samples.items }

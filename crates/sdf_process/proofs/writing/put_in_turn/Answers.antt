@@ -3,7 +3,7 @@ use Rattle.std.proofs.Common.{arith, refl, take_all, length-append, ◌≤◌}
 use Rattle.std.specs.Io.KnownBytes.{Appends}
 use Rattle.sdf_actor.specs.Wires.{lists as items_of}
 use Rattle.sdf_wav.specs.Canonical.{sample_bytes}
-use Rattle.sdf_wav.specs.PiecesOut.{Owed, Puts}
+use Rattle.sdf_wav.specs.PiecesOut.{ContentOutValue, Puts}
 use Rattle.std.specs.Prelude.{Err}
 use Rattle.sdf_process.specs.Output.{in_turn}
 use Rattle.sdf_process.proofs.Lists.{length-lists, list_read}
@@ -20,7 +20,7 @@ put-requires-clause-whole g c =
     c.deref.ensures.value ∙ list_read c.args.parts.now i c.list-item.result c.loop-list-test.true c.list-item.is in
     let own = c.requires.room.1.each i (omega (arith, c.loop-list-test.true, length-lists c.args.parts.now)) in
     whole_frames own.0 c.args.output.now.channels (length c.deref.result.now) c.loop-list.output.channels
-    (ap length item ∙ own.1) (ap (λ (o : Owed). o.channels) c.loop-list.invariant.owed.2)
+    (ap length item ∙ own.1) (ap (λ (o : ContentOutValue). o.channels) c.loop-list.invariant.owed.2)
 
 pub put-requires-clause-missing : goal.put-requires-clause-missing
 put-requires-clause-missing g c =
@@ -36,9 +36,9 @@ put-requires-clause-missing g c =
     let left = at_most xs i within c.args.output.now.missing owed.0 own.0 c.args.output.now.channels c.requires.some
     owed.1 own.1 all in
     let missing : c.loop-list.output.missing ≡ c.args.output.now.missing - owed.0 =
-    ap (λ (o : Owed). o.missing) owed.2 in
+    ap (λ (o : ContentOutValue). o.missing) owed.2 in
     fewer_missing own.0 c.args.output.now.channels c.loop-list.output.missing (length c.deref.result.now)
-    c.loop-list.output.channels (ap length item ∙ own.1) (ap (λ (o : Owed). o.channels) owed.2)
+    c.loop-list.output.channels (ap length item ∙ own.1) (ap (λ (o : ContentOutValue). o.channels) owed.2)
     (omega (arith, left, missing))
 
 pub returns-in_err-put-clause-puts : goal.returns-in_err-put-clause-puts
@@ -48,7 +48,7 @@ returns-in_err-put-clause-puts g c =
     let within : i < length xs = omega (arith, c.loop-list-test.true, length-lists c.args.parts.now) in
     let item : c.deref.result.now ≡ get_or xs i [] =
     c.deref.ensures.value ∙ list_read c.args.parts.now i c.list-item.result c.loop-list-test.true c.list-item.is in
-    let unspent = ap (λ (o : Owed). o.spent) c.loop-list.invariant.owed.2 ∙ c.requires.unspent in
+    let unspent = ap (λ (o : ContentOutValue). o.spent) c.loop-list.invariant.owed.2 ∙ c.requires.unspent in
     put_stopped (g.W.Writer.state c.args.writer.now) (g.W.Writer.state c.loop-list.writer)
     (g.W.Writer.state c.put.new.writer) (in_turn (take i xs)) (get_or xs i []) (in_turn (drop (i + 1) xs))
     (in_turn xs) (in_turn_split xs i within) c.loop-list.invariant.written c.loop-list.invariant.counted
@@ -68,7 +68,7 @@ loop-list-preserved g c =
     let own = c.requires.room.1.each i within in
     let owed = c.loop-list.invariant.owed in
     let o = c.args.output.now in
-    let unspent = ap (λ (z : Owed). z.spent) owed.2 ∙ c.requires.unspent in
+    let unspent = ap (λ (z : ContentOutValue). z.spent) owed.2 ∙ c.requires.unspent in
     let grown : in_turn (take (i + 1) xs) ≡ in_turn (take i xs) ++ get_or xs i [] = in_turn_grown xs i within in
     record {
       written = subst (λ l. Appends (g.W.Writer.state c.args.writer.now).contents

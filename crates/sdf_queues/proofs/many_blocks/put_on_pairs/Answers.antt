@@ -7,7 +7,7 @@ use Rattle.sdf_queues.proofs.many_blocks.put_on_pairs.Goals as goal
 pub returns-clause-queues : goal.returns-clause-queues
 returns-clause-queues g c = λ d k.
     let was = c.args.queues.now in
-    let e = c.lift-target.new.self in
+    let e = c.take_out-target.new.self in
     let p = c.put_pairs.new.first in
     let q = c.put_pairs.new.second in
     let x = c.index-queues-first.result in
@@ -19,12 +19,12 @@ returns-clause-queues g c = λ d k.
     (other_first c.requires.pairs was c.requires.ports e x))
     (ap (λ h. h.samples) c.put_pairs.ensures.second
     ∙ ap (λ h. h.samples ++ joined (λ j. slice_range (nth_block 2 c.args.block.now j) 1 2) c.args.times)
-    c.lift-target.ensures) d k
+    c.take_out-target.ensures) d k
 
 pub returns-clause-rooms : goal.returns-clause-rooms
 returns-clause-rooms g c = λ d k.
     let was = c.args.queues.now in
-    let e = c.lift-target.new.self in
+    let e = c.take_out-target.new.self in
     let p = c.put_pairs.new.first in
     let q = c.put_pairs.new.second in
     let x = c.index-queues-first.result in
@@ -33,5 +33,5 @@ returns-clause-rooms g c = λ d k.
     ∙ pair_rooms c.requires.pairs was c.requires.ports x y p q
     (ap (λ h. h.room) c.put_pairs.ensures.first
     ∙ ap (λ h. h.room) (other_first c.requires.pairs was c.requires.ports e x))
-    (ap (λ h. h.room) c.put_pairs.ensures.second ∙ (ap (λ h. h.room) c.lift-target.ensures
+    (ap (λ h. h.room) c.put_pairs.ensures.second ∙ (ap (λ h. h.room) c.take_out-target.ensures
     ∙ ap (λ h. h.room) (sym (other_second c.requires.pairs was c.requires.ports p y)))) d k

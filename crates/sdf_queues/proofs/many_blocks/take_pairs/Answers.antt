@@ -20,7 +20,7 @@ returns-clause-blocks g c =
     let right = c.oldest-2.ensures ∙ ap (take times) (ap (λ q. q.samples) c.index-queues-second.is
     ∙ sym (same_x was (get_or ports 1 0) c.index-queues-second.result
     (c.requires.ports.known 1 (omega (arith, pairs.two))))) in
-    c.weave.ensures ∙ same_joined (λ i. nth_block 1 c.oldest.result.now i ++ nth_block 1 c.oldest-2.result.now i)
+    c.interleave.ensures ∙ same_joined (λ i. nth_block 1 c.oldest.result.now i ++ nth_block 1 c.oldest-2.result.now i)
     (front_at sizes ports was) times
     (λ i l. pair_front pairs was c.requires.ports times i c.oldest.result.now
     c.oldest-2.result.now l left right)

@@ -1,13 +1,14 @@
 use Rattle.std.proofs.Common.{◌≡◌, ◌+◌, ◌*◌, ◌<◌, ◌≤◌, ℕ, List, length, get_or, sym, ap, ◌∙◌, subst, arith, below_more}
 use Rattle.std.proofs.lemmas.List.{get_or_append_left, get_or_push, get_or_default}
-use Rattle.sdf_graph.specs.Rates.{Edge, Shape, rates, rate_at, sum_to, channel, no_channel}
+use Rattle.sdf_graph.specs.Rates.{ChannelValue, GraphValue, rates, rate_at, sum_to, channel, no_channel}
 use Rattle.sdf_actor.specs.Graphs.{graph_of}
 use Rattle.sdf_actor.specs.Nets.{wire}
 use Rattle.sdf_queues.specs.Blocks.{nothing}
 use Rattle.sdf_queues.proofs.Readings.{vec_long}
 use Rattle.sdf_queues.proofs.rooms.renew_queues.Goals as goal
 
-the_channel : (items : List Edge) (x : Shape) (e : Edge) (i : ℕ) → e ≡ get_or items i e → i < length items →
+the_channel : (items : List ChannelValue) (x : GraphValue) (e : ChannelValue) (i : ℕ) → e ≡ get_or items i e →
+    i < length items →
     items ≡ x.channels → e ≡ channel x i
 the_channel items x e i is l list = is
     ∙ (get_or_default items i e no_channel l ∙ ap (λ cs. get_or cs i no_channel) list)

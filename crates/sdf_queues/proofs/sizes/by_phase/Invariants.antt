@@ -7,5 +7,6 @@ use Rattle.sdf_queues.proofs.sizes.by_phase.Given as goal
 abbrev pub invariant-loop-phase : goal.invariant-loop-phase
 invariant-loop-phase l = record {
   len : vec_len l.rows ≡ l.phase;
-  each : (j : ℕ) → j < l.phase → at_phase (lists l.rows.items) j ≡ map (λ e. rate_at (rates_on l.side e) j) l.channels;
+  each : (blocking : ℕ) → blocking < l.phase → at_phase (lists l.rows.items) blocking ≡
+      map (λ e. rate_at (rates_on l.side e) blocking) l.channels;
 }

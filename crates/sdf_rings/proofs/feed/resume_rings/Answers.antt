@@ -1,10 +1,10 @@
 use Rattle.std.proofs.Common.{◌*◌, ℕ, List, sym, subst}
 use Rattle.std.proofs.lemmas.Result.{MatchResult-weaker}
 use Rattle.sdf_graph.specs.Rates.{rates}
-use Rattle.sdf_prec.specs.Tables.{Tabled}
+use Rattle.sdf_prec.specs.Tables.{TableValue}
 use Rattle.sdf_actor.specs.Nets.{Netlist}
 use Rattle.sdf_actor.specs.Wires.{lists}
-use Rattle.sdf_queues.specs.Answer.{HasInputs, periods_of}
+use Rattle.sdf_queues.specs.RunResults.{HasInputs, periods_of}
 use Rattle.sdf_prec.specs.BlockTables.{IsBlockTableOf}
 use Rattle.sdf_queues.proofs.Theorems.{begun_nets_ask, begun_runs_go_on, periods_may_leave}
 use Rattle.sdf_queues.specs.declared.fault.RunFault.{RunFault}
@@ -29,7 +29,7 @@ feed_rings-requires-clause-fits g c κs within =
 
 -- a fault of the one net is one of the other, where they are given the same inputs
 fault_of : {A B T : Type 0} (m : Netlist B T) (n : Netlist A T) (q : List ℕ) (periods : ℕ) (inputs : List (List T))
-    (t : Tabled) (patience : ℕ) → (HasInputs n q periods inputs → HasInputs m q periods inputs) →
+    (t : TableValue) (patience : ℕ) → (HasInputs n q periods inputs → HasInputs m q periods inputs) →
     (fault : RunFault) → IsRingsFault m q periods inputs t patience fault →
     IsRingsFault n q periods inputs t patience fault
 fault_of m n q periods inputs t patience back OutOfMemory h = tt
@@ -44,7 +44,7 @@ returns g c =
     let n = c.args.net.now in
     let m = c.in_ok-begun.begun in
     let q = c.args.table.now.period.repetitions in
-    let periods : ℕ = c.args.blocks * c.args.table.now.factor in
+    let periods : ℕ = c.args.blocks * c.args.table.now.blocking in
     let later = lists c.args.inputs.now in
     let begins = c.in_ok-begun.ensures.begins in
     let asks = begun_nets_ask g.A.Actor.steps _ n c.args.rest.now m q periods later begins in

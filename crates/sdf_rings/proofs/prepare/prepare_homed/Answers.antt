@@ -12,16 +12,16 @@ pub asked-requires : goal.asked-requires
 asked-requires g c = omega (
   arith,
   c.requires.fits.table.short,
-  ap (λ r. c.args.table.now.factor * sum r) c.repetitions.ensures,
+  ap (λ r. c.args.table.now.blocking * sum r) c.repetitions.ensures,
 )
 
-pub lay_out-requires-clause-start : goal.lay_out-requires-clause-start
-lay_out-requires-clause-start g c κs within =
+pub build_rings-requires-clause-start : goal.build_rings-requires-clause-start
+build_rings-requires-clause-start g c κs within =
     let n = c.args.net.now in
     let accepted = c.samples_out.ensures.accepted in
     let p = c.args.table.now.period in
     let b = c.args.blocks in
-    let j = c.args.table.now.factor in
+    let j = c.args.table.now.blocking in
     let asked = c.in_ok-asked.ensures ∙ ap (map (λ q. b * (j * q))) c.repetitions.ensures in
     record {
       accepted = accepted;
@@ -38,12 +38,12 @@ lay_out-requires-clause-start g c κs within =
           ∙ c.requires.fits.period.least.is.all));
     }
 
-pub lay_out-requires-clause-plan : goal.lay_out-requires-clause-plan
-lay_out-requires-clause-plan g c κs within =
+pub build_rings-requires-clause-plan : goal.build_rings-requires-clause-plan
+build_rings-requires-clause-plan g c κs within =
     let n = c.args.net.now in
     let p = c.args.table.now.period in
     let b = c.args.blocks in
-    let j = c.args.table.now.factor in
+    let j = c.args.table.now.blocking in
     is_asked g.A.Actor.steps n p
     (nets_have_periods g.A.Actor.steps n c.samples_out.ensures.accepted p c.requires.fits.period) b j
     c.in_ok-asked.field-0.items
@@ -56,10 +56,10 @@ samples_of_blocks-requires g c =
     let q = c.args.table.now.period.repetitions in
     let net = nets_have_facts g.A.Actor.steps c.args.net.now c.samples_out.ensures.accepted in
     let few = blocks_are_small g.A.Actor.steps c.args.net.now net.net net.graph
-    c.args.table.now.factor q Outputs c.requires.fits.period.least c.requires.fits.table.short in
+    c.args.table.now.blocking q Outputs c.requires.fits.period.least c.requires.fits.table.short in
     omega (
       arith,
       few,
-      ap (λ m. c.args.table.now.factor * m)
+      ap (λ m. c.args.table.now.blocking * m)
           (c.samples_out.ensures.value q c.requires.fits.period.least),
     )

@@ -4,7 +4,7 @@ use Rattle.sdf_rings.proofs.runner.run_rings.Goals as goal
 
 pub returns : goal.returns
 returns g c =
-    has_run g.A.Actor.steps c.args.net.now c.args.table.now.period.repetitions c.args.table.now.factor
+    has_run g.A.Actor.steps c.args.net.now c.args.table.now.period.repetitions c.args.table.now.blocking
     c.args.table.now.table c.args.blocks
     (lists c.args.inputs.now) c.args.workers.patience c.in_ok-rings.rings c.in_ok-rings.rounds c.in_ok-rings.ensures
     (lists c.finish-outputs.result.items) c.finish-outputs.ensures

@@ -14,7 +14,8 @@ rounds_of-rounds-requires g c =
     omega (
       arith,
       rows_few (rates (graph_of g.A.Actor.steps c.args.net.now))
-          c.args.plan.now.table.now.period.repetitions c.args.plan.now.table.now.factor c.args.plan.now.table.now.table
+          c.args.plan.now.table.now.period.repetitions c.args.plan.now.table.now.blocking
+          c.args.plan.now.table.now.table
           c.requires.fits.period.least.is.all c.requires.fits.table,
       c.rows.ensures,
     )
@@ -22,7 +23,7 @@ rounds_of-rounds-requires g c =
 pub returns : goal.returns
 returns g c =
     let q = c.args.plan.now.table.now.period.repetitions in (
-      given c.args.net.now q (c.args.plan.now.blocks * c.args.plan.now.table.now.factor) c.inputs.result
+      given c.args.net.now q (c.args.plan.now.blocks * c.args.plan.now.table.now.blocking) c.inputs.result
           c.samples_of_blocks-least.result
           c.samples_in.result (lists c.args.inputs.now) (c.if-not-are_inputs.ensures.0 refl) c.inputs.ensures
           c.samples_of_blocks-least.ensures
@@ -36,11 +37,11 @@ samples_of_blocks-least-requires g c =
     let q = c.args.plan.now.table.now.period.repetitions in
     let net = nets_have_facts g.A.Actor.steps c.args.net.now c.samples_in.ensures.accepted in
     let few = blocks_are_small g.A.Actor.steps c.args.net.now net.net net.graph
-    c.args.plan.now.table.now.factor q Inputs c.requires.fits.period.least c.requires.fits.table.short in
+    c.args.plan.now.table.now.blocking q Inputs c.requires.fits.period.least c.requires.fits.table.short in
     omega (
       arith,
       few,
-      ap (λ m. c.args.plan.now.table.now.factor * m)
+      ap (λ m. c.args.plan.now.table.now.blocking * m)
           (c.samples_in.ensures.value q c.requires.fits.period.least),
     )
 
@@ -49,24 +50,24 @@ returns-then-not-are_inputs g c = λ has.
     let q = c.args.plan.now.table.now.period.repetitions in
     both_ways false refl
     (c.if-not-are_inputs.ensures.1
-    (asked c.args.net.now q (c.args.plan.now.blocks * c.args.plan.now.table.now.factor) c.inputs.result
+    (asked c.args.net.now q (c.args.plan.now.blocks * c.args.plan.now.table.now.blocking) c.inputs.result
     c.samples_of_blocks-least.result
     c.samples_in.result (lists c.args.inputs.now) has c.inputs.ensures c.samples_of_blocks-least.ensures
     (c.samples_in.ensures.value q c.requires.fits.period.least)))
 
-pub fill-requires-clause-fits : goal.fill-requires-clause-fits
-fill-requires-clause-fits g c = λ κs within. c.requires.fits
+pub run_net-requires-clause-fits : goal.run_net-requires-clause-fits
+run_net-requires-clause-fits g c = λ κs within. c.requires.fits
 
-pub fill-requires-clause-inputs : goal.fill-requires-clause-inputs
-fill-requires-clause-inputs g c = λ κs within.
+pub run_net-requires-clause-inputs : goal.run_net-requires-clause-inputs
+run_net-requires-clause-inputs g c = λ κs within.
     let q = c.args.plan.now.table.now.period.repetitions in
-    given c.args.net.now q (c.args.plan.now.blocks * c.args.plan.now.table.now.factor) c.inputs.result
+    given c.args.net.now q (c.args.plan.now.blocks * c.args.plan.now.table.now.blocking) c.inputs.result
     c.samples_of_blocks-least.result
     c.samples_in.result (lists c.args.inputs.now) (c.if-not-are_inputs.ensures.0 refl) c.inputs.ensures
     c.samples_of_blocks-least.ensures
     (c.samples_in.ensures.value q c.requires.fits.period.least)
 
-pub fill-requires-clause-some : goal.fill-requires-clause-some
-fill-requires-clause-some g c = λ κs within. subst (λ m. 0 < m)
+pub run_net-requires-clause-some : goal.run_net-requires-clause-some
+run_net-requires-clause-some g c = λ κs within. subst (λ m. 0 < m)
     (c.samples_in.ensures.value c.args.plan.now.table.now.period.repetitions c.requires.fits.period.least)
     c.samples_in.ensures.some

@@ -2,7 +2,7 @@ use Rattle.std.proofs.Common.{◌*◌, Result, Ok, Err, sym, subst}
 use Rattle.std.specs.Prelude.{MatchResult}
 use Rattle.sdf_graph.specs.Rates.{rates}
 use Rattle.sdf_actor.specs.Wires.{lists}
-use Rattle.sdf_queues.specs.Answer.{periods_of}
+use Rattle.sdf_queues.specs.RunResults.{periods_of}
 use Rattle.sdf_prec.specs.BlockTables.{IsBlockTableOf}
 use Rattle.sdf_queues.proofs.Theorems.{begun_runs_fail, begun_runs_go_on, periods_may_leave}
 use Rattle.sdf_rows.proofs.feed.resume_rows.Goals as goal
@@ -31,7 +31,7 @@ pub returns : goal.returns
 returns g c =
     let n = c.args.net.now in
     let m = c.in_ok-begun.begun in
-    let more = c.args.plan.now.blocks * c.args.plan.now.table.now.factor in
+    let more = c.args.plan.now.blocks * c.args.plan.now.table.now.blocking in
     let later = lists c.args.inputs.now in
     let begins = c.in_ok-begun.ensures.begins in
     matched _ _ _ _

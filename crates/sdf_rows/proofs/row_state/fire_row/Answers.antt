@@ -12,7 +12,7 @@ use Rattle.sdf_rows.proofs.row_state.fire_row.Goals.{After-fire_jobs}
 -- each job has fired on the samples that stood on the channels
 fired : (g : Rattle.sdf_rows.proofs.row_state.fire_row.Given.Over) (c : After-fire_jobs g) →
     HaveFired g.A.Actor.steps c.args.scene.now.net.now (lists c.args.scene.now.inputs.now) c.args.scene.now.sizes
-    c.args.stage.now.queues.items c.args.jobs.now c.fire_jobs.new.jobs
+    c.args.run_state.now.queues.items c.args.jobs.now c.fire_jobs.new.jobs
 fired g c = subst (λ qs. HaveFired g.A.Actor.steps c.args.scene.now.net.now (lists c.args.scene.now.inputs.now)
     c.args.scene.now.sizes qs c.args.jobs.now c.fire_jobs.new.jobs) c.deref.ensures.value c.fire_jobs.ensures
 
@@ -43,7 +43,7 @@ pub returns-clause-done : goal.returns-clause-done
 returns-clause-done g c = λ a.
     let same = same_actors c.requires.scene.good c.requires.scene.sizes c.requires.filled.3 c.fire_jobs.new.jobs
     c.fire_jobs.auto.jobs (fired g (goal.at.returns-clause-done g c).After-fire_jobs) in
-    c.settle_row.ensures.done a ∙ ap (λ w. get_or c.args.stage.now.done.items a 0 + times w a) same
+    c.settle_row.ensures.done a ∙ ap (λ w. get_or c.args.run_state.now.done.items a 0 + times w a) same
 
 pub returns-clause-blocks : goal.returns-clause-blocks
 returns-clause-blocks g c =

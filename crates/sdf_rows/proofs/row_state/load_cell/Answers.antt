@@ -1,5 +1,5 @@
 use Rattle.std.proofs.Common.{◌+◌, length, set, refl, sym, subst}
-use Rattle.sdf_rows.specs.Stage.{CanLoad, HasLoaded}
+use Rattle.sdf_rows.specs.Loading.{CanLoad, HasLoaded}
 use Rattle.sdf_rows.proofs.Loads.{has_loaded}
 use Rattle.sdf_rows.proofs.row_state.load_cell.Goals as goal
 

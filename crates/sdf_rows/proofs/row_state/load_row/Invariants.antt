@@ -1,6 +1,6 @@
 use Rattle.std.proofs.Common.{◌≡◌, length, take}
 use Rattle.sdf_prec.specs.Tables.{firings}
-use Rattle.sdf_rows.specs.Stage.{AreLoaded}
+use Rattle.sdf_rows.specs.Loading.{AreLoaded}
 use Rattle.sdf_rows.proofs.row_state.load_row.Given as goal
 
 abbrev pub invariant-loop-column : goal.invariant-loop-column

@@ -3,8 +3,8 @@ use Rattle.std.proofs.lemmas.List.{take_all, length-map, length-set}
 use Rattle.sdf_graph.specs.Sequences.{times}
 use Rattle.sdf_actor.specs.Wires.{lists}
 use Rattle.sdf_queues.proofs.Theorems.{firings_move_on}
-use Rattle.sdf_rows.specs.Stage.{actors_of}
-use Rattle.sdf_rows.specs.Stands.{IsSettling}
+use Rattle.sdf_rows.specs.Loading.{actors_of}
+use Rattle.sdf_rows.specs.RowStates.{IsSettling}
 use Rattle.sdf_rows.proofs.Settles.{Settling, can_settle, has_state, has_count, count_small, settled_next}
 use Rattle.sdf_rows.proofs.Settles.{counts_next}
 use Rattle.sdf_rows.proofs.Keeps.{kept_set}
@@ -14,11 +14,11 @@ use Rattle.sdf_rows.proofs.row_state.settle_row.Goals.{In-loop-place}
 
 here : (g : Over) (c : In-loop-place g) (many low high : ℕ → ℕ) →
     IsSettling g.A.Actor.steps c.args.scene.now.net.now (lists c.args.scene.now.inputs.now) many low high
-    (actors_of c.args.jobs.now) 0 (slice_index c.args.stage.now.done.items) c.args.stage.now.states.items
-    c.args.stage.now.queues.items c.args.jobs.now →
+    (actors_of c.args.jobs.now) 0 (slice_index c.args.run_state.now.done.items) c.args.run_state.now.states.items
+    c.args.run_state.now.queues.items c.args.jobs.now →
     Settling g.A.Actor.steps c.args.scene.now.net.now c.args.scene.now.sizes (lists c.args.scene.now.inputs.now) many
-    low high (actors_of c.args.jobs.now) c.loop-place.place c.loop-place.stage.done.items
-    c.loop-place.stage.states.items c.loop-place.stage.queues.items c.loop-place.jobs
+    low high (actors_of c.args.jobs.now) c.loop-place.place c.loop-place.run_state.done.items
+    c.loop-place.run_state.states.items c.loop-place.run_state.queues.items c.loop-place.jobs
 here g c many low high was = record {
   good = c.requires.scene.good;
   moves = firings_move_on g.A.Actor.steps c.history_grows_by_firing.ensures;
@@ -67,7 +67,7 @@ loop-place-preserved g c =
           settled_next (now many low high was) d c.settle_at.ensures.queues c.settle_at.ensures.states
           c.settle_at.ensures.done c.settle_at.new.job;
       done = counts_next (now b.0 b.1 b.2 b.3) d c.settle_at.ensures.queues c.settle_at.ensures.states
-          c.settle_at.ensures.done c.settle_at.new.job c.args.stage.now.done.items c.loop-place.invariant.done;
+          c.settle_at.ensures.done c.settle_at.new.job c.args.run_state.now.done.items c.loop-place.invariant.done;
       counted = ap length c.settle_at.ensures.done
           ∙ (length-set _ _ _ ∙ c.loop-place.invariant.counted);
       blocks = kept_set c.args.jobs.now c.loop-place.jobs c.loop-place.place c.settle_at.new.job d
@@ -80,8 +80,9 @@ returns-clause-settled g c = λ many low high was.
     let e : c.loop-place.place ≡ length c.args.jobs.now =
     omega (arith, c.loop-place-test.false, c.loop-place.auto.place-end, c.loop-place.auto.jobs) in
     subst (λ i. IsSettling g.A.Actor.steps c.args.scene.now.net.now (lists c.args.scene.now.inputs.now) many low high
-    (actors_of c.args.jobs.now) i (λ a. get_or c.loop-place.stage.done.items a 0) c.loop-place.stage.states.items
-    c.loop-place.stage.queues.items
+    (actors_of c.args.jobs.now) i (λ a. get_or c.loop-place.run_state.done.items a 0)
+    c.loop-place.run_state.states.items
+    c.loop-place.run_state.queues.items
     c.loop-place.jobs) e
     (c.loop-place.invariant.settled many low high was)
 
@@ -90,5 +91,5 @@ returns-clause-done g c = λ a.
     let acts = actors_of c.args.jobs.now in
     let e : c.loop-place.place ≡ length c.args.jobs.now =
     omega (arith, c.loop-place-test.false, c.loop-place.auto.place-end, c.loop-place.auto.jobs) in
-    c.loop-place.invariant.done a ∙ ap (λ w. get_or c.args.stage.now.done.items a 0 + times w a)
+    c.loop-place.invariant.done a ∙ ap (λ w. get_or c.args.run_state.now.done.items a 0 + times w a)
     (take_all c.loop-place.place acts (omega (arith, e, length-map c.args.jobs.now (λ j. j.actor))))

@@ -14,7 +14,7 @@ run_block-requires-clause-start g c = λ κs within.
     let n = c.args.scene.now.net.now in
     let net = nets_have_facts s n c.requires.scene.accepted in
     let q = c.args.timetable.now.repetitions.now in (
-      (λ a. c.args.blocks * (c.args.timetable.now.j * get_or q a 0)),
+      (λ a. c.args.blocks * (c.args.timetable.now.blocking * get_or q a 0)),
       block_begins s n net.alike (graphs_are_sound (graph_of s n) net.graph) q
           (graphs_have_periods (graph_of s n) q net.graph c.requires.period.is) c.loop.invariant.rests c.loop-test.true,
     )
@@ -43,7 +43,7 @@ loop-preserved g c =
     let period = graphs_have_periods (graph_of s n) q net.graph c.requires.period.is in
     record {
       rests = block_ends s n net.alike sound q period c.loop.invariant.rests c.run_block.ensures.done
-          (c.run_block.ensures.over (λ a. c.args.blocks * (c.args.timetable.now.j * get_or q a 0))
+          (c.run_block.ensures.over (λ a. c.args.blocks * (c.args.timetable.now.blocking * get_or q a 0))
           (block_begins s n net.alike sound q period c.loop.invariant.rests c.loop-test.true));
       counts = c.run_block.ensures.counts ∙ c.loop.invariant.counts;
       blocks = keep_twice c.args.jobs.now c.loop.jobs c.run_block.new.jobs c.loop.invariant.blocks
@@ -57,7 +57,8 @@ returns g c =
     let e : c.loop.counter ≡ c.args.blocks = omega (arith, c.loop-test.false, c.loop.auto.counter-end) in
     record {
       over = subst (λ b. IsResting s n (lists c.args.scene.now.inputs.now) c.args.timetable.now.repetitions.now
-          c.args.timetable.now.j c.args.blocks b (λ a. get_or c.loop.stage.done.items a 0) c.loop.stage.states.items
-          c.loop.stage.queues.items) e
+          c.args.timetable.now.blocking c.args.blocks b (λ a. get_or c.loop.run_state.done.items a 0)
+          c.loop.run_state.states.items
+          c.loop.run_state.queues.items) e
           c.loop.invariant.rests;
     }

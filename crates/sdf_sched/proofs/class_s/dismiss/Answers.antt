@@ -8,15 +8,15 @@ use Rattle.sdf_sched.proofs.Updates.{taken_out}
 use Rattle.sdf_sched.proofs.Tested.{tested_by, whole}
 use Rattle.sdf_sched.proofs.class_s.dismiss.Goals as goal
 
-pub returns-then-not-test-clause-tested : goal.returns-then-not-test-clause-tested
-returns-then-not-test-clause-tested c =
+pub returns-then-not-check_runnable-clause-tested : goal.returns-then-not-check_runnable-clause-tested
+returns-then-not-check_runnable-clause-tested c =
     let xs = c.args.candidates.now.runnable.items in
     let ws = c.args.candidates.now.awaited.items in
-    let vs = c.test.new.awaited in
+    let vs = c.check_runnable.new.awaited in
     let is : c.index-actor.result.now ≡ get_or xs c.args.at 0 =
     get_or_read xs c.args.at c.index-actor.result.now c.requires.place c.index-actor.ensures 0 in
-    let long : length vs ≡ length ws = rw c.deref_mut.ensures.value at c.test.ensures.each in
-    let others = rw c.deref_mut.ensures.value at c.test.ensures.others in
+    let long : length vs ≡ length ws = rw c.deref_mut.ensures.value at c.check_runnable.ensures.each in
+    let others = rw c.deref_mut.ensures.value at c.check_runnable.ensures.others in
     rw (
       c.remove.ensures.items,
       whole c.args.candidates.now.awaited.len vs (drop (length vs) ws)
@@ -25,6 +25,6 @@ returns-then-not-test-clause-tested c =
     (subst (λ a. IsTested (rates c.args.counts.now.graph) (slice_index c.args.firings.now)
     (slice_index c.args.counts.now.fired) a xs ws (remove xs c.args.at) vs) is
     (tested_by (rates c.args.counts.now.graph) (slice_index c.args.firings.now) (slice_index c.args.counts.now.fired)
-    c.index-actor.result.now xs (remove xs c.args.at) ws vs long others c.test.ensures.here
+    c.index-actor.result.now xs (remove xs c.args.at) ws vs long others c.check_runnable.ensures.here
     (taken_out xs c.requires.rising c.index-actor.result.now c.args.at c.requires.place (sym is) _
-    (λ on. false≢true (c.if-not-test.ensures.fires.1 on)))))
+    (λ on. false≢true (c.if-not-check_runnable.ensures.fires.1 on)))))

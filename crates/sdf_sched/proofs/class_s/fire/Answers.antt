@@ -2,9 +2,9 @@ use Rattle.std.proofs.Common.{◌≡◌, ℕ, ◌<◌, None, Option, length, Lis
 use Rattle.std.proofs.Common.{arith}
 use Rattle.std.proofs.lemmas.Bool.{false≢true}
 use Rattle.std.proofs.lemmas.List.{get_or_read}
-use Rattle.sdf_graph.specs.Rates.{Edge, channel, rates, Shape, no_channel}
+use Rattle.sdf_graph.specs.Rates.{ChannelValue, channel, rates, GraphValue, no_channel}
 use Rattle.sdf_graph.specs.Sequences.{IsRunnable}
-use Rattle.sdf_graph.specs.Tally.{Tally}
+use Rattle.sdf_graph.specs.CountsValue.{CountsValue}
 use Rattle.sdf_graph.proofs.Theorems.{graphs_are_sound}
 use Rattle.sdf_sched.specs.ClassS.{IsTested}
 use Rattle.sdf_sched.proofs.Updates.{stands_at}
@@ -20,7 +20,7 @@ fire-requires-clause-known c =
     omega (
       arith,
       ((c.requires.list.list.each (get_or xs c.args.at 0)).0 (stands_at xs _ c.args.at c.requires.place refl)).0,
-      ap (λ (s : Shape). s.actors) c.requires.same,
+      ap (λ (s : GraphValue). s.actors) c.requires.same,
     )
 
 pub loop-channel-init : goal.loop-channel-init
@@ -30,14 +30,14 @@ loop-channel-init c =
     let is : c.index-actor.result.now ≡ get_or xs c.args.at 0 =
     get_or_read xs c.args.at c.index-actor.result.now c.requires.place c.index-actor.ensures 0 in
     let same : c.fire.new.self.graph ≡ c.args.graph.now =
-    ap (λ (t : Tally). t.graph) c.fire.ensures ∙ c.requires.same in
+    ap (λ (t : CountsValue). t.graph) c.fire.ensures ∙ c.requires.same in
     let known = ((c.requires.list.list.each (get_or xs c.args.at 0)).0
     (stands_at xs _ c.args.at c.requires.place refl)).0 in
     record {
       list = after_firing c.args.graph.now c.fire.new.self.graph same
           (graphs_are_sound c.args.graph.now c.channels-channels.ensures.shape) _ c.args.counts.now.fired
           c.fire.new.self.fired c.index-actor.result.now (omega (arith, c.requires.each))
-          (ap (λ (t : Tally). t.fired) c.fire.ensures)
+          (ap (λ (t : CountsValue). t.fired) c.fire.ensures)
           xs c.dismiss.new.candidates.runnable.items ws c.dismiss.new.candidates.awaited.items c.requires.list
           (subst (λ a. IsTested (rates c.fire.new.self.graph) (slice_index c.args.firings.now)
           (slice_index c.fire.new.self.fired) a xs ws c.dismiss.new.candidates.runnable.items
@@ -52,14 +52,14 @@ admit-requires-clause-below c = λ a h. omega (arith, (c.loop-channel.invariant.
 pub admit-requires-clause-listed : goal.admit-requires-clause-listed
 admit-requires-clause-listed c =
     let same : c.fire.new.self.graph ≡ c.args.graph.now =
-    ap (λ (t : Tally). t.graph) c.fire.ensures ∙ c.requires.same in
-    λ h. subst (λ (s : Shape). IsRunnable (rates s) (slice_index c.args.firings.now)
+    ap (λ (t : CountsValue). t.graph) c.fire.ensures ∙ c.requires.same in
+    λ h. subst (λ (s : GraphValue). IsRunnable (rates s) (slice_index c.args.firings.now)
     (slice_index c.fire.new.self.fired) c.fed.inside.to) (sym same) (c.loop-channel.invariant.list.each _ h)
 
 pub loop-channel-preserved : goal.loop-channel-preserved
 loop-channel-preserved c =
     let same : c.fire.new.self.graph ≡ c.args.graph.now =
-    ap (λ (t : Tally). t.graph) c.fire.ensures ∙ c.requires.same in
+    ap (λ (t : CountsValue). t.graph) c.fire.ensures ∙ c.requires.same in
     let at = get_or c.outgoing-channel-items.result.now c.loop-channel.channel-index 0 in
     let known : at < length c.channels-channels.result.now =
     omega (
@@ -70,8 +70,8 @@ loop-channel-preserved c =
     let read = get_or_read c.channels-channels.result.now at c.index-channels-channel.result known
     c.index-channels-channel.is no_channel in
     let to : c.fed.inside.to ≡ (channel c.args.graph.now at).to =
-    ap (λ (e : Edge). e.to) (c.fed.view_is ∙ read)
-    ∙ ap (λ (chs : List Edge). (get_or chs at no_channel).to) c.channels-channels.ensures.list in
+    ap (λ (e : ChannelValue). e.to) (c.fed.view_is ∙ read)
+    ∙ ap (λ (chs : List ChannelValue). (get_or chs at no_channel).to) c.channels-channels.ensures.list in
     let xs = c.loop-channel.candidates.runnable.items in
     let ws = c.loop-channel.candidates.awaited.items in
     elim c.if-awaits.branch [

@@ -9,7 +9,7 @@ loop-actor-preserved c =
     let s = c.args.of.now in
     let i : ℕ = c.loop-actor.actor in
     let count : get_or s.firings i 0 ≡ c.from.result * c.from-in-loop-actor.result =
-    count_is c.args.j c.args.reps.now s.firings i c.from.result c.from-in-loop-actor.result
+    count_is c.args.blocking c.args.reps.now s.firings i c.from.result c.from-in-loop-actor.result
     (c.from.result * c.from-in-loop-actor.result) c.requires c.from.ensures c.from-in-loop-actor.ensures refl in
     elim c.if-count-gt0.branch [
       | then-count-gt0 w ↦
@@ -23,5 +23,5 @@ loop-actor-preserved c =
 
 pub returns : goal.returns
 returns c = first_all c.args.of.now c.loop-actor.actor c.loop-actor.most
-    (omega (arith, c.loop-actor-test.false, ap length c.requires, block_length c.args.j c.args.reps.now))
+    (omega (arith, c.loop-actor-test.false, ap length c.requires, block_length c.args.blocking c.args.reps.now))
     c.loop-actor.invariant

@@ -9,6 +9,7 @@ returns c =
     let q = c.args.period.now.repetitions in
     let e = c.in_ok-of.ensures in (
       e.0,
-      span_is (rates c.args.graph.now) (block c.args.j q) (λ a. get_or c.args.costs.now a 0) c.in_ok-of.of
-          c.first_levels.result (block_length c.args.j q ∙ c.requires.period.least.is.all) e.1 c.first_levels.ensures,
+      span_is (rates c.args.graph.now) (block c.args.blocking q) (λ a. get_or c.args.costs.now a 0) c.in_ok-of.of
+          c.first_levels.result (block_length c.args.blocking q ∙ c.requires.period.least.is.all) e.1
+          c.first_levels.ensures,
     )

@@ -8,19 +8,19 @@ pub loop-actor-preserved : goal.loop-actor-preserved
 loop-actor-preserved c =
     let reps = c.args.reps.now in
     let costs = c.args.costs.now in
-    let j : ℕ = c.args.j in
+    let blocking : ℕ = c.args.blocking in
     let i : ℕ = c.loop-actor.actor in
-    let f : ℕ → ℕ = λ a. get_or (block j reps) a 0 * get_or costs a 0 in
+    let f : ℕ → ℕ = λ a. get_or (block blocking reps) a 0 * get_or costs a 0 in
     let step : i + 1 ≡ suc i = omega arith in
     let more : sum_to f (i + 1) ≡ sum_to f i + f i = ap (sum_to f) step in
-    let at : get_or (block j reps) i 0 ≡ j * get_or reps i 0 = block_at j reps i in
-    let fires : c.from.result * c.from-in-loop-actor.result ≡ get_or (block j reps) i 0 =
+    let at : get_or (block blocking reps) i 0 ≡ blocking * get_or reps i 0 = block_at blocking reps i in
+    let fires : c.from.result * c.from-in-loop-actor.result ≡ get_or (block blocking reps) i 0 =
     (λ k. c.from.ensures k * c.from-in-loop-actor.ensures k) ∙ sym at in
     let paid : c.from-in-loop-actor-2.result ≡ get_or costs i 0 = c.from-in-loop-actor-2.ensures ∙ c.of.ensures.is in
     let term : c.from.result * c.from-in-loop-actor.result * c.from-in-loop-actor-2.result ≡ f i =
     (λ k. fires k * paid k) in
-    let low = term_small (get_or (block j reps) i 0) (get_or costs i 0)
-    (omega (arith, at, firings_few j reps i c.requires.short))
+    let low = term_small (get_or (block blocking reps) i 0) (get_or costs i 0)
+    (omega (arith, at, firings_few blocking reps i c.requires.short))
     (omega (arith, c.of.ensures.is, c.of.ensures.cost.1)) in
     record {
       work = omega (arith, c.loop-actor.invariant.work, more, term);

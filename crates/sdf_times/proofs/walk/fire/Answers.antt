@@ -16,13 +16,13 @@ returns c =
     let j : ℕ = c.args.column in
     let before : c.index.result.now ≡ get_or until j 0 =
     get_or_read until j c.index.result.now c.requires.column c.index.ensures 0 in
-    let needs = subst (λ xs. IsGreatest (IsNeedEnd r cost (start_in xs) f) c.ready.result) c.deref.ensures.value
-    c.ready.ensures in
+    let needs = subst (λ xs. IsGreatest (IsNeedEnd r cost (start_in xs) f) c.ready_time.result) c.deref.ensures.value
+    c.ready_time.ensures in
     let is = subst (λ (s : ℕ). IsGreatest (λ u. (u ≡ s) ⊎ IsNeedEnd r cost (start_in starts) f u)
     c.max-start.result) before
     (subst (IsGreatest (λ u. (u ≡ c.index.result.now) ⊎ IsNeedEnd r cost (start_in starts) f u))
     (sym c.max-start.ensures) (greatest_or (IsNeedEnd r cost (start_in starts) f) c.index.result.now
-    c.ready.result needs)) in
+    c.ready_time.result needs)) in
     let line : c.index_mut-2.result.now ≡ get_or starts f.actor [] =
     get_or_read starts f.actor c.index_mut-2.result.now
     (omega (arith, c.requires.prepared.of, c.requires.prepared.actors)) c.index_mut-2.ensures.value [] in

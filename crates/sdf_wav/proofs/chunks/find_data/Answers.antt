@@ -36,10 +36,10 @@ loop-preserved g c = record {
 
 pub returns-clause-bytes : goal.returns-clause-bytes
 returns-clause-bytes g c =
-    Reads-last (λ x. x) _ (data_at 65536 None) (last_at c.loop.seen) c.read_last.result
+    Reads-last (λ x. x) _ (data_at 65536 None) (last_at c.loop.seen) c.read_data_header.result
     (Known-weaker c.loop.invariant.read (λ x y p. (
       p.0
           ∙ data_at_last 65536 c.loop.counter c.loop.seen y c.loop-test.false,
       p.1,
     )))
-    c.read_last.ensures.bytes
+    c.read_data_header.ensures.bytes

@@ -10,4 +10,4 @@ returns-then-actor-actors c =
 
 pub returns-else-actor-actors : goal.returns-else-actor-actors
 returns-else-actor-actors c =
-    subst (ArePortsOf c.nothing.result) (node_past c.args.actors.now c.args.actor (omega arith)) c.nothing.ensures
+    subst (ArePortsOf c.no_ports.result) (node_past c.args.actors.now c.args.actor (omega arith)) c.no_ports.ensures

@@ -1,16 +1,16 @@
 use Rattle.std.proofs.Common.{◌≡◌, ◌<◌, ℕ, [], None, length, get_or, sym, ap, ◌∙◌, subst}
 use Rattle.sdf_actor.specs.declared.node.Node.TheVariants.{Sink}
-use Rattle.sdf_actor.specs.Begun.{MayBegin}
-use Rattle.sdf_actor.specs.BegunSteps.{begun_steps}
+use Rattle.sdf_actor.specs.Resumed.{MayBegin}
+use Rattle.sdf_actor.specs.ResumedSteps.{resumed_steps}
 use Rattle.sdf_actor.specs.Nets.{IsNet, no_wire}
-use Rattle.sdf_actor.specs.Rests.{IsNodeIn, BeginsWith}
+use Rattle.sdf_actor.specs.NetStates.{IsResumedNode, IsResumedNet}
 use Rattle.sdf_actor.specs.Wires.{lists, wires, netlist}
-use Rattle.sdf_actor.proofs.BegunGraphs.{begins_with, graph_same}
+use Rattle.sdf_actor.proofs.ResumedGraphs.{begins_with, graph_same}
 use Rattle.sdf_actor.proofs.Fitting.{may_begin}
 use Rattle.sdf_actor.proofs.net.Net.begun.Goals as goal
 
-pub nodes_in-requires-clause-each : goal.nodes_in-requires-clause-each
-nodes_in-requires-clause-each g c κs within = λ a h.
+pub resumed_nodes-requires-clause-each : goal.resumed_nodes-requires-clause-each
+resumed_nodes-requires-clause-each g c κs within = λ a h.
     let s = g.A.Actor.steps in
     let nodes : c.deref.result.now ≡ c.args.self.now.nodes = c.deref.ensures.value ∙ ap (λ v. v.nodes) c.self.view_is in
     let good = subst (IsNet s) c.self.view_is c.self.invariant.is_net in
@@ -22,17 +22,17 @@ nodes_in-requires-clause-each g c κs within = λ a h.
 pub returns-in-Ok-clause-begins : goal.returns-in-Ok-clause-begins
 returns-in-Ok-clause-begins g c =
     let s = g.A.Actor.steps in
-    let r = begun_steps g.A.Actor in
+    let r = resumed_steps g.A.Actor in
     let nodes = c.deref.ensures.value in
     let links = c.deref-3.ensures.value in
     let made = c.in_ok-nodes.nodes.items in
     let joined = c.in_ok-links.links.items in
-    subst (λ m. BeginsWith s r c.args.self.now c.args.rest.now m) (sym c.in-Ok.ensures.0)
-    (subst (λ v. BeginsWith s r v c.args.rest.now (netlist made joined))
+    subst (λ m. IsResumedNet s r c.args.self.now c.args.rest.now m) (sym c.in-Ok.ensures.0)
+    (subst (λ v. IsResumedNet s r v c.args.rest.now (netlist made joined))
     ((λ κ. netlist (nodes κ) (links κ)) ∙ c.self.view_is)
     (begins_with s r c.deref.result.now c.deref-3.result.now c.args.rest.now made joined c.in_ok-nodes.ensures.all
     (subst (λ v. (a : ℕ) → a < length c.deref.result.now →
-    IsNodeIn s r (get_or v a None) (get_or c.deref.result.now a (Sink 0 0)) (get_or made a (Sink 0 0)))
+    IsResumedNode s r (get_or v a None) (get_or c.deref.result.now a (Sink 0 0)) (get_or made a (Sink 0 0)))
     c.deref-2.ensures.value c.in_ok-nodes.ensures.each)
     c.in_ok-links.ensures.all
     (subst (λ v. (d : ℕ) → d < length c.deref-3.result.now →

@@ -4,8 +4,8 @@ use Rattle.sdf_actor.proofs.Numbers.{too_large, some_moved, none_moves}
 use Rattle.sdf_actor.proofs.node.Node.has_rates.Goals.{then-moves, else-moves}
 use Rattle.sdf_actor.proofs.node.Node.has_rates.Goals as goal
 
-pub returns-then-rate-gt-MOST_RATE : goal.returns-then-rate-gt-MOST_RATE
-returns-then-rate-gt-MOST_RATE g c =
+pub returns-then-rate-gt-MAX_RATE : goal.returns-then-rate-gt-MAX_RATE
+returns-then-rate-gt-MAX_RATE g c =
     sym (too_large g.A.Actor.steps c.args.side c.args.self.now c.args.port c.loop-phase.phase
     (omega (arith, c.cycle-cycle.ensures)) (omega (arith, c.rate-rate.ensures)))
 

@@ -5,9 +5,9 @@ use Rattle.sdf_kit.specs.Kit.{kit_steps}
 use Rattle.sdf_prec.specs.Blocks.{block}
 use Rattle.sdf_prec.specs.Costs.{AreCosts}
 use Rattle.sdf_times.specs.Times.{work_of}
-use Rattle.sdf_analyze.specs.Figures.{Figured}
+use Rattle.sdf_analyze.specs.Figures.{FiguresValue}
 use Rattle.sdf_analyze.proofs.Works.{figures_of, work_small}
-use Rattle.sdf_analyze.specs.declared.figures.TheConstants.{MOST_WORK}
+use Rattle.sdf_analyze.specs.declared.figures.TheConstants.{MAX_WORK}
 use Rattle.sdf_analyze.proofs.figures.Figures.with_span.Goals as goal
 
 pub work-work-requires-clause-few : goal.work-work-requires-clause-few
@@ -38,7 +38,7 @@ invariant_of-result c =
     (slice_index c.in_ok-costs.costs)) c.repetitions.ensures
     ∙ ap (λ costs. work_of (length c.args.period.now.repetitions) (slice_index (block c.args.options.now.blocking
     c.args.period.now.repetitions)) (slice_index costs)) c.in_ok-costs.ensures) in
-    let bound : c.work-work.result ≤ MOST_WORK = omega (arith, work, small, few_reps) in
+    let bound : c.work-work.result ≤ MAX_WORK = omega (arith, work, small, few_reps) in
     bound
 
 pub returns : goal.returns
@@ -47,7 +47,7 @@ returns c =
     c.graph-graph.ensures.value ∙ ap (graph_of kit_steps) c.net.ensures.value in
     let actors : length c.repetitions.result.now ≡ c.graph-graph.result.now.actors =
     ap length c.repetitions.ensures ∙ (c.requires.period.least.is.all ∙ ap (λ g. g.actors) (sym graph)) in
-    let figures : Figured = record {
+    let figures : FiguresValue = record {
       starts = c.in_ok-times.times.starts;
       makespan = c.in_ok-times.times.makespan;
       work = c.work-work.result;

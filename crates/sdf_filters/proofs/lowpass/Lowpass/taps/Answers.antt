@@ -2,7 +2,7 @@ use Rattle.std.proofs.Common.{◌≡◌, ◌^◌, ℤ, pos, List, ◌++◌, take
 use Rattle.std.proofs.Common.{FitsSigned, to_z, of_z, w64}
 use Rattle.std.proofs.lemmas.Int.{to_z-of_z}
 use Rattle.std.proofs.Math.Seq.{take-append_seam}
-use Rattle.sdf_filters.specs.Asked.{Asked}
+use Rattle.sdf_filters.specs.LowpassValue.{LowpassValue}
 use Rattle.sdf_filters.specs.Lowpass.{AreLowpassTaps, CanBeSymmetric}
 use Rattle.sdf_filters.proofs.Mirrored.{can_be}
 use Rattle.sdf_filters.proofs.lowpass.Lowpass.taps.Goals as goal
@@ -25,5 +25,5 @@ returns c =
       symmetric = λ can. c.in_ok-settle.ensures.symmetric (can_be c.self.inside.up c.args.count c.self.inside.shift
           (length c.deref_mut.result.now) (to_z w64 (of_z w64 c.from.result)) known
           (to_z-of_z w64 c.from.result fits ∙ total)
-          (subst (λ (f : Asked). CanBeSymmetric f c.args.count) (sym c.self.view_is) can));
+          (subst (λ (f : LowpassValue). CanBeSymmetric f c.args.count) (sym c.self.view_is) can));
     })

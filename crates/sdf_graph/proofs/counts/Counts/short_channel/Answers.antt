@@ -1,8 +1,8 @@
 use Rattle.std.proofs.Common.{rules, List, ℕ, subst, length, get_or, MatchOption}
 use Rattle.std.proofs.lemmas.List.{get_or_read}
-use Rattle.sdf_graph.specs.Rates.{Edge, rates}
+use Rattle.sdf_graph.specs.Rates.{ChannelValue, rates}
 use Rattle.sdf_graph.specs.Sequences.{IsEnabled, IsShortChannel}
-use Rattle.sdf_graph.specs.Tally.{Tally, counts}
+use Rattle.sdf_graph.specs.CountsValue.{CountsValue, counts}
 use Rattle.sdf_graph.specs.Moved.{HoldEnough, IsFirstShort}
 use Rattle.sdf_graph.proofs.Moves.{short_or_enabled}
 use Rattle.sdf_graph.proofs.counts.Counts.short_channel.Goals as goal
@@ -18,11 +18,11 @@ returns c =
     (length c.incoming.result.now)) (IsFirstShort c.channels.result.now
     (get_or c.self.inside.fired.items c.args.actor 0) held c.incoming.result.now))
     c.deref.ensures.value first in
-    subst (λ (t : Tally). MatchOption c.first_short.result (IsEnabled (rates t.graph) (counts t) c.args.actor)
+    subst (λ (t : CountsValue). MatchOption c.first_short.result (IsEnabled (rates t.graph) (counts t) c.args.actor)
     (IsShortChannel (rates t.graph) (counts t) c.args.actor)) c.self.view_is
     (short_or_enabled _ c.self.inside.held.items c.self.invariant c.args.actor c.incoming.result.now
     c.incoming.ensures.channels c.first_short.result
-    (subst (λ (chs : List Edge). MatchOption c.first_short.result
+    (subst (λ (chs : List ChannelValue). MatchOption c.first_short.result
     (HoldEnough chs (get_or c.self.inside.fired.items c.args.actor 0) c.self.inside.held.items
     c.incoming.result.now (length c.incoming.result.now))
     (IsFirstShort chs (get_or c.self.inside.fired.items c.args.actor 0) c.self.inside.held.items

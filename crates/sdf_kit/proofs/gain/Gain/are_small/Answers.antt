@@ -20,11 +20,11 @@ pub returns : goal.returns
 returns c = λ e k l.
     let gain : ℤ = c.self.inside.gain in
     let same : to_z w32 (of_z w32 gain) ≡ gain = to_z-of_z w32 gain (fits_wider gain c.self.invariant.gain) in
-    let within = c.most.ensures k l in
+    let within = c.max_abs.ensures k l in
     let factor : c.from-2.result ≡ unsigned_abs gain =
     c.from-2.ensures ∙ (c.unsigned_abs.ensures.value ∙ ap unsigned_abs same) in
-    let product : c.from.result * c.from-2.result ≡ c.most.result * unsigned_abs gain =
+    let product : c.from.result * c.from-2.result ≡ c.max_abs.result * unsigned_abs gain =
     rw (c.from.ensures, factor) refl in
     subst (λ g. unsigned_abs (get_or c.args.taken.now k (pos 0) *ℤ g.gain) ≤ 2147467263) c.self.view_is
-    (product_small (get_or c.args.taken.now k (pos 0)) gain c.most.result within
+    (product_small (get_or c.args.taken.now k (pos 0)) gain c.max_abs.result within
     (omega (arith, leb-true (c.from.result * c.from-2.result) c.from-3.result e, product, c.from-3.ensures)))

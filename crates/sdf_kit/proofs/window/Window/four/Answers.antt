@@ -25,51 +25,51 @@ pub four_dots-b-requires-clause-room : goal.four_dots-b-requires-clause-room
 four_dots-b-requires-clause-room c =
     omega (arith, c.requires.room, front_long c.self.invariant c.self.view_is (inr c.front.ensures))
 
-pub settle_small-requires-clause-small : goal.settle_small-requires-clause-small
-settle_small-requires-clause-small c =
+pub rescale_small-requires-clause-small : goal.rescale_small-requires-clause-small
+rescale_small-requires-clause-small c =
     quiet_small c.self.invariant c.self.view_is c.requires.branch c.in-Quiet.is c.front-high.ensures
     (get_or c.four_dots-a.result 0 (pos 0))
     c.args.at (omega (arith, c.requires.room))
     (read c.four_dots-a.result 0 _ (ap (λ xs. get_or xs 0 (pos 0)) c.four_dots-a.ensures))
 
-pub settle_small-requires-in-Quiet-clause-small : goal.settle_small-requires-in-Quiet-clause-small
-settle_small-requires-in-Quiet-clause-small c =
+pub rescale_small-requires-in-Quiet-clause-small : goal.rescale_small-requires-in-Quiet-clause-small
+rescale_small-requires-in-Quiet-clause-small c =
     quiet_small c.self.invariant c.self.view_is c.requires.branch c.in-Quiet.is c.front-high.ensures
     (get_or c.four_dots-a.result 1 (pos 0))
     (c.args.at + c.args.step) (omega (arith, c.requires.room))
     (read c.four_dots-a.result 1 _ (ap (λ xs. get_or xs 1 (pos 0)) c.four_dots-a.ensures))
 
-pub settle_small-requires-in-Quiet-2-clause-small : goal.settle_small-requires-in-Quiet-2-clause-small
-settle_small-requires-in-Quiet-2-clause-small c =
+pub rescale_small-requires-in-Quiet-2-clause-small : goal.rescale_small-requires-in-Quiet-2-clause-small
+rescale_small-requires-in-Quiet-2-clause-small c =
     quiet_small c.self.invariant c.self.view_is c.requires.branch c.in-Quiet.is c.front-high.ensures
     (get_or c.four_dots-a.result 2 (pos 0))
     (c.args.at + 2 * c.args.step) (omega (arith, c.requires.room))
     (read c.four_dots-a.result 2 _ (ap (λ xs. get_or xs 2 (pos 0)) c.four_dots-a.ensures))
 
-pub settle_small-requires-in-Quiet-3-clause-small : goal.settle_small-requires-in-Quiet-3-clause-small
-settle_small-requires-in-Quiet-3-clause-small c =
+pub rescale_small-requires-in-Quiet-3-clause-small : goal.rescale_small-requires-in-Quiet-3-clause-small
+rescale_small-requires-in-Quiet-3-clause-small c =
     quiet_small c.self.invariant c.self.view_is c.requires.branch c.in-Quiet.is c.front-high.ensures
     (get_or c.four_dots-a.result 3 (pos 0))
     (c.args.at + 3 * c.args.step) (omega (arith, c.requires.room))
     (read c.four_dots-a.result 3 _ (ap (λ xs. get_or xs 3 (pos 0)) c.four_dots-a.ensures))
 
-pub settle-requires-clause-small : goal.settle-requires-clause-small
-settle-requires-clause-small c =
+pub rescale-requires-clause-small : goal.rescale-requires-clause-small
+rescale-requires-clause-small c =
     wide_settles c.self.invariant c.self.view_is c.requires.branch c.front-high.ensures c.args.at
     c.four_wide_dots-sums.ensures.a
 
-pub settle-requires-in-Wide-clause-small : goal.settle-requires-in-Wide-clause-small
-settle-requires-in-Wide-clause-small c =
+pub rescale-requires-in-Wide-clause-small : goal.rescale-requires-in-Wide-clause-small
+rescale-requires-in-Wide-clause-small c =
     wide_settles c.self.invariant c.self.view_is c.requires.branch c.front-high.ensures (c.args.at + c.args.step)
     c.four_wide_dots-sums.ensures.b
 
-pub settle-requires-in-Wide-2-clause-small : goal.settle-requires-in-Wide-2-clause-small
-settle-requires-in-Wide-2-clause-small c =
+pub rescale-requires-in-Wide-2-clause-small : goal.rescale-requires-in-Wide-2-clause-small
+rescale-requires-in-Wide-2-clause-small c =
     wide_settles c.self.invariant c.self.view_is c.requires.branch c.front-high.ensures (c.args.at + 2 * c.args.step)
     c.four_wide_dots-sums.ensures.c
 
-pub settle-requires-in-Wide-3-clause-small : goal.settle-requires-in-Wide-3-clause-small
-settle-requires-in-Wide-3-clause-small c =
+pub rescale-requires-in-Wide-3-clause-small : goal.rescale-requires-in-Wide-3-clause-small
+rescale-requires-in-Wide-3-clause-small c =
     wide_settles c.self.invariant c.self.view_is c.requires.branch c.front-high.ensures (c.args.at + 3 * c.args.step)
     c.four_wide_dots-sums.ensures.d
 
@@ -78,19 +78,19 @@ returns-in-Quiet c =
     let r0 = quiet_output c.self.invariant c.self.view_is c.requires.branch c.in-Quiet.is c.front-high.ensures
     (get_or c.four_dots-a.result 0 (pos 0)) c.args.at c.args.shift (omega (arith, c.requires.room))
     (read c.four_dots-a.result 0 _ (ap (λ xs. get_or xs 0 (pos 0)) c.four_dots-a.ensures))
-    c.settle_small.ensures (record { sfits = c.settle_small.type_inv }) in
+    c.rescale_small.ensures (record { sfits = c.rescale_small.type_inv }) in
     let r1 = quiet_output c.self.invariant c.self.view_is c.requires.branch c.in-Quiet.is c.front-high.ensures
     (get_or c.four_dots-a.result 1 (pos 0)) (c.args.at + c.args.step) c.args.shift (omega (arith, c.requires.room))
     (read c.four_dots-a.result 1 _ (ap (λ xs. get_or xs 1 (pos 0)) c.four_dots-a.ensures))
-    c.settle_small-in-Quiet.ensures (record { sfits = c.settle_small-in-Quiet.type_inv }) in
+    c.rescale_small-in-Quiet.ensures (record { sfits = c.rescale_small-in-Quiet.type_inv }) in
     let r2 = quiet_output c.self.invariant c.self.view_is c.requires.branch c.in-Quiet.is c.front-high.ensures
     (get_or c.four_dots-a.result 2 (pos 0)) (c.args.at + 2 * c.args.step) c.args.shift (omega (arith, c.requires.room))
     (read c.four_dots-a.result 2 _ (ap (λ xs. get_or xs 2 (pos 0)) c.four_dots-a.ensures))
-    c.settle_small-in-Quiet-2.ensures (record { sfits = c.settle_small-in-Quiet-2.type_inv }) in
+    c.rescale_small-in-Quiet-2.ensures (record { sfits = c.rescale_small-in-Quiet-2.type_inv }) in
     let r3 = quiet_output c.self.invariant c.self.view_is c.requires.branch c.in-Quiet.is c.front-high.ensures
     (get_or c.four_dots-a.result 3 (pos 0)) (c.args.at + 3 * c.args.step) c.args.shift (omega (arith, c.requires.room))
     (read c.four_dots-a.result 3 _ (ap (λ xs. get_or xs 3 (pos 0)) c.four_dots-a.ensures))
-    c.settle_small-in-Quiet-3.ensures (record { sfits = c.settle_small-in-Quiet-3.type_inv }) in
+    c.rescale_small-in-Quiet-3.ensures (record { sfits = c.rescale_small-in-Quiet-3.type_inv }) in
     rw (r0, r1, r2, r3) refl
 
 pub returns-in-Wide : goal.returns-in-Wide
@@ -98,21 +98,21 @@ returns-in-Wide c =
     let r0 = wide_output c.self.invariant c.self.view_is c.requires.branch c.in-Wide.is c.front-high.ensures
     _ c.args.at c.args.shift
     (wide_sent c.self.invariant c.self.view_is c.requires.branch c.front-high.ensures c.args.at
-    c.four_wide_dots-sums.ensures.a) c.settle.ensures (record { sfits = c.settle.type_inv }) in
+    c.four_wide_dots-sums.ensures.a) c.rescale.ensures (record { sfits = c.rescale.type_inv }) in
     let r1 = wide_output c.self.invariant c.self.view_is c.requires.branch c.in-Wide.is c.front-high.ensures
     _ (c.args.at + c.args.step) c.args.shift
     (wide_sent c.self.invariant c.self.view_is c.requires.branch c.front-high.ensures (c.args.at + c.args.step)
-    c.four_wide_dots-sums.ensures.b) c.settle-in-Wide.ensures (record { sfits = c.settle-in-Wide.type_inv }) in
+    c.four_wide_dots-sums.ensures.b) c.rescale-in-Wide.ensures (record { sfits = c.rescale-in-Wide.type_inv }) in
     let r2 = wide_output c.self.invariant c.self.view_is c.requires.branch c.in-Wide.is c.front-high.ensures
     _ (c.args.at + 2 * c.args.step) c.args.shift
     (wide_sent c.self.invariant c.self.view_is c.requires.branch c.front-high.ensures
     (c.args.at + 2 * c.args.step)
-    c.four_wide_dots-sums.ensures.c) c.settle-in-Wide-2.ensures (record { sfits = c.settle-in-Wide-2.type_inv }) in
+    c.four_wide_dots-sums.ensures.c) c.rescale-in-Wide-2.ensures (record { sfits = c.rescale-in-Wide-2.type_inv }) in
     let r3 = wide_output c.self.invariant c.self.view_is c.requires.branch c.in-Wide.is c.front-high.ensures
     _ (c.args.at + 3 * c.args.step) c.args.shift
     (wide_sent c.self.invariant c.self.view_is c.requires.branch c.front-high.ensures
     (c.args.at + 3 * c.args.step)
-    c.four_wide_dots-sums.ensures.d) c.settle-in-Wide-3.ensures (record { sfits = c.settle-in-Wide-3.type_inv }) in
+    c.four_wide_dots-sums.ensures.d) c.rescale-in-Wide-3.ensures (record { sfits = c.rescale-in-Wide-3.type_inv }) in
     rw (r0, r1, r2, r3) refl
 
 pub returns-in-Split : goal.returns-in-Split

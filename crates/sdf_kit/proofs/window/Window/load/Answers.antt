@@ -6,12 +6,12 @@ pub invariant_of-self : goal.invariant_of-self
 invariant_of-self c =
     quiet_loaded c.write_all.new.to c.self.inside.low c.args.pad c.args.kept.now c.args.taken.now c.args.limits
     (omega (arith, c.write_all.ensures.len, c.self.told.0)) c.self.told.1 c.requires.room c.requires.peak
-    c.most.result c.most-2.result c.most.ensures c.most-2.ensures
-    (omega (arith, c.max-most.ensures, c.if-most-peak.true))
-    (omega (arith, c.max-most.ensures, c.if-most-peak.true)) c.write_all.ensures.written
+    c.max_abs.result c.max_abs-2.result c.max_abs.ensures c.max_abs-2.ensures
+    (omega (arith, c.max-max_abs.ensures, c.if-max_abs-peak.true))
+    (omega (arith, c.max-max_abs.ensures, c.if-max_abs-peak.true)) c.write_all.ensures.written
 
-pub returns-then-most-peak-clause-samples : goal.returns-then-most-peak-clause-samples
-returns-then-most-peak-clause-samples c =
+pub returns-then-max_abs-peak-clause-samples : goal.returns-then-max_abs-peak-clause-samples
+returns-then-max_abs-peak-clause-samples c =
     λ e. whole_samples c.write_all.new.to c.self.inside.low c.args.pad c.args.kept.now c.args.taken.now c.args.limits
     (omega (arith, c.write_all.ensures.len, c.self.told.0)) c.self.told.1 c.requires.room c.requires.peak
     c.write_all.ensures.written
@@ -21,10 +21,11 @@ invariant_of-self-then-are_short-2 c =
     wide_loaded c.write_all-then-are_short-2.new.to c.self.inside.low c.args.pad c.args.kept.now c.args.taken.now
     c.args.limits (omega (arith, c.write_all-then-are_short-2.ensures.len, c.self.told.0)) c.self.told.1
     c.requires.room c.requires.peak c.if-limits.true
-    (short_fit c.args.kept.now c.most.result c.most.ensures (omega (arith, c.max-most.ensures, c.if-most-le32768.true))
+    (short_fit c.args.kept.now c.max_abs.result c.max_abs.ensures
+    (omega (arith, c.max-max_abs.ensures, c.if-max_abs-le32768.true))
     (c.are_short.ensures c.if-are_short.true))
-    (short_fit c.args.taken.now c.most-2.result c.most-2.ensures
-    (omega (arith, c.max-most.ensures, c.if-most-le32768.true))
+    (short_fit c.args.taken.now c.max_abs-2.result c.max_abs-2.ensures
+    (omega (arith, c.max-max_abs.ensures, c.if-max_abs-le32768.true))
     (c.are_short-then-are_short.ensures c.if-are_short-2.true)) c.write_all-then-are_short-2.ensures.written
 
 pub returns-then-are_short-2-clause-samples : goal.returns-then-are_short-2-clause-samples
@@ -33,21 +34,22 @@ returns-then-are_short-2-clause-samples c =
     c.args.taken.now c.args.limits (omega (arith, c.write_all-then-are_short-2.ensures.len, c.self.told.0))
     c.self.told.1 c.requires.room c.requires.peak c.write_all-then-are_short-2.ensures.written
 
-pub invariant_of-self-then-most-peak-2 : goal.invariant_of-self-then-most-peak-2
-invariant_of-self-then-most-peak-2 c =
-    split_loaded c.write_all-then-most-peak-2.new.to c.write_all-then-most-peak-2-2.new.to c.args.pad c.args.kept.now
+pub invariant_of-self-then-max_abs-peak-2 : goal.invariant_of-self-then-max_abs-peak-2
+invariant_of-self-then-max_abs-peak-2 c =
+    split_loaded c.write_all-then-max_abs-peak-2.new.to c.write_all-then-max_abs-peak-2-2.new.to c.args.pad
+    c.args.kept.now
     c.args.taken.now c.args.limits
-    (omega (arith, c.write_all-then-most-peak-2.ensures.len, c.self.told.0))
-    (omega (arith, c.write_all-then-most-peak-2-2.ensures.len, c.self.told.1)) c.requires.room c.requires.peak
-    c.most.result c.most-2.result c.most.ensures c.most-2.ensures
-    (omega (arith, c.max-most.ensures, c.if-most-peak-2.true))
-    (omega (arith, c.max-most.ensures, c.if-most-peak-2.true)) c.if-peak-ge-LEAST_PEAK_TO_SPLIT.true
-    c.write_all-then-most-peak-2.ensures.written c.write_all-then-most-peak-2-2.ensures.written
+    (omega (arith, c.write_all-then-max_abs-peak-2.ensures.len, c.self.told.0))
+    (omega (arith, c.write_all-then-max_abs-peak-2-2.ensures.len, c.self.told.1)) c.requires.room c.requires.peak
+    c.max_abs.result c.max_abs-2.result c.max_abs.ensures c.max_abs-2.ensures
+    (omega (arith, c.max-max_abs.ensures, c.if-max_abs-peak-2.true))
+    (omega (arith, c.max-max_abs.ensures, c.if-max_abs-peak-2.true)) c.if-peak-ge-LEAST_PEAK_TO_SPLIT.true
+    c.write_all-then-max_abs-peak-2.ensures.written c.write_all-then-max_abs-peak-2-2.ensures.written
 
-pub returns-then-most-peak-2-clause-samples : goal.returns-then-most-peak-2-clause-samples
-returns-then-most-peak-2-clause-samples c =
-    λ e. split_samples c.write_all-then-most-peak-2.new.to c.write_all-then-most-peak-2-2.new.to c.args.pad
+pub returns-then-max_abs-peak-2-clause-samples : goal.returns-then-max_abs-peak-2-clause-samples
+returns-then-max_abs-peak-2-clause-samples c =
+    λ e. split_samples c.write_all-then-max_abs-peak-2.new.to c.write_all-then-max_abs-peak-2-2.new.to c.args.pad
     c.args.kept.now c.args.taken.now c.args.limits
-    (omega (arith, c.write_all-then-most-peak-2.ensures.len, c.self.told.0))
-    (omega (arith, c.write_all-then-most-peak-2-2.ensures.len, c.self.told.1)) c.requires.room c.requires.peak
-    c.write_all-then-most-peak-2.ensures.written c.write_all-then-most-peak-2-2.ensures.written
+    (omega (arith, c.write_all-then-max_abs-peak-2.ensures.len, c.self.told.0))
+    (omega (arith, c.write_all-then-max_abs-peak-2-2.ensures.len, c.self.told.1)) c.requires.room c.requires.peak
+    c.write_all-then-max_abs-peak-2.ensures.written c.write_all-then-max_abs-peak-2-2.ensures.written

@@ -27,14 +27,14 @@ pub one_dot-b-requires-clause-room : goal.one_dot-b-requires-clause-room
 one_dot-b-requires-clause-room c =
     omega (arith, c.requires.room, front_long c.self.invariant c.self.view_is (inr c.front.ensures))
 
-pub settle_small-requires-clause-small : goal.settle_small-requires-clause-small
-settle_small-requires-clause-small c =
+pub rescale_small-requires-clause-small : goal.rescale_small-requires-clause-small
+rescale_small-requires-clause-small c =
     quiet_small c.self.invariant c.self.view_is c.requires.branch c.in-Quiet.is c.front-high.ensures c.one_dot.result
     c.args.at c.requires.room
     (passed c.one_dot.result _ c.one_dot.ensures)
 
-pub settle-requires-clause-small : goal.settle-requires-clause-small
-settle-requires-clause-small c =
+pub rescale-requires-clause-small : goal.rescale-requires-clause-small
+rescale-requires-clause-small c =
     subst (λ z. unsigned_abs z ≤ 2 ^ 56)
     (sym (to_z-of_z w64 c.wide_dot.result (record { sfits = c.wide_dot.type_inv })
     ∙ (c.wide_dot.ensures ∙ ap (dot c.args.branch.taps.now) c.piece.ensures)))
@@ -44,7 +44,7 @@ pub returns-in-Quiet : goal.returns-in-Quiet
 returns-in-Quiet c =
     quiet_output c.self.invariant c.self.view_is c.requires.branch c.in-Quiet.is c.front-high.ensures c.one_dot.result
     c.args.at c.args.shift c.requires.room
-    (passed c.one_dot.result _ c.one_dot.ensures) c.settle_small.ensures (record { sfits = c.settle_small.type_inv })
+    (passed c.one_dot.result _ c.one_dot.ensures) c.rescale_small.ensures (record { sfits = c.rescale_small.type_inv })
 
 pub returns-in-Wide : goal.returns-in-Wide
 returns-in-Wide c =
@@ -52,7 +52,7 @@ returns-in-Wide c =
     _ c.args.at c.args.shift
     (to_z-of_z w64 c.wide_dot.result (record { sfits = c.wide_dot.type_inv })
     ∙ (c.wide_dot.ensures ∙ ap (dot c.args.branch.taps.now) c.piece.ensures))
-    c.settle.ensures (record { sfits = c.settle.type_inv })
+    c.rescale.ensures (record { sfits = c.rescale.type_inv })
 
 pub returns-in-Split : goal.returns-in-Split
 returns-in-Split c =

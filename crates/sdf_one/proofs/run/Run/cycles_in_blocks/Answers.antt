@@ -10,8 +10,8 @@ use Rattle.sdf_one.proofs.run.Run.cycles_in_blocks.Goals as goal
 fewer : (few many size held : ℕ) → few ≤ many → many * size ≤ held → few * size ≤ held
 fewer few many size held up all = let less : few * size ≤ many * size = mul-le-mul_right size up in omega arith
 
-pub goes_by_many-requires-after_bounds : goal.goes_by_many-requires-after_bounds
-goes_by_many-requires-after_bounds g c =
+pub can_batch_cycles-requires-after_bounds : goal.can_batch_cycles-requires-after_bounds
+can_batch_cycles-requires-after_bounds g c =
     let p = swept_node g.A.Actor.steps c.args.self.now c.requires.swept c.args.a c.requires.known in
     let are = c.ports_of-ports.ensures in λ κs within.
     rows_at p c.index.ensures are.ins are.outs are.takes are.puts refl
@@ -52,7 +52,7 @@ returns-clause-go g c = λ some.
     ∙ (get_or_default r.works.items c.args.a c.index-2.result.now c.index.result.now
     (omega (arith, sw.stands.nodes, c.requires.known)) ∙ sym c.index.ensures) in
     go_at (swept_node g.A.Actor.steps r sw c.args.a c.requires.known) c.index.ensures are.ins are.outs are.takes
-    are.puts c.deref.ensures.value c.fits.result (c.goes_by_many.ensures c.if-not-goes_by_many.false)
+    are.puts c.deref.ensures.value c.fits.result (c.can_batch_cycles.ensures c.if-not-can_batch_cycles.false)
     (λ n l. fewer c.fits.result c.blocks_held-most.result
     (get_or ports.ins.sizes.now (get_or ports.ins.channels.now n 0) 0) _
     c.fits.ensures.within (c.blocks_held-most.ensures.held n l))

@@ -14,8 +14,8 @@ some_firings times cycle t c =
     mul-le-mul (let v : 1 ≤ times = omega arith in v) (let v : 1 ≤ cycle = omega arith in v) in
     omega arith
 
-pub fire_at_once-requires-after_bounds : goal.fire_at_once-requires-after_bounds
-fire_at_once-requires-after_bounds g c κs inside =
+pub fire_batch-requires-after_bounds : goal.fire_batch-requires-after_bounds
+fire_batch-requires-after_bounds g c κs inside =
     let s = g.A.Actor.steps in
     let r = c.args.self.now in
     let sw = c.requires.swept in
@@ -23,7 +23,7 @@ fire_at_once-requires-after_bounds g c κs inside =
     can_fire_at_once (swept_node s r sw c.args.a may.0) c.times-times.result c.times-times.ensures.left
     (goes_at s r c.args.a (omega (arith, sw.stands.nodes, may.0)) c.index.result.now c.channels_in-ins.result.now
     c.channels_out-outs.result.now c.index.ensures c.channels_in-ins.ensures c.channels_out-outs.ensures
-    (c.goes_at_once.ensures.goes c.if-goes_at_once.true))
+    (c.can_batch.ensures.goes c.if-can_batch.true))
     c.times-times.ensures.held
 
 pub fire_many-requires-after_bounds : goal.fire_many-requires-after_bounds
@@ -40,10 +40,10 @@ fire-requires-after_bounds g c κs inside =
     let sw = c.requires.swept in
     can_fire (swept_node g.A.Actor.steps r sw c.args.a c.requires.may.0) c.requires.may
     (actor_at r.works.items c.args.a (omega (arith, sw.stands.nodes, c.requires.may.0)) c.index.result.now
-    c.index.ensures (c.goes_at_once.ensures.others c.if-goes_at_once.false))
+    c.index.ensures (c.can_batch.ensures.others c.if-can_batch.false))
 
-pub returns-then-goes_at_once : goal.returns-then-goes_at_once
-returns-then-goes_at_once g c =
+pub returns-then-can_batch : goal.returns-then-can_batch
+returns-then-can_batch g c =
     let s = g.A.Actor.steps in
     let r = c.args.self.now in
     let sw = c.requires.swept in
@@ -52,9 +52,9 @@ returns-then-goes_at_once g c =
     let times = c.times-times.ensures in
     let goes = goes_at s r c.args.a (omega (arith, sw.stands.nodes, may.0)) c.index.result.now
     c.channels_in-ins.result.now c.channels_out-outs.result.now c.index.ensures c.channels_in-ins.ensures
-    c.channels_out-outs.ensures (c.goes_at_once.ensures.goes c.if-goes_at_once.true) in
-    let r' = c.fire_at_once.new.self in
-    let fired = c.fire_at_once.ensures in
+    c.channels_out-outs.ensures (c.can_batch.ensures.goes c.if-can_batch.true) in
+    let r' = c.fire_batch.new.self in
+    let fired = c.fire_batch.ensures in
     record {
       swept = swept_at_once node c.times-times.result times.left goes times.held
           c.history_grows_by_firing.ensures r' fired;
@@ -71,7 +71,7 @@ returns-then-cycles-eq0 g c =
     let may = c.requires.may in
     let node = swept_node s r sw c.args.a may.0 in
     let actor = actor_at r.works.items c.args.a (omega (arith, sw.stands.nodes, may.0)) c.index.result.now
-    c.index.ensures (c.goes_at_once.ensures.others c.if-goes_at_once.false) in
+    c.index.ensures (c.can_batch.ensures.others c.if-can_batch.false) in
     let r' = c.fire.new.self in
     record {
       swept = swept node may actor c.history_grows_by_firing.ensures r' c.fire.ensures;

@@ -3,8 +3,8 @@ use Rattle.std.proofs.lemmas.Bool.{false≢true}
 use Rattle.sdf_prec.specs.Trying.{load}
 use Rattle.sdf_prec.specs.Placing.{IsOpen}
 use Rattle.sdf_prec.proofs.Bests.{best_new, best_kept}
-use Rattle.sdf_prec.proofs.hu.homing.least_open.Goals.{then-is_open+then-is_lighter, else-is_open}
-use Rattle.sdf_prec.proofs.hu.homing.least_open.Goals.{else-is_open-via-then-is_open+else-is_lighter}
+use Rattle.sdf_prec.proofs.hu.homing.least_open.Goals.{then-is_open+then-is_less_loaded, else-is_open}
+use Rattle.sdf_prec.proofs.hu.homing.least_open.Goals.{else-is_open-via-then-is_open+else-is_less_loaded}
 use Rattle.sdf_prec.proofs.hu.homing.least_open.Goals.{else-is_open-via-else-is_open}
 use Rattle.sdf_prec.proofs.hu.homing.least_open.Goals as goal
 
@@ -14,15 +14,15 @@ loop-column-preserved c =
     (λ a. get_or c.args.homes.now a None) j in
     let i : ℕ = c.loop-column.column in
     elim c.if-is_open.branch [
-      | then-is_open+then-is_lighter w ↦ rw w.best-is
+      | then-is_open+then-is_less_loaded w ↦ rw w.best-is
           (best_new i (IsOpen c.args.until.now c.args.now c.args.cells.now) weigh c.loop-column.best
           c.loop-column.invariant (c.is_open.ensures.0 w.if-is_open.true)
-          (w.is_lighter.ensures.0 w.if-is_lighter.true))
+          (w.is_less_loaded.ensures.0 w.if-is_less_loaded.true))
       | else-is_open w ↦ rw w.best-is (best_kept i (IsOpen c.args.until.now c.args.now c.args.cells.now) weigh
           c.loop-column.best c.loop-column.invariant
           (elim w.else-is_open.branch [
-            | else-is_open-via-then-is_open+else-is_lighter v ↦ λ f h. false≢true
-                (sym v.if-is_lighter.false ∙ v.is_lighter.ensures.1 h)
+            | else-is_open-via-then-is_open+else-is_less_loaded v ↦ λ f h. false≢true
+                (sym v.if-is_less_loaded.false ∙ v.is_less_loaded.ensures.1 h)
             | else-is_open-via-else-is_open v ↦ λ f h. false≢true (sym v.if-is_open.false ∙ c.is_open.ensures.1 f)
           ]))
     ]

@@ -1,6 +1,6 @@
 use Rattle.std.proofs.Common.{◌≤◌, ◌/◌, ◌-◌, ◌^◌, length, arith}
 use Rattle.std.proofs.Math.Nat.{div-le_self}
-use Rattle.sdf_limits.specs.declared.TheConstants.{MOST_CYCLE}
+use Rattle.sdf_limits.specs.declared.TheConstants.{MAX_CYCLE}
 use Rattle.sdf_prec.proofs.Cyclic.{whole_some, quotient_less, least_over, steady_least, product_small}
 use Rattle.sdf_prec.proofs.precedence.sums.least_for.Goals as goal
 
@@ -43,7 +43,7 @@ overflow_add-result c =
     omega (arith, div-le_self (c.args.amount - 1) whole, c.requires.few) in
     omega (
       arith,
-      product_small ((c.args.amount - 1) / whole) (length c.args.rates.now) (2 ^ 50) MOST_CYCLE few
+      product_small ((c.args.amount - 1) / whole) (length c.args.rates.now) (2 ^ 50) MAX_CYCLE few
           c.requires.cycle.short,
       c.least_in_cycle.ensures.within,
       c.requires.cycle.short,

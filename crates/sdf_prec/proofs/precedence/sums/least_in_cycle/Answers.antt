@@ -1,5 +1,5 @@
 use Rattle.std.proofs.Common.{ℕ, arith}
-use Rattle.sdf_limits.specs.declared.TheConstants.{MOST_RATE}
+use Rattle.sdf_limits.specs.declared.TheConstants.{MAX_RATE}
 use Rattle.sdf_graph.specs.Rates.{rate_at}
 use Rattle.sdf_graph.proofs.Theorems.{sums_are_small}
 use Rattle.sdf_prec.proofs.Cyclic.{one_more, still_in, below_more, least_is}
@@ -16,7 +16,7 @@ overflow_add-moved c =
       rates.short,
       v.is,
       v.within,
-      sums_are_small (rate_at c.args.rates.now) MOST_RATE (λ i. rates.small _) c.loop-moved.firings,
+      sums_are_small (rate_at c.args.rates.now) MAX_RATE (λ i. rates.small _) c.loop-moved.firings,
     )
 
 pub loop-moved-preserved : goal.loop-moved-preserved

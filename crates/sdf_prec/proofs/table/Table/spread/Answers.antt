@@ -10,8 +10,8 @@ in_runs-requires-clause-some c = c.in_default.ensures.some
 
 pub in_runs-requires-clause-short : goal.in_runs-requires-clause-short
 in_runs-requires-clause-short c =
-    let size : IsLongSize c.args.j c.args.m c.args.period.now.repetitions =
-    subst (IsLongSize c.args.j c.args.m) c.repetitions.ensures c.in_default.ensures in
+    let size : IsLongSize c.args.blocking c.args.m c.args.period.now.repetitions =
+    subst (IsLongSize c.args.blocking c.args.m) c.repetitions.ensures c.in_default.ensures in
     size.short
 
 pub in_runs-requires-clause-homed : goal.in_runs-requires-clause-homed
@@ -20,12 +20,12 @@ in_runs-requires-clause-homed c = subst (λ homes. (a : ℕ) → a < c.args.grap
 
 pub returns : goal.returns
 returns c = record {
-  size = subst (IsLongSize c.args.j c.args.m) c.repetitions.ensures c.in_default.ensures;
+  size = subst (IsLongSize c.args.blocking c.args.m) c.repetitions.ensures c.in_default.ensures;
   table = c.in_ok-table.ensures.table;
   homed = c.in_ok-table.ensures.homed;
   homes = c.in_ok-homes.homes.items;
   spread = c.in_ok-homes.ensures.spread;
   in_runs = subst (λ homes. AreRunsByHomes (rates c.args.graph.now)
-      (slice_index (block c.args.j c.args.period.now.repetitions)) homes c.args.m c.in_ok-table.table.rows)
+      (slice_index (block c.args.blocking c.args.period.now.repetitions)) homes c.args.m c.in_ok-table.table.rows)
       c.deref.ensures.value c.in_ok-table.ensures.runs;
 }

@@ -2,11 +2,11 @@ use Rattle.std.proofs.Common.{◌≡◌, ℕ, ◌+◌, ◌≤◌, ◌<◌, ◌++
 use Rattle.std.proofs.Common.{◌∙◌}
 use Rattle.std.proofs.Common.{subst}
 use Rattle.std.proofs.lemmas.List.{take_at, get_or_read, length_push}
-use Rattle.sdf_graph.specs.Rates.{Shape, Edge, rates, channel, no_channel}
+use Rattle.sdf_graph.specs.Rates.{GraphValue, ChannelValue, rates, channel, no_channel}
 use Rattle.sdf_graph.specs.Sequences.{times, tokens}
-use Rattle.sdf_graph.specs.Tally.{Tally, counts}
+use Rattle.sdf_graph.specs.CountsValue.{CountsValue, counts}
 use Rattle.sdf_graph.proofs.Theorems.{fronts_count_within, graphs_are_sound, last_counts_more}
-use Rattle.sdf_prec.specs.Tables.{IsTallyAt, IsGreatestTo}
+use Rattle.sdf_prec.specs.Tables.{AreCountsAt, IsGreatestTo}
 use Rattle.sdf_prec.proofs.Capacities.{at_first, at_held, at_enabled, at_more, greatest_first, greatest_more}
 use Rattle.sdf_prec.proofs.Capacities.{begins_more, raised_all}
 use Rattle.sdf_prec.proofs.table.caps.capacities.Goals as goal
@@ -40,7 +40,7 @@ loop-actor-preserved c =
     let g = c.args.graph.now in
     let w = c.args.order.now in
     let i : ℕ = c.loop-actor.actor-index in
-    let at : IsTallyAt g w (i + 1) c.fire.new.self = subst (IsTallyAt g w (i + 1)) (sym c.fire.ensures)
+    let at : AreCountsAt g w (i + 1) c.fire.new.self = subst (AreCountsAt g w (i + 1)) (sym c.fire.ensures)
     (at_more g w i c.loop-actor.counts c.loop-actor.invariant.at c.loop-actor-test.true
     (c.requires.admissible i c.loop-actor-test.true).0) in
     let same : length c.raise.new.caps ≡ length c.loop-actor.caps.items =
@@ -83,8 +83,8 @@ loop-channel-preserved c =
     let chs = c.channels-channel-items.result.now in
     let read = get_or_read chs i c.channel-item.result c.loop-channel-test.true c.channel-item.is no_channel in
     let is : c.channel-item.result ≡ channel c.args.graph.now i =
-    read ∙ ap (λ (es : List Edge). get_or es i no_channel) c.channels-channel-items.ensures.list in
-    let items = c.in_ok-push.ensures.items ∙ ap (λ (e : Edge). c.loop-channel.caps.items ++ e.initial ∷ [])
+    read ∙ ap (λ (es : List ChannelValue). get_or es i no_channel) c.channels-channel-items.ensures.list in
+    let items = c.in_ok-push.ensures.items ∙ ap (λ (e : ChannelValue). c.loop-channel.caps.items ++ e.initial ∷ [])
     c.channel.view_is in
     let k = c.loop-channel.invariant in
     record {
@@ -120,11 +120,11 @@ loop-actor-init c =
 
 pub fire-requires-clause-known : goal.fire-requires-clause-known
 fire-requires-clause-known c =
-    subst (λ (h : Shape). get_or c.args.order.now c.loop-actor.actor-index 0 < h.actors)
+    subst (λ (h : GraphValue). get_or c.args.order.now c.loop-actor.actor-index 0 < h.actors)
     (sym c.loop-actor.invariant.at.same) (c.requires.admissible c.loop-actor.actor-index c.loop-actor-test.true).0
 
 pub raise-requires-clause-all : goal.raise-requires-clause-all
 raise-requires-clause-all c =
     ap length c.deref_mut.ensures.value ∙ (c.loop-actor.invariant.each
-    ∙ sym (ap (λ (t : Tally). length t.graph.channels) c.fire.ensures
-    ∙ ap (λ (s : Shape). length s.channels) c.loop-actor.invariant.at.same))
+    ∙ sym (ap (λ (t : CountsValue). length t.graph.channels) c.fire.ensures
+    ∙ ap (λ (s : GraphValue). length s.channels) c.loop-actor.invariant.at.same))

@@ -1,7 +1,7 @@
 use Rattle.std.proofs.Common.{◌≡◌, ℕ, ◌<◌, ◌≤◌, ◌⊎◌, max, get_or, length}
 use Rattle.sdf_graph.specs.Rates.{rates}
 use Rattle.sdf_graph.specs.Sequences.{tokens}
-use Rattle.sdf_graph.specs.Tally.{counts}
+use Rattle.sdf_graph.specs.CountsValue.{counts}
 use Rattle.sdf_prec.proofs.table.caps.raise.Given as goal
 
 abbrev pub invariant-loop-c : goal.invariant-loop-c

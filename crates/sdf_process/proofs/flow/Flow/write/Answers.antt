@@ -3,14 +3,14 @@ use Rattle.std.specs.Io.KnownBytes.{Appends}
 use Rattle.sdf_actor.specs.Wires.{lists as items_of}
 use Rattle.sdf_wav.specs.Canonical.{sample_bytes}
 use Rattle.sdf_wav.specs.Device.{AppendsFront}
-use Rattle.sdf_wav.specs.PiecesOut.{Owed}
+use Rattle.sdf_wav.specs.PiecesOut.{ContentOutValue}
 use Rattle.sdf_process.specs.Output.{in_turn}
 use Rattle.sdf_process.proofs.Ahead.{frames_of, room_of, writing_failed, wrote}
 use Rattle.sdf_process.proofs.Refusals.{fails_by}
 use Rattle.sdf_process.proofs.flow.Flow.write.Goals as goal
 
 pub put_in_turn-requires-clause-unspent : goal.put_in_turn-requires-clause-unspent
-put_in_turn-requires-clause-unspent g c = ap (λ (o : Owed). o.spent) c.requires.4.flows.owed
+put_in_turn-requires-clause-unspent g c = ap (λ (o : ContentOutValue). o.spent) c.requires.4.flows.owed
 
 pub put_in_turn-requires-clause-room : goal.put_in_turn-requires-clause-room
 put_in_turn-requires-clause-room g c =

@@ -6,17 +6,17 @@ use Rattle.sdf_process.proofs.source.Source.take.Goals as goal
 pub overflow_mul-end : goal.overflow_mul-end
 overflow_mul-end g c = Fits-of_lt (omega (
   arith,
-  heard_enough c.args.self.now c.in-Heard.sound c.in-Heard.taken c.args.frames c.from.result c.in-Heard.is
+  heard_enough c.args.self.now c.in-Decoded.sound c.in-Decoded.taken c.args.frames c.from.result c.in-Decoded.is
       (c.from.ensures ∙ c.channels.ensures.value) c.requires.enough,
-  heard_short c.args.self.now c.in-Heard.sound c.in-Heard.taken c.in-Heard.is c.requires.short,
+  heard_short c.args.self.now c.in-Decoded.sound c.in-Decoded.taken c.in-Decoded.is c.requires.short,
 ))
 
 pub overflow_add-end : goal.overflow_add-end
 overflow_add-end g c = Fits-of_lt (omega (
   arith,
-  heard_enough c.args.self.now c.in-Heard.sound c.in-Heard.taken c.args.frames c.from.result c.in-Heard.is
+  heard_enough c.args.self.now c.in-Decoded.sound c.in-Decoded.taken c.args.frames c.from.result c.in-Decoded.is
       (c.from.ensures ∙ c.channels.ensures.value) c.requires.enough,
-  heard_short c.args.self.now c.in-Heard.sound c.in-Heard.taken c.in-Heard.is c.requires.short,
+  heard_short c.args.self.now c.in-Decoded.sound c.in-Decoded.taken c.in-Decoded.is c.requires.short,
 ))
 
 pub returns-in-Content : goal.returns-in-Content
@@ -25,10 +25,10 @@ returns-in-Content g c = λ first before r is takes same.
     (g.R.Reader.state c.read_more.new.reader) c.in-Content.content c.read_more.new.content c.read_more.result
     c.read_more.ensures (sym c.in-Content.is ∙ is) takes same
 
-pub returns-in_ok-extend_from_slice-in-Heard : goal.returns-in_ok-extend_from_slice-in-Heard
-returns-in_ok-extend_from_slice-in-Heard g c = λ first before r is takes same.
-    let s = c.in-Heard.sound in
-    let taken = c.in-Heard.taken in
+pub returns-in_ok-extend_from_slice-in-Decoded : goal.returns-in_ok-extend_from_slice-in-Decoded
+returns-in_ok-extend_from_slice-in-Decoded g c = λ first before r is takes same.
+    let s = c.in-Decoded.sound in
+    let taken = c.in-Decoded.taken in
     let count = c.from.ensures ∙ c.channels.ensures.value in
     let end = taken + c.args.frames * c.from.result in
     let there : end ≡ taken + c.args.frames * s.channels = ap (λ k. taken + c.args.frames * k) count in
@@ -37,7 +37,7 @@ returns-in_ok-extend_from_slice-in-Heard g c = λ first before r is takes same.
     let many : end - taken ≡ c.args.frames * s.channels = omega (arith, there) in
     heard_more r first before c.args.frames c.args.kept.items (g.R.Reader.state c.args.reader.now) s taken end
     (take (c.args.frames * s.channels) (drop taken s.samples))
-    c.extend_from_slice.new.self.items (sym c.in-Heard.is ∙ is) takes same there
-    (heard_enough c.args.self.now s taken c.args.frames c.from.result c.in-Heard.is count c.requires.enough) refl
+    c.extend_from_slice.new.self.items (sym c.in-Decoded.is ∙ is) takes same there
+    (heard_enough c.args.self.now s taken c.args.frames c.from.result c.in-Decoded.is count c.requires.enough) refl
     (added ∙ (ap (λ l. c.args.kept.items ++ take (end - taken) (drop taken l)) c.samples.ensures.value
     ∙ ap (λ k. c.args.kept.items ++ take k (drop taken s.samples)) many))

@@ -4,12 +4,12 @@ use Rattle.sdf_faults.specs.declared.fault.Fault.{Fault}
 use Rattle.sdf_actor.specs.Wires.{lists as items_of}
 use Rattle.sdf_wav.specs.Canonical.{sample_bytes}
 use Rattle.sdf_wav.specs.PiecesIn.{sound_read}
-use Rattle.sdf_wav.specs.PiecesOut.{Owed}
+use Rattle.sdf_wav.specs.PiecesOut.{ContentOutValue}
 use Rattle.sdf_wav.specs.Sound.{Sound}
 use Rattle.sdf_process.specs.declared.flow.Flow.{Flow}
-use Rattle.sdf_process.specs.Flows.{StreamsFrom, exchange_in, reading_in}
+use Rattle.sdf_process.specs.Flows.{StreamsFrom, io_rates_in, reading_in}
 use Rattle.sdf_process.specs.Output.{in_turn}
-use Rattle.sdf_process.specs.Stages.{PutsHeader}
+use Rattle.sdf_process.specs.Stages.{PutsBytes}
 use Rattle.sdf_process.specs.Streams.{Makes, left_by}
 use Rattle.sdf_process.proofs.Ahead.{can_put}
 use Rattle.sdf_process.proofs.Ending.{ended, ended_whole}
@@ -36,7 +36,7 @@ returns-then-frames-eq0 g c = λ b r on.
 pub div_ceil-blocks-requires : goal.div_ceil-blocks-requires
 div_ceil-blocks-requires g c =
     let under = c.requires.on.2.1 in
-    positive c.args.self.now.blocking c.args.self.now.exchange.made
+    positive c.args.self.now.blocking c.args.self.now.io.made
     (omega (arith, under.ready.blocking, under.ready.can.some)) under.ready.limits.some_made
 
 pub take_kept-input-requires-clause-whole : goal.take_kept-input-requires-clause-whole
@@ -102,7 +102,8 @@ pub put_in_turn-requires-clause-unspent : goal.put_in_turn-requires-clause-unspe
 put_in_turn-requires-clause-unspent g c =
     let h = c.requires.on in
     let w = c.in_ok-write.ensures h.0 h.2.0 h.1 h.2.1.ready.can h.2.1.ahead in
-    ap (λ (f : Flow). f.output.spent) c.take_kept-input.ensures.stays ∙ ap (λ (o : Owed). o.spent) w.flows.owed
+    ap (λ (f : Flow). f.output.spent) c.take_kept-input.ensures.stays
+    ∙ ap (λ (o : ContentOutValue). o.spent) w.flows.owed
 
 pub put_in_turn-requires-clause-some : goal.put_in_turn-requires-clause-some
 put_in_turn-requires-clause-some g c =
@@ -111,7 +112,7 @@ put_in_turn-requires-clause-some g c =
     omega (
       arith,
       ap (λ (f : Flow). f.output.channels) c.take_kept-input.ensures.stays,
-      ap (λ (o : Owed). o.channels) w.flows.owed,
+      ap (λ (o : ContentOutValue). o.channels) w.flows.owed,
       h.2.1.ready.can.outputs,
     )
 
@@ -124,9 +125,10 @@ put_in_turn-requires-clause-room g c =
     let makes = last_made h.0 h.2.0 c.args.self.now h.2.1 c.write.new.self w c.requires.all c.missing-frames.result
     c.div_ceil-blocks.result c.missing-frames.ensures c.div_ceil-blocks.ensures _ refl refl
     (ap (λ (y : Sound). y.channels) sound) (ap (λ (y : Sound). y.samples) sound) _ _ c.in_ok-made.ensures.runs in
-    can_put c.take_kept-input.new.self.output (exchange_in h.0).outputs c.missing-frames.result
+    can_put c.take_kept-input.new.self.output (io_rates_in h.0).outputs c.missing-frames.result
     c.in_ok-made.made.items c.deref.result.now
-    (ap (λ (f : Flow). f.output.channels) stays ∙ ap (λ (z : Owed). z.channels) w.flows.owed) c.deref.ensures.value
+    (ap (λ (f : Flow). f.output.channels) stays ∙ ap (λ (z : ContentOutValue). z.channels) w.flows.owed)
+    c.deref.ensures.value
     makes.whole (omega (arith, c.missing-frames.ensures, ap (λ (f : Flow). f.output.missing) stays))
 
 pub returns : goal.returns
@@ -147,6 +149,6 @@ returns g c = λ b r on.
     (subst (λ m. Makes b.net b.period b.blocking (sound_read (reading_in b) p.samples) p.blocks blocks m p.bytes
     (items_of c.in_ok-made.made.items) (left_by c.run.new.self)) c.missing-frames.ensures makes)
     (g.W.Writer.state c.put_in_turn.new.writer) c.put_in_turn.result
-    (subst (λ l. PutsHeader {X = Unit {0}} (g.W.Writer.state c.write.new.writer)
+    (subst (λ l. PutsBytes {X = Unit {0}} (g.W.Writer.state c.write.new.writer)
     (g.W.Writer.state c.put_in_turn.new.writer) (sample_bytes (in_turn (items_of l))) c.put_in_turn.result)
     c.deref.ensures.value c.put_in_turn.ensures.puts)

@@ -20,8 +20,8 @@ returns-in_err-self-clause-goes g c = λ b p blocks step.
     (memory_refused b step.ready.can step.ahead.before step.ahead.flows c.in_err-self.field-0.0
     c.in_err-self.ensures.refused)
 
-pub turn-requires : goal.turn-requires
-turn-requires g c =
+pub write_and_take-requires : goal.write_and_take-requires
+write_and_take-requires g c =
     let h = c.requires.step in
     let t = c.args.self.now in
     let made = items_of c.in_ok-self.field-0.items in (
@@ -37,10 +37,11 @@ returns-clause-goes g c = λ b p blocks step.
     let t = c.args.self.now in
     let made = items_of c.in_ok-self.field-0.items in
     let f = record t.flow { made = c.in_ok-self.field-0 } in
-    answered c.turn.result _ _ _
+    answered c.write_and_take.result _ _ _
     (λ x turns. in_turn_on b p blocks t c.args.portion step c.run.new.self made c.in_ok-self.ensures.runs f
-    c.turn.new.self refl refl turns)
-    (c.turn.ensures.turns b (blocks_on p blocks (sample_bytes (in_turn made)) (left_by c.run.new.self)) step.ready.can
+    c.write_and_take.new.self refl refl turns)
+    (c.write_and_take.ensures.turns b (blocks_on p blocks (sample_bytes (in_turn made))
+    (left_by c.run.new.self)) step.ready.can
     (ahead_on b p blocks t c.args.portion step c.run.new.self made c.in_ok-self.ensures.runs
     c.requires.waits f refl refl
     refl refl))
@@ -50,7 +51,8 @@ returns-clause-left g c =
     let h = c.requires.step in
     let t = c.args.self.now in
     let made = items_of c.in_ok-self.field-0.items in
-    where_ok c.turn.result _ _ _ (λ x turns. turns.left)
-    (c.turn.ensures.turns h.0 (blocks_on h.1 h.2 (sample_bytes (in_turn made)) (left_by c.run.new.self)) h.3.ready.can
+    where_ok c.write_and_take.result _ _ _ (λ x turns. turns.left)
+    (c.write_and_take.ensures.turns h.0 (blocks_on h.1 h.2 (sample_bytes (in_turn made))
+    (left_by c.run.new.self)) h.3.ready.can
     (ahead_on h.0 h.1 h.2 t c.args.portion h.3 c.run.new.self made c.in_ok-self.ensures.runs c.requires.waits
     (record t.flow { made = c.in_ok-self.field-0 }) refl refl refl refl))

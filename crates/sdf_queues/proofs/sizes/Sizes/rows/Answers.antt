@@ -47,11 +47,12 @@ loop-phase-preserved g c =
     ∙ (vec_long c.loop-phase.rows ∙ c.loop-phase.invariant.len) in
     record {
       len = omega (arith, c.in_ok-push.ensures.len, c.loop-phase.invariant.len);
-      each = below_more (λ j. at_phase (lists c.push.new.self.items) j ≡
-          map (λ d. get_or (at_phase (rows_on c.args.side c.args.self.now) j) d 0)
+      each = below_more (λ blocking. at_phase (lists c.push.new.self.items) blocking ≡
+          map (λ d. get_or (at_phase (rows_on c.args.side c.args.self.now) blocking) d 0)
           (channels_at g.A.Actor.steps c.args.net.now c.args.side c.args.a)) i
-          (λ j h. ap (λ rows. at_phase rows j) now ∙ (get_or_append_left (lists was) (row.items ∷ []) [] j
-          (omega (arith, long, h)) ∙ c.loop-phase.invariant.each j h))
+          (λ blocking h. ap (λ rows. at_phase rows blocking) now
+          ∙ (get_or_append_left (lists was) (row.items ∷ []) [] blocking
+          (omega (arith, long, h)) ∙ c.loop-phase.invariant.each blocking h))
           (ap (λ rows. at_phase rows i) now ∙ (get_or_push (lists was) row.items [] i long ∙
           (c.in_ok-at_channels.ensures ∙ ap (λ xs. map (λ d. get_or xs d 0)
           c.channels_of-channels.result.now) c.on.ensures ∙
@@ -69,4 +70,4 @@ returns g c =
     are_rows facts.net c.requires.sizes c.args.a c.requires.known c.args.side
     (lists c.loop-phase.rows.items) (length-map c.loop-phase.rows.items (λ v. v.items)
     ∙ (vec_long c.loop-phase.rows ∙ (c.loop-phase.invariant.len ∙ cycle)))
-    (λ j h. c.loop-phase.invariant.each j (omega (arith, cycle, h)))
+    (λ blocking h. c.loop-phase.invariant.each blocking (omega (arith, cycle, h)))

@@ -7,6 +7,6 @@ use Rattle.sdf_queues.proofs.sizes.Sizes.rows.Given as goal
 abbrev pub invariant-loop-phase : goal.invariant-loop-phase
 invariant-loop-phase g l = record {
   len : vec_len l.rows ≡ l.phase;
-  each : (j : ℕ) → j < l.phase → at_phase (lists l.rows.items) j ≡
-      map (slice_index (at_phase (rows_on l.side l.self) j)) (channels_at g.A.Actor.steps l.net l.side l.a);
+  each : (blocking : ℕ) → blocking < l.phase → at_phase (lists l.rows.items) blocking ≡
+      map (slice_index (at_phase (rows_on l.side l.self) blocking)) (channels_at g.A.Actor.steps l.net l.side l.a);
 }

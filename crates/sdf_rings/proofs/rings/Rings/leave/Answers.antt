@@ -3,7 +3,7 @@ use Rattle.std.proofs.lemmas.List.{with_items_is}
 use Rattle.sdf_actor.specs.Wires.{lists}
 use Rattle.sdf_queues.specs.Feeds.{HasRun}
 use Rattle.sdf_rings.specs.Places.{SameButEnds}
-use Rattle.sdf_rings.specs.Rests.{InHand, HaveMet, IsPlaced, HoldRest, AreGiven}
+use Rattle.sdf_rings.specs.Rests.{RingsValue, HaveMet, IsPlaced, HoldNetState, AreGiven}
 use Rattle.sdf_rings.specs.Asks.{IsPlanned}
 use Rattle.sdf_rings.specs.Totals.{total_left}
 use Rattle.sdf_actor.specs.Laws.{AreCountsOf}
@@ -35,18 +35,19 @@ returns g c = λ order cap k plan counts.
     let moved = with_items_is x.seats c.leave.new.seats (omega arith) in
     let kept : SameButEnds x.seats.items c.leave.new.seats =
     subst (λ ss. SameButEnds ss c.leave.new.seats) c.deref_mut.ensures.value c.in_ok-rest.ensures.kept in
-    let held : HoldRest n x.seats.items x.places.items c.in_ok-rest.rest =
-    subst (λ ps. HoldRest n x.seats.items ps c.in_ok-rest.rest) c.deref.ensures.value
-    (subst (λ ss. HoldRest n ss c.deref.result.now c.in_ok-rest.rest) c.deref_mut.ensures.value
+    let held : HoldNetState n x.seats.items x.places.items c.in_ok-rest.rest =
+    subst (λ ps. HoldNetState n x.seats.items ps c.in_ok-rest.rest) c.deref.ensures.value
+    (subst (λ ss. HoldNetState n ss c.deref.result.now c.in_ok-rest.rest) c.deref_mut.ensures.value
     c.in_ok-rest.ensures.rest) in
     let many = c.collect.ensures.count in
     let long = c.deref_mut-3.ensures.len in
     let same = with_items_is x.outputs c.collect.new.outputs (omega arith) in
     let count = many ∙ (ap length c.deref_mut-3.ensures.value ∙ c.self.invariant.1) in
-    let mine = subst (λ (v : InHand _ _ _). IsPlanned s v.net v.seats v.places order cap) (sym c.self.view_is) plan in
-    let left = subst (λ (v : InHand _ _ _). total_left v.seats ≡ 0) (sym c.self.view_is) c.requires.left in
-    let asked = subst (λ (v : InHand _ _ _). AreCountsOf v.net order k) (sym c.self.view_is) counts in
-    let met = subst (λ (v : InHand _ _ _). HaveMet v.net v.seats v.places) (sym c.self.view_is) c.requires.met in
+    let mine = subst (λ (v : RingsValue _ _ _). IsPlanned s v.net v.seats v.places order cap)
+    (sym c.self.view_is) plan in
+    let left = subst (λ (v : RingsValue _ _ _). total_left v.seats ≡ 0) (sym c.self.view_is) c.requires.left in
+    let asked = subst (λ (v : RingsValue _ _ _). AreCountsOf v.net order k) (sym c.self.view_is) counts in
+    let met = subst (λ (v : RingsValue _ _ _). HaveMet v.net v.seats v.places) (sym c.self.view_is) c.requires.met in
     let rest = are_at_rest c.self.invariant.0 met in
     let collected : AreGiven n c.leave.new.seats x.places.items (length n.nodes) c.collect.new.outputs =
     subst (λ ps. AreGiven n c.leave.new.seats ps (length n.nodes) c.collect.new.outputs) c.deref-2.ensures.value
@@ -55,6 +56,6 @@ returns g c = λ order cap k plan counts.
     let given = given_kept c.self.invariant.0.placed kept
     (length n.nodes) c.collect.new.outputs collected in
     let accepted = c.net_facts.ensures.accepted in
-    rw same (subst (λ (v : InHand _ _ _). HasRun s v.net v.inputs k (lists c.collect.new.outputs)
+    rw same (subst (λ (v : RingsValue _ _ _). HasRun s v.net v.inputs k (lists c.collect.new.outputs)
     c.in_ok-rest.rest) c.self.view_is
     (run_given c.self.invariant.0 mine left rest accepted.1 asked c.collect.new.outputs count given held))

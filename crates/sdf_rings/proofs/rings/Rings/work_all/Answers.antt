@@ -2,7 +2,7 @@ use Rattle.std.proofs.Common.{◌≡◌, ◌<◌, length, ap, arith, sym, subst,
 use Rattle.std.proofs.lemmas.List.{with_items_is}
 use Rattle.sdf_actor.specs.Wires.{lists}
 use Rattle.sdf_rings.proofs.Placed.{rings_all}
-use Rattle.sdf_rings.specs.Rests.{InHand, HaveMet}
+use Rattle.sdf_rings.specs.Rests.{RingsValue, HaveMet}
 use Rattle.sdf_rings.specs.Laws.{AreLeft}
 use Rattle.sdf_rings.specs.Totals.{total_left}
 use Rattle.sdf_rings.specs.Asks.{IsPlanned}
@@ -39,7 +39,8 @@ returns-clause-planned g c = λ order cap plan.
     let v = c.deref_mut.ensures.value in
     let same = with_items_is x.seats c.run_round.new.seats (omega arith) in
     let len : length c.run_round.new.seats ≡ length x.seats.items = l ∙ ap length v in
-    let mine = subst (λ (v : InHand _ _ _). IsPlanned s v.net v.seats v.places order cap) (sym c.self.view_is) plan in
+    let mine = subst (λ (v : RingsValue _ _ _). IsPlanned s v.net v.seats v.places order cap)
+    (sym c.self.view_is) plan in
     let rounded = rw v at c.run_round.ensures in
     rw same (planned_kept c.self.invariant.0 c.run_round.new.seats len (λ j e h. (rounded j e h).worked) mine)
 
@@ -52,7 +53,7 @@ returns-clause-fires g c = λ met order cap plan some.
     let v = c.deref_mut.ensures.value in
     let same = with_items_is x.seats c.run_round.new.seats (omega arith) in
     let len : length c.run_round.new.seats ≡ length x.seats.items = l ∙ ap length v in
-    let old : InHand _ _ _ = record {
+    let old : RingsValue _ _ _ = record {
       net = x.net.now;
       inputs = lists x.inputs.now;
       seats = x.seats.items;
@@ -60,9 +61,10 @@ returns-clause-fires g c = λ met order cap plan some.
     } in
     let left : AreLeft s old order cap = record {
       rings = c.self.invariant.0;
-      met = subst (λ (v : InHand _ _ _). HaveMet v.net v.seats v.places) (sym c.self.view_is) met;
-      planned = subst (λ (v : InHand _ _ _). IsPlanned s v.net v.seats v.places order cap) (sym c.self.view_is) plan;
-      some = subst (λ (v : InHand _ _ _). 0 < total_left v.seats) (sym c.self.view_is) some;
+      met = subst (λ (v : RingsValue _ _ _). HaveMet v.net v.seats v.places) (sym c.self.view_is) met;
+      planned = subst (λ (v : RingsValue _ _ _). IsPlanned s v.net v.seats v.places order cap)
+          (sym c.self.view_is) plan;
+      some = subst (λ (v : RingsValue _ _ _). 0 < total_left v.seats) (sym c.self.view_is) some;
     } in
     let rounded = rw v at c.run_round.ensures in
     rw (same, ← c.self.view_is) (rounds_fire s old order cap c.run_round.new.seats left len

@@ -4,8 +4,8 @@ use Rattle.sdf_rings.specs.Busy.{HoldsFrom, BecameFrom}
 use Rattle.sdf_rings.proofs.Parted.{second_holds, both_became}
 use Rattle.sdf_rings.proofs.rings.busy.+halves.Goals as goal
 
-pub for_each_busy-both_halves-requires-clause-back : goal.for_each_busy-both_halves-requires-clause-back
-for_each_busy-both_halves-requires-clause-back g t c κs within =
+pub for_each_busy-join_halves-requires-clause-back : goal.for_each_busy-join_halves-requires-clause-back
+for_each_busy-join_halves-requires-clause-back g t c κs within =
     let cut = c.split_at_mut-front in
     second_holds c.args.base (length c.args.s.now / 2) cut.result.0.now cut.result.1.now cut.ensures.front_len
     (AcceptsAt g.F.Fn c.args.f.now) (subst (HoldsFrom (AcceptsAt g.F.Fn c.args.f.now) c.args.base) cut.ensures.value
@@ -23,11 +23,11 @@ pub for_each_busy-returns-then-some_busy-2 : goal.for_each_busy-returns-then-som
 for_each_busy-returns-then-some_busy-2 g t c =
     let cut = c.split_at_mut-front in
     let R = ChangesAt g.F.Fn c.args.f.now in
-    let first = c.both_halves.new.front in
-    let second = c.both_halves.new.back in
+    let first = c.join_halves.new.front in
+    let second = c.join_halves.new.back in
     subst (λ xs. BecameFrom R c.args.base xs (first ++ second)) (sym cut.ensures.value)
     (both_became c.args.base (length c.args.s.now / 2) cut.result.0.now cut.result.1.now cut.ensures.front_len R
-    first second c.both_halves.ensures.front c.both_halves.ensures.back)
+    first second c.join_halves.ensures.front c.join_halves.ensures.back)
 
 pub for_each_busy-returns-else-some_busy : goal.for_each_busy-returns-else-some_busy
 for_each_busy-returns-else-some_busy g t c =

@@ -1,8 +1,8 @@
 use Rattle.std.proofs.Common.{◌<◌, length, sym, arith, ◌∙◌, subst}
 use Rattle.sdf_node.specs.Collected.{IsCollected}
 use Rattle.sdf_queues.proofs.Theorems.{nets_have_facts}
-use Rattle.sdf_rings.specs.Rests.{stand_of}
-use Rattle.sdf_rings.proofs.Collects.{stands_more, rest_more, given_more}
+use Rattle.sdf_rings.specs.Rests.{ring_node_of}
+use Rattle.sdf_rings.proofs.Collects.{ring_nodes_more, rest_more, given_more}
 use Rattle.sdf_rings.proofs.rings.finish.collect.Goals as goal
 
 pub loop-a-preserved : goal.loop-a-preserved
@@ -15,10 +15,11 @@ loop-a-preserved g c =
     let outputs = c.collect_from.new.outputs in
     record {
       all = c.collect_from.auto.outputs ∙ was.all;
-      stands = stands_more sinks c.requires.placed known was.stands was.rest c.collect_from.ensures.seats;
-      rest = rest_more sinks c.requires.placed known was.stands was.rest c.collect_from.ensures.seats;
-      given = given_more sinks c.requires.placed known was.stands was.rest c.collect_from.ensures.seats
-          (λ e d. subst (λ x. IsCollected x (stand_of n c.loop-a.seats c.args.places.now e d a).state c.loop-a.outputs
+      ring_nodes = ring_nodes_more sinks c.requires.placed known was.ring_nodes was.rest c.collect_from.ensures.seats;
+      rest = rest_more sinks c.requires.placed known was.ring_nodes was.rest c.collect_from.ensures.seats;
+      given = given_more sinks c.requires.placed known was.ring_nodes was.rest c.collect_from.ensures.seats
+          (λ e d. subst (λ x. IsCollected x (ring_node_of n c.loop-a.seats c.args.places.now e d a).state
+          c.loop-a.outputs
           outputs) c.node.ensures.value (c.collect_from.ensures.list e d)) was.given;
     }
 

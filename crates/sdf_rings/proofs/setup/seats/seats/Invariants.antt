@@ -8,6 +8,7 @@ abbrev pub invariant-loop-seat : goal.invariant-loop-seat
 invariant-loop-seat g l = record {
   len : vec_len l.seats ≡ l.seat;
   filled : AreFilled g.A.Actor.steps l.start.net.now (lists l.start.inputs.now) (slice_index l.start.asked.items)
-      l.initial.ends.producers.items l.initial.ends.consumers.items l.roster.places.now
-      (repeated l.roster.blocks l.roster.order.now) l.seat l.seats.items l.ends.producers.items l.ends.consumers.items;
+      l.initial.ends.producers.items l.initial.ends.consumers.items l.assigned.places.now
+      (repeated l.assigned.blocks l.assigned.order.now) l.seat l.seats.items l.ends.producers.items
+      l.ends.consumers.items;
 }

@@ -14,7 +14,7 @@ abbrev value : (g : Over) → In-Some-blocks_in g → SessionValue g.row.A.Denot
 value g c = record {
   net = c.self.inside.net.now;
   period = c.self.inside.table.now.period;
-  factor = c.self.inside.table.now.factor;
+  blocking = c.self.inside.table.now.blocking;
   table = c.self.inside.table.now.table;
   mode = c.self.inside.mode;
   rest = c.self.inside.rest;
@@ -28,7 +28,7 @@ are : (g : Over) (c : In-Some-blocks_in g) →
 are g c =
     let n = c.self.inside.net.now in
     let q = c.self.inside.table.now.period.repetitions in
-    subst (λ X. X) (blocks_same c.inputs.result (list_count Inputs n.nodes) c.self.inside.table.now.factor
+    subst (λ X. X) (blocks_same c.inputs.result (list_count Inputs n.nodes) c.self.inside.table.now.blocking
     c.samples_in.result (period_samples n.nodes Inputs q) c.in-Some-blocks_in.blocks (lists c.args.inputs.now)
     c.inputs.ensures (c.samples_in.ensures.value q c.self.invariant.period.least))
     c.in-Some-blocks_in.ensures.some
@@ -53,7 +53,7 @@ returns-in_default-blocks_in g c =
       (
         (c.in-Some.rest, sym (ap (λ v. v.rest) c.self.view_is) ∙ c.in-Some.is),
         λ blocks are. c.in_default-blocks_in.ensures.none blocks (subst (λ X. X)
-            (sym (blocks_same c.inputs.result (list_count Inputs n.nodes) c.self.inside.table.now.factor
+            (sym (blocks_same c.inputs.result (list_count Inputs n.nodes) c.self.inside.table.now.blocking
             c.samples_in.result
             (period_samples n.nodes Inputs q) blocks inputs c.inputs.ensures each))
             (subst (λ v. FeedsBlocks v blocks inputs) (sym c.self.view_is) are)),
@@ -61,15 +61,15 @@ returns-in_default-blocks_in g c =
       refl,
     )
 
-pub go_on-fed-requires-clause-fits : goal.go_on-fed-requires-clause-fits
-go_on-fed-requires-clause-fits g c κs within =
+pub resume-fed-requires-clause-fits : goal.resume-fed-requires-clause-fits
+resume-fed-requires-clause-fits g c κs within =
     record { period = c.self.invariant.period; table = c.self.invariant.table }
 
-pub go_on-fed-requires-clause-rest : goal.go_on-fed-requires-clause-rest
-go_on-fed-requires-clause-rest g c κs within =
+pub resume-fed-requires-clause-rest : goal.resume-fed-requires-clause-rest
+resume-fed-requires-clause-rest g c κs within =
     let stood = c.self.invariant.stands (c.in-Some.rest, c.in-Some.is) in (
       stood.1,
-      stood.0 * c.self.inside.table.now.factor,
+      stood.0 * c.self.inside.table.now.blocking,
       rest_of g.A.Actor.steps _ c.in-Some.rest c.in-Some.is stood.0 stood.1
           stood.2 stood.3,
     )

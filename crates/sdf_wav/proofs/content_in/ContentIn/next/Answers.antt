@@ -1,12 +1,12 @@
 use Rattle.std.proofs.Common.{length, rules}
-use Rattle.sdf_wav.specs.PiecesIn.{Reading}
+use Rattle.sdf_wav.specs.PiecesIn.{ContentInValue}
 use Rattle.sdf_wav.proofs.PiecesIn.{next_is_reading}
 use Rattle.sdf_wav.proofs.content_in.ContentIn.next.Goals as goal
 
 pub invariant_of-self : goal.invariant_of-self
 invariant_of-self g c =
     let f = c.self.inside in
-    let r : Reading = record {
+    let r : ContentInValue = record {
       rate = f.format.rate;
       channels = f.format.channels;
       size = f.size;

@@ -1,6 +1,6 @@
 use Rattle.std.proofs.Common.{rules, ◌≡◌, None, true, replicate, ap, ◌∙◌}
 use Rattle.sdf_graph.proofs.Theorems.{graphs_are_sound}
-use Rattle.sdf_prec.proofs.Crews.{idle_is}
+use Rattle.sdf_prec.proofs.SimulationLaws.{idle_is}
 use Rattle.sdf_prec.proofs.hu.simulation.Simulation.new.Goals as goal
 
 pub invariant_of-result : goal.invariant_of-result

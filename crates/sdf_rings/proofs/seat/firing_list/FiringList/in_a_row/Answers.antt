@@ -1,5 +1,5 @@
 use Rattle.std.proofs.Common.{◌≡◌, ◌+◌, ◌%◌, ◌<◌, ◌≤◌, length, slice_index, arith, ap, subst, sym, ◌∙◌}
-use Rattle.sdf_rings.proofs.Courses.{inside, row, within}
+use Rattle.sdf_rings.proofs.ListLaws.{inside, row, within}
 use Rattle.sdf_rings.proofs.Lists.{vec_long}
 use Rattle.sdf_rings.proofs.seat.firing_list.FiringList.in_a_row.Goals as goal
 

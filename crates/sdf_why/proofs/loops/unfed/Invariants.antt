@@ -1,6 +1,0 @@
-use Rattle.std.proofs.Common.{ℕ, ◌<◌}
-use Rattle.sdf_why.specs.Loops.{IsUnfed}
-use Rattle.sdf_why.proofs.loops.unfed.Given as goal
-
-abbrev pub invariant-loop-actor : goal.invariant-loop-actor
-invariant-loop-actor l = (a : ℕ) → a < l.actor → IsUnfed l.graph l.kept a → ⊥

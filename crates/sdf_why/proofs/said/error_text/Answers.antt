@@ -1,4 +1,0 @@
-use Rattle.sdf_why.proofs.said.error_text.Goals as goal
-
-pub returns : goal.returns
-returns c = (_, c.in_ok-text.ensures)
