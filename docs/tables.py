@@ -35,7 +35,7 @@ TOP = pathlib.Path(__file__).resolve().parent.parent
 sys.dont_write_bytecode = True
 sys.path[:0] = [str(TOP / "scripts"), str(TOP / "docs")]
 import schemas
-from sources import functions, places
+from sources import functions, misplaced, places
 
 PAGE = TOP / "docs" / "FORMATS.md"
 PROOFS = TOP / "docs" / "PROOFS.md"
@@ -197,22 +197,9 @@ def unedited():
 
 
 def edits():
-    """The edits whose old texts don't stand once in their files, each pair in what the earlier ones made."""
-    wrong = []
-    for edit in sorted([*TOP.glob("crates/*/must-fail/*.edit"), *TOP.glob("crates/*/mutants/*.edit")]):
-        texts, file, old = {}, None, None
-        for line in edit.read_text().splitlines():
-            word, _, rest = line.partition(": ")
-            if word == "file":
-                file = edit.parent.parent / rest.strip()
-                texts.setdefault(file, file.read_text())
-            elif word == "old":
-                old = rest
-            elif word == "new":
-                if texts[file].count(old) != 1:
-                    wrong.append(f"{edit.relative_to(TOP)}: `{old.strip()}` does not stand once in {file.name}")
-                texts[file] = texts[file].replace(old, rest)
-    return wrong
+    """The edits whose old texts don't stand once in their files."""
+    found = sorted([*TOP.glob("crates/*/must-fail/*.edit"), *TOP.glob("crates/*/mutants/*.edit")])
+    return [f"{edit.relative_to(TOP)}: {wrong}" for edit in found for wrong in misplaced(edit)]
 
 
 def is_crate(name):

@@ -56,3 +56,20 @@ def places(edit, texts):
         elif word == "old":
             found.append((file, texts.get(file, "").find(rest)))
     return found
+
+
+def misplaced(edit):
+    """The old texts of an edit's file that don't stand once in their files, each pair in what the earlier ones made."""
+    wrong, texts, file, old = [], {}, None, None
+    for line in edit.read_text(encoding="utf-8").splitlines():
+        word, _, rest = line.partition(": ")
+        if word == "file":
+            file = edit.parent.parent / rest.strip()
+            texts.setdefault(file, file.read_text(encoding="utf-8"))
+        elif word == "old":
+            old = rest
+        elif word == "new":
+            if texts[file].count(old) != 1:
+                wrong.append(f"`{old.strip()}` does not stand once in {file.name}")
+            texts[file] = texts[file].replace(old, rest)
+    return wrong
