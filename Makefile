@@ -91,7 +91,7 @@ test:
 mutants:
 	scripts/mutants $(if $(ALL),--all) $(CRATE)
 
-# Which crates have changed, other than in comments, since their wrong bodies were last tried.
+# Which crates have changed, other than in comments and names, since their wrong bodies were last tried.
 tried:
 	scripts/tried
 
