@@ -165,6 +165,21 @@ const COMMANDS: &[Row] = &[
          true }), why: AtTerminal }",
     ),
     (
+        "several files, with each option of a run",
+        "run g --into f i j --blocking 2 --workers 3 --policy lean --placement hu --runner rows --patience 7 \
+         --open-ended --no-why",
+        "Batch { graph: \"g\", batch: BatchRequest { inputs: [\"i\", \"j\"], folder: \"f\", options: Options { \
+         blocking: 2, workers: 3, policy: Lean, placement: Hu, runner: Rows, patience: 7 }, parallel: None, \
+         open_ended: true }, why: Never }",
+    ),
+    (
+        "several files in parallel",
+        "run g i --into f --parallel 2 --why",
+        "Batch { graph: \"g\", batch: BatchRequest { inputs: [\"i\"], folder: \"f\", options: Options { blocking: 1, \
+         workers: 1, policy: Round, placement: Homed, runner: One, patience: 1000 }, parallel: Some(Workers(2)), \
+         open_ended: false }, why: Always }",
+    ),
+    (
         "a band-pass from its defaults",
         "fir bandpass --rate 9 --pass 1 --stop 2",
         "Fir { wanted: FilterSpec { rate: 9, band: Middle { low_stop: 0, low_pass: 0, pass: 1, stop: 2 }, \

@@ -1,7 +1,9 @@
 //! Reading a command line.
 
-ghost use Rattle.std.specs.Prelude.{IfOk, IfErr, IfSome};
+ghost use Rattle.std.specs.Prelude.{◌≡◌, [], codes, map, option_map, unwrap_or, IfOk, IfErr, IfSome};
+ghost use Rattle.clap.specs.Words.{found_of, matched_of, raw_values};
 ghost use Rattle.sdf_options.specs.Limits.{IsUsage};
+ghost use Rattle.sdf_cli.specs.Batches.{AskForBatch};
 ghost use Rattle.sdf_cli.specs.Limits.{IsCommandWithinLimits, IsWithinLimits};
 ghost use Rattle.sdf_cli.specs.declared.requests.TheConstants.{MAX_FAULT};
 
@@ -201,7 +203,10 @@ fn is_batch(words: &[&str]) -> bool {
 }
 
 /// Returns the paths of the files that a batch reads.
-fn inputs_of<'a>(alloc: Global, matches: &ArgMatches<'a>) -> Result<Vec<&'a str>, AllocError> {
+fn inputs_of<'a>(alloc: Global, matches: &ArgMatches<'a>) -> Result<Vec<&'a str>, AllocError>
+    ensures { IfOk result (λ inputs. map (λ input. input.now) inputs.items
+        ≡ unwrap_or (option_map raw_values (matched_of (found_of matches.now) (codes "IN"))) []) }
+{
     match matches.get_strs("IN") {
         Some(paths) => Vec::from_slice(alloc, paths),
         None => Ok(Vec::new(alloc)),
@@ -210,7 +215,8 @@ fn inputs_of<'a>(alloc: Global, matches: &ArgMatches<'a>) -> Result<Vec<&'a str>
 
 /// Returns the batch that reads `inputs`, if no argument is missing.
 fn batch_of<'a>(matches: &ArgMatches<'a>, inputs: Vec<&'a str>) -> Option<Words<'a>>
-    ensures { IfSome result IsWithinLimits }
+    ensures within { IfSome result IsWithinLimits }
+    ensures fields { IfSome result (AskForBatch (found_of matches.now) (map (λ input. input.now) inputs.entry.items)) }
 {
     let graph = matches.get_str("GRAPH")?;
     let folder = matches.get_str("into")?;

@@ -3,6 +3,7 @@
 ghost use Rattle.std.specs.Prelude.{◌≤◌, ◌<◌, length};
 
 use crate::lanes::{LANES, Lane, Lanes};
+use byteorder::{ByteOrder, LittleEndian};
 use sdf_options::plural::plural;
 use sdf_wav::{HEADER_BYTES, MAX_CHANNELS};
 use std::alloc::{AllocError, Global};
@@ -117,7 +118,7 @@ impl SoundLevels {
             None => self.low = Some(byte),
             Some(low) => {
                 self.low = None;
-                self.count(i16::from_le_bytes([low, byte]));
+                self.count(LittleEndian::read_i16(&[low, byte]));
             }
         }
     }
@@ -175,13 +176,7 @@ impl SoundLevels {
     fn number(&self, at: usize) -> u64
         requires { at < 41 }
     {
-        let [a, b, c, d] = [
-            self.header[at],
-            self.header[at + 1],
-            self.header[at + 2],
-            self.header[at + 3],
-        ];
-        u64::from(u32::from_le_bytes([a, b, c, d]))
+        u64::from(LittleEndian::read_u32(&self.header[at..]))
     }
 
     /// Returns how far the sound is written, once its header is whole.

@@ -1,5 +1,7 @@
 //! The header of a sound that does not give the true size of its samples.
 
+use byteorder::{ByteOrder, LittleEndian};
+
 /// The bytes before the first chunk: `RIFF`, a size and `WAVE`.
 const START: u64 = 12;
 
@@ -37,8 +39,7 @@ impl Opening {
     /// Moves past a whole header: into the samples, or to the next chunk.
     fn pass(&mut self) {
         self.is_over = self.is_data();
-        let [_, _, _, _, a, b, c, d] = self.header;
-        let size = u64::from(u32::from_le_bytes([a, b, c, d]));
+        let size = u64::from(LittleEndian::read_u32(&self.header[4..]));
         self.skipped = size + size % 2;
         self.read = 0;
     }

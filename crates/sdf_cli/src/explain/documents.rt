@@ -91,9 +91,9 @@ pub(super) static MEANINGS: [Meaning; 15] = [
     // 61 NotYet
     Meaning {
         place: "",
-        means: "An early version gave this where something was not built yet. This version never gives it.",
+        means: "Something is not built yet. The program never gives this: everything is built.",
         limits: "",
-        remedy: "Nothing has to be done.",
+        remedy: "",
     },
     // 62 BadCost
     Meaning {

@@ -28,7 +28,7 @@ pub(super) static MEANINGS: [Meaning; 12] = [
     // 4 BadEnd
     Meaning {
         place: "link C",
-        means: "A channel's end names no actor. Only a program that makes graphs in code meets this: a graph file has 57 in its place.",
+        means: "A link's end names no actor. Only a program that makes graphs in code meets this: a graph file has 57 in its place.",
         limits: "",
         remedy: "Name an actor that the graph has.",
     },
