@@ -1,5 +1,5 @@
 -- A stretch of pairs more, by the halves of its sums.
-use Rattle.std.proofs.Common.{◌≡◌, ℕ, zero, suc, ◌+◌, ◌-◌, ◌*◌, ◌/◌, ◌<◌, ◌≤◌, ℤ, pos, negsuc, ◌+ℤ◌, ◌-ℤ◌, ◌*ℤ◌, List}
+use Rattle.std.proofs.Common.{◌≡◌, ℕ, zero, suc, ◌+◌, ◌-◌, ◌*◌, ◌<◌, ◌≤◌, ℤ, pos, negsuc, ◌+ℤ◌, ◌-ℤ◌, ◌*ℤ◌, List}
 use Rattle.std.proofs.Common.{[]}
 use Rattle.std.proofs.Common.{◌∷◌, length, take, drop, get_or, map, of_z, to_z, w32, FitsSigned, unsigned_abs, refl}
 use Rattle.std.proofs.Common.{sym, ap, subst}
@@ -39,10 +39,10 @@ lane_sum_more taps x l done (suc n) =
     let same : pair_sum (drop (16 * done) taps) (drop (2 * done) x) l n ≡ pair_sum taps x l (done + n) =
     ap (λ z. (z *ℤ get_or (drop (2 * done) x) (2 * n) (pos 0))
     +ℤ (get_or (drop (16 * done) taps) (16 * n + (2 * l + 1)) (pos 0) *ℤ get_or (drop (2 * done) x) (2 * n + 1)
-          (pos 0))) first
+    (pos 0))) first
     ∙ (ap (λ z. (get_or taps (16 * (done + n) + 2 * l) (pos 0) *ℤ z)
     +ℤ (get_or (drop (16 * done) taps) (16 * n + (2 * l + 1)) (pos 0) *ℤ get_or (drop (2 * done) x) (2 * n + 1)
-          (pos 0))) third
+    (pos 0))) third
     ∙ (ap (λ z. (get_or taps (16 * (done + n) + 2 * l) (pos 0) *ℤ get_or x (2 * (done + n)) (pos 0))
     +ℤ (z *ℤ get_or (drop (2 * done) x) (2 * n + 1) (pos 0))) second
     ∙ ap (λ z. (get_or taps (16 * (done + n) + 2 * l) (pos 0) *ℤ get_or x (2 * (done + n)) (pos 0))
@@ -103,13 +103,13 @@ lane_small h x l (suc n) fits low room =
     let second : get_or chunk (2 * l + 1) (pos 0) ≡ get_or h (16 * n + (2 * l + 1)) (pos 0) =
     get_or-take 16 (drop (16 * n) h) (2 * l + 1) (pos 0) (omega arith) ∙ get_or-drop (16 * n) h (2 * l + 1) (pos 0) in
     let light : unsigned_abs (get_or h (16 * n + 2 * l) (pos 0))
-        + unsigned_abs (get_or h (16 * n + (2 * l + 1)) (pos 0)) ≤
+    + unsigned_abs (get_or h (16 * n + (2 * l + 1)) (pos 0)) ≤
     weight chunk =
     subst (λ z. unsigned_abs z + unsigned_abs (get_or h (16 * n + (2 * l + 1)) (pos 0)) ≤ weight chunk) first
     (subst (λ z. unsigned_abs (get_or chunk (2 * l) (pos 0)) + unsigned_abs z ≤ weight chunk) second heavy) in
     let a = product_small (get_or h (16 * n + 2 * l) (pos 0)) (get_or x (2 * n) (pos 0)) (fits (2 * n) (omega arith)) in
     let b = product_small (get_or h (16 * n + (2 * l + 1)) (pos 0)) (get_or x (2 * n + 1) (pos 0))
-        (fits (2 * n + 1) (omega arith)) in
+    (fits (2 * n + 1) (omega arith)) in
     let both = abs_add (get_or h (16 * n + 2 * l) (pos 0) *ℤ get_or x (2 * n) (pos 0))
     (get_or h (16 * n + (2 * l + 1)) (pos 0) *ℤ get_or x (2 * n + 1) (pos 0)) in
     let all = abs_add (lane_sum h x l n) (pair_sum h x l n) in

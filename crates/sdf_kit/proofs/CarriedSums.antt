@@ -1,5 +1,5 @@
 -- Sums by their upper and lower halves.
-use Rattle.std.proofs.Common.{◌≡◌, ℕ, zero, suc, ◌+◌, ◌-◌, ◌*◌, ◌/◌, ◌%◌, ◌^◌, ◌<◌, ◌≤◌, ℤ, pos, ◌+ℤ◌, ◌-ℤ◌, ◌*ℤ◌, List}
+use Rattle.std.proofs.Common.{◌≡◌, ℕ, zero, suc, ◌+◌, ◌-◌, ◌*◌, ◌/◌, ◌^◌, ◌<◌, ◌≤◌, ℤ, pos, ◌+ℤ◌, ◌*ℤ◌, List}
 use Rattle.std.proofs.Common.{[], ◌∷◌}
 use Rattle.std.proofs.Common.{map, length, replicate, get_or, of_z, to_z, w32, FitsSigned, unsigned_abs, refl, sym, ap}
 use Rattle.std.proofs.Common.{◌∙◌}
@@ -7,7 +7,7 @@ use Rattle.std.proofs.Common.{arith, lit<}
 use Rattle.std.proofs.Math.Nat.{pow-le-pow_right}
 use Rattle.std.specs.Int.{int_shr}
 use Rattle.std.specs.Simd.Lanes.{zip2, Each1}
-use Rattle.std.proofs.lemmas.Int.{ints, to_z-of_z, of_z-to_z, int_wrap_fits, int_wrap-add_left, fits_signed_from_abs}
+use Rattle.std.proofs.lemmas.Int.{ints, of_z-to_z, int_wrap_fits, int_wrap-add_left, fits_signed_from_abs}
 use Rattle.std.proofs.lemmas.Int.{wrapping_mul_is, SFits-int_wrap}
 use Rattle.std.proofs.lemmas.Simd.{get_or-zip2, length-zip2}
 use borrow.Rule.Simd.Lanes.{act2}
@@ -38,7 +38,7 @@ module _ (a b r : List ℤ) (la : AreLanes w32 8 a) (lb : AreLanes w32 8 b)
   plus_at l low =
       ap (λ xs. get_or xs l (pos 0)) (same_lanes w32 r r_lanes.fits ∙ plus_is)
       ∙ get_or-zip2 (λ x y. wrap (x +ℤ y)) a b l (pos 0) (pos 0) (pos 0) (omega (arith, la.many))
-          (omega (arith, lb.many))
+      (omega (arith, lb.many))
 
 map_at : (f : ℤ → ℤ) (a : List ℤ) (l : ℕ) → l < length a → get_or (map f a) l (pos 0) ≡ f (get_or a l (pos 0))
 map_at f [] l low = absurd (omega arith)
@@ -71,7 +71,7 @@ joined_one h lo s hf low few small =
     let part : ℤ = int_shr (lo +ℤ pos (2 ^ s / 2)) s in
     let part_fits : FitsSigned w32 part = fits_signed_from_abs w32 part (omega arith) in
     let lower : shift_lane (plus_lane (of_z w32 lo) (half_bits s)) s ≡ of_z w32 part =
-        rounded_one lo s (omega arith) few in
+    rounded_one lo s (omega arith) few in
     let upper : to_z w32 (shl_lane (of_z w32 h) (16 - s)) ≡ wrap (h *ℤ pos (2 ^ (16 - s))) =
     wrapping_mul_is w32 h (pos (2 ^ (16 - s))) hf (fits_signed_from_abs w32 (pos (2 ^ (16 - s))) (omega arith)) in
     let bits : shl_lane (of_z w32 h) (16 - s) ≡ of_z w32 (wrap (h *ℤ pos (2 ^ (16 - s)))) =

@@ -1,7 +1,6 @@
 -- The sums of a tile on four windows, and the places where they are put.
 use Rattle.std.proofs.Common.{◌≡◌, ℕ, zero, suc, ◌+◌, ◌*◌, ◌/◌, ◌<◌, ◌≤◌, ℤ, pos, ◌+ℤ◌, ◌*ℤ◌, List, length, map, inl}
-use Rattle.std.proofs.Common.{inr}
-use Rattle.std.proofs.Common.{take, drop, get_or, of_z, to_z, w32, unsigned_abs, refl, sym, ap, ◌∙◌, arith}
+use Rattle.std.proofs.Common.{take, drop, get_or, of_z, to_z, w32, unsigned_abs, refl, ap, ◌∙◌, arith}
 use Rattle.std.proofs.lemmas.Int.{int_wrap_fits, fits_signed_from_abs}
 use Rattle.std.proofs.lemmas.List.{get_or-take, length-take-le, length-drop}
 use Rattle.sdf_kit.specs.Dots.{wrap}
@@ -71,7 +70,7 @@ module _ (f : ℕ → ℕ → ℤ) (at stride : ℕ) (p0 p1 p2 p3 p4 : List ℤ)
       let here : at + 1 * stride + l ≡ at + stride + l = omega arith in
       ap (λ n. get_or p4 n (pos 0)) here
       ∙ (others_d (at + stride + l) (inl (omega arith))
-            ∙ (others_c (at + stride + l) (inl (omega arith)) ∙ done_b l low))
+      ∙ (others_c (at + stride + l) (inl (omega arith)) ∙ done_b l low))
   four_put (suc (suc zero)) l few low = others_d (at + 2 * stride + l) (inl (omega arith)) ∙ done_c l low
   four_put (suc (suc (suc zero))) l few low = done_d l low
   four_put (suc (suc (suc (suc w)))) l few low = absurd (omega arith)

@@ -6,7 +6,7 @@ use Rattle.std.proofs.lemmas.Nat.{mod_below}
 use Rattle.std.proofs.lemmas.List.{length-append, length-replicate}
 use Rattle.std.proofs.Math.Seq.{drop-append_seam}
 use Rattle.sdf_kit.specs.Samples.{rescaled, upsampled}
-use Rattle.sdf_kit.specs.Fir.{Filter, convolved, run_put}
+use Rattle.sdf_kit.specs.Fir.{convolved, run_put}
 use Rattle.sdf_kit.specs.Dots.{dot, total_abs, AreWithin}
 use Rattle.sdf_kit.specs.Branches.{AreBranches, branch, branch_at}
 use Rattle.sdf_kit.specs.Tiles.{keep_of, whole_output}

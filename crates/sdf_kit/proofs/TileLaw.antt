@@ -1,17 +1,17 @@
 -- The sum of a tile in a lane is an output of the filter.
 use Rattle.std.proofs.Common.{◌≡◌, ℕ, zero, suc, ◌+◌, ◌-◌, ◌*◌, ◌/◌, ◌%◌, ◌<◌, ◌≤◌, ℤ, pos, ◌+ℤ◌, ◌*ℤ◌, List, length}
-use Rattle.std.proofs.Common.{take, drop, get_or, refl, sym, ap, subst, ◌∙◌, arith, true, false, inl, inr}
+use Rattle.std.proofs.Common.{take, drop, get_or, sym, ap, ◌∙◌, arith, true, false}
 use Rattle.std.specs.Prelude.{cond, nat_le}
 use Rattle.std.proofs.lemmas.Int.{ints}
 use Rattle.std.proofs.lemmas.Bool.{le-leb, lt-leb}
 use Rattle.std.proofs.lemmas.Nat.{div-add-mod', mod_below, div_below, le-div}
-use Rattle.std.proofs.lemmas.List.{get_or-take, get_or-drop, get_or_past}
+use Rattle.std.proofs.lemmas.List.{get_or-take, get_or-drop}
 use Rattle.std.proofs.Math.IntN.{zero-*ℤ}
 use Rattle.std.proofs.Math.Nat.{add-mul, mul_assoc, mul_comm, mul-le-mul_right, div-mul-le_self, add-mul-mod_self_right}
 use Rattle.std.proofs.Math.Nat.{add-mul-div_right}
 use Rattle.sdf_kit.specs.Fir.{convolved}
 use Rattle.sdf_kit.specs.Samples.{sum_below, upsampled}
-use Rattle.sdf_kit.specs.Tiles.{pair_sum, lane_sum, tile_sum, keep_of, whole_output, reach, tile_tap}
+use Rattle.sdf_kit.specs.Tiles.{lane_sum, tile_sum, keep_of, reach, tile_tap}
 use Rattle.sdf_kit.proofs.Sums.{sum_below-zero, sum_below_more, sum_below_same}
 use Rattle.sdf_kit.proofs.Phases.{branch_term, reversed, zero_terms, branch_is}
 
@@ -19,7 +19,7 @@ use Rattle.sdf_kit.proofs.Phases.{branch_term, reversed, zero_terms, branch_is}
 pub lane_is_sum : (taps x : List ℤ) (l k : ℕ) → lane_sum taps x l k ≡
     sum_below (2 * k) (λ i. get_or taps (16 * (i / 2) + (2 * l + i % 2)) (pos 0) *ℤ get_or x i (pos 0))
 lane_is_sum taps x l zero = sym (sum_below-zero (λ i. get_or taps (16 * (i / 2) + (2 * l + i % 2)) (pos 0) *ℤ
-        get_or x i (pos 0)))
+    get_or x i (pos 0)))
 lane_is_sum taps x l (suc k) =
     let f : ℕ → ℤ = λ i. get_or taps (16 * (i / 2) + (2 * l + i % 2)) (pos 0) *ℤ get_or x i (pos 0) in
     let two : 2 * suc k ≡ 2 * k + 1 + 1 = omega arith in
@@ -27,7 +27,7 @@ lane_is_sum taps x l (suc k) =
     let other : 16 * ((2 * k + 1) / 2) + (2 * l + (2 * k + 1) % 2) ≡ 16 * k + (2 * l + 1) = omega arith in
     let sums : sum_below (2 * suc k) f ≡ (sum_below (2 * k) f +ℤ f (2 * k)) +ℤ f (2 * k + 1) =
     ap (λ n. sum_below n f) two ∙ (sum_below_more (2 * k + 1) f
-          ∙ ap (λ z. z +ℤ f (2 * k + 1)) (sum_below_more (2 * k) f)) in
+    ∙ ap (λ z. z +ℤ f (2 * k + 1)) (sum_below_more (2 * k) f)) in
     let first : f (2 * k) ≡ get_or taps (16 * k + 2 * l) (pos 0) *ℤ get_or x (2 * k) (pos 0) =
     ap (λ n. get_or taps n (pos 0) *ℤ get_or x (2 * k) (pos 0)) one in
     let second : f (2 * k + 1) ≡ get_or taps (16 * k + (2 * l + 1)) (pos 0) *ℤ get_or x (2 * k + 1) (pos 0) =
@@ -77,7 +77,7 @@ module _ (taps row x : List ℤ) (up down firings pairs v l base len : ℕ) (som
   ends =
       let above : j * down / up ≤ (8 * v + 7) * down / up =
       div_grows (j * down) ((8 * v + 7) * down) up some_up
-          (mul-le-mul_right down (let h : j ≤ 8 * v + 7 = omega arith in h)) in
+      (mul-le-mul_right down (let h : j ≤ 8 * v + 7 = omega arith in h)) in
       omega arith
 
   placed : at ≡ j * down + (keep + base) * up
@@ -131,7 +131,7 @@ module _ (taps row x : List ℤ) (up down firings pairs v l base len : ℕ) (som
       let back : end - (end - k) ≡ k = omega arith in
       let place : first + (end - k) ≡ at / up - k = omega arith in
       let a : get_or row (16 * ((end - k) / 2) + (2 * l + (end - k) % 2)) (pos 0) ≡
-          get_or taps (at % up + k * up) (pos 0) =
+      get_or taps (at % up + k * up) (pos 0) =
       tap (end - k) (omega arith) ∙ (ap (λ n. get_or taps (j * down % up + n * up) (pos 0)) back
       ∙ ap (λ n. get_or taps (n + k * up) (pos 0)) (sym column)) in
       let b : get_or (drop first x) (end - k) (pos 0) ≡ get_or (take len x) (at / up - k) (pos 0) =
@@ -148,7 +148,7 @@ module _ (taps row x : List ℤ) (up down firings pairs v l base len : ℕ) (som
       let parts : 2 * pairs ≡ end + 1 + (2 * pairs - (end + 1)) = omega arith in
       let reach_all : length taps ≤ at % up + (end + 1) * up =
       (let more : (keep + 1) * up ≤ (end + 1) * up =
-            mul-le-mul_right up (let h : keep + 1 ≤ end + 1 = omega arith in h) in
+      mul-le-mul_right up (let h : keep + 1 ≤ end + 1 = omega arith in h) in
       let one : (keep + 1) * up ≡ keep * up + 1 * up = add-mul keep 1 up in
       let g = far in omega arith) in
       ap (λ m. lane_sum row (drop first x) l m) n

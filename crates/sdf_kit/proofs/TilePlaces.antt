@@ -1,5 +1,5 @@
 -- Where a vector of a turn reads and writes, and what it gives.
-use Rattle.std.proofs.Common.{◌≡◌, ℕ, ◌+◌, ◌-◌, ◌*◌, ◌/◌, ◌%◌, ◌<◌, ◌≤◌, ℤ, pos, List, length, take, drop, get_or, sym}
+use Rattle.std.proofs.Common.{◌≡◌, ℕ, ◌+◌, ◌*◌, ◌/◌, ◌%◌, ◌<◌, ◌≤◌, ℤ, pos, List, length, take, drop, get_or}
 use Rattle.std.proofs.Common.{ap}
 use Rattle.std.proofs.Common.{◌∙◌, arith}
 use Rattle.std.proofs.lemmas.Nat.{row_fits}
@@ -41,7 +41,7 @@ module _ (t : Tiles) (taps x row : List ℤ) (up down done many len v : ℕ) (ar
   turn_down =
       let most : (done + 4 * t.firings) * down ≤ many * down = mul-le-mul_right down turn in
       let parts : (done + 4 * t.firings) * down ≡ done * down + 4 * t.firings * down =
-          add-mul done (4 * t.firings) down in
+      add-mul done (4 * t.firings) down in
       let turned : 4 * t.firings * down ≡ 4 * (t.firings * down) = mul_assoc 4 t.firings down in
       omega arith
 
@@ -87,7 +87,7 @@ module _ (t : Tiles) (taps x row : List ℤ) (up down done many len v : ℕ) (ar
       let d = turn_down in
       let parts : ((done + w * t.firings) * up + (8 * v + l)) * down ≡
       (done + w * t.firings) * up * down + (8 * v + l) * down =
-          add-mul ((done + w * t.firings) * up) (8 * v + l) down in
+      add-mul ((done + w * t.firings) * up) (8 * v + l) down in
       let crossed : (done + w * t.firings) * up * down ≡ (done + w * t.firings) * down * up =
       mul_right_comm (done + w * t.firings) up down in
       let based : (done + w * t.firings) * down * up ≡ b * up = ap (λ n. n * up) (base w) in

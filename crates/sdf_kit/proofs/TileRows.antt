@@ -70,7 +70,7 @@ rows_short taps table up down vectors pairs are long done =
     let back : v * (16 * pairs) + m ≡ n = div-add-mod' n (16 * pairs) in
     let place : v * (16 * pairs) + lane_place k i ≡ n = omega arith in
     subst (FitsSigned w16) (sym (ap (λ p. get_or table p (pos 0)) (sym place)
-            ∙ done v k i row (omega arith) (omega arith)))
+    ∙ done v k i row (omega arith) (omega arith)))
     (tile_short taps up down v k i are))
     (λ none.
     let nothing : vectors * (16 * pairs) ≡ 0 =

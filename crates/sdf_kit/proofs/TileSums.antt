@@ -11,9 +11,6 @@ use Rattle.std.proofs.lemmas.Int.{fits_signed_from_abs}
 use Rattle.std.proofs.lemmas.List.{get_or-take, get_or-drop, length-map}
 use Rattle.std.proofs.lemmas.Nat.{one_shl}
 use Rattle.std.proofs.lemmas.Simd.{get_or-zip2, length-zip2}
-use borrow.Rule.Simd.Lanes.{act2}
-use borrow.Table.Row.{s_int}
-use mir.Syntax.{signed, shr}
 use Rattle.sdf_kit.specs.Samples.{rounded, saturated, rescaled}
 use Rattle.sdf_kit.specs.Dots.{wrap, neighbours, AreLanes}
 use Rattle.sdf_kit.proofs.Lanes.{plus_lane, sum_is}
@@ -39,7 +36,7 @@ lane_of_pairs (suc n) (x ∷ y ∷ h) a b (suc l) e low =
     let second : 2 * suc l + 1 ≡ suc (suc (2 * l + 1)) = omega arith in
     lane_of_pairs n h a b l (omega (arith, e)) (omega arith)
     ∙ sym (ap (λ i. wrap ((get_or (x ∷ y ∷ h) i (pos 0) *ℤ a) +ℤ
-              (get_or (x ∷ y ∷ h) (2 * suc l + 1) (pos 0) *ℤ b))) first
+    (get_or (x ∷ y ∷ h) (2 * suc l + 1) (pos 0) *ℤ b))) first
     ∙ ap (λ i. wrap ((get_or h (2 * l) (pos 0) *ℤ a) +ℤ (get_or (x ∷ y ∷ h) i (pos 0) *ℤ b))) second)
 
 -- what `add` gives
@@ -84,21 +81,21 @@ tile_next taps x a h xs r k is lh eh lx ex lr er = record {
       let xs_are : map (to_z w16) (map (of_z w16) xs) ≡ times 8 u v = same_lanes w16 xs lx.fits ∙ ex in
       let long : length (take 16 (drop (16 * k) taps)) ≡ 8 + 8 = sym (ap length eh) ∙ lh.many in
       let sums_are : r ≡ zip2 (λ a b. wrap (a +ℤ b)) a
-          (neighbours (zip2 (λ a b. a *ℤ b) (take 16 (drop (16 * k) taps)) (times 8 u v))) =
+      (neighbours (zip2 (λ a b. a *ℤ b) (take 16 (drop (16 * k) taps)) (times 8 u v))) =
       er ∙ (ap (λ t. zip2 (λ a b. wrap (a +ℤ b)) a (neighbours
-                (zip2 (λ a b. a *ℤ b) t (map (to_z w16) (map (of_z w16) xs))))) taps_are
+      (zip2 (λ a b. a *ℤ b) t (map (to_z w16) (map (of_z w16) xs))))) taps_are
       ∙ ap (λ t. zip2 (λ a b. wrap (a +ℤ b)) a (neighbours
-              (zip2 (λ a b. a *ℤ b) (take 16 (drop (16 * k) taps)) t))) xs_are) in
+      (zip2 (λ a b. a *ℤ b) (take 16 (drop (16 * k) taps)) t))) xs_are) in
       let made_long : length (neighbours (zip2 (λ a b. a *ℤ b) (take 16 (drop (16 * k) taps)) (times 8 u v))) ≡ 8 =
       (lanes_neighbours 8 (zip2 (λ a b. a *ℤ b) (take 16 (drop (16 * k) taps)) (times 8 u v))
       (length-zip2 (λ a b. a *ℤ b) (take 16 (drop (16 * k) taps)) (times 8 u v) (long ∙ sym (length-times 8 u v))
-            ∙ long)).many in
+      ∙ long)).many in
       let first : get_or (take 16 (drop (16 * k) taps)) (2 * l) (pos 0) ≡ get_or taps (16 * k + 2 * l) (pos 0) =
       get_or-take 16 (drop (16 * k) taps) (2 * l) (pos 0) (omega arith) ∙ get_or-drop (16 * k) taps (2 * l) (pos 0) in
       let second : get_or (take 16 (drop (16 * k) taps)) (2 * l + 1) (pos 0) ≡
-          get_or taps (16 * k + (2 * l + 1)) (pos 0) =
+      get_or taps (16 * k + (2 * l + 1)) (pos 0) =
       get_or-take 16 (drop (16 * k) taps) (2 * l + 1) (pos 0) (omega arith)
-          ∙ get_or-drop (16 * k) taps (2 * l + 1) (pos 0) in
+      ∙ get_or-drop (16 * k) taps (2 * l + 1) (pos 0) in
       let here : get_or (neighbours (zip2 (λ a b. a *ℤ b) (take 16 (drop (16 * k) taps)) (times 8 u v))) l (pos 0) ≡
       wrap (pair_sum taps x l k) =
       lane_of_pairs 8 (take 16 (drop (16 * k) taps)) u v l long low
@@ -107,10 +104,10 @@ tile_next taps x a h xs r k is lh eh lx ex lr er = record {
       let both : get_or r l (pos 0) ≡ wrap (wrap (lane_sum taps x l k) +ℤ wrap (pair_sum taps x l k)) =
       ap (λ t. get_or t l (pos 0)) sums_are
       ∙ (get_or-zip2 (λ a b. wrap (a +ℤ b)) a (neighbours
-              (zip2 (λ a b. a *ℤ b) (take 16 (drop (16 * k) taps)) (times 8 u v))) l
+      (zip2 (λ a b. a *ℤ b) (take 16 (drop (16 * k) taps)) (times 8 u v))) l
       (pos 0) (pos 0) (pos 0) (omega (arith, is.lanes.many)) (omega (arith, made_long))
       ∙ (ap (λ t. wrap (t +ℤ get_or (neighbours (zip2 (λ a b. a *ℤ b) (take 16 (drop (16 * k) taps)) (times 8 u v))) l
-                (pos 0))) (is.each l low)
+      (pos 0))) (is.each l low)
       ∙ ap (λ t. wrap (wrap (lane_sum taps x l k) +ℤ t)) here)) in
       ap (λ t. get_or t l (pos 0)) (same_lanes w32 r lr.fits)
       ∙ (both ∙ wraps (lane_sum taps x l k) (pair_sum taps x l k));
@@ -178,7 +175,7 @@ rounded_one x s small low =
     let half_fits : FitsSigned w32 (pos (2 ^ s / 2)) = fits_signed_from_abs w32 (pos (2 ^ s / 2)) (omega arith) in
     let near : unsigned_abs (x +ℤ pos (2 ^ s / 2)) ≤ 2147483647 = omega (arith, ints) in
     let sum_fits : FitsSigned w32 (x +ℤ pos (2 ^ s / 2)) =
-        fits_signed_from_abs w32 (x +ℤ pos (2 ^ s / 2)) (omega arith) in
+    fits_signed_from_abs w32 (x +ℤ pos (2 ^ s / 2)) (omega arith) in
     let sum : to_z w32 (plus_lane (of_z w32 x) (half_bits s)) ≡ x +ℤ pos (2 ^ s / 2) =
     ap (λ b. to_z w32 (plus_lane (of_z w32 x) b)) bits
     ∙ (sum_is x (pos (2 ^ s / 2)) x_fits half_fits ∙ int_wrap_fits w32 (x +ℤ pos (2 ^ s / 2)) sum_fits) in

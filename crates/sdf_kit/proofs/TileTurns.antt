@@ -1,5 +1,5 @@
 -- Outputs that are put tile by tile, and turn by turn.
-use Rattle.std.proofs.Common.{◌≡◌, ℕ, zero, suc, ◌+◌, ◌-◌, ◌*◌, ◌/◌, ◌%◌, ◌<◌, ◌≤◌, ◌⊎◌, ℤ, pos, List, length, inl, inr}
+use Rattle.std.proofs.Common.{◌≡◌, ℕ, ◌+◌, ◌-◌, ◌*◌, ◌/◌, ◌%◌, ◌<◌, ◌≤◌, ℤ, pos, List, length, inl, inr}
 use Rattle.std.proofs.Common.{get_or, refl, sym, ap, ◌∙◌, arith, ⊎_elim}
 use Rattle.std.proofs.lemmas.Bool.{cases_lt}
 use Rattle.std.proofs.lemmas.Nat.{div-add-mod', mod_below, div_below}
@@ -20,7 +20,7 @@ module _ (f : ℕ → ℤ) (done firings up m at stride : ℕ) (old mid new : Li
     (value : (w l : ℕ) → w < 4 → l < 8 → get_or new (at + w * stride + l) (pos 0) ≡
     f ((done + w * firings) * up + (m + l)))
     (others : (n : ℕ) → ((w : ℕ) → w < 4 → IsApart (at + w * stride) n) →
-          get_or new n (pos 0) ≡ get_or mid n (pos 0)) where
+    get_or new n (pos 0) ≡ get_or mid n (pos 0)) where
   -- where the outputs of a set begin
   begins : (w : ℕ) → (done + w * firings) * up ≡ done * up + w * stride
   begins w =

@@ -1,5 +1,5 @@
 -- The samples that tiles see of a window.
-use Rattle.std.proofs.Common.{◌≡◌, ℕ, ◌+◌, ◌-◌, ◌*◌, ◌≤◌, ◌<◌, ℤ, pos, List, length, take, drop, get_or, sym, ap, ◌∙◌}
+use Rattle.std.proofs.Common.{◌≡◌, ℕ, ◌+◌, ◌-◌, ◌≤◌, ◌<◌, ℤ, pos, List, length, take, drop, get_or, sym, ap, ◌∙◌}
 use Rattle.std.proofs.Common.{FitsSigned, subst, arith, ⊎_elim}
 use Rattle.std.proofs.lemmas.List.{drop-take, length-take, get_or-take, get_or-drop, ext_get_or}
 use Rattle.std.proofs.lemmas.Bool.{cases_lt}

@@ -6,7 +6,7 @@ use Rattle.std.specs.Int.{w16}
 use Rattle.std.specs.Simd.Lanes.{Each1}
 use Rattle.std.proofs.lemmas.List.{get_or-drop}
 use Rattle.std.proofs.lemmas.Simd.{Each1-get_or}
-use Rattle.std.proofs.Math.Nat.{mul_assoc, mul_comm, mul-le-mul_right}
+use Rattle.std.proofs.Math.Nat.{mul-le-mul_right}
 use Rattle.sdf_kit.specs.Stretches.{weight_of}
 use Rattle.sdf_kit.specs.Tiles.{lane_sum, tile_sum, AreRowStretches, AreCarried}
 use Rattle.sdf_kit.specs.declared.carries.Carried.{Carried}
@@ -33,7 +33,7 @@ module _ (taps x piece : List ℤ) (stretches : List ℕ) (first len l shift : �
 
   pub carried_small :
       unsigned_abs ((pos 65536 *ℤ get_or carried.high l (pos 0)) +ℤ get_or carried.low l (pos 0)) ≤
-          2147450880 * 2 ^ shift
+      2147450880 * 2 ^ shift
   carried_small =
       let fits : (k : ℕ) → k < 2 * length stretches → FitsSigned w16 (get_or (drop first x) k (pos 0)) =
       (λ k h. subst (FitsSigned w16) (sym (get_or-drop first x k (pos 0)))

@@ -4,7 +4,7 @@ use Rattle.std.specs.Prelude.{List, [], ◌∷◌, length, take, drop, sum, slic
 use Rattle.std.specs.Prelude.{unsigned_abs, FitsSigned}
 use Rattle.std.specs.Int.{w16, w32}
 use Rattle.std.specs.Simd.Lanes.{Each1}
-use Rattle.sdf_kit.specs.Samples.{sample, rescaled, upsampled}
+use Rattle.sdf_kit.specs.Samples.{sample, upsampled}
 use Rattle.sdf_kit.specs.Fir.{convolved}
 use Rattle.sdf_kit.specs.Dots.{AreLanes, wrap}
 use Rattle.sdf_kit.specs.Stretches.{IsReach, weight_of}

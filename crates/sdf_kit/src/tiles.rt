@@ -298,7 +298,7 @@ fn put_turn(
         unsigned_abs (whole_output taps.now firings.up firings.down (take input.len input.samples.now) n) ≤ 2147467263 }
     requires put { length put.old ≡ firings.many * firings.up }
     ensures { IsTurn (λ n. rescaled (whole_output taps.now firings.up firings.down (take input.entry.len input.entry.samples.now)
-            n) firings.shift)
+        n) firings.shift)
         done tiles.now.firings firings.up put.old put.new (8 * tiles.now.vectors) }
 {
     let step = (tiles.firings * firings.down) as usize;
@@ -344,7 +344,7 @@ pub(crate) fn put_tiles(
         unsigned_abs (whole_output taps.now firings.up firings.down (take input.len input.samples.now) n) ≤ 2147467263 }
     requires put { length put.old ≡ firings.many * firings.up }
     ensures { put.new ≡ map (λ n. rescaled (whole_output taps.now firings.up firings.down
-            (take input.entry.len input.entry.samples.now) n)
+        (take input.entry.len input.entry.samples.now) n)
         firings.shift) (range_with_len 0 (firings.many * firings.up)) }
 {
     let turn = 4 * tiles.firings;

@@ -21,7 +21,7 @@ returns-clause-high c l low =
 pub returns-clause-low : goal.returns-clause-low
 returns-clause-low c l low =
     plus_at c.args.carried.low c.lower.result c.plus-2.result c.requires.low c.lower.ensures.lanes
-        c.plus-2.ensures l low
+    c.plus-2.ensures l low
     ∙ ap (λ z. wrap (get_or c.args.carried.low l (pos 0) +ℤ z))
     (half_at (λ x. x -ℤ (pos 65536 *ℤ int_shr x 16)) c.args.sums c.lower.result l c.requires.sums
-          c.lower.ensures.value low)
+    c.lower.ensures.value low)

@@ -1,4 +1,4 @@
-use Rattle.std.proofs.Common.{◌∙◌, pos, get_or, ap, subst, sym, w32, arith, ◌+ℤ◌, ◌*ℤ◌}
+use Rattle.std.proofs.Common.{◌∙◌, pos, get_or, ap, subst, sym, w32, arith}
 use Rattle.std.proofs.lemmas.Simd.{get_or-zip2}
 use Rattle.sdf_kit.specs.Samples.{rescaled}
 use Rattle.sdf_kit.specs.Dots.{AreLanes}

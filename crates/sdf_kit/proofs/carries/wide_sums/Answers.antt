@@ -12,8 +12,13 @@ stretches-preserved c =
     let some : 1 ≤ c.from.result =
     subst (λ n. 1 ≤ n) (sym c.from.ensures) (c.requires.stretches.some c.stretches.done c.stretches-test.true) in
     let taps_room : 16 * (c.stretches.done + c.from.result) ≤ length c.args.taps.now =
-    omega (arith, reach.within, length-drop (16 * c.stretches.done) c.args.taps.now, c.requires.stretches.many,
-          c.stretches-test.true) in
+    omega (
+      arith,
+      reach.within,
+      length-drop (16 * c.stretches.done) c.args.taps.now,
+      c.requires.stretches.many,
+      c.stretches-test.true,
+    ) in
     let inside : c.stretches.done + c.from.result ≤ length c.args.stretches.now =
     omega (arith, taps_room, c.requires.stretches.many) in
     let few : c.stretches.done + c.from.result ≤ 1024 = omega (arith, inside, c.requires.stretches.few) in

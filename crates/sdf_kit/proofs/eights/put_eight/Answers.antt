@@ -1,4 +1,4 @@
-use Rattle.std.proofs.Common.{ℕ, ◌≡◌, ◌+◌, ◌≤◌, ◌∙◌, pos, length, get_or, map, to_z, of_z, w32, ap, sym, arith, ⊎_elim}
+use Rattle.std.proofs.Common.{◌+◌, ◌∙◌, pos, get_or, w32, ap, arith, ⊎_elim}
 use Rattle.std.specs.Simd.Lanes.{put_chunk}
 use Rattle.std.proofs.lemmas.Simd.{get_or-put_chunk_at, get_or-put_chunk_above, get_or-put_chunk_below}
 use Rattle.sdf_kit.proofs.LaneTotals.{same_lanes}

@@ -1,4 +1,4 @@
-use Rattle.std.proofs.Common.{◌≡◌, ◌-◌, ◌*◌, ◌++◌, ◌∙◌, ℕ, List, ℤ, length, map, drop, replicate, pos, unsigned_abs}
+use Rattle.std.proofs.Common.{◌-◌, ◌*◌, ◌∙◌, List, ℤ, map, drop, unsigned_abs}
 use Rattle.std.proofs.Common.{◌≤◌, refl, ap, sym, subst}
 use Rattle.std.specs.List.{range_with_len}
 use Rattle.sdf_kit.specs.Samples.{rescaled}

@@ -1,4 +1,4 @@
-use Rattle.std.proofs.Common.{◌≡◌, ℕ, ◌+◌, ◌-◌, ◌*◌, ◌≤◌, ◌∙◌, take, drop, ap, sym, subst, arith, ⊎_elim}
+use Rattle.std.proofs.Common.{◌≡◌, ℕ, ◌+◌, ◌-◌, ◌*◌, ◌≤◌, take, drop, sym, subst, arith, ⊎_elim}
 use Rattle.std.proofs.lemmas.Grind.{common_steps}
 use Rattle.std.proofs.lemmas.Bool.{cases_lt}
 use Rattle.sdf_kit.specs.Stretches.{weight}
@@ -15,6 +15,6 @@ loop-vector-preserved c v l = ⊎_elim
     subst (λ n. weight (take n (drop at c.args.table.now)) ≤ c.max-most.result) cut
     (grind (arith, common_steps, c.max-most.ensures, c.weight.ensures.is)) in
     subst (λ u. weight (take 16 (drop (u * (16 * c.args.pairs) + 16 * c.args.pair) c.args.table.now)) ≤
-          c.max-most.result)
+    c.max-most.result)
     (sym same) here)
     (cases_lt v c.loop-vector.vector)

@@ -41,6 +41,6 @@ returns-then-put_stretches-clause-total c v low =
     subst (λ (w : List ℕ). sum w ≤ 65535 * 2 ^ c.args.shift) first
     (omega (arith, c.total.ensures, c.if-total-shift.false)) in
     subst (λ s. weight_of (length s) (row_of c.args.table.now c.args.pairs v) ≤ 65535 * 2 ^ c.args.shift)
-        (sym stretches)
+    (sym stretches)
     (total_is c.args.table.now c.weigh.new.weights c.args.vectors c.args.pairs c.weigh.ensures.len c.requires.room
     c.weigh.ensures.heavy c.put_stretches.new.stretches (65535 * 2 ^ c.args.shift) long summed v low)

@@ -1,4 +1,4 @@
-use Rattle.std.proofs.Common.{◌≡◌, ◌<◌, ◌≤◌, ◌+◌, ◌*◌, ◌/◌, ◌%◌, ◌∙◌, ap, subst, take, pos, refl, arith}
+use Rattle.std.proofs.Common.{◌≡◌, ◌<◌, ◌≤◌, ◌+◌, ◌*◌, ◌/◌, ◌%◌, ◌∙◌, subst, take, pos, arith}
 use Rattle.std.proofs.lemmas.Nat.{div-add-mod', row_fits}
 use Rattle.std.proofs.lemmas.List.FromFn.{fill_by_all}
 use Rattle.std.proofs.Math.Nat.{add-mul, mul-le-mul_right}
@@ -26,7 +26,7 @@ loop-number-preserved c = record {
       let further : (c.loop-number.number + 1) * turn ≡ c.loop-number.number * turn + turn = omega arith in
       turn_all (λ n. rescaled (whole_output c.args.taps.now c.args.firings.up c.args.firings.down
       (take c.args.input.len c.args.input.samples.now) n) c.args.firings.shift) (c.loop-number.number * turn)
-          c.args.tiles.now.firings
+      c.args.tiles.now.firings
       c.args.firings.up (8 * c.args.tiles.now.vectors) c.loop-number.put c.put_turn.new.put c.put_turn.ensures
       (omega (arith, c.requires.tiles.set)) (omega (arith, c.requires.tiles.some)) c.loop-number.invariant.done n
       (subst (λ m. n < m * c.args.firings.up) further l);

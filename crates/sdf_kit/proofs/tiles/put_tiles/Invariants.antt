@@ -8,5 +8,5 @@ invariant-loop-number l = record {
   len : length l.put ≡ l.firings.many * l.firings.up;
   done : (n : ℕ) → n < l.number * l.turn * l.firings.up → get_or l.put n (pos 0) ≡
       rescaled (whole_output l.taps l.firings.up l.firings.down (take l.input.len l.input.samples.now) n)
-          l.firings.shift;
+      l.firings.shift;
 }

@@ -9,13 +9,13 @@ pub loop-vector-init : goal.loop-vector-init
 loop-vector-init c =
     turn_begins (λ n. rescaled (whole_output c.args.taps.now c.args.firings.up c.args.firings.down
     (take c.args.input.len c.args.input.samples.now) n) c.args.firings.shift) c.args.done c.args.tiles.now.firings
-        c.args.firings.up
+    c.args.firings.up
     c.args.put.now
 
 pub put_tile-requires-clause-room : goal.put_tile-requires-clause-room
 put_tile-requires-clause-room c =
     window_room c.args.tiles.now c.args.taps.now c.args.input.samples.now c.row.result.now c.args.firings.up
-        c.args.firings.down
+    c.args.firings.down
     c.args.done c.args.firings.many c.args.input.len c.loop-vector.vector c.requires.tiles c.requires.firings.up.0
     c.requires.firings.down.0 c.loop-vector-test.true c.requires.turn c.requires.samples c.requires.room c.row.ensures
 
@@ -37,7 +37,7 @@ put_tile-requires-clause-small c quiet w l few low =
     c.requires.firings.down.0 c.loop-vector-test.true c.requires.turn c.requires.samples c.requires.room
     c.row.ensures w l few low))
     (c.requires.small quiet ((c.args.done + w * c.args.tiles.now.firings) * c.args.firings.up
-            + (8 * c.loop-vector.vector + l))
+    + (8 * c.loop-vector.vector + l))
     (output_low c.args.tiles.now c.args.taps.now c.args.input.samples.now c.row.result.now c.args.firings.up
     c.args.firings.down
     c.args.done c.args.firings.many c.args.input.len c.loop-vector.vector c.requires.tiles c.requires.firings.up.0
@@ -49,11 +49,11 @@ loop-vector-preserved c =
     let one : 8 * c.loop-vector.vector + 8 ≡ 8 * (c.loop-vector.vector + 1) = omega arith in
     subst (λ m. IsTurn (λ n. rescaled (whole_output c.args.taps.now c.args.firings.up c.args.firings.down
     (take c.args.input.len c.args.input.samples.now) n) c.args.firings.shift) c.args.done c.args.tiles.now.firings
-        c.args.firings.up
+    c.args.firings.up
     c.args.put.now c.put_tile.new.put m) one
     (turn_more (λ n. rescaled (whole_output c.args.taps.now c.args.firings.up c.args.firings.down
     (take c.args.input.len c.args.input.samples.now) n) c.args.firings.shift) c.args.done c.args.tiles.now.firings
-        c.args.firings.up
+    c.args.firings.up
     (8 * c.loop-vector.vector) (c.args.done * c.args.firings.up + 8 * c.loop-vector.vector)
     (c.args.tiles.now.firings * c.args.firings.up) c.args.put.now c.loop-vector.put c.put_tile.new.put
     c.loop-vector.invariant refl refl
@@ -65,7 +65,7 @@ loop-vector-preserved c =
     c.put_tile.ensures.len
     (λ w l few low. c.put_tile.ensures.done w l few low
     ∙ ap (λ z. rescaled z c.args.firings.shift) (value c.args.tiles.now c.args.taps.now c.args.input.samples.now
-          c.row.result.now
+    c.row.result.now
     c.args.firings.up c.args.firings.down
     c.args.done c.args.firings.many c.args.input.len c.loop-vector.vector c.requires.tiles c.requires.firings.up.0
     c.requires.firings.down.0 c.loop-vector-test.true c.requires.turn c.requires.samples c.requires.room

@@ -1,5 +1,5 @@
-use Rattle.std.proofs.Common.{◌≡◌, ◌∙◌, ◌-◌, ◌*◌, ◌++◌, List, ℤ, length, replicate, pos, ap, sym, subst}
-use Rattle.sdf_kit.specs.Fir.{Filter, kept_len, run_put}
+use Rattle.std.proofs.Common.{◌≡◌, ◌∙◌, List, ℤ, ap, subst}
+use Rattle.sdf_kit.specs.Fir.{Filter, run_put}
 use Rattle.sdf_kit.proofs.fir.Fir.put_block.Goals as goal
 
 pub returns-then-load : goal.returns-then-load

@@ -1,9 +1,8 @@
-use Rattle.std.proofs.Common.{◌≡◌, ℕ, ◌≤◌, ◌+◌, ◌*◌, ◌-◌, ◌∙◌, ℤ, List, length, take, drop, map, get_or, pos}
+use Rattle.std.proofs.Common.{◌≡◌, ◌≤◌, ◌+◌, ◌*◌, ◌∙◌, ℤ, List, length, take, drop, map, get_or, pos}
 use Rattle.std.proofs.Common.{FitsSigned, unsigned_abs, ap, subst, sym, refl, rules, arith}
 use Rattle.std.specs.Int.{w16}
 use Rattle.std.specs.List.{range_with_len}
 use Rattle.sdf_kit.specs.Samples.{rescaled}
-use Rattle.sdf_kit.specs.Dots.{AreWithin}
 use Rattle.sdf_kit.specs.Tiles.{whole_output}
 use Rattle.sdf_kit.specs.Window.{WindowValue}
 use Rattle.sdf_kit.proofs.Windows.{length_held, high_fits}
@@ -21,7 +20,7 @@ put_tiles-requires-clause-short c =
     let a : FitsSigned w16 (get_or c.self.inside.high c.self.inside.len (pos 0)) = search rules in
     let b : FitsSigned w16 (get_or c.self.inside.high (c.self.inside.len + 1) (pos 0)) = search rules in
     tail_short c.self.inside.high c.args.pad c.self.inside.len c.self.told.0 low few
-        (high_fits c.self.invariant refl) a b
+    (high_fits c.self.invariant refl) a b
 
 pub put_tiles-requires-clause-small : goal.put_tiles-requires-clause-small
 put_tiles-requires-clause-small c quiet n l =
@@ -66,7 +65,7 @@ put_tiles-requires-in-Wide-clause-short c =
     let a : FitsSigned w16 (get_or c.self.inside.high c.self.inside.len (pos 0)) = search rules in
     let b : FitsSigned w16 (get_or c.self.inside.high (c.self.inside.len + 1) (pos 0)) = search rules in
     tail_short c.self.inside.high c.args.pad c.self.inside.len c.self.told.0 low few
-        (high_fits c.self.invariant refl) a b
+    (high_fits c.self.invariant refl) a b
 
 pub returns-in-Wide-clause-put : goal.returns-in-Wide-clause-put
 returns-in-Wide-clause-put c _ =
@@ -82,5 +81,5 @@ returns-in-Wide-clause-put c _ =
     let same = tail_is c.self.inside.high c.args.pad c.self.inside.len c.self.told.0 low few
     ∙ ap (drop c.args.pad) (sym held_is) in
     c.put_tiles-in-Wide.ensures ∙ ap (λ (xs : List ℤ). map
-          (λ n. rescaled (whole_output c.args.taps.now c.args.firings.up
+    (λ n. rescaled (whole_output c.args.taps.now c.args.firings.up
     c.args.firings.down xs n) c.args.firings.shift) (range_with_len 0 (c.args.firings.many * c.args.firings.up))) same
