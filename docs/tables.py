@@ -51,7 +51,8 @@ def fault(program, number):
     parts = dict(line.split(": ", 1) for line in rest)
     place = f", `{parts['where']}`" if "where" in parts else ""
     limits = f" Within: {parts['limits']}." if "limits" in parts else ""
-    text = f"- **{first}**{place}: {parts['means']}{limits} *{parts['remedy']}*"
+    remedy = f" *{parts['remedy']}*" if "remedy" in parts else ""
+    text = f"- **{first}**{place}: {parts['means']}{limits}{remedy}"
     lines = textwrap.wrap(text, WIDTH, subsequent_indent="  ", break_long_words=False, break_on_hyphens=False)
     return "\n".join(lines) + "\n"
 
