@@ -136,6 +136,14 @@ const COMMANDS: &[Row] = &[
     ("a number", "explain 63", "Explain { number: 63 }"),
     ("a name", "explain Deadlock", "Explain { number: 10 }"),
     (
+        "a number and its name",
+        "explain 47 Read",
+        "Explain { number: 47 }",
+    ),
+    ("help", "--help", "Overview"),
+    ("help", "-h", "Overview"),
+    ("help", "help", "Overview"),
+    (
         "more",
         "check g --why",
         "Design { graph: \"g\", task: Check { format: Text }, why: Always }",
@@ -218,6 +226,8 @@ const OTHER_WORDS: &[Row] = &[
     ("a number that there is not", "explain -1", "2"),
     ("no number", "explain x", "2"),
     ("a front of a name", "explain Dead", "2"),
+    ("another fault's name", "explain 10 Read", "2"),
+    ("a name that there is not", "explain 10 Dead", "2"),
     ("a name and more", "explain Deadlocks", "2"),
     ("no number", "explain ", "2"),
 ];
@@ -267,9 +277,7 @@ const MISTAKES: &[Row] = &[
 
 /// Lines that ask for help, which is not a mistake, with the exit status.
 const HELP: &[Row] = &[
-    ("help", "--help", "0"),
     ("help", "run -h", "0"),
-    ("help", "help", "0"),
     ("help", "help run", "0"),
     ("a version", "--version", "0"),
 ];
@@ -347,7 +355,7 @@ fn words_mean_their_fields(rt: HostRuntime) -> Result<(), Fail> {
 #[test]
 fn other_lines_and_defaults(rt: HostRuntime) -> Result<(), Fail> {
     let alloc = rt.alloc();
-    says(told(alloc, &["sdfw"]), "2")?;
+    says(told(alloc, &["sdfw"]), "Overview")?;
     says(
         told(alloc, &["sdfw", "check", "a b"]),
         "Design { graph: \"a b\", task: Check { format: Text }, why: AtTerminal }",

@@ -131,7 +131,7 @@ const NOT_PRINTED: &[Row] = &[
     (
         "a filter that is not printed",
         "fir lowpass --rate 8000 --pass 1000 --stop 3000",
-        "5\n--\n… dB down\nsdfw: 48 Write\n--\n",
+        "5\n--\n26 taps: … dB\nsdfw: 48 Write\n--\n",
     ),
 ];
 
@@ -160,6 +160,11 @@ const NOT_TOLD: &[Row] = &[
     (
         "a converter whose taps can't be told of, of which nothing is left",
         "resample 8000 16000 made --attenuation 40",
+        "5\n--\n--\n",
+    ),
+    (
+        "a converter without stages whose files can't be told of",
+        "resample 8000 8000 made",
         "5\n--\n--\n",
     ),
     (

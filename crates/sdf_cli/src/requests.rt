@@ -156,4 +156,6 @@ pub enum Words<'a> {
     Explain {
         number: u32,
     },
+    /// The overview of all commands.
+    Overview,
 }

@@ -8,6 +8,7 @@ use sdf_file::FileFault;
 use sdf_io::files::Sources;
 use sdf_io::input::InputTrace;
 use sdf_options::Options;
+use sdf_options::printable::printable;
 use sdf_prec::PrecFault;
 use sdf_why::{
     DesignFiles, Halt, block_text, channels_text, deadlock_text, device_text, file_text, home_text,
@@ -34,6 +35,24 @@ fn refusals(alloc: Global, sources: &Sources) -> Result<String, AllocError> {
     for refused in &sources.refused {
         let line = device_text(alloc, refused.name.as_str(), refused.said.as_str())?;
         text.push_str(line.as_str())?;
+    }
+    Ok(text)
+}
+
+/// Returns whether the system refused GRAPH since it is a folder.
+fn is_folder(sources: &Sources) -> bool {
+    sources.refused.iter().any(|refused| {
+        refused.name == sources.path && refused.said.as_str().ends_with("s a directory")
+    })
+}
+
+/// Returns what the system reported about a file that was not read. If GRAPH is a folder, names a graph file in it.
+fn unread(alloc: Global, sources: &Sources) -> Result<String, AllocError> {
+    let mut text = refusals(alloc, sources)?;
+    if is_folder(sources) {
+        let folder = printable(alloc, sources.path.as_str().trim_end_matches('/'))?;
+        let folder = folder.as_str();
+        writeln!(text, "  GRAPH is a file, such as {folder}/graph.toml")?;
     }
     Ok(text)
 }
@@ -122,7 +141,8 @@ fn diagnostic_of(
     };
     match fault {
         Fault::File(fault) => design_text(alloc, fault, sources, given),
-        Fault::Read | Fault::Write => refusals(alloc, sources),
+        Fault::Read => unread(alloc, sources),
+        Fault::Write => refusals(alloc, sources),
         Fault::Deadlock(stalled) => deadlock_text(alloc, &halts_of(alloc, stalled)?, given),
         Fault::Table(PrecFault::BadHome { actor }) => {
             home_text(alloc, options.workers, *actor, given.graph)

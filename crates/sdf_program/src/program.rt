@@ -16,7 +16,8 @@ use sdf_commands::comparing::print_comparison;
 use sdf_commands::diagnostics::Background;
 use sdf_commands::making::{fir, resample};
 use sdf_commands::printing::{
-    print_analysis, print_check, print_kinds, print_meaning, print_picture, print_schedule, show,
+    print_analysis, print_check, print_kinds, print_meaning, print_overview, print_picture,
+    print_schedule, show,
 };
 use sdf_faults::{Fault, fault_text, status};
 use sdf_io::files::{Loaded, Sources, load_into};
@@ -244,6 +245,7 @@ fn execute<
         )),
         Words::Kinds { format } => status_or_fault(print_kinds(alloc, out, format)),
         Words::Explain { number } => status_or_fault(print_meaning(alloc, out, number)),
+        Words::Overview => status_or_fault(print_overview(alloc, out)),
     }
 }
 

@@ -5,8 +5,8 @@
 //! `sdf_similar` finds names that are like a word. Begin at `diagnostics`. `document`, `net`, `cycle`, `block` and
 //! `sound` have the lines of each fault, `loops` a loop that may keep samples. `limits` has the limits of a key,
 //! `places` its line at a place, `types` its type, `values` the first value of a list that does not fit, and
-//! `coefficients` the lines of a coefficient file. `near` has what may have been meant, and `kind` also the format that
-//! it needs. `more` has what the tables of a net do not show. It needs the graph that `channels` makes, and `ports` for
+//! `coefficients` the lines of a coefficient file. `near` has what may have been meant, `synonyms` the words that users
+//! try for kinds, and `kind` also the format that a kind needs. `more` has what the tables of a net do not show. It needs the graph that `channels` makes, and `ports` for
 //! the ports of its actors. The definitions are in `specs/`, a file for each module; begin at `specs/Diagnostics.antt`.
 #![tactic(auto)]
 
@@ -29,6 +29,7 @@ mod net;
 mod places;
 mod ports;
 mod sound;
+mod synonyms;
 mod tables;
 mod types;
 mod values;
