@@ -253,7 +253,8 @@ impl GraphFile {
         Ok(names_wanted(alloc, actors.as_slice())?)
     }
 
-    /// Reads the rate, the actors and the links of the graph file with its coefficient `files`, or returns the first failed test.
+    /// Reads the rate, the actors and the links of the graph file with its coefficient `files`, or returns the first
+    /// failed test.
     ///
     /// If two of `files` have the same name, the first counts.
     #[tactic(auto, unfolding(crate::specs::Document::document_in))]
