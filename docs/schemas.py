@@ -103,6 +103,7 @@ def graph_schema(said):
         "additionalProperties": False,
         "properties": {
             "format": {"enum": [1, 2], "description": "2 for kinds that `sdfw kinds` lists with `format 2`"},
+            "rate": {**whole(1, (1 << 32) - 1), "description": "the rate in Hz of the sound that the design is made for"},
             "actor": {"type": "array", "minItems": 1, "maxItems": 64, "items": actor},
             "link": {
                 "type": "array",
@@ -206,7 +207,10 @@ class Validator:
 # What is broken in a graph file, by an old text and a new one, so that both the schema and the program refuse it.
 BROKEN = [
     ("format = 1", "format = 3"),
-    ("format = 1", "format = 1\nrate = 44100"),
+    ("format = 1", "format = 1\nrote = 44100"),
+    ("rate = 44100", "rate = 0"),
+    ("rate = 44100", "rate = 4294967296"),
+    ("rate = 44100", "rate = 44100.0"),
     ('kind = "fir"', 'kind = "fire"'),
     ('kind = "fir"', 'kind = "clip"'),
     ("shift = 15", "shfit = 15"),

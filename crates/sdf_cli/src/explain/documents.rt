@@ -22,7 +22,7 @@ pub(super) static MEANINGS: [Meaning; 15] = [
     Meaning {
         place: "PLACE key K",
         means: "A key does not belong there, or `file` is given beside `taps` or `values`, which it replaces.",
-        limits: "an actor: `name`, `kind`, `processor`, `cost` and the keys of its kind (`sdfw kinds`); a link: `from`, `to` and `initial`; the top: `format`, `actor` and `link`; a coefficient file: `format` and `values`",
+        limits: "an actor: `name`, `kind`, `processor`, `cost` and the keys of its kind (`sdfw kinds`); a link: `from`, `to` and `initial`; the top: `format`, `rate`, `actor` and `link`; a coefficient file: `format` and `values`",
         remedy: "Remove it, or correct its spelling; keep either the list or `file`.",
     },
     // 52 MissingKey
