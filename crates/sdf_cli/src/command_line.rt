@@ -308,7 +308,8 @@ fn too_many_text(alloc: Global, told: &clap::Error) -> Result<Option<String>, Al
     if told.kind() != ErrorKind::UnknownArgument || message.starts_with("unexpected argument '-") {
         return Ok(None);
     }
-    format!(in alloc; "{message}\n\n  tip: several files go into a folder: '--into out'").map(Some)
+    let tip = "several files go into a folder: '--into out'";
+    Ok(Some(format!(in alloc; "{message}\n\n  tip: {tip}")?))
 }
 
 /// Returns the usage error for a `run` of one file that clap refused with `told`. If there is a word too many, it names
