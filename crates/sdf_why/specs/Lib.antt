@@ -11,6 +11,8 @@ pub mod Places
 pub mod Types
 pub mod Kinds
 pub mod Documents
+pub mod Spots
+pub mod Facts
 pub mod Nets
 pub mod Cycles
 pub mod Sounds
