@@ -12,6 +12,8 @@ pub mod Types
 pub mod Synonyms
 pub mod Kinds
 pub mod Documents
+pub mod Spots
+pub mod Facts
 pub mod Nets
 pub mod Cycles
 pub mod Sounds
