@@ -175,12 +175,17 @@ not know the size yet. The whole sound is read before OUT is written",
 pub(super) const JSON: Argument = Argument {
     name: "json",
     help: "Prints JSON, also for a fault",
-    more: "Prints JSON: one value on one line in place of the text. A fault is one too, on standard error.
-It can't be combined with `--why`",
-    syntax: Syntax::Switch(Switch {
-        against: &["why"],
-        value: None,
-    }),
+    more: "Prints JSON: one value on one line in place of the text. A fault is one too, on standard error, with the
+file, the line and all that `--why` says",
+    syntax: PLAIN,
+};
+
+const RUN_JSON: Argument = Argument {
+    help: "Prints the levels of each output as JSON, and a fault",
+    more: "Prints JSON: one value on one line, with the frames of each output, the greatest absolute value of its
+samples, and the number of its samples at full scale. OUT can't be `-` then. A fault is one too, on standard
+error, with the file, the line and all that `--why` says",
+    ..JSON
 };
 
 /// The options of a schedule.
@@ -221,7 +226,7 @@ take to OUT. The bytes are the same for every runner, schedule and number of wor
 says more.",
         schedules: true,
         arguments: &[
-            GRAPH, IN, OUT, RUNNER, PATIENCE, PARALLEL, OPEN_ENDED, LEVELS, QUIET,
+            GRAPH, IN, OUT, RUNNER, PATIENCE, PARALLEL, OPEN_ENDED, LEVELS, QUIET, RUN_JSON,
         ],
         examples: "Examples:
   sdfw run graph.toml in.wav out.wav
