@@ -11,6 +11,7 @@ import re
 import subprocess
 import tempfile
 import tomllib
+import wave
 
 TOP = pathlib.Path(__file__).resolve().parent.parent
 GRAPH = TOP / "docs" / "graph.schema.json"
@@ -279,6 +280,20 @@ def broken_answers(program):
             yield "fault", subprocess.run([program, "check", path, "--json"], capture_output=True, text=True).stderr
 
 
+def run_answers(program):
+    """What `run --json` prints, and what it prints of a sound that is cut off."""
+    graph = TOP / "examples/gain/gain.toml"
+    with tempfile.TemporaryDirectory() as folder:
+        path = pathlib.Path(folder) / "in.wav"
+        with wave.open(str(path), "wb") as sound:
+            sound.setparams((1, 2, 44100, 0, "NONE", None))
+            sound.writeframes(b"\x00\x40" * 441)
+        words = [program, "run", graph, path, path.with_name("out.wav"), "--json"]
+        yield "run", subprocess.run(words, capture_output=True, text=True).stdout
+        path.write_bytes(path.read_bytes()[:100])
+        yield "fault", subprocess.run(words, capture_output=True, text=True).stderr
+
+
 # Mistakes on the command line. The last one has the byte 0xFF in a path.
 MISTAKES = [
     ["check", "examples/gain/gain.toml", "--wyh"],
@@ -317,7 +332,8 @@ def on_answers(program):
     """What is wrong with what docs/answers.schema.json says of what `--json` prints."""
     schema = json.loads(ANSWERS.read_text())
     validator, wrong = Validator(schema, strict=True), []
-    for name, said in [*answers(program), *broken_answers(program), *mistaken_answers(program)]:
+    every = [*answers(program), *broken_answers(program), *run_answers(program), *mistaken_answers(program)]
+    for name, said in every:
         try:
             found = validator.mistakes(json.loads(said), schema["definitions"][name], name)
         except json.JSONDecodeError:

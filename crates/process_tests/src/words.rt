@@ -170,7 +170,14 @@ const COMMANDS: &[Row] = &[
         "run g i o --open-ended",
         "Design { graph: \"g\", task: Run(RunRequest { input: \"i\", output: \"o\", options: Options { blocking: 1, \
          workers: 1, policy: Round, placement: Homed, runner: One, patience: 1000 }, parallel: None, open_ended: \
-         true }), why: AtTerminal }",
+         true, format: Text }), why: AtTerminal }",
+    ),
+    (
+        "a run in JSON",
+        "run g i o --json --why",
+        "Design { graph: \"g\", task: Run(RunRequest { input: \"i\", output: \"o\", options: Options { blocking: 1, \
+         workers: 1, policy: Round, placement: Homed, runner: One, patience: 1000 }, parallel: None, open_ended: \
+         false, format: Json }), why: Always }",
     ),
     (
         "several files, with each option of a run",
@@ -241,19 +248,17 @@ const MISTAKES: &[Row] = &[
     ("too few words", "explain", "2"),
     ("a word too many", "kinds fir", "2"),
     ("a word too many", "help play", "2"),
-    ("two forms of an answer", "check g --why --json", "2"),
-    ("two forms of an answer", "schedule g --json --why", "2"),
     ("more than a name", "explain Deadlock Read", "2"),
     ("more than a number", "explain 10 47", "2"),
     ("a check by workers", "check g --workers 2", "2"),
     ("a schedule by a runner", "schedule g --runner rows", "2"),
     ("a schedule with patience", "schedule g --patience 1", "2"),
     ("an analysis by a runner", "analyze g --runner rings", "2"),
-    ("more in JSON", "analyze g --why --json", "2"),
     ("a picture in JSON", "draw g --json", "2"),
     ("more and no more", "draw g --why --no-why", "2"),
     ("a check to the end", "check g --open-ended", "2"),
-    ("a run in JSON", "run g i o --json", "2"),
+    ("a run in JSON to standard output", "run g i - --json", "2"),
+    ("runs in JSON", "run g --into o i --json", "2"),
     ("a profile by workers", "profile g i --workers 2", "2"),
     ("a profile with an OUT", "profile g i o", "2"),
     ("a flag with a value", "check g --why=yes", "2"),

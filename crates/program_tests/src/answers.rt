@@ -218,17 +218,21 @@ const IN_JSON: &[Row] = &[
     (
         "a coefficient file that is not there",
         "check lacking.toml --json",
-        "3\n--\n{\"fault\":58,\"file\":\"two.toml\",\"name\":\"NoFile\"}\n--\n",
+        "3\n--\n{\"actor\":1,\"fault\":58,\"file\":\"two.toml\",\"hint\":[\"actor 1 is \\\"same\\\", a fir\",\
+         \"\\\"two.toml\\\": entity not found\"],\"key\":\"file\",\"name\":\"NoFile\",\"path\":\"lacking.toml\",\
+         \"value\":\"\\\"two.toml\\\"\"}\n--\n",
     ),
     (
         "a design that is not there",
         "schedule none.toml --json",
-        "5\n--\n{\"fault\":47,\"name\":\"Read\"}\n--\n",
+        "5\n--\n{\"fault\":47,\"hint\":[\"\\\"none.toml\\\": entity not found\"],\"name\":\"Read\",\
+         \"path\":\"none.toml\"}\n--\n",
     ),
     (
         "a comparison of a design that is not there",
         "analyze none.toml --compare --json",
-        "5\n--\n{\"fault\":47,\"name\":\"Read\"}\n--\n",
+        "5\n--\n{\"fault\":47,\"hint\":[\"\\\"none.toml\\\": entity not found\"],\"name\":\"Read\",\
+         \"path\":\"none.toml\"}\n--\n",
     ),
     (
         "a mistake in the words",
@@ -238,7 +242,52 @@ const IN_JSON: &[Row] = &[
     (
         "an actor without a home",
         "analyze plain.toml --placement file --json",
-        "3\n--\n{\"actor\":0,\"fault\":19,\"name\":\"BadHome\"}\n--\n",
+        "3\n--\n{\"actor\":0,\"fault\":19,\"hint\":[\"actor 0 is \\\"in\\\", an input\",\
+         \"processor needs 0..0\"],\"key\":\"processor\",\"limits\":\"0..0\",\"name\":\"BadHome\",\
+         \"path\":\"plain.toml\"}\n--\n",
+    ),
+    (
+        "the same by two workers",
+        "analyze far.toml --placement file --workers 2 --json --why",
+        "3\n--\n{\"actor\":0,\"fault\":19,\"hint\":[\"actor 0 is \\\"in\\\", an input\",\
+         \"processor = 3, needs 0..1\"],\"key\":\"processor\",\"limits\":\"0..1\",\"name\":\"BadHome\",\
+         \"path\":\"far.toml\",\"value\":\"3\"}\n--\n",
+    ),
+    (
+        "a number outside its limits",
+        "check wide.toml --why --json",
+        "3\n--\n{\"actor\":0,\"column\":1,\"fault\":28,\"hint\":[\"actor 0 is \\\"half\\\", a fir\",\
+         \"up = 147, needs 1..64\"],\"key\":\"up\",\"limits\":\"1..64\",\"line\":6,\"name\":\"KitValue\",\
+         \"path\":\"wide.toml\",\"value\":\"147\"}\n--\n",
+    ),
+    (
+        "a file that ends too soon",
+        "check broken.toml --json",
+        "3\n--\n{\"column\":…,\"fault\":49,\"hint\":[\"\\\"broken.toml\\\": TOML parse error at line 2, column \
+         …\"],\"line\":2,\"name\":\"NotToml\",\"path\":\"broken.toml\",\"top\":true}\n--\n",
+    ),
+    (
+        "a deadlock",
+        "schedule stuck.toml --json",
+        "3\n--\n{\"actors\":[…],\"fault\":10,\"hint\":[\"link 3 is fork:1 -> add:1, holds 0, needs 1\",…],\
+         \"name\":\"Deadlock\",\"path\":\"stuck.toml\"}\n--\n",
+    ),
+    (
+        "the levels of a run in parallel",
+        "run plain.toml in.wav out.wav --json --parallel --why",
+        "0\n{\"outputs\":[{\"frames\":2,\"full_scale\":0,\"peak\":5}]}\n--\n--\n<5 -5>",
+    ),
+    (
+        "a sound that is cut off",
+        "run plain.toml cut.wav out.wav --json",
+        "4\n--\n{\"fault\":43,\"hint\":[\"\\\"cut.wav\\\": ends after 44 bytes, needs 48\"],\"name\":\"Truncated\",\
+         \"path\":\"cut.wav\"}\n--\n<5 -5 to come>",
+    ),
+    (
+        "a sound and levels on one stream",
+        "run plain.toml in.wav - --json",
+        "2\n--\n{\"fault\":0,\"name\":\"Usage\",\"text\":\"error: --json prints to standard output, so OUT can't be \
+         `-`…\"}\n--\n",
     ),
     (
         "schedules compared",

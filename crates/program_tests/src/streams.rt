@@ -118,7 +118,7 @@ const NOT_PRINTED: &[Row] = &[
     (
         "kinds in JSON that are not printed",
         "kinds --json",
-        "5\n--\n{\"fault\":48,\"name\":\"Write\"}\n--\n",
+        "5\n--\n{\"fault\":48,\"hint\":[\"sdfw explain 48 says what to do\"],\"name\":\"Write\"}\n--\n",
     ),
     ("an explanation that is not printed", "explain 5", UNWRITTEN),
     ("help that is not printed", "--help", UNWRITTEN),

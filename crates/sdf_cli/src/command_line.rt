@@ -9,7 +9,9 @@ ghost use Rattle.sdf_cli.specs.declared.requests.TheConstants.{MAX_FAULT};
 
 use crate::commands::{batch_command, sdfw_command};
 use crate::explained::{explain, explain_both, is_name};
-use crate::requests::{BatchRequest, Conversion, DesignCommand, MAX_FAULT, RunRequest, Words};
+use crate::requests::{
+    BatchRequest, Conversion, DesignCommand, Format, MAX_FAULT, RunRequest, Words,
+};
 use crate::values::{
     any_number_of, band_of, format_of, number_of, options_of, parallel_of, picture_of,
     plan_options_of, why_of,
@@ -73,6 +75,7 @@ fn run_of<'a>(matches: &ArgMatches<'a>) -> Option<DesignCommand<'a>>
         options: options_of(matches)?,
         parallel: parallel_of(matches),
         open_ended: matches.get_flag("open-ended"),
+        format: format_of(matches),
     }))
 }
 
@@ -178,13 +181,43 @@ fn read_by<'a>(command: &mut Command<'a>, words: &'a [&'a str]) -> Result<Words<
     }
 }
 
+/// Checks whether a run would print both its sound and JSON on standard output.
+fn is_mixed(task: DesignCommand<'_>) -> bool {
+    match task {
+        DesignCommand::Run(
+            RunRequest {
+                output,
+                format: Format::Json,
+                ..
+            },
+        ) => output == "-",
+        _ => false,
+    }
+}
+
+/// Errs if a run would print both its sound and JSON on standard output.
+fn keep_apart<'a>(alloc: Global, read: Words<'a>) -> Result<Words<'a>, WordFault>
+    requires { IsWithinLimits read }
+    ensures within { IfOk result IsWithinLimits }
+    ensures usage { IfErr result IsUsage }
+{
+    match &read {
+        Words::Design { task, .. } if is_mixed(*task) => Err(usage_error(
+            alloc,
+            "--json prints to standard output, so OUT can't be `-`",
+        )),
+        _ => Ok(read),
+    }
+}
+
 /// Parses `words`, whose first one is the program's name.
 fn read<'a>(alloc: Global, words: &'a [&'a str]) -> Result<Words<'a>, WordFault>
     ensures within { IfOk result IsWithinLimits }
     ensures usage { IfErr result IsUsage }
 {
     let mut command = sdfw_command(alloc)?;
-    read_by(&mut command, words)
+    let read = read_by(&mut command, words)?;
+    keep_apart(alloc, read)
 }
 
 /// Returns whether `words`, which follow `run`, name a folder to write into.

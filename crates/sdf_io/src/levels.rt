@@ -17,12 +17,12 @@ const MAX_OUTPUTS: usize = MAX_CHANNELS as usize;
 
 /// The levels of an output.
 #[derive(Clone, Copy)]
-struct Level {
-    frames: u64,
+pub struct Level {
+    pub frames: u64,
     /// The greatest absolute value of a sample.
-    peak: u16,
+    pub peak: u16,
     /// The number of samples at full scale, -32768 or 32767.
-    full: u64,
+    pub full: u64,
 }
 
 impl Level {
@@ -197,13 +197,20 @@ impl SoundLevels {
         self.outputs[0].frames
     }
 
+    /// Returns the levels of each output, or none before the header is whole.
+    pub fn outputs(&self) -> &[Level] {
+        if self.has_header() {
+            &self.outputs[..self.channels()]
+        } else {
+            &[]
+        }
+    }
+
     /// Returns a line with the levels of each output, or nothing before the header is whole.
     pub fn text(&self, alloc: Global) -> Result<String, AllocError> {
         let mut text = String::new(alloc);
-        if self.has_header() {
-            for output in 0..self.channels() {
-                push_level(&mut text, output, self.outputs[output])?;
-            }
+        for (output, level) in self.outputs().iter().enumerate() {
+            push_level(&mut text, output, *level)?;
         }
         Ok(text)
     }

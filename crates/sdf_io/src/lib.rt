@@ -19,4 +19,4 @@ pub mod progress;
 pub mod storage;
 pub mod world;
 
-pub use levels::SoundLevels;
+pub use levels::{Level, SoundLevels};

@@ -183,12 +183,17 @@ not know the size yet. The whole sound is read before OUT is written",
 pub(super) const JSON: Argument = Argument {
     name: "json",
     help: "Prints JSON, also for a fault",
-    more: "Prints JSON: one value on one line in place of the text. Errors are printed as JSON too, on standard error.
-It can't be combined with `--why`",
-    syntax: Syntax::Switch(Switch {
-        against: &["why"],
-        value: None,
-    }),
+    more: "Prints JSON: one value on one line in place of the text. An error is printed as JSON too, on standard error,
+with the file, the line and all that `--why` says",
+    syntax: PLAIN,
+};
+
+const RUN_JSON: Argument = Argument {
+    help: "Prints the levels of each output as JSON, and an error too",
+    more: "Prints JSON: one value on one line, with the frames of each output, the greatest absolute value of its
+samples, and the number of its samples at full scale. OUT can't be `-` then. An error is printed as JSON too, on
+standard error, with the file, the line and all that `--why` says",
+    ..JSON
 };
 
 /// The options of a run for its schedule and its workers.
@@ -239,6 +244,7 @@ says more.",
         OPEN_ENDED,
         LEVELS,
         QUIET,
+        RUN_JSON,
     ],
     scheduling: SCHEDULING,
     examples: "Examples:
