@@ -6,8 +6,9 @@
 //! `sound` have the lines of each fault, `loops` a loop that may keep samples. `limits` has the limits of a key,
 //! `places` its line at a place, `types` its type, `values` the first value of a list that does not fit, and
 //! `coefficients` the lines of a coefficient file. `near` has what may have been meant, `synonyms` the words that users
-//! try for kinds, and `kind` also the format that a kind needs. `more` has what the tables of a net do not show. It needs the graph that `channels` makes, and `ports` for
-//! the ports of its actors. The definitions are in `specs/`, a file for each module; begin at `specs/Diagnostics.antt`.
+//! try for kinds, and `kind` also the format that a kind needs. `more` has what the tables of a net do not show. It
+//! needs the graph that `channels` makes, and `ports` for the ports of its actors. The definitions are in `specs/`, a
+//! file for each module; begin at `specs/Diagnostics.antt`.
 #![tactic(auto)]
 
 mod actors;
