@@ -99,16 +99,18 @@ const CONVERTERS: &[Row] = &[
     (
         "a greater attenuation than the usual one, which has other stages, and a line for each of them",
         "resample 44100 8000 made --attenuation 120",
-        "0\n--\n… taps: … dB\n… taps: … dB\nlate by 47 frames, which are cut off the end\nmade made/graph.toml, \
-         stage1.toml, stage2.toml\nrun it: sdfw run made/graph.toml IN.wav OUT.wav\n--\n# fir up 16 shift 15, low-pass 3636..10764 Hz at 705600 Hz, 120 dB\n…\n]\n\
+        "0\n--\n… taps: … dB\n… taps: … dB\nlate by 47 frames, which are cut off the end\n\
+         made made/graph.toml, stage1.toml, stage2.toml\nrun it: sdfw run made/graph.toml IN.wav OUT.wav\n--\n\
+         # fir up 16 shift 15, low-pass 3636..10764 Hz at 705600 Hz, 120 dB\n…\n]\n\
          # fir up 5 shift 15, low-pass 3636..4364 Hz at 72000 Hz, 120 dB\n…\n]\n# from 44100\n# to 8000\n…",
     ),
     (
         "a coefficient file, what it does on standard error, and the graph file",
         "resample 8000 16000 made --attenuation 40",
         "0\n--\n… taps: … dB\nlate by 26 frames, which are cut off the end\nmade made/graph.toml, stage1.toml\n\
-         run it: sdfw run made/graph.toml IN.wav OUT.wav\n--\n# fir up 2 shift 15, low-pass 3636..4364 Hz at 16000 Hz, 40 dB\nformat = 1\nvalues \
-         = […\n]\n# from 8000\n# to 16000\n# channels 1\n…to = \"out\"\n",
+         run it: sdfw run made/graph.toml IN.wav OUT.wav\n--\n\
+         # fir up 2 shift 15, low-pass 3636..4364 Hz at 16000 Hz, 40 dB\nformat = 1\nvalues = […\n]\n# from 8000\n\
+         # to 16000\n# channels 1\n…to = \"out\"\n",
     ),
 ];
 

@@ -2,8 +2,8 @@
 use Rattle.std.specs.Prelude.{ℕ, zero, suc, ◌+◌, ◌-◌, ◌*◌, ◌/◌, max, List, length, slice_get, Option, Some, None}
 use Rattle.sdf_filters.specs.declared.stage.StageFile.{StageFile}
 
--- The delay of a stage's filter: half the steps from its first tap to its last, at its own rate. It is in thousandths of
--- a frame at the rate `to`, rounded down.
+-- The delay of a stage's filter: half the steps from its first tap to its last, at its own rate. It is in thousandths
+-- of a frame at the rate `to`, rounded down.
 abbrev pub stage_delay : ℕ → StageFile → ℕ
 stage_delay to f = (f.taps - 1) * 500 * to / max f.rate 1
 

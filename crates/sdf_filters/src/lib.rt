@@ -5,9 +5,9 @@
 //! taps) and `texts` (what `sdfw fir` prints). These use `lowpass`, `differences` (high-passes and band-passes),
 //! `coefficients` (the text of taps) and `settling`. `settling` makes the sum of each phase exact by the steps of
 //! `phases`, in the `order` of taps. `split` splits a conversion into stages. `converter` makes their design for `sdfw
-//! resample`, with the graph file from `graph` and the delay from `delay`. `sinc`, `cost` and `measure` compute with floats, and no clause says
-//! anything of their values. The definitions are in `specs/FilterSpecs.antt`, `specs/Phases.antt` (the sums of phases),
-//! `specs/Stages.antt` and `specs/Converters.antt`.
+//! resample`, with the graph file from `graph` and the delay from `delay`. `sinc`, `cost` and `measure` compute with
+//! floats, and no clause says anything of their values. The definitions are in `specs/FilterSpecs.antt`,
+//! `specs/Phases.antt` (the sums of phases), `specs/Stages.antt` and `specs/Converters.antt`.
 #![tactic(auto)]
 
 mod coefficients;

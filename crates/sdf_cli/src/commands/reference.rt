@@ -6,7 +6,8 @@ use crate::requests::MAX_FAULT;
 const NUMBER: Argument = Argument {
     name: "NUMBER",
     help: "The number of a fault, 1 to 63, or its name",
-    more: "The number of a fault, 1 to 63, or its name, or both, as a fault's line has them: `sdfw: 10 Deadlock`",
+    more: "The number of a fault, 1 to 63, or its name, or both, as a fault's line has them:
+`sdfw: 10 Deadlock`",
     syntax: Syntax::Place(Values::Signed(1, MAX_FAULT as i64)),
 };
 
