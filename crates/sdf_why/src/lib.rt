@@ -7,7 +7,8 @@
 //! `places` its line at a place, `types` its type, `values` the first value of a list that does not fit, and
 //! `coefficients` the lines of a coefficient file. `near` has what may have been meant, and `kind` also the format that
 //! it needs. `more` has what the tables of a net do not show. It needs the graph that `channels` makes, and `ports` for
-//! the ports of its actors. The definitions are in `specs/`, a file for each module; begin at `specs/Diagnostics.antt`.
+//! the ports of its actors. `notes` has what of a sound a run did not read. The definitions are in `specs/`, a file for
+//! each module; begin at `specs/Diagnostics.antt`.
 #![tactic(auto)]
 
 mod actors;
@@ -26,6 +27,7 @@ mod messages;
 mod more;
 mod near;
 mod net;
+mod notes;
 mod places;
 mod ports;
 mod sound;
@@ -41,4 +43,5 @@ pub use diagnostics::{
 pub use document::document_text;
 pub use loops::loop_text;
 pub use messages::{device_text, toml_text};
+pub use notes::{channels_note, cut_note, size_note};
 pub use sound::Header;
