@@ -23,5 +23,6 @@ pub mod Ports
 pub mod More
 pub mod Diagnostics
 pub mod Messages
+pub mod Notes
 pub mod Near
 pub mod Laws

@@ -1,24 +1,23 @@
 -- The diagnostic for the actors at the ends of a link: their numbers of ports.
-use Rattle.std.specs.Prelude.{ℕ, ◌==◌, List, [], ◌++◌, codes, decimal, slice_get, if◌then◌else◌}
+use Rattle.std.specs.Prelude.{ℕ, ◌==◌, ◌-◌, List, ◌++◌, codes, slice_get, if◌then◌else◌}
 use Rattle.sdf_actor.specs.Nets.{inputs_of, outputs_of}
 use Rattle.sdf_kit.specs.Kit.{kit_steps}
 use Rattle.sdf_document.specs.Actors.{ActorValue}
 use Rattle.sdf_document.specs.Links.{LinkValue}
 use Rattle.sdf_document.specs.Document.{DocumentValue}
 use Rattle.sdf_file.specs.Designs.{node_of}
-use Rattle.sdf_why.specs.Words.{end, quoted}
+use Rattle.sdf_why.specs.Words.{end, quoted, numbered}
 use Rattle.sdf_why.specs.Actors.{lines_of}
 
--- the number of ports on a side, with the noun for one
-unfoldable pub count_text : ℕ → List ℕ → List ℕ
-count_text n word = if n == 0 then codes "no " ++ word
-    else decimal n ++ codes " " ++ word ++ (if n == 1 then [] else codes "s")
+-- the ports on a side, by their numbers, with the noun for one
+unfoldable pub side_text : ℕ → List ℕ → List ℕ
+side_text n word = if n == 0 then codes "no " ++ word else numbered word 0 (n - 1)
 
-unfoldable pub counts_text : ℕ → ℕ → List ℕ
-counts_text inputs outputs = count_text inputs (codes "input") ++ codes " and " ++ count_text outputs (codes "output")
+unfoldable pub sides_text : ℕ → ℕ → List ℕ
+sides_text inputs outputs = side_text inputs (codes "input") ++ codes ", " ++ side_text outputs (codes "output")
 
 unfoldable pub ports_line : List ℕ → ℕ → ℕ → List ℕ
-ports_line name inputs outputs = codes "  " ++ quoted name ++ codes " has " ++ counts_text inputs outputs ++ end
+ports_line name inputs outputs = codes "  " ++ quoted name ++ codes " has " ++ sides_text inputs outputs ++ end
 
 -- the line with the ports of an actor, by its kind
 abbrev pub ports_are : ActorValue → List ℕ

@@ -1,7 +1,7 @@
 -- The type that a key needs, for a value of another type.
 use Rattle.std.specs.Prelude.{ℕ, ◌||◌, Bool, List, [], ◌++◌, codes, Option, Some, None, bytes_eq}
-use Rattle.std.specs.Prelude.{if◌then◌else◌}
-use Rattle.toml.specs.Data.{Data}
+use Rattle.std.specs.Prelude.{option_and_then, if◌then◌else◌}
+use Rattle.toml.specs.Data.{Data, get, type_name}
 use Rattle.sdf_document.specs.Fault.{Place, top, actor, link, file}
 use Rattle.sdf_document.specs.Lists.{Files}
 use Rattle.sdf_why.specs.Tables.{file_root, entry}
@@ -49,7 +49,23 @@ table_of (file name) d files = file_root name files
 abbrev pub non_integer_told : Place → List ℕ → Data → Files → List ℕ
 non_integer_told place key d files = lines_of (unfit_at_key key None) (table_of place d files)
 
--- the line of a key of another type, and for a list the first value that is not a whole number
+-- how a half is written, if the value is a number with a point
+unfoldable pub half_line : Data → List ℕ
+half_line d = if bytes_eq (type_name d) (codes "float") then codes "  a half is gain = 1, shift = 1\n" else []
+
+abbrev pub half_told : Place → Data → List ℕ
+half_told top d = []
+half_told (actor a) d = lines_of half_line (option_and_then (get (codes "gain")) (entry (codes "actor") a d))
+half_told (link c) d = []
+half_told (file name) d = []
+
+-- what follows the line of a key: for a list its first value that is not a whole number, for a gain how a half is
+-- written
+abbrev pub value_told : Place → List ℕ → Data → Files → List ℕ
+value_told place key d files =
+    if is_list_key key then non_integer_told place key d files else
+    if bytes_eq key (codes "gain") then half_told place d else []
+
+-- the line of a key of another type, and what follows it
 abbrev pub type_told : Place → List ℕ → Data → Files → List ℕ
-type_told place key d files =
-    place_type place key d files ++ (if is_list_key key then non_integer_told place key d files else [])
+type_told place key d files = place_type place key d files ++ value_told place key d files

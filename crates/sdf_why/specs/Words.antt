@@ -81,6 +81,13 @@ key_line key (Some d) limits =
 unfoldable pub hint_line : List ℕ → List ℕ
 hint_line name = codes "  did you mean " ++ quoted name ++ codes "?" ++ end
 
+-- numbered things from the first to the last, with the noun for one of them
+unfoldable pub numbered : List ℕ → ℕ → ℕ → List ℕ
+numbered word first last =
+    if first == last then word ++ codes " " ++ decimal first
+    else word ++ codes "s " ++ decimal first ++ (if suc first == last then codes " and " else codes " to ")
+    ++ decimal last
+
 -- the line of a file with a message
 unfoldable pub message_line : List ℕ → List ℕ → List ℕ
 message_line name said = codes "  " ++ quoted name ++ codes ": " ++ printable_text said ++ end

@@ -8,8 +8,8 @@
 //! `coefficients` the lines of a coefficient file. `facts` has what a fault is about as values, and `spots` its line.
 //! `near` has what may have been meant, `synonyms` the words that users try for kinds, and `kind` also the format that
 //! a kind needs. `more` has what the tables of a net do not show. It needs the graph that `channels` makes, and `ports`
-//! for the ports of its actors. The definitions are in `specs/`, a file for each module; begin at
-//! `specs/Diagnostics.antt`.
+//! for the ports of its actors. `notes` has what of a sound a run did not read. The definitions are in `specs/`, a file
+//! for each module; begin at `specs/Diagnostics.antt`.
 #![tactic(auto)]
 
 mod actors;
@@ -29,6 +29,7 @@ mod messages;
 mod more;
 mod near;
 mod net;
+mod notes;
 mod places;
 mod ports;
 mod sound;
@@ -47,5 +48,6 @@ pub use document::document_text;
 pub use facts::{Facts, document_facts, home_facts, net_facts};
 pub use loops::loop_text;
 pub use messages::{device_text, toml_text};
+pub use notes::{channels_note, cut_note, size_note};
 pub use sound::Header;
 pub use spots::Spot;

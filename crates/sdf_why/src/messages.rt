@@ -27,12 +27,24 @@ fn bracket_hint(bytes: &[u8], error: &Error) -> &'static str {
     }
 }
 
+/// Returns the end of the message about `bytes` that begin as a text in UTF-16 does.
+fn encoding_hint(bytes: &[u8]) -> &'static str {
+    match bytes {
+        [0xFF, 0xFE, ..] | [0xFE, 0xFF, ..] => ", the file is in UTF-16: save it as UTF-8",
+        _ => "",
+    }
+}
+
 /// Returns the line and the column of `error` in `bytes`, and its message.
 fn message_of(alloc: Global, bytes: &[u8], error: &Error) -> Result<String, AllocError> {
     let whole = format!(in alloc; "{error}")?;
     let place = before(whole.as_str(), '\n');
     let message = error.message();
-    format!(in alloc; "{place}: {message}{}", bracket_hint(bytes, error))
+    format!(in alloc;
+        "{place}: {message}{}{}",
+        bracket_hint(bytes, error),
+        encoding_hint(bytes)
+    )
 }
 
 /// Returns the diagnostic for the file `name` of these `bytes`, with the `error` of the TOML parser.

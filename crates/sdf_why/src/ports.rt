@@ -1,41 +1,39 @@
-//! The numbers of ports that the actors at the ends of a link have.
+//! The ports that the actors at the ends of a link have.
 
 ghost use Rattle.std.specs.Prelude.{◌≡◌, ◌++◌, IfOk, OnOk, map, string_bytes};
 ghost use Rattle.sdf_document.specs.Actors.{actor_view};
 ghost use Rattle.sdf_document.specs.Links.{link_view};
 ghost use Rattle.sdf_document.specs.Document.{document_view};
-ghost use Rattle.sdf_why.specs.Ports.{count_text, counts_text, ports_line, ports_are, actor_ports, link_ports};
+ghost use Rattle.sdf_why.specs.Ports.{side_text, sides_text, ports_line, ports_are, actor_ports, link_ports};
 ghost use Rattle.sdf_why.specs.Ports.{ports_told};
 
 use crate::channels::ports_of;
-use crate::words::push_quoted;
+use crate::words::{push_numbered, push_quoted};
 use sdf_document::{ActorEntry, Document, LinkEntry};
-use sdf_options::plural::plural;
 use std::alloc::{AllocError, Global};
 
-/// Adds the number of ports on one side. `word` is the noun for one of them.
-#[tactic(auto, unfolding(crate::specs::Ports::count_text))]
-fn push_count(text: &mut String, count: usize, word: &str) -> Result<(), AllocError>
-    ensures { OnOk result (string_bytes text.new ≡ string_bytes text.old ++ count_text count word.now) }
+/// Adds the `count` ports on one side, by their numbers. `word` is the noun for one of them.
+#[tactic(auto, unfolding(crate::specs::Ports::side_text))]
+fn push_side(text: &mut String, count: usize, word: &str) -> Result<(), AllocError>
+    ensures { OnOk result (string_bytes text.new ≡ string_bytes text.old ++ side_text count word.now) }
 {
     if count == 0 {
         write!(text, "no {word}")
     } else {
-        let s = plural(count as u64);
-        write!(text, "{count} {word}{s}")
+        push_numbered(text, word, 0, count - 1)
     }
 }
 
-#[tactic(auto, unfolding(crate::specs::Ports::counts_text))]
-fn push_counts(text: &mut String, inputs: usize, outputs: usize) -> Result<(), AllocError>
-    ensures { OnOk result (string_bytes text.new ≡ string_bytes text.old ++ counts_text inputs outputs) }
+#[tactic(auto, unfolding(crate::specs::Ports::sides_text))]
+fn push_sides(text: &mut String, inputs: usize, outputs: usize) -> Result<(), AllocError>
+    ensures { OnOk result (string_bytes text.new ≡ string_bytes text.old ++ sides_text inputs outputs) }
 {
-    push_count(text, inputs, "input")?;
-    text.push_str(" and ")?;
-    push_count(text, outputs, "output")
+    push_side(text, inputs, "input")?;
+    text.push_str(", ")?;
+    push_side(text, outputs, "output")
 }
 
-/// Adds the line of the actor `name` with its numbers of ports.
+/// Adds the line of the actor `name` with its ports.
 #[tactic(auto, unfolding(crate::specs::Ports::ports_line))]
 fn push_line(
     alloc: Global,
@@ -49,7 +47,7 @@ fn push_line(
     text.push_str("  ")?;
     push_quoted(alloc, text, name)?;
     text.push_str(" has ")?;
-    push_counts(text, inputs, outputs)?;
+    push_sides(text, inputs, outputs)?;
     Ok(text.push_str("\n")?)
 }
 

@@ -1,17 +1,18 @@
 //! The type that a key needs, for a value of another type.
 
-ghost use Rattle.std.specs.Prelude.{◌≡◌, ◌++◌, IfOk, OnOk, None, option_map, string_bytes};
+ghost use Rattle.std.specs.Prelude.{◌≡◌, ◌++◌, IfOk, OnOk, None, codes, option_map, option_and_then, string_bytes};
 ghost use Rattle.toml.specs.View.{view};
 ghost use Rattle.sdf_document.specs.Fault.{place_view};
 ghost use Rattle.sdf_document.specs.Lists.{files_view};
-ghost use Rattle.sdf_why.specs.Tables.{file_root};
+ghost use Rattle.toml.specs.Data.{get};
+ghost use Rattle.sdf_why.specs.Tables.{file_root, entry};
 ghost use Rattle.sdf_why.specs.Actors.{lines_of};
 ghost use Rattle.sdf_why.specs.Values.{unfit_at_key};
 ghost use Rattle.sdf_why.specs.Types.{is_text_key, is_list_key, type_of, limits_behind, type_within};
-ghost use Rattle.sdf_why.specs.Types.{place_type, non_integer_told, type_told};
+ghost use Rattle.sdf_why.specs.Types.{place_type, non_integer_told, half_line, half_told, value_told, type_told};
 
 use crate::places::{limits_at, push_place_key};
-use crate::tables::{Source, entry, file_root};
+use crate::tables::{Source, entry, file_root, value_at};
 use crate::values::push_unfit_at_key;
 use sdf_document::{CoefficientFile, Place};
 use std::alloc::{AllocError, Global};
@@ -153,7 +154,62 @@ fn push_non_integer(
     }
 }
 
-/// Adds the line of a `key` of another type, and for a list the first value that is not a whole number.
+/// Returns the gain of `actor`.
+fn gain_of(graph: &Value, actor: usize) -> Option<&Value>
+    ensures { option_map (λ v. view v.now) result ≡
+        option_and_then (get (codes "gain")) (entry (codes "actor") actor (view graph.now)) }
+{
+    value_at(entry(graph, "actor", actor)?, "gain")
+}
+
+/// Adds how a half is written, if `value` is a number with a point.
+#[tactic(auto, unfolding(crate::specs::Types::half_line))]
+fn push_half_line(text: &mut String, value: &Value) -> Result<(), AllocError>
+    ensures { OnOk result (string_bytes text.new ≡ string_bytes text.old ++ half_line (view value.now)) }
+{
+    if value.type_str() == "float" {
+        text.push_str("  a half is gain = 1, shift = 1\n")
+    } else {
+        Ok(())
+    }
+}
+
+/// Adds how a half is written, if the gain of `place` is a number with a point.
+fn push_half(text: &mut String, graph: &Value, place: &Place) -> Result<(), AllocError>
+    ensures { OnOk result (string_bytes text.new ≡ string_bytes text.old
+        ++ half_told (place_view place.now) (view graph.now)) }
+{
+    let Place::Actor(number) = place else {
+        return Ok(());
+    };
+    match gain_of(graph, *number) {
+        Some(gain) => push_half_line(text, gain),
+        None => Ok(()),
+    }
+}
+
+/// Adds what follows the line of a `key`: for a list its first value that is not a whole number, for a gain how a half
+/// is written.
+fn push_value(
+    alloc: Global,
+    text: &mut String,
+    source: Source<'_>,
+    place: &Place,
+    key: &str,
+) -> Result<(), AllocError>
+    ensures { OnOk result (string_bytes text.new ≡ string_bytes text.old ++ value_told
+        (place_view place.now) key.now (view source.entry.graph.now) (files_view source.entry.files.now)) }
+{
+    if is_list_key(key) {
+        push_non_integer(alloc, text, source, place, key)
+    } else if key == "gain" {
+        push_half(text, source.graph, place)
+    } else {
+        Ok(())
+    }
+}
+
+/// Adds the line of a `key` of another type, and what follows it.
 pub(crate) fn push_type(
     alloc: Global,
     text: &mut String,
@@ -165,9 +221,5 @@ pub(crate) fn push_type(
         (place_view place.now) key.now (view source.entry.graph.now) (files_view source.entry.files.now)) }
 {
     push_place(alloc, text, source, place, key)?;
-    if is_list_key(key) {
-        push_non_integer(alloc, text, source, place, key)
-    } else {
-        Ok(())
-    }
+    push_value(alloc, text, source, place, key)
 }

@@ -4,7 +4,7 @@ ghost use Rattle.std.specs.Prelude.{◌≡◌, ◌++◌, OnOk, option_map, strin
 ghost use Rattle.toml.specs.View.{view};
 ghost use Rattle.sdf_why.specs.Words.{quoted, value_text, article, name_text, kind_text, end_text, actor_line};
 ghost use Rattle.sdf_why.specs.Words.{link_words, hint_line};
-ghost use Rattle.sdf_why.specs.Words.{link_line, lack_line, limits_text, key_line, is_vowel, message_line};
+ghost use Rattle.sdf_why.specs.Words.{link_line, lack_line, limits_text, key_line, is_vowel, numbered, message_line};
 ghost use Rattle.sdf_options.specs.Printable.{printable_text};
 
 use crate::marks::has_mark;
@@ -13,7 +13,7 @@ use std::alloc::{AllocError, Global};
 use toml::Value;
 
 /// Adds `said`, a text from the user's file, with its control characters escaped.
-fn push_printable(alloc: Global, text: &mut String, said: &str) -> Result<(), AllocError>
+pub(crate) fn push_printable(alloc: Global, text: &mut String, said: &str) -> Result<(), AllocError>
     ensures { OnOk result (string_bytes text.new ≡ string_bytes text.old ++ printable_text said.now) }
 {
     let shown = printable(alloc, said)?;
@@ -234,6 +234,28 @@ pub(crate) fn push_hint(alloc: Global, text: &mut String, name: &str) -> Result<
     push_quoted(alloc, text, name)?;
     text.push_str("?")?;
     Ok(text.push_str("\n")?)
+}
+
+/// Adds numbered things from `first` to `last`. `word` is the noun for one of them.
+#[tactic(auto, unfolding(crate::specs::Words::numbered))]
+pub(crate) fn push_numbered(
+    text: &mut String,
+    word: &str,
+    first: usize,
+    last: usize,
+) -> Result<(), AllocError>
+    ensures { OnOk result (string_bytes text.new ≡ string_bytes text.old ++ numbered word.now first last) }
+{
+    if first == last {
+        return write!(text, "{word} {first}");
+    }
+    write!(text, "{word}s {first}")?;
+    text.push_str(if first.saturating_add(1) == last {
+        " and "
+    } else {
+        " to "
+    })?;
+    write!(text, "{last}")
 }
 
 /// Adds the line of the file `name` with the message `said`.

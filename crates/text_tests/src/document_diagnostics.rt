@@ -64,7 +64,8 @@ static ROWS: [Row; 26] = [
     Row {
         graph: "format = 1\nlink = []\n[[actor]]\nname = \"i\"\nkind = \"gain\"\ngain = 1.5\n",
         told: "53 WrongType actor 0 key gain\n  \
-            actor 0 is \"i\", a gain\n  gain = a float, needs a whole number, -32768..32767\n",
+            actor 0 is \"i\", a gain\n  gain = a float, needs a whole number, -32768..32767\n  \
+            a half is gain = 1, shift = 1\n",
     },
     Row {
         graph: "format = 1\nlink = []\n[[actor]]\nname = \"h\"\nkind = \"fir\"\nfile = \"a.toml\"\nshift = 0\n\

@@ -50,21 +50,21 @@ static ROWS: [Row; 11] = [
         links: "{ from = \"in\", to = \"two\" }, { from = \"two:2\", to = \"out\" }",
         told: "20 NoPort link 1\n  \
             link 1 is two:2 -> out:0\n  actor 1 is \"two\", a fork\n  actor 2 is \"out\", an output\n  \
-            \"two\" has 1 input and 2 outputs\n  \"out\" has 1 input and no output\n",
+            \"two\" has input 0, outputs 0 and 1\n  \"out\" has input 0, no output\n",
     },
     Row {
         actors: FORKED,
         links: "{ from = \"out\", to = \"in\" }",
         told: "20 NoPort link 0\n  \
             link 0 is out:0 -> in:0\n  actor 2 is \"out\", an output\n  actor 0 is \"in\", an input\n  \
-            \"out\" has 1 input and no output\n  \"in\" has no input and 1 output\n",
+            \"out\" has input 0, no output\n  \"in\" has no input, output 0\n",
     },
     Row {
         actors: DEALT,
         links: "{ from = \"two:1\", to = \"sum:2\" }",
         told: "20 NoPort link 0\n  \
             link 0 is two:1 -> sum:2\n  actor 1 is \"two\", a deal\n  actor 3 is \"sum\", an add\n  \
-            \"two\" has 1 input and 2 outputs\n  \"sum\" has 2 inputs and 1 output\n",
+            \"two\" has input 0, outputs 0 and 1\n  \"sum\" has inputs 0 and 1, output 0\n",
     },
     Row {
         actors: FORKED,

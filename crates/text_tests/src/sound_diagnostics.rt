@@ -160,6 +160,10 @@ fn sounds_are_told(rt: HostRuntime) -> Result<(), Fail> {
         "  \"a\\u{7}.toml\": not found\n",
     )?;
     says(told(toml_text(alloc, "a.toml", b"format = 1\n")), "")?;
+    says(
+        told(toml_text(alloc, "a.toml", b"\xFF\xFEf\0o\0")),
+        "  \"a.toml\": TOML parse error at line 1, column 1: invalid UTF-8, the file is in UTF-16: save it as UTF-8\n",
+    )?;
     says(where_toml_stops(alloc), "at its line and column")?;
     for (text, wanted) in TWICE {
         says(told(toml_text(alloc, "a.toml", text.as_bytes())), wanted)?;
