@@ -26,6 +26,8 @@ mod left;
 #[cfg(test)]
 mod levels;
 #[cfg(test)]
+mod notes;
+#[cfg(test)]
 mod overwriting;
 #[cfg(test)]
 mod parallel;

@@ -51,6 +51,8 @@ fn running_of<'a>(batching: Batching<'a>, input: &'a str, output: &'a str) -> Ru
             parallel: *parallel,
             open_ended: *open_ended,
         },
+        // Each line already begins with the name of the file.
+        sound: "the sound",
         is_verbose: batching.is_verbose,
         is_shown: false,
     }

@@ -1,5 +1,6 @@
 //! The commands that make filters and converters: their arguments and help texts.
 
+use super::designs::{NO_WHY, WHY};
 use super::{Argument, CommandRow, Syntax, Values};
 use sdf_filters::MAX_ATTENUATION;
 use sdf_limits::{MAX_CHANNEL, MAX_FACTOR, MAX_SHIFT};
@@ -127,6 +128,8 @@ stopband. No frequency may be over half the rate.",
             ATTENUATION,
             UP,
             SHIFT,
+            WHY,
+            NO_WHY,
         ],
         examples: "Examples:
   sdfw fir lowpass --rate 44100 --pass 2000 --stop 2900 > taps.toml
@@ -140,7 +143,7 @@ It has the cheapest stages by products a second: at most three, unless the ratio
 prime factor over 64 is refused. Frequencies up to ten elevenths of half the lower rate pass, and what would be
 folded onto them is stopped. A line on standard error says what the taps of each stage do.",
         schedules: false,
-        arguments: &[FROM, TO, FOLDER, CHANNELS, ATTENUATION],
+        arguments: &[FROM, TO, FOLDER, CHANNELS, ATTENUATION, WHY, NO_WHY],
         examples: "Examples:
   sdfw resample 48000 44100 converter
   sdfw resample 44100 96000 converter --channels 2 --attenuation 80",
