@@ -198,12 +198,13 @@ const COMMANDS: &[Row] = &[
         "a band-pass from its defaults",
         "fir bandpass --rate 9 --pass 1 --stop 2",
         "Fir { wanted: FilterSpec { rate: 9, band: Middle { low_stop: 0, low_pass: 0, pass: 1, stop: 2 }, \
-         attenuation: 96, up: 1, shift: 15 } }",
+         attenuation: 96, up: 1, shift: 15 }, why: AtTerminal }",
     ),
     (
         "a conversion by its defaults",
         "resample 1 2 f",
-        "Resample { conversion: Conversion { from: 1, to: 2, folder: \"f\", channels: 1, attenuation: 96 } }",
+        "Resample { conversion: Conversion { from: 1, to: 2, folder: \"f\", channels: 1, attenuation: 96 }, \
+         why: AtTerminal }",
     ),
 ];
 

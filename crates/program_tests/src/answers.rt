@@ -374,7 +374,8 @@ const RUNS: &[Row] = &[
     (
         "a long block why",
         "run long.toml in.wav out.wav --runner rows --blocking 64 --workers 2 --why",
-        "3\n--\nsdfw: 13 BlockTooLong\n  a period has 2047 firings, so --blocking can be at most 32\n--\n",
+        "3\n--\nsdfw: 13 BlockTooLong\n  a period has 2047 firings, so --blocking can be at most 32\n  sdfw explain 13 \
+         says what to do\n--\n",
     ),
 ];
 

@@ -105,7 +105,8 @@ const SAID: &[Row] = &[
         "a file that ends well, and one that does not",
         "run plain.toml --into made in.wav one.toml",
         "4\nin.wav: done\none.toml: 34 NotRiff\n--\n\r0 of 2 files done\x1b[K…\r\x1b[Kin.wav: output 0: 2 frames, peak \
-         -76.3 dB, 0 samples at full scale\n…  \"one.toml\": has \"form\" at byte 0, needs \"RIFF\"\n--\n<5 -5>",
+         -76.3 dB, 0 samples at full scale\n…  \"one.toml\": has \"form\" at byte 0, needs \"RIFF\"\n  convert it: \
+         ffmpeg -i one.toml -c:a pcm_s16le one.wav\n--\n<5 -5>",
     ),
     (
         "the levels of two files, each by its name",
@@ -122,13 +123,22 @@ const SAID: &[Row] = &[
     (
         "no levels of a file that can't be moved to its place",
         "run plain.toml --into made locked.wav",
-        "5\nlocked.wav: 48 Write\n--\n\r0 of 1 file done\x1b[K\r\x1b[K  \"made/locked.wav\": permission denied\n--\n",
+        "5\nlocked.wav: 48 Write\n--\n\r0 of 1 file done\x1b[K\r\x1b[K  \"made/locked.wav\": permission denied\n  sdfw \
+         explain 48 says what to do\n--\n",
     ),
     (
         "files that are not there, each by itself",
         "run plain.toml --into made none.wav less.wav",
         "5\nnone.wav: 47 Read\nless.wav: 47 Read\n--\n\r0 of 2 files done\x1b[K…  \"none.wav\": entity not \
-         found\n…  \"less.wav\": entity not found\n--\n",
+         found\n…  \"less.wav\": entity not found\n  sdfw explain 47 says what to \
+         do\n--\n",
+    ),
+    (
+        "a channel that is not read, once by the name of its file",
+        "run plain.toml --into made loud.wav",
+        "0\nloud.wav: done\n--\n\r0 of 1 file done\x1b[K\r\x1b[Kloud.wav: output 0: 2 frames, peak 0.0 dB, 1 sample at \
+         full scale\nloud.wav: the sound has 2 channels, but the design reads only channel 0: channel 1 needs an \
+         input (resample: --channels 2)\n--\n…",
     ),
     (
         "how a parallel run goes, once",

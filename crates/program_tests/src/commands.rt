@@ -65,7 +65,7 @@ fn push_word(
 }
 
 /// The surroundings of a command: standard input, the maximum length of files, the errors of standard output and of
-/// standard error, and whether standard error is a terminal.
+/// standard error, whether standard error is a terminal, and a dumb one, and whether the environment asks for more.
 #[derive(Clone, Copy)]
 pub(crate) struct Around<'a> {
     pub(crate) stdin: &'a [u8],
@@ -73,6 +73,8 @@ pub(crate) struct Around<'a> {
     pub(crate) output: Option<ErrorKind>,
     pub(crate) error: Option<ErrorKind>,
     pub(crate) terminal: bool,
+    pub(crate) dumb: bool,
+    pub(crate) why: bool,
 }
 
 /// Surroundings in which nothing is refused, for constants that differ from them.
@@ -82,6 +84,8 @@ pub(crate) const OPEN_AROUND: Around<'static> = Around {
     output: None,
     error: None,
     terminal: false,
+    dumb: false,
+    why: false,
 };
 
 /// Surroundings in which nothing is refused, as a reference: a function that lends them builds no copy.
@@ -164,6 +168,8 @@ pub(crate) fn serve_over<S: Storage, T: Threads + AllocGlobal + Clock + Clone + 
         threads,
         most: around.most,
         terminal: around.terminal,
+        dumb: around.dumb,
+        why: around.why,
     };
     let mut stdin = around.stdin;
     let mut out = Stream {

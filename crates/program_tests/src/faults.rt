@@ -78,64 +78,68 @@ const WHY: &[Row] = &[
         "check stuck.toml --why",
         "3\n--\nsdfw: 10 Deadlock\nin 1 of 1\nadd 0 of 1 short link 3\nfork 0 of 1 short link 1\nout 0 of 1 short \
          link 2\n  link 3 is fork:1 -> add:1, holds 0, needs 1\n  link 1 is add:0 -> fork:0, holds 0, needs 1\n  \
-         link 2 is fork:0 -> out:0\n--\n",
+         link 2 is fork:0 -> out:0\n  sdfw explain 10 says what to do\n--\n",
     ),
     (
         "the same of a schedule",
         "schedule stuck.toml --why",
         "3\n--\nsdfw: 10 Deadlock\nin 1 of 1\nadd 0 of 1 short link 3\nfork 0 of 1 short link 1\nout 0 of 1 short \
          link 2\n  link 3 is fork:1 -> add:1, holds 0, needs 1\n  link 1 is add:0 -> fork:0, holds 0, needs 1\n  \
-         link 2 is fork:0 -> out:0\n--\n",
+         link 2 is fork:0 -> out:0\n  sdfw explain 10 says what to do\n--\n",
     ),
     (
         "the same of a run",
         "run stuck.toml in.wav out.wav --why",
         "3\n--\nsdfw: 10 Deadlock\nin 1 of 1\nadd 0 of 1 short link 3\nfork 0 of 1 short link 1\nout 0 of 1 short \
          link 2\n  link 3 is fork:1 -> add:1, holds 0, needs 1\n  link 1 is add:0 -> fork:0, holds 0, needs 1\n  \
-         link 2 is fork:0 -> out:0\n--\n",
+         link 2 is fork:0 -> out:0\n  sdfw explain 10 says what to do\n--\n",
     ),
     (
         "an actor without a home, by its name",
         "schedule begun.toml --placement file --why",
-        "3\n--\nsdfw: 19 BadHome actor 0\n  actor 0 is \"in\", an input\n  processor = 1, needs 0..0\n--\n",
+        "3\n--\nsdfw: 19 BadHome actor 0\n  actor 0 is \"in\", an input\n  processor = 1, needs 0..0\n  sdfw explain \
+         19 says what to do\n--\n",
     ),
     (
         "a design that is not there",
         "run none.toml in.wav out.wav --why",
-        "5\n--\nsdfw: 47 Read\n  \"none.toml\": entity not found\n--\n",
+        "5\n--\nsdfw: 47 Read\n  \"none.toml\": entity not found\n  sdfw explain 47 says what to do\n--\n",
     ),
     (
         "a sound that is not there",
         "run plain.toml none.wav out.wav --why",
-        "5\n--\nsdfw: 47 Read\n  \"none.wav\": entity not found\n--\n",
+        "5\n--\nsdfw: 47 Read\n  \"none.wav\": entity not found\n  sdfw explain 47 says what to do\n--\n",
     ),
     (
         "a file that can't be made",
         "run plain.toml in.wav else.wav --why",
-        "5\n--\nsdfw: 48 Write\n  \"else.wav\": permission denied\n--\n",
+        "5\n--\nsdfw: 48 Write\n  \"else.wav\": permission denied\n  sdfw explain 48 says what to do\n--\n",
     ),
     (
         "a design that is no document",
         "run broken.toml in.wav out.wav --why",
-        "3\n--\nsdfw: 49 NotToml top\n  \"broken.toml\": TOML parse error at line 2, column 22: invalid string\n--\n",
+        "3\n--\nsdfw: 49 NotToml top\n  \"broken.toml\": TOML parse error at line 2, column 22: invalid string\n  sdfw \
+         explain 49 says what to do\n--\n",
     ),
     (
         "a coefficient file that is not there",
         "run lacking.toml in.wav out.wav --why",
-        "3\n--\nsdfw: 58 NoFile file two.toml\n  actor 1 is \"same\", a fir\n  \"two.toml\": entity not found\n--\n",
+        "3\n--\nsdfw: 58 NoFile file two.toml\n  actor 1 is \"same\", a fir\n  \"two.toml\": entity not found\n  sdfw \
+         explain 58 says what to do\n--\n",
     ),
     (
         "a channel that is not there",
         "run right.toml in.wav out.wav --why",
         "4\n--\nsdfw: 59 ChannelsMissing\n  \"in.wav\": has 44100 samples a second in 1 channel\n  the design needs 2 \
          channels, the sound has 1\n  actor 0 is \"left\", \
-         an input\n  channel = 0\n  actor 1 is \"right\", an input\n  channel = 1\n--\n",
+         an input\n  channel = 0\n  actor 1 is \"right\", an input\n  channel = 1\n  sdfw explain 59 says what to \
+         do\n--\n",
     ),
     (
         "a rate that is not whole",
         "run eighth.toml in.wav out.wav --why",
         "4\n--\nsdfw: 60 RateNotWhole\n  \"in.wav\": has 44100 samples a second in 1 channel\n  44100 * 1 / 8 = \
-         5512 and 4/8\n--\n",
+         5512 and 4/8\n  sdfw explain 60 says what to do\n--\n",
     ),
 ];
 
@@ -146,22 +150,26 @@ const BESIDE: &[Row] = &[
     (
         "a key, and what it needs",
         "check wide.toml --why",
-        "3\n--\nsdfw: 28 KitValue actor 0 key up\n  actor 0 is \"half\", a fir\n  up = 147, needs 1..64\n--\n",
+        "3\n--\nsdfw: 28 KitValue actor 0 key up\n  actor 0 is \"half\", a fir\n  up = 147, needs 1..64\n  sdfw \
+         explain 28 says what to do\n--\n",
     ),
     (
         "a key of a coefficient file",
         "run odd/filtered.toml in.wav out.wav --why",
-        "3\n--\nsdfw: 51 UnknownKey file one.toml key tap\n  actor 2 is \"same\", a fir\n  tap = 1\n--\n",
+        "3\n--\nsdfw: 51 UnknownKey file one.toml key tap\n  actor 2 is \"same\", a fir\n  tap = 1\n  sdfw explain 51 \
+         says what to do\n--\n",
     ),
     (
         "an actor past the last of two workers",
         "schedule far.toml --placement file --workers 2 --why",
-        "3\n--\nsdfw: 19 BadHome actor 0\n  actor 0 is \"in\", an input\n  processor = 3, needs 0..1\n--\n",
+        "3\n--\nsdfw: 19 BadHome actor 0\n  actor 0 is \"in\", an input\n  processor = 3, needs 0..1\n  sdfw explain \
+         19 says what to do\n--\n",
     ),
     (
         "the same of a run",
         "run far.toml in.wav out.wav --runner rows --placement file --workers 3 --why",
-        "3\n--\nsdfw: 19 BadHome actor 0\n  actor 0 is \"in\", an input\n  processor = 3, needs 0..2\n--\n",
+        "3\n--\nsdfw: 19 BadHome actor 0\n  actor 0 is \"in\", an input\n  processor = 3, needs 0..2\n  sdfw explain \
+         19 says what to do\n--\n",
     ),
     (
         "a deadlock before an IN that is not there",
@@ -188,13 +196,13 @@ const BESIDE: &[Row] = &[
         "two coefficient files that are not there",
         "run lacks/twice.toml in.wav out.wav --why",
         "3\n--\nsdfw: 58 NoFile file one.toml\n  actor 1 is \"same\", a fir\n  \"one.toml\": entity not found\n  \
-         \"three.toml\": entity not found\n--\n",
+         \"three.toml\": entity not found\n  sdfw explain 58 says what to do\n--\n",
     ),
     (
         "a coefficient file that is no document",
         "run torn/filtered.toml in.wav out.wav --why",
         "3\n--\nsdfw: 49 NotToml file one.toml\n  \"one.toml\": TOML parse error at line 2, column 22: invalid \
-         string\n--\n",
+         string\n  sdfw explain 49 says what to do\n--\n",
     ),
     (
         "a graph file whose path is that of standard output",

@@ -182,7 +182,7 @@ fn names_what_is_left<T: Threads + AllocGlobal + Clock + Clone + Drop + Sync>(
         told_at_terminal(&full, threads, path),
         "5 …sdfw: 48 Write\n  \"…/graph.toml\": no storage space\n  \"…/graph.toml\": is left, since it can't be \
          removed: permission denied\n  \"…/stage1.toml\": is left, since it can't be removed: permission denied\n  \
-         \"…/new\": is left, since it can't be removed: permission denied\n",
+         \"…/new\": is left, since it can't be removed: permission denied\n  sdfw explain 48 says what to do\n",
     )
 }
 

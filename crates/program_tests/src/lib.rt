@@ -27,6 +27,8 @@ mod left;
 #[cfg(test)]
 mod levels;
 #[cfg(test)]
+mod notes;
+#[cfg(test)]
 mod overwriting;
 #[cfg(test)]
 mod parallel;

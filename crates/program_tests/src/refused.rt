@@ -124,6 +124,27 @@ fn are_refused<T: Threads + AllocGlobal + Clock + Clone + Drop + Sync>(
     Ok(())
 }
 
+/// Devices that fail, and how a run ends then. Refuses a program that has other words for it than the system.
+const DEVICES: &[(&str, &str)] = &[
+    (
+        "run @/graph.toml /proc/self/mem @/out.wav --why",
+        "5 sdfw: 47 Read\n  \"/proc/self/mem\": Input/output error (os error 5)\n  sdfw explain 47 says what to do\n",
+    ),
+    (
+        "run @/graph.toml @/in.wav /dev/full --why",
+        "5 sdfw: 48 Write\n  \"/dev/full\": No space left on device (os error 28)\n  sdfw explain 48 says what to do\n",
+    ),
+];
+
+#[test]
+fn words_of_the_system(rt: HostRuntime) -> Result<(), Fail> {
+    let folder = with_files(&rt, "devices")?;
+    for (line, wanted) in DEVICES {
+        row_says(line, told(&Disk { rt: &rt }, &rt, &folder, line), wanted)?;
+    }
+    Ok(())
+}
+
 #[test]
 fn refused_opens(rt: HostRuntime) -> Result<(), Fail> {
     let folder = with_files(&rt, "refused")?;

@@ -3,6 +3,7 @@
 use crate::costs::{COMMENTED, SPACED};
 use crate::files::{FILTERED, PLAIN, TAPS};
 use crate::parallel::RECENT;
+use crate::terminal::LOUD;
 use sdf_io::storage::Storage;
 use std::alloc::{AllocError, Global};
 use std::io::{self, Error, ErrorKind, Write};
@@ -21,6 +22,10 @@ pub(crate) const HEADER: &[u8] =
 const SILENCE: &[u8] =
     b"RIFF\x44\0\0\0WAVEfmt \x10\0\0\0\x01\0\x01\0\x44\xAC\0\0\x88\x58\x01\0\x02\0\x10\0data\x20\0\0\0\0\0\0\0\0\0\
     \0\0\0\0\0\0\0\0\0\0\0\0\0\0\0\0\0\0\0\0\0\0\0\0\0\0";
+
+/// A sound of samples of 8 bits.
+const SHORT: &[u8] =
+    b"RIFF\x24\0\0\0WAVEfmt \x10\0\0\0\x01\0\x01\0\x44\xAC\0\0\x44\xAC\0\0\x01\0\x08\0data\0\0\0\0";
 
 /// A sound of the samples 7 and 8 at 44,100 Hz.
 pub(crate) const NEW_SOUND: &[u8] =
@@ -222,6 +227,10 @@ const SOUNDS: &[(&str, &[u8])] = &[
     ("locked.wav", SOUND),
     ("silence.wav", SILENCE),
     ("cut.wav", HEADER),
+    ("loud.wav", LOUD),
+    ("takes/it's.wav", SHORT),
+    ("-a.b/song", b"ID3\x04\0\0\0\0\0\0\0\0"),
+    ("b:c.mp3", b"ID3\x04\0\0\0\0\0\0\0\0"),
 ];
 
 /// Graph files that name no other file.

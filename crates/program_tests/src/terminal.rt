@@ -22,17 +22,19 @@ const AT_TERMINAL: &[Row] = &[
     (
         "a design that is not there",
         "check none.toml",
-        "5\n--\nsdfw: 47 Read\n  \"none.toml\": entity not found\n--\n",
+        "5\n--\nsdfw: 47 Read\n  \"none.toml\": entity not found\n  sdfw explain 47 says what to do\n--\n",
     ),
     (
         "a schedule",
         "schedule begun.toml --placement file",
-        "3\n--\nsdfw: 19 BadHome actor 0\n  actor 0 is \"in\", an input\n  processor = 1, needs 0..0\n--\n",
+        "3\n--\nsdfw: 19 BadHome actor 0\n  actor 0 is \"in\", an input\n  processor = 1, needs 0..0\n  sdfw explain \
+         19 says what to do\n--\n",
     ),
     (
         "an analysis, by its options",
         "analyze far.toml --placement file --workers 2",
-        "3\n--\nsdfw: 19 BadHome actor 0\n  actor 0 is \"in\", an input\n  processor = 3, needs 0..1\n--\n",
+        "3\n--\nsdfw: 19 BadHome actor 0\n  actor 0 is \"in\", an input\n  processor = 3, needs 0..1\n  sdfw explain \
+         19 says what to do\n--\n",
     ),
     (
         "schedules compared, of which some are refused",
@@ -57,7 +59,8 @@ const AT_TERMINAL: &[Row] = &[
     (
         "a picture, by its options",
         "draw far.toml --placement file --workers 3",
-        "3\n--\nsdfw: 19 BadHome actor 0\n  actor 0 is \"in\", an input\n  processor = 3, needs 0..2\n--\n",
+        "3\n--\nsdfw: 19 BadHome actor 0\n  actor 0 is \"in\", an input\n  processor = 3, needs 0..2\n  sdfw explain \
+         19 says what to do\n--\n",
     ),
 ];
 
@@ -67,12 +70,13 @@ const FILES_AT_TERMINAL: &[Row] = &[
     (
         "a profile of a sound that is not there",
         "profile plain.toml none.wav",
-        "5\n--\nsdfw: 47 Read\n  \"none.wav\": entity not found\n--\n",
+        "5\n--\nsdfw: 47 Read\n  \"none.wav\": entity not found\n  sdfw explain 47 says what to do\n--\n",
     ),
     (
         "a profile of a design",
         "profile plain.toml one.toml",
-        "4\n--\nsdfw: 34 NotRiff\n  \"one.toml\": has \"form\" at byte 0, needs \"RIFF\"\n--\n",
+        "4\n--\nsdfw: 34 NotRiff\n  \"one.toml\": has \"form\" at byte 0, needs \"RIFF\"\n  convert it: ffmpeg -i \
+         one.toml -c:a pcm_s16le one.wav\n--\n",
     ),
     (
         "a fault without more",
@@ -112,22 +116,22 @@ const RUNS_AT_TERMINAL: &[Row] = &[
     (
         "a run that fails",
         "run plain.toml in.wav else.wav",
-        "5\n--\nsdfw: 48 Write\n  \"else.wav\": permission denied\n--\n",
+        "5\n--\nsdfw: 48 Write\n  \"else.wav\": permission denied\n  sdfw explain 48 says what to do\n--\n",
     ),
     (
         "a design in a folder that can't be made",
         "resample 44100 48000 else",
-        "5\n--\nsdfw: 48 Write\n  \"else\": permission denied\n--\n",
+        "5\n--\nsdfw: 48 Write\n  \"else\": permission denied\n  sdfw explain 48 says what to do\n--\n",
     ),
     (
         "a batch into a folder that can't be made",
         "run plain.toml --into else in.wav",
-        "5\n--\nsdfw: 48 Write\n  \"else\": permission denied\n--\n",
+        "5\n--\nsdfw: 48 Write\n  \"else\": permission denied\n  sdfw explain 48 says what to do\n--\n",
     ),
     (
         "costs into a file that can't be made",
         "profile commented.toml in.wav --write else.toml",
-        "5\n--\nsdfw: 48 Write\n  \"else.toml\": permission denied\n--\n",
+        "5\n--\nsdfw: 48 Write\n  \"else.toml\": permission denied\n  sdfw explain 48 says what to do\n--\n",
     ),
     (
         "a fault of which no more is known",
@@ -174,46 +178,53 @@ type Sound = (&'static [u8], &'static str);
 const FORMATS: &[Sound] = &[
     (
         b"R",
-        "4\n--\nsdfw: 43 Truncated\n  \"-\": ends after 1 byte\n--\n",
+        "4\n--\nsdfw: 43 Truncated\n  \"-\": ends after 1 byte\n  sdfw explain 43 says what to do\n--\n",
     ),
     (
         b"fLaC\0\0\0\x22",
-        "4\n--\nsdfw: 34 NotRiff\n  \"-\": has \"fLaC\" at byte 0, needs \"RIFF\"\n--\n",
+        "4\n--\nsdfw: 34 NotRiff\n  \"-\": has \"fLaC\" at byte 0, needs \"RIFF\"\n  sdfw explain 34 says what to \
+         do\n--\n",
     ),
     (
         b"RIFF\x28\0\0\0AVI\0LIST",
-        "4\n--\nsdfw: 35 NotWave\n  \"-\": has \"AVI\\x00\" at byte 8, needs \"WAVE\"\n--\n",
+        "4\n--\nsdfw: 35 NotWave\n  \"-\": has \"AVI\\x00\" at byte 8, needs \"WAVE\"\n  sdfw explain 35 says what to \
+         do\n--\n",
     ),
     (
         b"RIFF\x28\0\0\0WAVEJUNK\x01\0\0\0\0\0data\x04\0\0\0\x05\0\xFB\xFF",
-        "4\n--\nsdfw: 36 NoFormat\n  \"-\": has its chunk \"data\" at byte 22, and no chunk \"fmt \" before it\n--\n",
+        "4\n--\nsdfw: 36 NoFormat\n  \"-\": has its chunk \"data\" at byte 22, and no chunk \"fmt \" before it\n  sdfw \
+         explain 36 says what to do\n--\n",
     ),
     (
         b"RIFF\x28\0\0\0WAVEJUNK\x01\0\0\0\0\0",
-        "4\n--\nsdfw: 36 NoFormat\n  \"-\": ends after 22 bytes, without a chunk \"fmt \"\n--\n",
+        "4\n--\nsdfw: 36 NoFormat\n  \"-\": ends after 22 bytes, without a chunk \"fmt \"\n  sdfw explain 36 says what \
+         to do\n--\n",
     ),
     (
         b"RIFF\x28\0\0\0WAVEfmt \x0E\0\0\0\x01\0\x01\0\x44\xAC\0\0\x88\x58\x01\0\x02\0",
-        "4\n--\nsdfw: 37 ShortFormat\n  \"-\": has a chunk \"fmt \" of 14 bytes, needs 16\n--\n",
+        "4\n--\nsdfw: 37 ShortFormat\n  \"-\": has a chunk \"fmt \" of 14 bytes, needs 16\n  sdfw explain 37 says what \
+         to do\n--\n",
     ),
     (
         b"RIFF\x28\0\0\0WAVEfmt \x01\0\0\0\x01\0",
-        "4\n--\nsdfw: 37 ShortFormat\n  \"-\": has a chunk \"fmt \" of 1 byte, needs 16\n--\n",
+        "4\n--\nsdfw: 37 ShortFormat\n  \"-\": has a chunk \"fmt \" of 1 byte, needs 16\n  sdfw explain 37 says what \
+         to do\n--\n",
     ),
     (
         b"RIFF\x28\0\0\0WAVEfmt \x10\0\0\0\x01\0\x01\0\x44\xAC\0\0\x88\x58\x01\0\x02\0\x01\0data\0\0\0\0",
-        "4\n--\nsdfw: 38 NotPcm16\n  \"-\": has samples of 1 bit in format 1 (PCM), needs 16 bits in format 1\n--\n",
+        "4\n--\nsdfw: 38 NotPcm16\n  \"-\": has samples of 1 bit in format 1 (PCM), needs 16 bits in format 1\n  sdfw \
+         explain 38 says what to do\n--\n",
     ),
     (
         b"RIFF\x28\0\0\0WAVEfmt \x10\0\0\0\x03\0\x01\0\x44\xAC\0\0\x10\xB1\x02\0\x04\0\x20\0data\0\0\0\0",
         "4\n--\nsdfw: 38 NotPcm16\n  \"-\": has samples of 32 bits in format 3 (floating point), needs 16 bits in \
-         format 1\n--\n",
+         format 1\n  sdfw explain 38 says what to do\n--\n",
     ),
     (
         b"RIFF\x40\0\0\0WAVEfmt \x28\0\0\0\xFE\xFF\x01\0\x44\xAC\0\0\x88\x58\x01\0\x02\0\x10\0\
          \x16\0\x10\0\x04\0\0\0\x01\0\0\0\x21\x07\xD3\x11\x86\x44\xC8\xC1\xCA\0\0\0data\0\0\0\0",
         "4\n--\nsdfw: 38 NotPcm16\n  \"-\": has samples of 16 bits in an extensible format other than PCM, needs 16 \
-         bits in format 1\n--\n",
+         bits in format 1\n  sdfw explain 38 says what to do\n--\n",
     ),
 ];
 
@@ -221,56 +232,64 @@ const FORMATS: &[Sound] = &[
 const SOUNDS: &[Sound] = &[
     (
         b"RIFF\x28\0\0\0WAVEfmt \x10\0\0\0\x01\0\x09\0\x44\xAC\0\0\x88\x58\x01\0\x12\0\x10\0data\0\0\0\0",
-        "4\n--\nsdfw: 39 Channels\n  \"-\": has 44100 samples a second in 9 channels, needs 1 to 8 channels\n--\n",
+        "4\n--\nsdfw: 39 Channels\n  \"-\": has 44100 samples a second in 9 channels, needs 1 to 8 channels\n  sdfw \
+         explain 39 says what to do\n--\n",
     ),
     (
         b"RIFF\x28\0\0\0WAVEfmt \x10\0\0\0\x01\0\x09\0\x01\0\0\0\x88\x58\x01\0\x12\0\x10\0data\0\0\0\0",
-        "4\n--\nsdfw: 39 Channels\n  \"-\": has 1 sample a second in 9 channels, needs 1 to 8 channels\n--\n",
+        "4\n--\nsdfw: 39 Channels\n  \"-\": has 1 sample a second in 9 channels, needs 1 to 8 channels\n  sdfw explain \
+         39 says what to do\n--\n",
     ),
     (
         b"RIFF\x28\0\0\0WAVEfmt \x10\0\0\0\x01\0\x01\0\0\0\0\0\x88\x58\x01\0\x02\0\x10\0data\0\0\0\0",
         "4\n--\nsdfw: 40 RateZero\n  \"-\": has 0 samples a second in 1 channel, needs at least 1 a \
-         second\n--\n",
+         second\n  sdfw explain 40 says what to do\n--\n",
     ),
     (
         b"RIFF\x28\0\0\0WAVEfmt \x10\0\0\0\x01\0\x01\0\x44\xAC\0\0\x88\x58\x01\0\x03\0\x10\0data\0\0\0\0",
-        "4\n--\nsdfw: 41 BadAlign\n  \"-\": has frames of 3 bytes, needs 2 for 1 channel\n--\n",
+        "4\n--\nsdfw: 41 BadAlign\n  \"-\": has frames of 3 bytes, needs 2 for 1 channel\n  sdfw explain 41 says what \
+         to do\n--\n",
     ),
     (
         b"RIFF\x28\0\0\0WAVEfmt \x10\0\0\0\x01\0\x01\0\x44\xAC\0\0\x88\x58\x01\0\x01\0\x10\0data\0\0\0\0",
-        "4\n--\nsdfw: 41 BadAlign\n  \"-\": has frames of 1 byte, needs 2 for 1 channel\n--\n",
+        "4\n--\nsdfw: 41 BadAlign\n  \"-\": has frames of 1 byte, needs 2 for 1 channel\n  sdfw explain 41 says what \
+         to do\n--\n",
     ),
     (
         b"RIFF\x28\0\0\0WAVEfmt \x10\0\0\0\x01\0\x01\0\x44\xAC\0\0\x88\x58\x01\0\x02\0\x10\0",
-        "4\n--\nsdfw: 42 NoData\n  \"-\": ends after 36 bytes, without a chunk \"data\"\n--\n",
+        "4\n--\nsdfw: 42 NoData\n  \"-\": ends after 36 bytes, without a chunk \"data\"\n  sdfw explain 42 says what \
+         to do\n--\n",
     ),
     (
         b"RIFF\x28\0\0\0WAVEfmt \x10\0\0\0\x01\0\x01\0\x44\xAC\0\0\x88\x58\x01\0\x02\0\x10\0data\x04\0\0\0\x05",
-        "4\n--\nsdfw: 43 Truncated\n  \"-\": ends after 45 bytes, needs 48\n--\n<5 -5 to come>",
+        "4\n--\nsdfw: 43 Truncated\n  \"-\": ends after 45 bytes, needs 48; `run --open-ended` reads to the \
+         end\n  sdfw explain 43 says what to do\n--\n<5 -5 to come>",
     ),
     (
         b"",
-        "4\n--\nsdfw: 43 Truncated\n  \"-\": ends after 0 bytes\n--\n",
+        "4\n--\nsdfw: 43 Truncated\n  \"-\": ends after 0 bytes\n  sdfw explain 43 says what to do\n--\n",
     ),
     (
         b"RIFF\x28\0\0\0WAVEfmt \x10\0\0\0\x01\0\x01\0\x44\xAC\0\0\x88\x58\x01\0\x02\0\x10\0data\x03\0\0\0\x05\0\xFB",
-        "4\n--\nsdfw: 44 PartialFrame\n  \"-\": has 3 bytes of samples, needs frames of 2 bytes\n--\n",
+        "4\n--\nsdfw: 44 PartialFrame\n  \"-\": has 3 bytes of samples, needs frames of 2 bytes\n  sdfw explain 44 \
+         says what to do\n--\n",
     ),
     (
         b"RIFF\x28\0\0\0WAVEfmt \x10\0\0\0\x01\0\x01\0\x44\xAC\0\0\x88\x58\x01\0\x02\0\x10\0data\x01\0\0\0\x05",
-        "4\n--\nsdfw: 44 PartialFrame\n  \"-\": has 1 byte of samples, needs frames of 2 bytes\n--\n",
+        "4\n--\nsdfw: 44 PartialFrame\n  \"-\": has 1 byte of samples, needs frames of 2 bytes\n  sdfw explain 44 says \
+         what to do\n--\n",
     ),
     (
         b"RIFF\x28\0\0\0WAVEfmt \x10\0\0\0\x01\0\x01\0\xFF\xFF\xFF\xFF\x88\x58\x01\0\x02\0\x10\0\
          data\x04\0\0\0\x05\0\xFB\xFF",
         "4\n--\nsdfw: 46 RateTooLarge\n  \"-\": has 4294967295 samples a second in 1 channel, and \
-         an output has at most 4294967295 bytes a second\n--\n",
+         an output has at most 4294967295 bytes a second\n  sdfw explain 46 says what to do\n--\n",
     ),
     (
         b"RIFF\x28\0\0\0WAVEfmt \x10\0\0\0\x01\0\x01\0\x44\xAC\0\0\x88\x58\x01\0\x02\0\x10\0\
          data\xFC\xFF\xFF\xFF\x05\0\xFB\xFF",
         "4\n--\nsdfw: 45 TooLong\n  \"-\": has 4294967292 bytes of samples, and an output has at most \
-         4294967259\n--\n",
+         4294967259; `run --open-ended` reads to the end\n  sdfw explain 45 says what to do\n--\n",
     ),
 ];
 
@@ -284,7 +303,7 @@ fn parted(alloc: Global) -> Result<Vec<u8>, AllocError> {
 }
 
 /// Serves `line` with the sound `stdin` on standard input, and returns the result as text.
-fn told_of<T: Threads + AllocGlobal + Clock + Clone + Drop + Sync>(
+pub(crate) fn told_of<T: Threads + AllocGlobal + Clock + Clone + Drop + Sync>(
     rt: &T,
     stdin: &[u8],
     line: &str,
@@ -316,7 +335,8 @@ fn what_is_told_of_sounds(rt: HostRuntime) -> Result<(), Fail> {
     expect_text(
         "a sound of too many chunks",
         told_of(&rt, &parted, WHY),
-        "4\n--\nsdfw: 45 TooLong\n  \"-\": has too many bytes of samples, or over 65,536 chunks before them\n--\n",
+        "4\n--\nsdfw: 45 TooLong\n  \"-\": has too many bytes of samples, or over 65,536 chunks before them\n  sdfw \
+         explain 45 says what to do\n--\n",
     )
 }
 
@@ -345,7 +365,7 @@ const OPEN_ENDED: &[(&[u8], &str, &str)] = &[
          data\0\xF0\xFF\x7F\x05\0\xFB\xFF",
         "run plain.toml - out.wav --why",
         "4\n--\nsdfw: 43 Truncated\n  \"-\": ends after 48 bytes, needs 2147479596; `run --open-ended` reads to the \
-         end\n--\n<another sound>",
+         end\n  sdfw explain 43 says what to do\n--\n<another sound>",
     ),
 ];
 
@@ -358,7 +378,7 @@ fn sounds_to_the_end(rt: HostRuntime) -> Result<(), Fail> {
 }
 
 /// Two frames of two channels: 32,767 and -32,768, then 5 and 32,767.
-const LOUD: &[u8] =
+pub(crate) const LOUD: &[u8] =
     b"RIFF\x2C\0\0\0WAVEfmt \x10\0\0\0\x01\0\x02\0\x44\xAC\0\0\x10\xB1\x02\0\x04\0\x10\0\
      data\x08\0\0\0\xFF\x7F\0\x80\x05\0\xFF\x7F";
 

@@ -30,8 +30,8 @@ IsCommandWithinLimits (Profile input write) = Unit {0}
 abbrev pub IsWithinLimits : Words → Type 0
 IsWithinLimits (Design graph task why) = IsCommandWithinLimits task
 IsWithinLimits (Batch graph batch why) = AreWithinLimits batch.options × IfSome batch.parallel IsParallelWorkers
-IsWithinLimits (Fir wanted) = Unit {0}
-IsWithinLimits (Resample conversion) = Unit {0}
+IsWithinLimits (Fir wanted why) = Unit {0}
+IsWithinLimits (Resample conversion why) = Unit {0}
 IsWithinLimits (Kinds format) = Unit {0}
 IsWithinLimits (Explain number) = (1 ≤ number) × (number ≤ MAX_FAULT)
 IsWithinLimits Overview = Unit {0}

@@ -118,7 +118,10 @@ fn fir_of<'a>(matches: &ArgMatches<'a>) -> Option<Words<'a>>
         up: any_number_of(matches, "up")?,
         shift: any_number_of(matches, "shift")?,
     };
-    Some(Words::Fir { wanted })
+    Some(Words::Fir {
+        wanted,
+        why: why_of(matches),
+    })
 }
 
 /// Reads the parameters of the command `resample`.
@@ -132,7 +135,10 @@ fn resample_of<'a>(matches: &ArgMatches<'a>) -> Option<Words<'a>>
         channels: any_number_of(matches, "channels")?,
         attenuation: any_number_of(matches, "attenuation")?,
     };
-    Some(Words::Resample { conversion })
+    Some(Words::Resample {
+        conversion,
+        why: why_of(matches),
+    })
 }
 
 /// Reads the arguments of the command `name`.

@@ -144,10 +144,12 @@ pub enum Words<'a> {
     /// The coefficient file of a filter.
     Fir {
         wanted: FilterSpec,
+        why: Why,
     },
     /// The design of a conversion.
     Resample {
         conversion: Conversion<'a>,
+        why: Why,
     },
     /// The table of kinds.
     Kinds {

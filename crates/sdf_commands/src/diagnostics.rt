@@ -1,6 +1,7 @@
 //! The diagnostics of faults.
 
 use crate::details::details_of;
+use crate::remedies::remedy_text;
 use crate::sounds::{format_text, header_of, unsuited_text};
 use sdf_cli::{DesignCommand, Format, Words};
 use sdf_document::DocumentFault;
@@ -112,24 +113,6 @@ fn sound_text(
     }
 }
 
-/// Returns the number at the beginning of a fault's text.
-fn number_of(told: &str) -> &str {
-    match told.split_once(' ') {
-        Some((number, _)) => number,
-        None => told,
-    }
-}
-
-/// Returns the line that names `explain`, or no line for a fault of the command line.
-fn pointer(alloc: Global, fault: &Fault) -> Result<String, AllocError> {
-    if let Fault::Words(_) = fault {
-        return Ok(String::new(alloc));
-    }
-    let told = format!(in alloc; "{fault}")?;
-    let number = number_of(told.as_str());
-    format!(in alloc; "  sdfw explain {number} says what to do\n")
-}
-
 /// Returns the diagnostic for `fault` from the files that were read, or no text if they do not explain it.
 fn diagnostic_of(
     alloc: Global,
@@ -154,19 +137,17 @@ fn diagnostic_of(
     }
 }
 
-/// Returns the lines behind a fault's line: the diagnostic from the files that were read, otherwise the command that
-/// explains the fault.
+/// Returns the lines behind a fault's line: the diagnostic from the files that were read, then the command that helps.
 pub fn why(
     alloc: Global,
     fault: &Fault,
     options: &Options,
     sources: &Sources,
 ) -> Result<String, AllocError> {
-    let told = diagnostic_of(alloc, fault, options, sources)?;
-    if told.is_empty() {
-        return pointer(alloc, fault);
-    }
-    Ok(told)
+    let mut text = diagnostic_of(alloc, fault, options, sources)?;
+    let last = remedy_text(alloc, fault, sources.trace.name.as_str())?;
+    text.push_str(last.as_str())?;
+    Ok(text)
 }
 
 /// The form of a fault's report: its line, its line with a diagnostic for these options, or JSON with the same.
@@ -226,7 +207,8 @@ impl Background {
         }
     }
 
-    /// Sets the form of the report that `words` ask for. `terminal` says whether standard error is a terminal.
+    /// Sets the form of the report that `words` ask for. `terminal` says whether diagnostics are printed by default, as
+    /// at a terminal.
     pub fn set_form(&mut self, words: &Words<'_>, terminal: bool) {
         match words {
             Words::Design { task, why, .. } => {
@@ -239,6 +221,10 @@ impl Background {
                 format: Format::Json,
             } => self.form = ReportForm::Json(Options::DEFAULT),
             Words::Batch { .. } => {}
+            Words::Fir { why, .. } | Words::Resample { why, .. } if !why.is_verbose(terminal) => {}
+            Words::Fir { .. } | Words::Resample { .. } => {
+                self.form = ReportForm::Why(Options::DEFAULT);
+            }
             _ if terminal => self.form = ReportForm::Why(Options::DEFAULT),
             _ => {}
         }

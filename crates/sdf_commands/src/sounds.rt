@@ -11,6 +11,8 @@ use std::alloc::{AllocError, Global};
 #[derive(Clone, Copy)]
 struct Front<'a> {
     bytes: &'a [u8],
+    /// Whether the size of the samples does not count.
+    open_ended: bool,
 }
 
 /// A chunk: the position of its content, and the size that its header gives.
@@ -61,7 +63,9 @@ impl<'a> Front<'a> {
 
     /// Returns the chunk of the samples.
     fn data(self) -> Option<Chunk> {
-        self.chunk(b"data".as_slice())
+        let Chunk { at, size } = self.chunk(b"data".as_slice())?;
+        let size = if self.open_ended { UNKNOWN_SIZE } else { size };
+        Some(Chunk { at, size })
     }
 
     /// Returns the 16-bit number at `at` in the chunk of the format.
@@ -93,6 +97,7 @@ impl<'a> Front<'a> {
 fn front_of(trace: &InputTrace) -> Front<'_> {
     Front {
         bytes: trace.front.as_slice(),
+        open_ended: trace.open_ended,
     }
 }
 
@@ -208,19 +213,36 @@ fn align_text(alloc: Global, front: Front<'_>) -> Result<String, AllocError> {
 }
 
 /// The least data size that is taken for a placeholder, written by a program that does not know the size yet.
-const STREAMED: u32 = 0x7FFF_F000;
+const STREAMED: u32 = 0x7FFF_0000;
+
+/// Returns the end of a text about samples of `size` bytes, if that may be a placeholder.
+fn streamed_hint(size: u32) -> &'static str {
+    if size < STREAMED {
+        ""
+    } else {
+        "; `run --open-ended` reads to the end"
+    }
+}
+
+/// Checks whether the header of a sound says that it has no samples, and nothing behind them. A size that may be a
+/// placeholder says nothing.
+pub(crate) fn says_empty(trace: &InputTrace) -> bool {
+    let front = front_of(trace);
+    let (Some(all), Some(Chunk { at, size })) = (front.u32_at(4), front.data()) else {
+        return false;
+    };
+    let end = u64::from(all).saturating_add(8);
+    size == 0 && (end <= at as u64 || all >= STREAMED)
+}
 
 /// Returns the text for a WAV file that ends too early.
 fn end_text(alloc: Global, front: Front<'_>, bytes: u64) -> Result<String, AllocError> {
     match front.data() {
         Some(Chunk { at, size }) if size != UNKNOWN_SIZE => {
             let whole = (at as u64).saturating_add(u64::from(size));
-            let hint = if size < STREAMED {
-                ""
-            } else {
-                "; `run --open-ended` reads to the end"
-            };
-            format!(in alloc; "ends after {bytes} bytes, needs {whole}{hint}")
+            format!(in alloc;
+                "ends after {bytes} bytes, needs {whole}; `run --open-ended` reads to the end"
+            )
         }
         _ => format!(in alloc; "ends after {bytes} byte{}", plural(bytes)),
     }
@@ -237,8 +259,9 @@ fn frames_text(alloc: Global, front: Front<'_>, bytes: u64) -> Result<String, Al
     };
     let frame = channels.saturating_mul(2);
     format!(in alloc;
-        "has {samples} byte{} of samples, needs frames of {frame} bytes",
-        plural(samples)
+        "has {samples} byte{} of samples, needs frames of {frame} bytes{}",
+        plural(samples),
+        streamed_hint(data.size)
     )
 }
 
@@ -247,7 +270,8 @@ fn length_text(alloc: Global, front: Front<'_>, bytes: u64) -> Result<String, Al
     match front.data() {
         Some(Chunk { size, .. }) if size != UNKNOWN_SIZE => {
             format!(in alloc;
-                "has {size} bytes of samples, and an output has at most {MAX_DATA_BYTES}"
+                "has {size} bytes of samples, and an output has at most {MAX_DATA_BYTES}{}",
+                streamed_hint(size)
             )
         }
         Some(_) => format!(in alloc; "has at least {bytes} bytes"),

@@ -168,9 +168,9 @@ pub fn make_at<S: Storage>(
     filled
 }
 
-/// Notes in `refused` that the system refused an open file. Notes nothing if memory is refused for it.
-pub fn refuse_kind(alloc: Global, refused: &mut Vec<Refused>, name: &str, kind: ErrorKind) {
-    let _ = note(alloc, refused, name, "", &io::Error::from(kind));
+/// Notes in `refused` that the system refused the open file `name`. Notes nothing if memory is refused for it.
+pub fn note_refusal(alloc: Global, refused: &mut Vec<Refused>, name: &str, error: &io::Error) {
+    let _ = note(alloc, refused, name, "", error);
 }
 
 /// Reads the coefficient file `name` in the folder of `graph`. Returns `None` if it can't be opened, and notes that in

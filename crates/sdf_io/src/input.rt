@@ -2,21 +2,25 @@
 
 ghost use Rattle.std.specs.Prelude.{None, is_some, if◌then◌else◌};
 
-use crate::opening::Opening;
+use crate::open_ended::OpenEnded;
 use std::alloc::Global;
-use std::io::{self, ErrorKind, Read};
+use std::io::{self, Read};
 
 /// The most bytes that are kept of the beginning of a sound.
 const MAX_FRONT: usize = 16_384;
 
 /// What is known of a sound that was read: its path, its first bytes, and the number of all bytes read. `refused` is
-/// the kind of the last error of the system.
+/// the last error of the system.
 #[derive(Drop)]
 pub struct InputTrace {
     pub name: String,
     pub front: Vec<u8>,
     pub bytes: u64,
-    pub refused: Option<ErrorKind>,
+    /// Whether the size of the samples in the header does not count.
+    pub open_ended: bool,
+    /// The bytes of a last frame that is cut off, which are left out.
+    pub left_out: usize,
+    pub refused: Option<io::Error>,
 }
 
 impl InputTrace {
@@ -26,6 +30,8 @@ impl InputTrace {
             name: String::new(alloc),
             front: Vec::new(alloc),
             bytes: 0,
+            open_ended: false,
+            left_out: 0,
             refused: None,
         }
     }
@@ -41,23 +47,46 @@ impl InputTrace {
     }
 }
 
-/// A reader that passes on what `from` reads, and notes it in `trace`. With an `opening` the header shows the size of
-/// the samples as unknown.
+/// A reader that passes on what `from` reads, and notes it in `trace`.
 #[derive(Drop)]
-pub struct Input<'a, R> {
+struct NotedReader<'a, R> {
     from: &'a mut R,
     trace: &'a mut InputTrace,
-    opening: Option<Opening>,
+}
+
+impl<R: Read> Read for NotedReader<'_, R> {
+    ghost remaining = { λ noted. R.remaining noted.from.now };
+
+    fn read(&mut self, buf: &mut [u8]) -> io::Result<usize> {
+        match self.from.read(buf) {
+            Ok(count) => {
+                self.trace.note(&buf[..count]);
+                Ok(count)
+            }
+            Err(error) => {
+                self.trace.refused = Some(error);
+                Err(error)
+            }
+        }
+    }
+}
+
+/// A reader of a sound that notes in its trace what it reads.
+#[derive(Drop)]
+pub struct Input<'a, R> {
+    noted: NotedReader<'a, R>,
+    open_ended: Option<OpenEnded>,
 }
 
 impl<'a, R: Read> Input<'a, R> {
-    /// Returns a reader at the start of a sound. If `open_ended`, the size of the samples in its header does not count.
+    /// Returns a reader at the start of a sound. If `open_ended`, the size of the samples in its header does not count,
+    /// and a last frame that is cut off is left out.
     pub fn new(from: &'a mut R, trace: &'a mut InputTrace, open_ended: bool) -> Input<'a, R> {
+        trace.open_ended = open_ended;
         Input {
-            from,
-            trace,
-            opening: if open_ended {
-                Some(Opening::new())
+            noted: NotedReader { from, trace },
+            open_ended: if open_ended {
+                Some(OpenEnded::new())
             } else {
                 None
             },
@@ -66,21 +95,23 @@ impl<'a, R: Read> Input<'a, R> {
 }
 
 impl<R: Read> Read for Input<'_, R> {
-    ghost remaining = { λ input. if is_some input.opening then None else R.remaining input.from.now };
+    ghost remaining = { λ input. if is_some input.open_ended then None else R.remaining input.noted.from.now };
 
     fn read(&mut self, buf: &mut [u8]) -> io::Result<usize> {
-        match self.from.read(buf) {
-            Ok(count) => {
-                if let Some(opening) = &mut self.opening {
-                    opening.open(&mut buf[..count]);
-                }
-                self.trace.note(&buf[..count]);
-                Ok(count)
-            }
-            Err(error) => {
-                self.trace.refused = Some(error.kind());
-                Err(error)
-            }
-        }
+        let Some(open_ended) = &mut self.open_ended else {
+            return self.noted.read(buf);
+        };
+        let read = open_ended.read(&mut self.noted, buf);
+        self.noted.trace.left_out = open_ended.unpassed();
+        read
+    }
+}
+
+/// Checks whether `from` has another byte, and takes it.
+pub fn has_more<R: Read>(from: &mut R) -> bool {
+    let mut byte = [0];
+    match from.read(&mut byte) {
+        Ok(count) => count > 0,
+        Err(_) => false,
     }
 }

@@ -3,8 +3,9 @@
 //!
 //! It depends on `sdf_file`, which reads a design, on `sdf_wav` for the sizes of headers, on `sdf_faults`, and on
 //! `sdf_options` for texts that are safe to print and for usage errors. `byteorder` reads numbers in a sound's bytes.
-//! Begin at `storage`, then `files` and `overwriting`. A run reads through `input`, where `opening` hides the size of
-//! the samples. It writes through `output`, with `progress` and `levels`. `lanes` counts the samples by SIMD. `world`
+//! Begin at `storage`, then `files` and `overwriting`. A run reads through `input`. There `open_ended` reads to the end,
+//! and `opening` hides the size of the samples. A run writes through `output`, with `progress` and `levels`. `lanes`
+//! counts the samples by SIMD. `world`
 //! has what the commands work with.
 #![tactic(auto)]
 
@@ -12,6 +13,7 @@ pub mod files;
 pub mod input;
 mod lanes;
 mod levels;
+mod open_ended;
 mod opening;
 pub mod output;
 pub mod overwriting;

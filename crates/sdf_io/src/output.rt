@@ -3,7 +3,7 @@
 use crate::levels::SoundLevels;
 use crate::progress::{ERASE_LINE, Progress};
 use std::alloc::Global;
-use std::io::{self, ErrorKind, Write};
+use std::io::{self, Write};
 use std::time::Clock;
 
 /// The progress line of a sound that is written, on standard error and timed by a clock.
@@ -44,8 +44,8 @@ pub struct Output<'a, W, E, C> {
     to: &'a mut W,
     pub progress_line: ProgressLine<'a, E, C>,
     pub levels: Option<SoundLevels>,
-    /// The kind of the error with which the system last refused to write.
-    pub refused: Option<ErrorKind>,
+    /// The error with which the system last refused to write.
+    pub refused: Option<io::Error>,
 }
 
 impl<'a, W: Write, E: Write, C: Clock> Output<'a, W, E, C> {
@@ -81,7 +81,7 @@ impl<W: Write, E: Write, C: Clock> Write for Output<'_, W, E, C> {
                 Ok(count)
             }
             Err(error) => {
-                self.refused = Some(error.kind());
+                self.refused = Some(error);
                 Err(error)
             }
         }

@@ -10,6 +10,9 @@ const SHORT: u64 = 2_000;
 /// The milliseconds between two updates of the line.
 const PAUSE: u64 = 200;
 
+/// The most characters of the line. A terminal of 40 columns has it on one line.
+const WIDTH: usize = 39;
+
 /// The bytes that erase the line.
 pub const ERASE_LINE: &[u8] = b"\r\x1b[K";
 
@@ -84,13 +87,14 @@ fn line_of(
     milliseconds: u64,
 ) -> Result<String, AllocError> {
     let WrittenFrames { frames, all, rate } = written_frames;
-    let mut text = String::from_str(alloc, "\r")?;
+    let mut text = String::new(alloc);
     push_tenths(&mut text, tenths(frames, rate))?;
-    text.push_str(" s of ")?;
+    text.push_str(" of ")?;
     push_tenths(&mut text, tenths(all, rate))?;
     text.push_str(" s, ")?;
     let played = frames.saturating_mul(1_000);
     push_tenths(&mut text, tenths(played, rate.saturating_mul(milliseconds)))?;
-    text.push_str(" times real time\x1b[K")?;
-    Ok(text)
+    text.push_str("x real time")?;
+    let shown = text.get(..WIDTH).unwrap_or(text.as_str());
+    format!(in alloc; "\r{shown}\x1b[K")
 }

@@ -52,6 +52,8 @@ fn running_of<'a>(batching: Batching<'a>, input: &'a str, output: &'a str) -> Ru
             open_ended: *open_ended,
             format: Format::Text,
         },
+        // Each line already begins with the name of the file.
+        sound: "the sound",
         is_verbose: batching.is_verbose,
         is_shown: false,
     }

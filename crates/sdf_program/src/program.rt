@@ -22,7 +22,7 @@ use sdf_commands::printing::{
 use sdf_faults::{Fault, status};
 use sdf_io::files::{Loaded, Sources, load_into};
 use sdf_io::storage::Storage;
-use sdf_io::world::World;
+use sdf_io::world::{STANDARD, World};
 use sdf_json::comparison_json;
 use sdf_options::{Options, WordFault};
 use std::alloc::{AllocError, Global};
@@ -49,9 +49,9 @@ struct Job<'a> {
 }
 
 impl<'a> Job<'a> {
-    /// Returns the run that `request` asks for. Its progress is shown on a `terminal`, if reports are printed. JSON
+    /// Returns the run that `request` asks for. Its progress is shown if reports are printed and `can_show` is true. JSON
     /// takes the place of the other reports.
-    fn running(self, request: RunRequest<'a>, terminal: bool) -> Running<'a>
+    fn running(self, request: RunRequest<'a>, can_show: bool) -> Running<'a>
         ensures loaded { result.loaded ≡ self.entry.loaded }
         ensures request { result.request ≡ request.entry }
     {
@@ -59,8 +59,13 @@ impl<'a> Job<'a> {
             graph: self.graph,
             loaded: self.loaded,
             request,
+            sound: if request.input == STANDARD {
+                "standard input"
+            } else {
+                request.input
+            },
             is_verbose: self.is_verbose && request.format == Format::Text,
-            is_shown: self.is_verbose && terminal,
+            is_shown: self.is_verbose && can_show,
         }
     }
 
@@ -127,7 +132,7 @@ fn do_task<
             alloc, out, design, &options, picture,
         ),
         DesignCommand::Run(request) => {
-            let running = job.running(request, world.terminal);
+            let running = job.running(request, world.can_show_progress());
             run(world, stdin, out, err, running, sources)
         }
         DesignCommand::Profile { input, write } => {
@@ -161,7 +166,7 @@ fn load_and_do<
         graph,
         task,
         loaded: &loaded,
-        is_verbose: why.is_verbose(world.terminal),
+        is_verbose: why.is_verbose(world.is_verbose()),
     };
     do_task(world, stdin, out, err, job, sources)
 }
@@ -192,13 +197,13 @@ fn load_and_run<
     let DesignBatch { graph, batch, why } = request;
     let alloc = world.threads.alloc();
     let loaded = load_into(alloc, world.storage, graph, world.most, sources)?;
-    let is_verbose = why.is_verbose(world.terminal);
+    let is_verbose = why.is_verbose(world.is_verbose());
     let batching = Batching {
         graph,
         loaded: &loaded,
         request: batch,
         is_verbose,
-        is_shown: is_verbose && world.terminal,
+        is_shown: is_verbose && world.can_show_progress(),
     };
     run_batch(world, out, err, batching, sources)
 }
@@ -240,8 +245,8 @@ fn execute<
             };
             load_and_run(world, out, err, request, sources)
         }
-        Words::Fir { wanted } => status_or_fault(fir(alloc, out, err, wanted)),
-        Words::Resample { conversion } => status_or_fault(resample(
+        Words::Fir { wanted, .. } => status_or_fault(fir(alloc, out, err, wanted)),
+        Words::Resample { conversion, .. } => status_or_fault(resample(
             world, err, conversion, sources,
         )),
         Words::Kinds { format } => status_or_fault(print_kinds(alloc, out, format)),
@@ -311,7 +316,7 @@ fn parse_and_execute<
     let line = line_of(alloc, &arguments.words)?;
     match arguments.read(alloc, line.as_slice()) {
         Ok(request) => {
-            background.set_form(&request, world.terminal);
+            background.set_form(&request, world.is_verbose());
             execute(world, stdin, out, err, request, &mut background.sources)
         }
         Err(fault) => {

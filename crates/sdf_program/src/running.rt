@@ -6,11 +6,12 @@ ghost use Rattle.sdf_cli.specs.Limits.{IsParallelWorkers};
 
 use crate::plans::plan_of;
 use sdf_cli::{Format, RunRequest};
+use sdf_commands::notes::notes_text;
 use sdf_commands::printing::show;
 use sdf_faults::Fault;
 use sdf_file::Design;
-use sdf_io::files::{Loaded, Refused, Sources, or_refuse, refuse_kind};
-use sdf_io::input::Input;
+use sdf_io::files::{Loaded, Refused, Sources, note_refusal, or_refuse};
+use sdf_io::input::{Input, InputTrace};
 use sdf_io::output::{Output, ProgressLine};
 use sdf_io::overwriting::{Paths, refuse_overwriting};
 use sdf_io::progress::Progress;
@@ -26,7 +27,7 @@ use sdf_process::part_sizes::parts_at_once;
 use sdf_process::process::process;
 use sdf_wav::{FromRead, ToWrite};
 use std::alloc::{AllocError, Global};
-use std::io::{ErrorKind, Read, Write};
+use std::io::{self, Read, Write};
 use std::thread::Threads;
 use std::time::Clock;
 
@@ -36,6 +37,8 @@ pub(crate) struct Running<'a> {
     pub(crate) graph: &'a str,
     pub(crate) loaded: &'a Loaded,
     pub(crate) request: RunRequest<'a>,
+    /// The name of the sound in notes on the run.
+    pub(crate) sound: &'a str,
     /// Whether diagnostics and reports are printed.
     pub(crate) is_verbose: bool,
     /// Whether the progress of the run is shown.
@@ -135,7 +138,7 @@ fn report_end<E: Write>(
 struct Ran {
     ended: Result<(), Fault>,
     levels: Option<SoundLevels>,
-    refused: Option<ErrorKind>,
+    refused: Option<io::Error>,
 }
 
 impl Ran {
@@ -148,8 +151,8 @@ impl Ran {
         planned: Planned<'_>,
         refused: &mut Vec<Refused>,
     ) -> Result<Option<SoundLevels>, Fault> {
-        if let Some(kind) = self.refused {
-            refuse_kind(alloc, refused, planned.running.request.output, kind);
+        if let Some(error) = self.refused {
+            note_refusal(alloc, refused, planned.running.request.output, &error);
         }
         self.ended?;
         if let Some(levels) = &self.levels {
@@ -258,6 +261,23 @@ fn run_from<S: Storage, T: Threads + AllocGlobal + Clock + Sync, R: Read, O: Wri
     print_levels(alloc, out, planned.running, levels)
 }
 
+/// Prints the notes on a run that ended well, if reports are asked for and memory is not refused for them. `from` is at
+/// the end of what was read.
+fn report_notes<R: Read, E: Write>(
+    alloc: Global,
+    from: &mut R,
+    err: &mut E,
+    running: Running<'_>,
+    trace: &InputTrace,
+) {
+    if !running.is_verbose {
+        return;
+    }
+    if let Ok(text) = notes_text(alloc, from, &running.loaded.design, trace, running.sound) {
+        let _ = err.write_all(text.as_bytes());
+    }
+}
+
 /// Runs a plan from `from`, which is open, and notes in `sources` what is read.
 fn run_traced<S: Storage, T: Threads + AllocGlobal + Clock + Sync, R: Read, O: Write, E: Write>(
     world: &World<S, T>,
@@ -279,8 +299,11 @@ fn run_traced<S: Storage, T: Threads + AllocGlobal + Clock + Sync, R: Read, O: W
     trace.name = String::from_str(alloc, name)?;
     let mut input = Input::new(from, trace, open_ended);
     let ended = run_from(world, &mut input, out, err, planned, refused);
-    if let Some(kind) = trace.refused {
-        refuse_kind(alloc, refused, name, kind);
+    if let Some(error) = trace.refused {
+        note_refusal(alloc, refused, name, &error);
+    }
+    if ended.is_ok() {
+        report_notes(alloc, from, err, planned.running, trace);
     }
     ended
 }

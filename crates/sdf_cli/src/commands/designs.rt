@@ -141,7 +141,7 @@ pub(super) const WHY: Argument = Argument {
     help: "Says more about a fault: names, values and limits",
     more: "Says more about a fault: below its line are lines that begin with two blanks. They name files, actors and
 the ends of links, and give a wrong value with its limits, or a cycle that lacks samples. It is on by default
-if standard error is a terminal",
+if standard error is a terminal, or if the environment has `SDFW_WHY=1`",
     syntax: PLAIN,
 };
 
@@ -161,8 +161,9 @@ const LEVELS: Argument = Argument {
     more: "Says more about a fault: below its line are lines that begin with two blanks. They name files, actors and
 the ends of links, and give a wrong value with its limits, or a cycle that lacks samples. A run that ends well
 reports the frames of each output, its peak below full scale in dB, and the number of its samples at full
-scale. It is on by default if standard error is a terminal. There a run of one file that takes over two
-seconds also shows its progress",
+scale, and notes what of the sound it did not read. It is on by default if standard error is a terminal, or if
+the environment has `SDFW_WHY=1`. At a terminal a run of one file that takes over two seconds also shows its
+progress",
     ..WHY
 };
 
@@ -176,7 +177,8 @@ const OPEN_ENDED: Argument = Argument {
     name: "open-ended",
     help: "Reads samples to the end of IN, whatever size its header gives",
     more: "Reads samples to the end of IN, whatever size its header gives: for programs that write to a pipe and do
-not know the size yet. The whole sound is read before OUT is written",
+not know the size yet, and for recordings that were cut off: a last frame that is not whole is left out. The
+whole sound is read before OUT is written",
     syntax: PLAIN,
 };
 

@@ -1,5 +1,6 @@
 //! The commands that make filters and converters: their arguments and help texts.
 
+use super::designs::{NO_WHY, WHY};
 use super::{Argument, CommandRow, Syntax, Values};
 use sdf_filters::MAX_ATTENUATION;
 use sdf_limits::{MAX_CHANNEL, MAX_FACTOR, MAX_SHIFT};
@@ -122,6 +123,8 @@ stopband. No frequency may be over half the rate.",
         ATTENUATION,
         UP,
         SHIFT,
+        WHY,
+        NO_WHY,
     ],
     scheduling: &[],
     examples: "Examples:
@@ -140,7 +143,7 @@ The output is late by the delay of the filters, 0.9 to 1.8 ms between common rat
 off by the same time. If the end matters, append a little silence to IN first. Lines on standard error have the
 ripple and the attenuation of each stage, the delay, the files that were made, and the command that runs the
 design.",
-    arguments: &[FROM, TO, FOLDER, CHANNELS, ATTENUATION],
+    arguments: &[FROM, TO, FOLDER, CHANNELS, ATTENUATION, WHY, NO_WHY],
     scheduling: &[],
     examples: "Examples:
   sdfw resample 44100 48000 converter --channels 2
