@@ -34,6 +34,8 @@ mod progress;
 #[cfg(test)]
 mod refused;
 #[cfg(test)]
+mod replacing;
+#[cfg(test)]
 mod runners;
 #[cfg(test)]
 mod shelf;

@@ -59,6 +59,7 @@ impl<'a> Job<'a> {
             request,
             is_verbose: self.is_verbose,
             is_shown: self.is_verbose && terminal,
+            is_beside: false,
         }
     }
 

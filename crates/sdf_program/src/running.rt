@@ -14,6 +14,7 @@ use sdf_io::input::Input;
 use sdf_io::output::{Output, ProgressLine};
 use sdf_io::overwriting::{Paths, refuse_overwriting};
 use sdf_io::progress::Progress;
+use sdf_io::replacing::{Part, place_to_replace};
 use sdf_io::storage::Storage;
 use sdf_io::world::{STANDARD, World};
 use sdf_limits::MAX_WORKERS;
@@ -24,7 +25,7 @@ use sdf_process::part_sizes::parts_at_once;
 use sdf_process::process::process;
 use sdf_wav::{FromRead, ToWrite};
 use std::alloc::{AllocError, Global};
-use std::io::{ErrorKind, Read, Write};
+use std::io::{Read, Write};
 use std::thread::Threads;
 use std::time::Clock;
 
@@ -38,6 +39,8 @@ pub(crate) struct Running<'a> {
     pub(crate) is_verbose: bool,
     /// Whether the progress of the run is shown.
     pub(crate) is_shown: bool,
+    /// Whether OUT is written beside its place, even if there is no file yet.
+    pub(crate) is_beside: bool,
 }
 
 impl<'a> Running<'a> {
@@ -102,60 +105,36 @@ fn parts_text(alloc: Global, planned: Planned<'_>, frames: u64) -> Result<String
     )
 }
 
-/// Reports how a run went in parts and how loud its outputs are. Reports nothing if the levels were not counted.
-fn report_end<E: Write>(
+/// Returns a report of how a run went in parts and how loud its outputs are. It is empty if the levels were not counted.
+fn report_text(
     alloc: Global,
-    err: &mut E,
     planned: Planned<'_>,
     levels: Option<SoundLevels>,
-) -> Result<(), AllocError> {
+) -> Result<String, AllocError> {
     let Some(levels) = levels else {
-        return Ok(());
+        return Ok(String::new(alloc));
     };
     let mut text = parts_text(alloc, planned, levels.frames())?;
     text.push_str(levels.text(alloc)?.as_str())?;
-    let _ = err.write_all(text.as_bytes());
-    Ok(())
+    Ok(text)
 }
 
-/// The result of a run, the levels of its output, and how the system refused the output.
-#[derive(Drop)]
-struct Ran {
-    ended: Result<(), Fault>,
-    levels: Option<SoundLevels>,
-    refused: Option<ErrorKind>,
-}
-
-impl Ran {
-    /// Notes in `refused` how the system refused the output, and reports how the run went if it ended well.
-    fn finish<E: Write>(
-        self,
-        alloc: Global,
-        err: &mut E,
-        planned: Planned<'_>,
-        refused: &mut Vec<Refused>,
-    ) -> Result<(), Fault> {
-        if let Some(kind) = self.refused {
-            refuse_kind(alloc, refused, planned.running.request.output, kind);
-        }
-        self.ended?;
-        Ok(report_end(alloc, err, planned, self.levels)?)
-    }
-}
-
-/// Runs a plan from `from` to `to`, and shows its progress.
+/// Runs a plan from `from` to `to`, and shows its progress. Returns a report if the run ends well. Notes in `refused` how
+/// the system refused the output.
 fn run_shown<T: Threads + AllocGlobal + Clock + Sync, R: Read, W: Write, E: Write>(
     threads: &T,
     from: &mut R,
     to: &mut W,
     err: &mut E,
     planned: Planned<'_>,
-) -> Ran
+    refused: &mut Vec<Refused>,
+) -> Result<String, Fault>
     requires { Suits planned.running.loaded.now.design.net planned.plan.now }
 {
     let Planned { running, plan, .. } = planned;
+    let alloc = threads.alloc();
     let progress_line = ProgressLine {
-        alloc: threads.alloc(),
+        alloc,
         err,
         clock: threads,
         progress: if running.is_shown {
@@ -164,14 +143,15 @@ fn run_shown<T: Threads + AllocGlobal + Clock + Sync, R: Read, W: Write, E: Writ
             None
         },
     };
-    let mut output = Output::new(to, progress_line, running.is_verbose);
-    let ended = run_between(threads, from, &mut output, &running.loaded.design, plan);
+    let mut output = Output::new(to, progress_line, running.is_verbose)?;
+    let ran = run_between(threads, from, &mut output, &running.loaded.design, plan);
+    let ended = output.finish(ran);
     output.progress_line.hide();
-    Ran {
-        ended,
-        levels: output.levels,
-        refused: output.refused,
+    if let Some(kind) = output.refused {
+        refuse_kind(alloc, refused, running.request.output, kind);
     }
+    ended?;
+    Ok(report_text(alloc, planned, output.levels)?)
 }
 
 /// Runs a plan from `from` to `to`. A run that ends well reports how it went, if reports are asked for.
@@ -185,12 +165,53 @@ fn run_into<T: Threads + AllocGlobal + Clock + Sync, R: Read, W: Write, E: Write
 ) -> Result<(), Fault>
     requires { Suits planned.running.loaded.now.design.net planned.plan.now }
 {
-    let ran = run_shown(threads, from, to, err, planned);
-    ran.finish(threads.alloc(), err, planned, refused)
+    let report = run_shown(threads, from, to, err, planned, refused)?;
+    let _ = err.write_all(report.as_bytes());
+    Ok(())
 }
 
-/// Runs a plan from `from`, which is open. Errs if OUT is one of the files that are read, otherwise creates or empties
-/// it.
+/// Runs a plan from `from` into a new file beside `place`, and moves it there if the run ends well. Otherwise what is at
+/// `place` stays as it was.
+fn run_beside<S: Storage, T: Threads + AllocGlobal + Clock + Sync, R: Read, E: Write>(
+    world: &World<S, T>,
+    from: &mut R,
+    err: &mut E,
+    planned: Planned<'_>,
+    place: String,
+    refused: &mut Vec<Refused>,
+) -> Result<(), Fault>
+    requires { Suits planned.running.loaded.now.design.net planned.plan.now }
+{
+    let alloc = world.threads.alloc();
+    let (part, mut to) = Part::create(alloc, world.storage, place, refused)?;
+    let ran = run_shown(world.threads, from, &mut to, err, planned, refused);
+    drop(to);
+    match ran {
+        Ok(report) => {
+            part.finish(alloc, world.storage, Ok(()), refused)?;
+            let _ = err.write_all(report.as_bytes());
+            Ok(())
+        }
+        Err(fault) => part.finish(alloc, world.storage, Err(fault), refused),
+    }
+}
+
+/// Returns the place that a complete output takes. There is none if OUT is to be created or emptied before the run.
+fn place_of<S: Storage>(
+    alloc: Global,
+    storage: &S,
+    running: Running<'_>,
+    refused: &mut Vec<Refused>,
+) -> Result<Option<String>, Fault> {
+    let output = running.request.output;
+    if running.is_beside {
+        return Ok(Some(String::from_str(alloc, output)?));
+    }
+    place_to_replace(alloc, storage, output, refused)
+}
+
+/// Runs a plan from `from`, which is open. Errs if OUT is one of the files that are read, or a file that is no sound. A
+/// sound at OUT is replaced once the run has ended well. Otherwise creates OUT or empties it.
 fn run_from<S: Storage, T: Threads + AllocGlobal + Clock + Sync, R: Read, O: Write, E: Write>(
     world: &World<S, T>,
     from: &mut R,
@@ -207,6 +228,9 @@ fn run_from<S: Storage, T: Threads + AllocGlobal + Clock + Sync, R: Read, O: Wri
     refuse_overwriting(alloc, world.storage, "OUT", paths, names)?;
     if paths.output == STANDARD {
         return run_into(world.threads, from, out, err, planned, refused);
+    }
+    if let Some(place) = place_of(alloc, world.storage, planned.running, refused)? {
+        return run_beside(world, from, err, planned, place, refused);
     }
     let created = world.storage.create(paths.output);
     let mut to = or_refuse(alloc, refused, paths.output, created, Fault::Write)?;
@@ -240,8 +264,8 @@ fn run_traced<S: Storage, T: Threads + AllocGlobal + Clock + Sync, R: Read, O: W
     ended
 }
 
-/// Runs a design by its plan on a WAV file. Once IN is open, errs if OUT is one of the files that are read, otherwise
-/// creates or empties it.
+/// Runs a design by its plan on a WAV file. Once IN is open, errs if OUT is one of the files that are read, or a file
+/// that is no sound. A sound at OUT is replaced once the run has ended well.
 pub(crate) fn run_planned<
     S: Storage,
     T: Threads + AllocGlobal + Clock + Sync,
