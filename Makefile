@@ -75,10 +75,12 @@ documents: build
 		build/sdfw draw $$it --workers 2 | cmp - $${it%.toml}.svg || exit 1; done
 
 # Whether each design of examples/, and designs that seeds make, make the bytes that Python's own arithmetic makes, also
-# in parts, behind pipes, and what stands at a terminal (needs python3.11; about two minutes).
+# in parts, at both ends of pipes, what stands at a terminal, and what is left of an old OUT (needs python3.11; about
+# three minutes).
 examples: build
 	scripts/examples
 	scripts/pipes
+	scripts/kept
 	scripts/terminal
 
 # The gate: each proof that did not pass on this machine before, from nothing, the tests, each program as two compilers

@@ -3,7 +3,7 @@ import os
 import threading
 
 from judges import NO_MEMORY, NO_READ, NO_WRITE, NO_WRITE_IN_JSON, ample_or, behind, only, printed_or, timed
-from machine import HERE, SOUNDS, Folder, describe, run
+from machine import HERE, OLD, SOUNDS, Folder, describe, parts, run
 from words import COSTED, MADE, PRINTED, RUNS, SDFW, WAYS, run_words, stream_words, way_words
 
 MEGABYTE = 1 << 20
@@ -118,6 +118,28 @@ def writes_of_sdfw(lists):
         words = [SDFW, "check", "none.toml"]
         lists.refuse(f"sdfw check of no file: writes, {how}", words, "write", told_in_part, how=how)
         lists.refuse(f"sdfw profile --write: writes, {how}", COSTED, "write", costed(ample_too), answer=timed, how=how)
+
+
+def keeps_old(fault, ample_too):
+    """The fault, with the old sound in OUT and nothing left beside it."""
+
+    def allowed(ended, ample, at):
+        if ended.answer() == ample.answer():
+            return ample_too and not parts()
+        return ended.fault() == fault and not ended.printed and ended.output == OLD and not parts()
+
+    return allowed
+
+
+def old_of_sdfw(lists):
+    """Runs over a sound that is at OUT, with each request, read and write refused."""
+    for runner in WAYS:
+        name, design, sound, more, _ = RUNS[2]
+        words, told = run_words(design, sound, runner, *more), f"sdfw run {name} {runner}, old OUT"
+        lists.refuse(f"{told}: memory", words, "memory", keeps_old(NO_MEMORY, True), old=OLD)
+        lists.refuse(f"{told}: failing reads", words, "read", keeps_old(NO_READ, False), old=OLD)
+        for how in ("error", "zero", "interrupt"):
+            lists.refuse(f"{told}: writes, {how}", words, "write", keeps_old(NO_WRITE, False), how=how, old=OLD)
 
 
 def costed(ample_too):
@@ -310,6 +332,7 @@ def all_lists(lists):
     reads_of_sdfw(lists)
     pieces_of_sdfw(lists)
     writes_of_sdfw(lists)
+    old_of_sdfw(lists)
     bytes_of_sdfw(lists)
     sizes_of_sdfw(lists)
     devices_of_sdfw(lists)

@@ -60,6 +60,9 @@ def wav(samples, size=None, before=b"", channels=1):
     return b"RIFF" + struct.pack("<I", min(36 + size, 0xFFFFFFFF)) + head + struct.pack("<4sI", b"data", size) + data
 
 
+# A sound that is at OUT before a run.
+OLD = wav([1, 2, 3])
+
 SOUNDS = {
     "short.wav": wav([7 * n % 1000 - 500 for n in range(294)]),
     "few.wav": wav([3, -2, 500, 7]),
@@ -92,15 +95,17 @@ class Folder:
 
 
 def run(words, kind=None, at=0, how="error", one=False, window=None, sound=None, printed=subprocess.PIPE,
-        told=subprocess.PIPE, seconds=SECONDS, awaited=0):
+        told=subprocess.PIPE, seconds=SECONDS, awaited=0, old=None):
     """Runs a program with a call refused. `printed` and `told` may be other ends for its standard output and error.
     Where a file is named as the sound, it is standard input, and what is printed is OUT. A started thread waits until
-    `awaited` of them are at work at the same time, three seconds at most."""
+    `awaited` of them are at work at the same time, three seconds at most. If there is an `old` sound, OUT has it."""
     folder = Folder.here()
     counts = folder / "counts"
     output = folder / "out.wav"
-    for old in (counts, output, *folder.glob("graph.toml"), *folder.glob("stage*.toml")):
-        old.unlink(missing_ok=True)
+    for left in (counts, output, *parts(), *folder.glob("graph.toml"), *folder.glob("stage*.toml")):
+        left.unlink(missing_ok=True)
+    if old:
+        output.write_bytes(old)
     setting = {"LD_PRELOAD": str(SHARED), "HOSTILE_COUNTS": str(counts), "HOSTILE_HOW": how, "HOSTILE_AT": str(at)}
     if kind:
         setting["HOSTILE_KIND"] = kind
@@ -123,6 +128,11 @@ def run(words, kind=None, at=0, how="error", one=False, window=None, sound=None,
     if sound:
         said, made = b"", said
     return Ended(status, said, faults, made, struct.unpack("<10Q", counts.read_bytes()))
+
+
+def parts():
+    """The files that were written beside OUT and are left there."""
+    return list(Folder.here().glob("out.wav.part*"))
 
 
 def describe(ended):
@@ -163,7 +173,7 @@ class Lists:
         if not self.wants(name):
             return
         begun = time.monotonic()
-        ample = run(words, **{key: how[key] for key in ("one", "window", "sound") if key in how})
+        ample = run(words, **{key: how[key] for key in ("one", "window", "sound", "old") if key in how})
         count = ample.calls(kind)
 
         def judge(at):

@@ -81,6 +81,11 @@ const BATCHES: &[Row] = &[
         "2\n--\nerror: IN in.wav and another IN differ only by .part\n--\n",
     ),
     (
+        "a numbered part",
+        "run plain.toml --into made in.wav other/in.wav.part2",
+        "2\n--\nerror: IN in.wav.part2 and another IN differ only by .part\n--\n",
+    ),
+    (
         "standard input",
         "run plain.toml --into made -",
         "2\n--\nerror: IN - has no name for a file in FOLDER\n--\n",
@@ -187,7 +192,7 @@ fn what_batches_tell(rt: HostRuntime) -> Result<(), Fail> {
     expect_rows_around(&rt, MUTE, UNPRINTED)
 }
 
-/// Lines that would write over a file while it is read, and their reports.
+/// Lines that would write over a file if they took any name, and their reports.
 const ITSELF: &[Row] = &[
     (
         "a file that would be written over",
@@ -200,9 +205,9 @@ const ITSELF: &[Row] = &[
         "2 error: …/one.toml is the same file as the coefficient file one.toml\n",
     ),
     (
-        "a graph file in the place of a part",
+        "a graph file by the name of a part, which is kept",
         "run @/out/in.wav.part --into @/out @/in.wav",
-        "2 error: …/out/in.wav.part is the same file as GRAPH\n",
+        "0 ",
     ),
 ];
 

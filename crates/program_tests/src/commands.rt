@@ -22,13 +22,31 @@ pub(crate) type Row = (&'static str, &'static str, &'static str);
 struct Stream {
     refuses: Option<ErrorKind>,
     written: Vec<u8>,
+    /// The number of bytes in the first call that wrote some.
+    first: usize,
+}
+
+impl Stream {
+    /// Returns a stream that refuses each call with this error, if there is one.
+    fn new(alloc: Global, refuses: Option<ErrorKind>) -> Stream {
+        Stream {
+            refuses,
+            written: Vec::new(alloc),
+            first: 0,
+        }
+    }
 }
 
 impl Write for Stream {
     fn write(&mut self, bytes: &[u8]) -> io::Result<usize> {
         match self.refuses {
             Some(kind) => Err(Error::from(kind)),
-            None => self.written.write(bytes),
+            None => {
+                if self.written.is_empty() {
+                    self.first = bytes.len();
+                }
+                self.written.write(bytes)
+            }
         }
     }
 
@@ -127,10 +145,11 @@ fn status_and_text(alloc: Global, status: u8, between: char, bytes: &[u8]) -> Re
 }
 
 /// The result of a command: its exit status, what it prints on standard output and on standard error, and the files
-/// that it writes in memory, one after the other.
+/// that it writes in memory, one after the other. `first` is the number of bytes that it prints first.
 #[derive(Drop)]
 pub(crate) struct Served {
     pub(crate) status: u8,
+    pub(crate) first: usize,
     pub(crate) out: Vec<u8>,
     pub(crate) err: Vec<u8>,
     pub(crate) file: Vec<u8>,
@@ -172,17 +191,12 @@ pub(crate) fn serve_over<S: Storage, T: Threads + AllocGlobal + Clock + Clone + 
         why: around.why,
     };
     let mut stdin = around.stdin;
-    let mut out = Stream {
-        refuses: around.output,
-        written: Vec::new(threads.alloc()),
-    };
-    let mut err = Stream {
-        refuses: around.error,
-        written: Vec::new(threads.alloc()),
-    };
+    let mut out = Stream::new(threads.alloc(), around.output);
+    let mut err = Stream::new(threads.alloc(), around.error);
     let status = serve(&world, &mut stdin, &mut out, &mut err, given);
     Served {
         status,
+        first: out.first,
         out: out.written,
         err: err.written,
         file: Vec::new(threads.alloc()),

@@ -55,7 +55,11 @@ pub(crate) fn put(rt: &HostRuntime, folder: &str, name: &str, bytes: &[u8]) -> R
 }
 
 /// Writes each of `texts` into `folder`, under its name.
-fn put_texts(rt: &HostRuntime, folder: &str, texts: &[(&str, &str)]) -> Result<(), Fail> {
+pub(crate) fn put_texts(
+    rt: &HostRuntime,
+    folder: &str,
+    texts: &[(&str, &str)],
+) -> Result<(), Fail> {
     for (name, text) in texts {
         put(rt, folder, name, text.as_bytes())?;
     }
@@ -155,7 +159,7 @@ fn is_run<T: Threads + AllocGlobal + Clock + Clone + Drop + Sync>(
     folder: &str,
 ) -> Result<(), Fail> {
     let line = "run @/graph.toml @/in.wav @/out.wav";
-    let old = b"an old file that is longer than what is written over it";
+    let old = b"RIFF, an old sound that is longer than the one that takes its place";
     put(rt, folder, "out.wav", old)?;
     says(told(&Disk { rt }, threads, folder, line), "0 ")?;
     has_bytes(rt, folder, "in.wav", SOUND, line)?;

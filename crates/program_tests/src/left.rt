@@ -1,4 +1,4 @@
-//! Tests of what `resample` leaves on a disk that is full: nothing, or files that it names.
+//! Tests of what `resample` leaves on a disk that is full: nothing, or files that it names. A run leaves an old OUT.
 
 use crate::commands::{TERMINAL, expect_text, given_of, serve_over};
 use crate::files::{folder, has_bytes, is_gone, path_in, put, told};
@@ -14,16 +14,16 @@ use std::time::Clock;
 /// A disk that is full for files whose path ends with `ending`: they have room for `room` bytes, or can't be made if
 /// it is `None`. If `keeps` is set, nothing can be removed.
 #[derive(Clone, Copy)]
-struct Full<'a> {
-    host: &'a HostRuntime,
-    ending: &'a str,
-    room: Option<usize>,
-    keeps: bool,
+pub(crate) struct Full<'a> {
+    pub(crate) host: &'a HostRuntime,
+    pub(crate) ending: &'a str,
+    pub(crate) room: Option<usize>,
+    pub(crate) keeps: bool,
 }
 
 /// A file that has room for `room` more bytes.
 #[derive(Drop)]
-struct Short {
+pub(crate) struct Short {
     file: File,
     room: usize,
 }
@@ -75,6 +75,26 @@ impl Storage for Full<'_> {
         };
         let file = self.disk().create(path)?;
         Ok(Short { file, room })
+    }
+
+    fn create_new(&self, path: &str) -> io::Result<Short> {
+        let Some(room) = self.room_for(path) else {
+            return Err(Error::from(ErrorKind::StorageFull));
+        };
+        let file = self.disk().create_new(path)?;
+        Ok(Short { file, room })
+    }
+
+    fn has_content(&self, path: &str) -> bool {
+        self.disk().has_content(path)
+    }
+
+    fn test_write(&self, path: &str) -> io::Result<()> {
+        self.disk().test_write(path)
+    }
+
+    fn copy_permissions(&self, from: &str, to: &str) -> io::Result<()> {
+        self.disk().copy_permissions(from, to)
     }
 
     fn create_folder(&self, path: &str) -> io::Result<()> {

@@ -51,7 +51,7 @@ fn sound_of(alloc: Global, outputs: u8, samples: u32) -> Result<Vec<u8>, AllocEr
     Ok(sound)
 }
 
-/// Returns the lines of levels for `sound`, written at most `most` bytes at a time.
+/// Returns the lines of levels for `sound`, given and written at most `most` bytes at a time.
 fn levels_of(rt: &HostRuntime, sound: &[u8], most: usize) -> Result<String, Fail> {
     let mut to = Narrow { most };
     let mut err = Vec::new(rt.alloc());
@@ -61,8 +61,10 @@ fn levels_of(rt: &HostRuntime, sound: &[u8], most: usize) -> Result<String, Fail
         clock: rt,
         progress: None,
     };
-    let mut output = Output::new(&mut to, progress_line, true);
-    output.write_all(sound)?;
+    let mut output = Output::new(&mut to, progress_line, true)?;
+    for piece in sound.chunks(most) {
+        output.write_all(piece)?;
+    }
     match &output.levels {
         Some(levels) => levels.text(rt.alloc()).map_err(Fail::from),
         None => Err(Fail::new(format_args!("nothing is counted"))),
@@ -94,7 +96,7 @@ fn steady(alloc: Global) -> Result<Vec<u8>, AllocError> {
     Ok(sound)
 }
 
-/// Returns the lines of levels for `steady`, written at most `most` bytes at a time.
+/// Returns the lines of levels for `steady`, given and written at most `most` bytes at a time.
 fn steady_levels(rt: &HostRuntime, most: usize) -> Result<String, Fail> {
     let sound = steady(rt.alloc())?;
     levels_of(rt, &sound, most)

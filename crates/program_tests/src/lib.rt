@@ -37,6 +37,8 @@ mod progress;
 #[cfg(test)]
 mod refused;
 #[cfg(test)]
+mod replacing;
+#[cfg(test)]
 mod runners;
 #[cfg(test)]
 mod shelf;

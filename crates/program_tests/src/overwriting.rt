@@ -11,7 +11,7 @@ use std::thread::Threads;
 use std::time::Clock;
 
 /// Puts a symbolic link `link` to `file` into a folder.
-fn put_link(rt: &HostRuntime, folder: &str, file: &str, link: &str) -> Result<(), Fail> {
+pub(crate) fn put_link(rt: &HostRuntime, folder: &str, file: &str, link: &str) -> Result<(), Fail> {
     let path = path_in(rt.alloc(), folder, link)?;
     match fs::remove_file(rt, path.as_str()) {
         Err(error) if error.kind() != ErrorKind::NotFound => return Err(Fail::from(error)),
@@ -129,7 +129,7 @@ fn are_written<T: Threads + AllocGlobal + Clock + Clone + Drop + Sync>(
     folder: &str,
 ) -> Result<(), Fail> {
     put_inner(rt, folder)?;
-    put(rt, folder, "old.wav", b"old")?;
+    put(rt, folder, "old.wav", b"RIFF")?;
     put_link(rt, folder, "old.wav", "old-link.wav")?;
     for (line, file) in OTHERS {
         expect_text(line, told(&Disk { rt }, threads, folder, line), "0 ")?;

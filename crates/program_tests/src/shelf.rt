@@ -412,6 +412,23 @@ impl<'a> Storage for Shelf<'a> {
         }
     }
 
+    fn create_new(&self, path: &str) -> io::Result<Slot<'a>> {
+        self.create(path)
+    }
+
+    fn has_content(&self, path: &str) -> bool {
+        bytes_of(path).is_some()
+    }
+
+    fn test_write(&self, path: &str) -> io::Result<()> {
+        self.create(path)?;
+        Ok(())
+    }
+
+    fn copy_permissions(&self, _from: &str, _to: &str) -> io::Result<()> {
+        Ok(())
+    }
+
     fn create_folder(&self, path: &str) -> io::Result<()> {
         if path == "made" {
             Ok(())

@@ -2,7 +2,7 @@
 
 use crate::commands::{
     Around, MUTE, OPEN, OPEN_AROUND, Row, Served, expect_rows, expect_rows_around, expect_text,
-    given_of, serve_given, told_around,
+    given_of, serve_given, serve_line, told_around,
 };
 use crate::files::{FILTERED, TAPS};
 use crate::shelf::{PADDED, SOUND};
@@ -133,7 +133,49 @@ const NOT_PRINTED: &[Row] = &[
         "fir lowpass --rate 8000 --pass 1000 --stop 3000",
         "5\n--\n26 taps: … dB\nsdfw: 48 Write\n--\n",
     ),
+    (
+        "a sound that is not written",
+        "run plain.toml in.wav - --why",
+        "5\n--\nsdfw: 48 Write\n  \"-\": broken pipe\n--\n",
+    ),
+    (
+        "a header that is not written, before a sound that ends too soon",
+        "run plain.toml cut.wav -",
+        UNWRITTEN,
+    ),
+    (
+        "nothing that is to be written",
+        "run plain.toml one.toml -",
+        "4\n--\nsdfw: 34 NotRiff\n--\n",
+    ),
 ];
+
+/// Runs to standard output, and the bytes in the first call that writes. Refuses a header that leaves alone, since
+/// `sox` reads 256 bytes of a pipe before it looks for one.
+const FIRST: &[(&str, usize)] = &[
+    ("run plain.toml in.wav -", 48),
+    ("run plain.toml silence.wav - --runner rings", 76),
+    ("run stretched.toml in.wav -", 256),
+    ("run plain.toml cut.wav -", 44),
+];
+
+/// Returns the number of bytes that `line` writes first.
+fn first_of<T: Threads + AllocGlobal + Clock + Clone + Drop + Sync>(
+    rt: &T,
+    line: &str,
+) -> Result<String, Fail> {
+    let served = serve_line(rt, OPEN, line)?;
+    format!(in rt.alloc(); "{}", served.first).map_err(Fail::from)
+}
+
+/// Compares the first bytes that runs write with the wanted number.
+fn are_first<T: Threads + AllocGlobal + Clock + Clone + Drop + Sync>(rt: &T) -> Result<(), Fail> {
+    for (line, first) in FIRST {
+        let wanted = format!(in rt.alloc(); "{first}")?;
+        expect_text(line, first_of(rt, line), wanted.as_str())?;
+    }
+    Ok(())
+}
 
 /// Commands whose output has no memory, which is a fault of its own.
 const NOT_STORED: &[Row] = &[
@@ -187,7 +229,8 @@ fn what_stands_on_which_stream(rt: HostRuntime) -> Result<(), Fail> {
     expect_rows_around(&rt, CUT, FROM_CUT)?;
     expect_rows_around(&rt, MUTE, NOT_PRINTED)?;
     expect_rows_around(&rt, POOR, NOT_STORED)?;
-    expect_rows_around(&rt, UNTOLD, NOT_TOLD)
+    expect_rows_around(&rt, UNTOLD, NOT_TOLD)?;
+    are_first(&rt)
 }
 
 /// The report on a check of a design with its coefficient file.

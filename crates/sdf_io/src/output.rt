@@ -1,8 +1,14 @@
 //! A writer of a sound that counts what it writes and shows its progress.
 
+ghost use Rattle.std.specs.Prelude.{◌≡◌, ◌⊎◌, Err};
+ghost use Rattle.std.specs.Io.KnownBytes.{append_known, Keeps};
+ghost use Rattle.sdf_faults.specs.declared.fault.Fault.TheVariants as faults;
+
+use crate::held::HeldStart;
 use crate::levels::SoundLevels;
 use crate::progress::{ERASE_LINE, Progress};
-use std::alloc::Global;
+use sdf_faults::Fault;
+use std::alloc::{AllocError, Global};
 use std::io::{self, Write};
 use std::time::Clock;
 
@@ -38,10 +44,11 @@ impl<E: Write, C: Clock> ProgressLine<'_, E, C> {
     }
 }
 
-/// A writer that passes on to `to` what it is given. If there are levels, it counts them and shows the progress.
+/// A writer that passes on to `to` what it is given, the first bytes together. If there are levels, it counts them and
+/// shows the progress.
 #[derive(Drop)]
 pub struct Output<'a, W, E, C> {
-    to: &'a mut W,
+    to: HeldStart<'a, W>,
     pub progress_line: ProgressLine<'a, E, C>,
     pub levels: Option<SoundLevels>,
     /// The error with which the system last refused to write.
@@ -54,9 +61,9 @@ impl<'a, W: Write, E: Write, C: Clock> Output<'a, W, E, C> {
         to: &'a mut W,
         progress_line: ProgressLine<'a, E, C>,
         counts: bool,
-    ) -> Output<'a, W, E, C> {
-        Output {
-            to,
+    ) -> Result<Output<'a, W, E, C>, AllocError> {
+        Ok(Output {
+            to: HeldStart::new(progress_line.alloc, to)?,
             progress_line,
             levels: if counts {
                 Some(SoundLevels::new())
@@ -64,12 +71,31 @@ impl<'a, W: Write, E: Write, C: Clock> Output<'a, W, E, C> {
                 None
             },
             refused: None,
+        })
+    }
+
+    /// Writes what is still held back after a run that `ended`. If the device refuses it, the fault is `Write`. Writes
+    /// nothing if the run ended with this fault.
+    pub fn finish(&mut self, ended: Result<(), Fault>) -> Result<(), Fault>
+        ensures bytes { Keeps (append_known (W.contents self.old.to.to.now) self.old.to.held.items)
+            (append_known (W.contents self.new.to.to.now) self.new.to.held.items) }
+        ensures fault { (result ≡ ended) ⊎ (result ≡ Err faults.Write) }
+    {
+        if let Err(Fault::Write) = &ended {
+            return ended;
+        }
+        match self.to.hand_on() {
+            Ok(()) => ended,
+            Err(error) => {
+                self.refused = Some(error);
+                Err(Fault::Write)
+            }
         }
     }
 }
 
 impl<W: Write, E: Write, C: Clock> Write for Output<'_, W, E, C> {
-    ghost contents = { λ output. W.contents output.to.now };
+    ghost contents = { λ output. append_known (W.contents output.to.to.now) output.to.held.items };
 
     fn write(&mut self, bytes: &[u8]) -> io::Result<usize> {
         match self.to.write(bytes) {

@@ -1,7 +1,7 @@
 //! The files that the program reads and writes.
 
 use std::alloc::Global;
-use std::fs;
+use std::fs::{self, File, OpenOptions};
 use std::io::{self, Read, Write};
 use std::path::PathBuf;
 use std::rt::Files;
@@ -18,6 +18,18 @@ pub trait Storage: Sync {
 
     /// Creates a file, or empties it if there is one.
     fn create(&self, path: &str) -> io::Result<Self::Sink>;
+
+    /// Creates a file at a path that does not exist. If it does, the error is `AlreadyExists`.
+    fn create_new(&self, path: &str) -> io::Result<Self::Sink>;
+
+    /// Checks whether `path` leads to a plain file that is not empty.
+    fn has_content(&self, path: &str) -> bool;
+
+    /// Errs if the file at `path` can't be opened for writing. Leaves it as it is.
+    fn test_write(&self, path: &str) -> io::Result<()>;
+
+    /// Gives the file at `to` the permissions of the file at `from`.
+    fn copy_permissions(&self, from: &str, to: &str) -> io::Result<()>;
 
     /// Creates a folder in one that exists.
     fn create_folder(&self, path: &str) -> io::Result<()>;
@@ -54,6 +66,27 @@ where
 
     fn create(&self, path: &str) -> io::Result<R::File> {
         fs::create(self.rt, path)
+    }
+
+    fn create_new(&self, path: &str) -> io::Result<R::File> {
+        File::create_new(self.rt, path)
+    }
+
+    fn has_content(&self, path: &str) -> bool {
+        match self.rt.metadata(path) {
+            Ok(metadata) => metadata.is_file() && metadata.len() > 0,
+            Err(_) => false,
+        }
+    }
+
+    fn test_write(&self, path: &str) -> io::Result<()> {
+        let opened = OpenOptions::new().write(true).open(self.rt, path)?;
+        Ok(drop(opened))
+    }
+
+    fn copy_permissions(&self, from: &str, to: &str) -> io::Result<()> {
+        let metadata = self.rt.metadata(from)?;
+        self.rt.set_permissions(to, metadata.permissions())
     }
 
     fn create_folder(&self, path: &str) -> io::Result<()> {

@@ -1,12 +1,12 @@
 //! The command that runs a design on several WAV files.
 
-ghost use Rattle.std.specs.Prelude.{◌≡◌, ◌≤◌, IfSome, false};
+ghost use Rattle.std.specs.Prelude.{◌≡◌, ◌≤◌, IfSome, false, true};
 ghost use Rattle.sdf_plan.specs.Plans.{Suits};
 ghost use Rattle.sdf_cli.specs.Limits.{IsParallelWorkers};
 
 use crate::desk::{Desk, FinishedFile};
 use crate::guards::keep_inputs;
-use crate::items::{Batching, Item, finish_output, items_of};
+use crate::items::{Batching, Item, items_of};
 use crate::outcome::Outcome;
 use crate::plans::{Prepared, plan_of, workers_of};
 use crate::running::{Planned, Running, run_planned};
@@ -34,6 +34,7 @@ fn running_of<'a>(batching: Batching<'a>, input: &'a str, output: &'a str) -> Ru
     ensures size { result.request.open_ended ≡ batching.entry.request.now.open_ended }
     ensures messages { result.is_verbose ≡ batching.entry.is_verbose }
     ensures shown { result.is_shown ≡ false }
+    ensures beside { result.is_beside ≡ true }
 {
     let BatchRequest {
         options,
@@ -56,6 +57,7 @@ fn running_of<'a>(batching: Batching<'a>, input: &'a str, output: &'a str) -> Ru
         sound: "the sound",
         is_verbose: batching.is_verbose,
         is_shown: false,
+        is_beside: true,
     }
 }
 
@@ -66,9 +68,8 @@ struct PlannedBatch<'a> {
     prepared: &'a Prepared,
 }
 
-/// Runs a plan on the file of `item`. Writes to `item.part`, the path of an output that is not complete. Reports to
-/// `messages`.
-fn run_part<S: Storage, T: Threads + AllocGlobal + Clock + Sync>(
+/// Runs a plan on the file of `item`, and reports to `messages`. What is known of the sound stays in `sound_sources`.
+fn run_file<S: Storage, T: Threads + AllocGlobal + Clock + Sync>(
     world: &World<S, T>,
     planned: PlannedBatch<'_>,
     item: &Item<'_>,
@@ -79,7 +80,7 @@ fn run_part<S: Storage, T: Threads + AllocGlobal + Clock + Sync>(
 {
     let PlannedBatch { batching, prepared } = planned;
     let planned = Planned {
-        running: running_of(batching, item.input, item.part.as_str()),
+        running: running_of(batching, item.input, item.output.as_str()),
         plan: &prepared.plan,
         pace: prepared.pace,
     };
@@ -106,22 +107,15 @@ fn run_item<'a, S: Storage, T: Threads + AllocGlobal + Clock + Sync>(
     let alloc = world.threads.alloc();
     let mut messages = Vec::new(alloc);
     let mut sound_sources = Sources::new(alloc);
-    let ended = run_part(world, planned, item, &mut messages, &mut sound_sources);
-    let finished = finish_output(
-        alloc,
-        world.storage,
-        item,
-        ended,
-        &mut sound_sources.refused,
-    );
-    if finished.is_ok() {
+    let ended = run_file(world, planned, item, &mut messages, &mut sound_sources);
+    if ended.is_ok() {
         // The outcome may wait for the outcomes of earlier files, and a file that is done needs no diagnostic.
         sound_sources = Sources::new(alloc);
     }
     Outcome {
         input: item.input,
         messages,
-        ended: finished,
+        ended,
         sound_sources,
     }
 }

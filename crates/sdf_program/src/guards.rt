@@ -66,8 +66,7 @@ fn keep_inputs_from<S: Storage>(
     }
 }
 
-/// Errs if the output of one of `items` leads to one of `read`, to the graph file or to a coefficient file. Both places
-/// of an output are tested: where it is written, and where it is moved.
+/// Errs if the output of one of `items` leads to one of `read`, to the graph file or to a coefficient file.
 fn keep_inputs_of<S: Storage>(
     alloc: Global,
     storage: &S,
@@ -77,7 +76,6 @@ fn keep_inputs_of<S: Storage>(
 ) -> Result<(), Fault> {
     for item in items {
         keep_inputs_from(alloc, storage, batching, read, item.output.as_str())?;
-        keep_inputs_from(alloc, storage, batching, read, item.part.as_str())?;
     }
     Ok(())
 }

@@ -2,8 +2,8 @@
 
 use sdf_cli::BatchRequest;
 use sdf_faults::Fault;
-use sdf_io::files::{Loaded, Refused, or_refuse};
-use sdf_io::storage::Storage;
+use sdf_io::files::Loaded;
+use sdf_io::replacing::is_part_of;
 use sdf_io::world::STANDARD;
 use sdf_options::printable::printable;
 use sdf_options::usage_error;
@@ -22,11 +22,10 @@ pub(crate) struct Batching<'a> {
     pub(crate) is_shown: bool,
 }
 
-/// A file that is read, the path of its output while it is written, and the path of the output once it is complete.
+/// A file that is read, and the path of its output once it is complete.
 #[derive(Drop)]
 pub(crate) struct Item<'a> {
     pub(crate) input: &'a str,
-    pub(crate) part: String,
     pub(crate) output: String,
 }
 
@@ -64,9 +63,13 @@ fn is_taken(items: &[Item<'_>], output: &str) -> bool {
     items.iter().any(|item| item.output.as_str() == output)
 }
 
-/// Checks whether `output` is the part of one of `items`, or `part` is its output. Both are written at the same time.
-fn is_part(items: &[Item<'_>], output: &str, part: &str) -> bool {
-    items.iter().any(|item| item.part.as_str() == output || item.output.as_str() == part)
+/// Checks whether `output` may be the path of a part of one of `items`, or the other way round. Both are written at the
+/// same time.
+fn is_part(items: &[Item<'_>], output: &str) -> bool {
+    items.iter().any(|item| {
+        let other = item.output.as_str();
+        is_part_of(output, other) || is_part_of(other, output)
+    })
 }
 
 /// Returns the item of `input`, whose output has this `name` in `folder`.
@@ -78,24 +81,23 @@ fn item_of<'a>(
 ) -> Result<Item<'a>, AllocError> {
     Ok(Item {
         input,
-        part: format!(in alloc; "{folder}/{name}.part")?,
         output: format!(in alloc; "{folder}/{name}")?,
     })
 }
 
-/// Errs if the output or the part of `item`, whose output has this `name`, collides with one of `items`.
+/// Errs if the output of `item`, which has this `name`, or a part of it collides with one of `items`.
 fn keep_apart(alloc: Global, items: &[Item<'_>], item: &Item<'_>, name: &str) -> Result<(), Fault> {
     let output = item.output.as_str();
     if is_taken(items, output) {
         return Err(named_twice(alloc, name)?);
     }
-    if is_part(items, output, item.part.as_str()) {
+    if is_part(items, output) {
         return Err(named_as_a_part(alloc, name)?);
     }
     Ok(())
 }
 
-/// Adds the file `input`. Errs if it has no name, or if its output or its part collides with an earlier file.
+/// Adds the file `input`. Errs if it has no name, or if its output or a part of it collides with an earlier file.
 fn push_item<'a>(
     alloc: Global,
     items: &mut Vec<Item<'a>>,
@@ -120,35 +122,4 @@ pub(crate) fn items_of<'a>(
         push_item(alloc, &mut items, batch.folder, *input)?;
     }
     Ok(items)
-}
-
-/// Moves a complete output to its final path, or notes in `refused` how the system refused that.
-fn move_output<S: Storage>(
-    alloc: Global,
-    storage: &S,
-    item: &Item<'_>,
-    refused: &mut Vec<Refused>,
-) -> Result<(), Fault> {
-    let output = item.output.as_str();
-    let moved = storage.rename(item.part.as_str(), output);
-    or_refuse(alloc, refused, output, moved, Fault::Write)
-}
-
-/// Moves the output of a run that ended well to its final path. Removes the output if the run failed or the move
-/// failed.
-pub(crate) fn finish_output<S: Storage>(
-    alloc: Global,
-    storage: &S,
-    item: &Item<'_>,
-    ended: Result<(), Fault>,
-    refused: &mut Vec<Refused>,
-) -> Result<(), Fault> {
-    let finished = match ended {
-        Ok(()) => move_output(alloc, storage, item, refused),
-        Err(fault) => Err(fault),
-    };
-    if finished.is_err() {
-        let _ = storage.remove(item.part.as_str());
-    }
-    finished
 }

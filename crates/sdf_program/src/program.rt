@@ -66,6 +66,7 @@ impl<'a> Job<'a> {
             },
             is_verbose: self.is_verbose && request.format == Format::Text,
             is_shown: self.is_verbose && can_show,
+            is_beside: false,
         }
     }
 

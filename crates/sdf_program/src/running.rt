@@ -15,6 +15,7 @@ use sdf_io::input::{Input, InputTrace};
 use sdf_io::output::{Output, ProgressLine};
 use sdf_io::overwriting::{Paths, refuse_overwriting};
 use sdf_io::progress::Progress;
+use sdf_io::replacing::{Part, place_to_replace};
 use sdf_io::storage::Storage;
 use sdf_io::world::{STANDARD, World};
 use sdf_io::{Level, SoundLevels};
@@ -27,7 +28,7 @@ use sdf_process::part_sizes::parts_at_once;
 use sdf_process::process::process;
 use sdf_wav::{FromRead, ToWrite};
 use std::alloc::{AllocError, Global};
-use std::io::{self, Read, Write};
+use std::io::{Read, Write};
 use std::thread::Threads;
 use std::time::Clock;
 
@@ -43,6 +44,8 @@ pub(crate) struct Running<'a> {
     pub(crate) is_verbose: bool,
     /// Whether the progress of the run is shown.
     pub(crate) is_shown: bool,
+    /// Whether OUT is written beside its place, even if there is no file yet.
+    pub(crate) is_beside: bool,
 }
 
 impl<'a> Running<'a> {
@@ -117,96 +120,15 @@ fn parts_text(alloc: Global, planned: Planned<'_>, frames: u64) -> Result<String
     )
 }
 
-/// Reports how a run went in parts and how loud its outputs are, if reports are asked for.
-fn report_end<E: Write>(
+/// Returns a report of how a run went in parts and how loud its outputs are.
+fn report_text(
     alloc: Global,
-    err: &mut E,
     planned: Planned<'_>,
     levels: &SoundLevels,
-) -> Result<(), AllocError> {
-    if !planned.running.is_verbose {
-        return Ok(());
-    }
+) -> Result<String, AllocError> {
     let mut text = parts_text(alloc, planned, levels.frames())?;
     text.push_str(levels.text(alloc)?.as_str())?;
-    let _ = err.write_all(text.as_bytes());
-    Ok(())
-}
-
-/// The result of a run, the levels of its output, and how the system refused the output.
-#[derive(Drop)]
-struct Ran {
-    ended: Result<(), Fault>,
-    levels: Option<SoundLevels>,
-    refused: Option<io::Error>,
-}
-
-impl Ran {
-    /// Notes in `refused` how the system refused the output, and reports how the run went if it ended well. Returns the
-    /// levels if they were counted.
-    fn finish<E: Write>(
-        self,
-        alloc: Global,
-        err: &mut E,
-        planned: Planned<'_>,
-        refused: &mut Vec<Refused>,
-    ) -> Result<Option<SoundLevels>, Fault> {
-        if let Some(error) = self.refused {
-            note_refusal(alloc, refused, planned.running.request.output, &error);
-        }
-        self.ended?;
-        if let Some(levels) = &self.levels {
-            report_end(alloc, err, planned, levels)?;
-        }
-        Ok(self.levels)
-    }
-}
-
-/// Runs a plan from `from` to `to`, and shows its progress.
-fn run_shown<T: Threads + AllocGlobal + Clock + Sync, R: Read, W: Write, E: Write>(
-    threads: &T,
-    from: &mut R,
-    to: &mut W,
-    err: &mut E,
-    planned: Planned<'_>,
-) -> Ran
-    requires { Suits planned.running.loaded.now.design.net planned.plan.now }
-{
-    let Planned { running, plan, .. } = planned;
-    let progress_line = ProgressLine {
-        alloc: threads.alloc(),
-        err,
-        clock: threads,
-        progress: if running.is_shown {
-            Some(Progress::new(threads))
-        } else {
-            None
-        },
-    };
-    let mut output = Output::new(to, progress_line, running.counts_levels());
-    let ended = run_between(threads, from, &mut output, &running.loaded.design, plan);
-    output.progress_line.hide();
-    Ran {
-        ended,
-        levels: output.levels,
-        refused: output.refused,
-    }
-}
-
-/// Runs a plan from `from` to `to`. A run that ends well reports how it went, if reports are asked for. Returns the
-/// levels if they were counted.
-fn run_into<T: Threads + AllocGlobal + Clock + Sync, R: Read, W: Write, E: Write>(
-    threads: &T,
-    from: &mut R,
-    to: &mut W,
-    err: &mut E,
-    planned: Planned<'_>,
-    refused: &mut Vec<Refused>,
-) -> Result<Option<SoundLevels>, Fault>
-    requires { Suits planned.running.loaded.now.design.net planned.plan.now }
-{
-    let ran = run_shown(threads, from, to, err, planned);
-    ran.finish(threads.alloc(), err, planned, refused)
+    Ok(text)
 }
 
 /// Returns `levels` as a line of JSON.
@@ -222,21 +144,134 @@ fn levels_json(alloc: Global, levels: &SoundLevels) -> Result<String, AllocError
     run_json(alloc, &outputs)
 }
 
-/// Prints the `levels` of a run that ended well, if it prints JSON.
-fn print_levels<O: Write>(
-    alloc: Global,
-    out: &mut O,
-    running: Running<'_>,
-    levels: Option<SoundLevels>,
-) -> Result<(), Fault> {
-    match levels {
-        Some(levels) if running.is_in_json() => show(out, levels_json(alloc, &levels)?.as_str()),
-        _ => Ok(()),
+/// The report of a run that ended well. What is not asked for is empty.
+#[derive(Drop)]
+struct RunReport {
+    /// The lines for standard error.
+    lines: String,
+    /// The line of JSON for standard output.
+    json: String,
+}
+
+impl RunReport {
+    /// Returns the report of a run whose `levels` were counted if any report is asked for.
+    fn of(
+        alloc: Global,
+        planned: Planned<'_>,
+        levels: Option<SoundLevels>,
+    ) -> Result<RunReport, AllocError> {
+        let mut report = RunReport {
+            lines: String::new(alloc),
+            json: String::new(alloc),
+        };
+        if let Some(levels) = &levels {
+            if planned.running.is_verbose {
+                report.lines = report_text(alloc, planned, levels)?;
+            }
+            if planned.running.is_in_json() {
+                report.json = levels_json(alloc, levels)?;
+            }
+        }
+        Ok(report)
+    }
+
+    /// Prints the lines to `err`, and the line of JSON to `out`.
+    fn print<O: Write, E: Write>(&self, out: &mut O, err: &mut E) -> Result<(), Fault> {
+        let _ = err.write_all(self.lines.as_bytes());
+        if self.json.is_empty() {
+            return Ok(());
+        }
+        show(out, self.json.as_str())
     }
 }
 
-/// Runs a plan from `from`, which is open. Errs if OUT is one of the files that are read, otherwise creates or empties
-/// it.
+/// Runs a plan from `from` to `to`, and shows its progress. Returns a report if the run ends well. Notes in `refused` how
+/// the system refused the output.
+fn run_shown<T: Threads + AllocGlobal + Clock + Sync, R: Read, W: Write, E: Write>(
+    threads: &T,
+    from: &mut R,
+    to: &mut W,
+    err: &mut E,
+    planned: Planned<'_>,
+    refused: &mut Vec<Refused>,
+) -> Result<RunReport, Fault>
+    requires { Suits planned.running.loaded.now.design.net planned.plan.now }
+{
+    let Planned { running, plan, .. } = planned;
+    let alloc = threads.alloc();
+    let progress_line = ProgressLine {
+        alloc,
+        err,
+        clock: threads,
+        progress: if running.is_shown {
+            Some(Progress::new(threads))
+        } else {
+            None
+        },
+    };
+    let mut output = Output::new(to, progress_line, running.counts_levels())?;
+    let ran = run_between(threads, from, &mut output, &running.loaded.design, plan);
+    let ended = output.finish(ran);
+    output.progress_line.hide();
+    if let Some(error) = &output.refused {
+        note_refusal(alloc, refused, running.request.output, error);
+    }
+    ended?;
+    Ok(RunReport::of(alloc, planned, output.levels)?)
+}
+
+/// Runs a plan from `from` into a new file beside `place`, and moves it there if the run ends well. Otherwise what is at
+/// `place` stays as it was.
+fn run_beside<S: Storage, T: Threads + AllocGlobal + Clock + Sync, R: Read, E: Write>(
+    world: &World<S, T>,
+    from: &mut R,
+    err: &mut E,
+    planned: Planned<'_>,
+    place: String,
+    refused: &mut Vec<Refused>,
+) -> Result<RunReport, Fault>
+    requires { Suits planned.running.loaded.now.design.net planned.plan.now }
+{
+    let alloc = world.threads.alloc();
+    let (part, mut to) = Part::create(alloc, world.storage, place, refused)?;
+    let ran = run_shown(world.threads, from, &mut to, err, planned, refused);
+    drop(to);
+    part.finish(alloc, world.storage, ran, refused)
+}
+
+/// Runs a plan from `from` into OUT, which is created or emptied before the run.
+fn run_into<S: Storage, T: Threads + AllocGlobal + Clock + Sync, R: Read, E: Write>(
+    world: &World<S, T>,
+    from: &mut R,
+    err: &mut E,
+    planned: Planned<'_>,
+    refused: &mut Vec<Refused>,
+) -> Result<RunReport, Fault>
+    requires { Suits planned.running.loaded.now.design.net planned.plan.now }
+{
+    let alloc = world.threads.alloc();
+    let output = planned.running.request.output;
+    let created = world.storage.create(output);
+    let mut to = or_refuse(alloc, refused, output, created, Fault::Write)?;
+    run_shown(world.threads, from, &mut to, err, planned, refused)
+}
+
+/// Returns the place that a complete output takes. There is none if OUT is to be created or emptied before the run.
+fn place_of<S: Storage>(
+    alloc: Global,
+    storage: &S,
+    running: Running<'_>,
+    refused: &mut Vec<Refused>,
+) -> Result<Option<String>, Fault> {
+    let output = running.request.output;
+    if running.is_beside {
+        return Ok(Some(String::from_str(alloc, output)?));
+    }
+    place_to_replace(alloc, storage, output, refused)
+}
+
+/// Runs a plan from `from`, which is open. Errs if OUT is one of the files that are read, or a file that is no sound. A
+/// sound at OUT is replaced once the run has ended well. Otherwise creates OUT or empties it.
 fn run_from<S: Storage, T: Threads + AllocGlobal + Clock + Sync, R: Read, O: Write, E: Write>(
     world: &World<S, T>,
     from: &mut R,
@@ -251,14 +286,15 @@ fn run_from<S: Storage, T: Threads + AllocGlobal + Clock + Sync, R: Read, O: Wri
     let paths = planned.running.paths();
     let names = &planned.running.loaded.names;
     refuse_overwriting(alloc, world.storage, "OUT", paths, names)?;
-    if paths.output == STANDARD {
-        run_into(world.threads, from, out, err, planned, refused)?;
-        return Ok(());
-    }
-    let created = world.storage.create(paths.output);
-    let mut to = or_refuse(alloc, refused, paths.output, created, Fault::Write)?;
-    let levels = run_into(world.threads, from, &mut to, err, planned, refused)?;
-    print_levels(alloc, out, planned.running, levels)
+    let report = if paths.output == STANDARD {
+        run_shown(world.threads, from, out, err, planned, refused)?
+    } else {
+        match place_of(alloc, world.storage, planned.running, refused)? {
+            Some(place) => run_beside(world, from, err, planned, place, refused)?,
+            None => run_into(world, from, err, planned, refused)?,
+        }
+    };
+    report.print(out, err)
 }
 
 /// Prints the notes on a run that ended well, if reports are asked for and memory is not refused for them. `from` is at
@@ -308,8 +344,8 @@ fn run_traced<S: Storage, T: Threads + AllocGlobal + Clock + Sync, R: Read, O: W
     ended
 }
 
-/// Runs a design by its plan on a WAV file. Once IN is open, errs if OUT is one of the files that are read, otherwise
-/// creates or empties it.
+/// Runs a design by its plan on a WAV file. Once IN is open, errs if OUT is one of the files that are read, or a file
+/// that is no sound. A sound at OUT is replaced once the run has ended well.
 pub(crate) fn run_planned<
     S: Storage,
     T: Threads + AllocGlobal + Clock + Sync,

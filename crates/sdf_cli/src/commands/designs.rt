@@ -23,7 +23,8 @@ pub(super) const IN: Argument = Argument {
 const OUT: Argument = Argument {
     name: "OUT",
     help: "The WAV file to write, not one that is read; `-` for standard output",
-    more: "The WAV file to write. It must not be a file that is read. Its old content is lost.
+    more: "The WAV file to write. It must not be a file that is read. A sound that is there is replaced once the run
+has succeeded, and stays as it was if it fails. A file of another kind is refused.
 `-` is standard output, and a file of that name is `./-`",
     syntax: Syntax::Place(Values::Text),
 };
@@ -47,8 +48,8 @@ const INTO: Argument = Argument {
     name: "into",
     help: "The folder to write into, each file by its name",
     more: "The folder to write into, each file by its name. It is made if it is missing, in a folder that exists. An
-output is written to NAME.part, which overwrites a file of that name, and renamed to NAME once its run has
-ended well. If the run fails, NAME.part is removed and NAME stays as it was",
+output is written to NAME.part, or NAME.part2 and so on if that is taken, and renamed to NAME once its run has
+ended well. If the run fails, the part is removed and NAME stays as it was",
     syntax: Syntax::Choice("FOLDER", Values::Text, None),
 };
 

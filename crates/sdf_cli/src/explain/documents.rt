@@ -77,14 +77,14 @@ pub(super) static MEANINGS: [Meaning; 15] = [
     // 59 ChannelsMissing
     Meaning {
         place: "",
-        means: "The design reads a channel that the WAV file does not have. A run of one file leaves OUT empty.",
+        means: "The design reads a channel that the WAV file does not have. A run of one file leaves a new OUT empty.",
         limits: "`channel` below the file's channels",
         remedy: "Use a file with more channels, or lower `channel`.",
     },
     // 60 RateNotWhole
     Meaning {
         place: "",
-        means: "The output's rate would not be a whole number. A run of one file leaves OUT empty.",
+        means: "The output's rate would not be a whole number. A run of one file leaves a new OUT empty.",
         limits: "the rate times what an output takes in a period is a multiple of what an input puts",
         remedy: "Use a file with another rate, or other factors.",
     },
