@@ -75,8 +75,8 @@ const CONVERTERS: &[Row] = &[
     (
         "a graph file alone",
         "resample 8000 8000 made",
-        "0\n--\n--\n# from 8000\n# to 8000\n# channels 1\nformat = 1\n\n[[actor]]\nname = \"in\"\nkind = \
-         \"input\"\nchannel = 0\n\n[[actor]]\nname = \"out\"\nkind = \"output\"\nchannel = 0\n\n[[link]]\nfrom = \
+        "0\n--\n--\n# from 8000\n# to 8000\n# channels 1\nformat = 1\nrate = 8000\n\n[[actor]]\nname = \"in\"\n\
+         kind = \"input\"\nchannel = 0\n\n[[actor]]\nname = \"out\"\nkind = \"output\"\nchannel = 0\n\n[[link]]\nfrom = \
          \"in\"\nto = \"out\"\n",
     ),
     (
