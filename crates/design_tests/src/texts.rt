@@ -244,7 +244,7 @@ fn converters(rt: HostRuntime) -> Result<(), Fail> {
     let alloc = rt.alloc();
     says(
         graph(alloc, 1),
-        "# from 8000\n# to 16000\n# channels 1\nformat = 1\n\
+        "# from 8000\n# to 16000\n# channels 1\nformat = 1\nrate = 8000\n\
          \n[[actor]]\nname = \"in\"\nkind = \"input\"\nchannel = 0\n\
          \n[[actor]]\nname = \"stage1\"\nkind = \"fir\"\nup = 2\ndown = 1\nshift = 15\nfile = \"stage1.toml\"\n\
          \n[[actor]]\nname = \"out\"\nkind = \"output\"\nchannel = 0\n\

@@ -77,7 +77,7 @@ const CONVERTERS: &[Row] = &[
         "a graph file alone",
         "resample 8000 8000 made",
         "0\n--\nmade made/graph.toml\nrun it: sdfw run made/graph.toml IN.wav OUT.wav\n--\n# from 8000\n# to \
-         8000\n# channels 1\nformat = 1\n\n[[actor]]\nname = \"in\"\nkind = \
+         8000\n# channels 1\nformat = 1\nrate = 8000\n\n[[actor]]\nname = \"in\"\nkind = \
          \"input\"\nchannel = 0\n\n[[actor]]\nname = \"out\"\nkind = \"output\"\nchannel = 0\n\n[[link]]\nfrom = \
          \"in\"\nto = \"out\"\n",
     ),

@@ -124,9 +124,14 @@ note word number = codes "# " ++ word ++ codes " " ++ decimal number ++ end
 unfoldable pub rates_text : ℕ → ℕ → List ℕ
 rates_text from to = note (codes "from") from ++ note (codes "to") to
 
--- the first lines of the file
+-- the rate that the design is made for
+unfoldable pub rate_text : ℕ → List ℕ
+rate_text rate = codes "rate = " ++ decimal rate ++ end
+
+-- the first lines of the file: comments, the format, and the rate that the design is made for
 unfoldable pub title : ℕ → ℕ → ℕ → List ℕ
-title from to channels = rates_text from to ++ note (codes "channels") channels ++ codes "format = 1\n"
+title from to channels =
+    rates_text from to ++ note (codes "channels") channels ++ codes "format = 1\n" ++ rate_text from
 
 -- the graph file: each channel has these stages
 abbrev pub graph_text : ℕ → ℕ → ℕ → List Stage → List ℕ

@@ -5,7 +5,7 @@ ghost use Rattle.sdf_filters.specs.declared.graph.End.TheVariants.{SumSecond};
 ghost use Rattle.sdf_filters.specs.Graphs.{texts_to, mark, stage_name, end_text, key_text, link_text, actor_text};
 ghost use Rattle.sdf_filters.specs.Graphs.{channel_text, keys_text, stage_text, stages_text, silence_text, sum_text};
 ghost use Rattle.sdf_filters.specs.Graphs.{join_text, channel_actors, source, joining_text, end_after, step_text};
-ghost use Rattle.sdf_filters.specs.Graphs.{channel_links, fork_text, note, rates_text, title, graph_text};
+ghost use Rattle.sdf_filters.specs.Graphs.{channel_links, fork_text, note, rates_text, rate_text, title, graph_text};
 
 use crate::stage::Stage;
 use std::alloc::{AllocError, Global};
@@ -368,14 +368,24 @@ fn push_rates(text: &mut String, from: u32, to: u32) -> Result<(), AllocError>
     push_note(text, "to", to)
 }
 
-/// Adds the first lines of the file.
+/// Adds the key of the rate that the design is made for.
+#[tactic(auto, unfolding(crate::specs::Graphs::rate_text))]
+fn push_rate(text: &mut String, rate: u32) -> Result<(), AllocError>
+    ensures { OnOk result (string_bytes text.new ≡ string_bytes text.old ++ rate_text rate) }
+{
+    writeln!(text, "rate = {rate}")?;
+    Ok(())
+}
+
+/// Adds the first lines of the file. The design is made for a sound of `from` Hz.
 #[tactic(auto, unfolding(crate::specs::Graphs::title))]
 fn push_title(text: &mut String, from: u32, to: u32, channels: u32) -> Result<(), AllocError>
     ensures { OnOk result (string_bytes text.new ≡ string_bytes text.old ++ title from to channels) }
 {
     push_rates(text, from, to)?;
     push_note(text, "channels", channels)?;
-    text.push_str("format = 1\n")
+    text.push_str("format = 1\n")?;
+    push_rate(text, from)
 }
 
 /// Returns the graph file of a converter with `stages`. A graph must be connected, so the samples of the first channel

@@ -2,20 +2,47 @@
 
 ghost use Rattle.std.specs.Prelude.{◌≡◌, ◌++◌, IfOk, OnOk, option_map, string_bytes};
 ghost use Rattle.toml.specs.View.{view};
-ghost use Rattle.sdf_document.specs.Fault.{place_view};
+ghost use Rattle.sdf_document.specs.Fault.{place_view, actor as at_actor};
 ghost use Rattle.sdf_document.specs.Lists.{files_view};
-ghost use Rattle.sdf_why.specs.Places.{limits_at, place_key};
+ghost use Rattle.sdf_why.specs.Places.{top_limits, limits_at, place_key};
 
 use crate::actors::{actor_limits, push_actor_key, push_first};
 use crate::coefficients::push_file_key;
 use crate::links::push_link_key;
 use crate::tables::{Source, entry, value_at};
 use crate::words::push_key;
-use sdf_document::Place;
+use sdf_document::{MAX_HZ, Place};
 use std::alloc::{AllocError, Global};
 use toml::Value;
 
-/// Returns the limits of `key` at `place`. Only an actor has some, by its kind.
+/// Returns the limits of `key` at the top of a graph file. Only `rate` has some.
+fn top_limits(alloc: Global, key: &str) -> Result<Option<String>, AllocError>
+    ensures { IfOk result (λ o. option_map string_bytes o ≡ top_limits key.now) }
+{
+    if key == "rate" {
+        let limits = format!(in alloc; "1..{MAX_HZ}")?;
+        Ok(Some(limits))
+    } else {
+        Ok(None)
+    }
+}
+
+/// Returns the limits of `key` of `actor`, by its kind.
+fn limits_in(
+    alloc: Global,
+    graph: &Value,
+    actor: usize,
+    key: &str,
+) -> Result<Option<String>, AllocError>
+    ensures { IfOk result (λ o. option_map string_bytes o ≡ limits_at (at_actor actor) key.now (view graph.now)) }
+{
+    match entry(graph, "actor", actor) {
+        Some(actor) => actor_limits(alloc, key, actor),
+        None => Ok(None),
+    }
+}
+
+/// Returns the limits of `key` at `place`: of `rate` at the top, and of the keys of an actor.
 pub(crate) fn limits_at(
     alloc: Global,
     graph: &Value,
@@ -25,12 +52,10 @@ pub(crate) fn limits_at(
     ensures { IfOk result (λ o. option_map string_bytes o ≡
         limits_at (place_view place.now) key.now (view graph.now)) }
 {
-    let Place::Actor(number) = place else {
-        return Ok(None);
-    };
-    match entry(graph, "actor", *number) {
-        Some(actor) => actor_limits(alloc, key, actor),
-        None => Ok(None),
+    match place {
+        Place::Top => top_limits(alloc, key),
+        Place::Actor(number) => limits_in(alloc, graph, *number, key),
+        _ => Ok(None),
     }
 }
 

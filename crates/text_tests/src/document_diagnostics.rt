@@ -167,7 +167,7 @@ static ROWS: [Row; 26] = [
 ];
 
 /// Lists with a value that does not fit, values of a wrong type, and words that are not kinds of the file's format.
-static OTHERS: [Row; 21] = [
+static OTHERS: [Row; 24] = [
     Row {
         graph: "format = 1\nlink = []\n[[actor]]\nname = \"h\"\nkind = \"fir\"\nshift = 0\ntaps = [1, 40000]\n",
         told: "28 KitValue actor 0 key taps\n  \
@@ -268,6 +268,21 @@ static OTHERS: [Row; 21] = [
         graph: "format = 1.0\n",
         told: "53 WrongType top key format\n  \
             format = a float, needs a whole number\n",
+    },
+    Row {
+        graph: "format = 1\nrate = 0\n",
+        told: "28 KitValue top key rate\n  \
+            rate = 0, needs 1..4294967295\n",
+    },
+    Row {
+        graph: "format = 1\nrate = 44.1\n",
+        told: "53 WrongType top key rate\n  \
+            rate = a float, needs a whole number, 1..4294967295\n",
+    },
+    Row {
+        graph: "format = 1\nrat = 44100\n",
+        told: "51 UnknownKey top key rat\n  \
+            rat = 44100\n  did you mean \"rate\"?\n",
     },
     Row {
         graph: "format = 1\nlink = []\n[[actor]]\nname = \"d\"\nkind = \"gahter\"\n",
