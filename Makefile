@@ -15,7 +15,7 @@ help:
 		/^[a-z]+:/ && said { name = $$0; sub(/:.*/, "", name); printf "%-12s %s\n", name, said } { said = "" }' Makefile
 
 # Proves the program and the crates that it depends on, a line each, and leaves it as build/sdfw, for the processor of
-# this machine. With CPU=x86-64-v2 it runs on any processor since 2009.
+# this machine. With CPU=x86-64-v2 it runs on any processor since 2009. What `make test` proved is taken from there.
 build:
 	scripts/prove --cpu $(CPU)
 	cp crates/sdfw/out/sdfw build/sdfw
@@ -81,13 +81,13 @@ examples: build
 	scripts/pipes
 	scripts/terminal
 
-# Each proof that did not pass on this machine before, from nothing, the must-fail edits, the tests, and each program as
-# two compilers build it.
+# The gate: each proof that did not pass on this machine before, from nothing, the tests, each program as two compilers
+# build it, and the wrong bodies that have names. What `make build` proved is taken from there.
 test:
-	RT_JOBS=$$(scripts/lanes) rt ci
+	scripts/gate
 
-# The wrong bodies that the gate does not try: of one crate (CRATE=name), or of all.
-# With ALL=1 those too that it tries.
+# The wrong bodies in mutants/ that were not refused on this machine before: of one crate (CRATE=name), or of all.
+# With ALL=1 also those in must-fail/.
 mutants:
 	scripts/mutants $(if $(ALL),--all) $(CRATE)
 

@@ -11,6 +11,7 @@ import re
 import subprocess
 import tempfile
 import tomllib
+import wave
 
 TOP = pathlib.Path(__file__).resolve().parent.parent
 GRAPH = TOP / "docs" / "graph.schema.json"
@@ -103,6 +104,7 @@ def graph_schema(said):
         "additionalProperties": False,
         "properties": {
             "format": {"enum": [1, 2], "description": "2 for kinds that `sdfw kinds` lists with `format 2`"},
+            "rate": {**whole(1, (1 << 32) - 1), "description": "the rate in Hz of the sound that the design is made for"},
             "actor": {"type": "array", "minItems": 1, "maxItems": 64, "items": actor},
             "link": {
                 "type": "array",
@@ -206,7 +208,10 @@ class Validator:
 # What is broken in a graph file, by an old text and a new one, so that both the schema and the program refuse it.
 BROKEN = [
     ("format = 1", "format = 3"),
-    ("format = 1", "format = 1\nrate = 44100"),
+    ("format = 1", "format = 1\nrote = 44100"),
+    ("rate = 44100", "rate = 0"),
+    ("rate = 44100", "rate = 4294967296"),
+    ("rate = 44100", "rate = 44100.0"),
     ('kind = "fir"', 'kind = "fire"'),
     ('kind = "fir"', 'kind = "clip"'),
     ("shift = 15", "shfit = 15"),
@@ -275,6 +280,20 @@ def broken_answers(program):
             yield "fault", subprocess.run([program, "check", path, "--json"], capture_output=True, text=True).stderr
 
 
+def run_answers(program):
+    """What `run --json` prints, and what it prints of a sound that is cut off."""
+    graph = TOP / "examples/gain/gain.toml"
+    with tempfile.TemporaryDirectory() as folder:
+        path = pathlib.Path(folder) / "in.wav"
+        with wave.open(str(path), "wb") as sound:
+            sound.setparams((1, 2, 44100, 0, "NONE", None))
+            sound.writeframes(b"\x00\x40" * 441)
+        words = [program, "run", graph, path, path.with_name("out.wav"), "--json"]
+        yield "run", subprocess.run(words, capture_output=True, text=True).stdout
+        path.write_bytes(path.read_bytes()[:100])
+        yield "fault", subprocess.run(words, capture_output=True, text=True).stderr
+
+
 # Mistakes on the command line. The last one has the byte 0xFF in a path.
 MISTAKES = [
     ["check", "examples/gain/gain.toml", "--wyh"],
@@ -313,7 +332,8 @@ def on_answers(program):
     """What is wrong with what docs/answers.schema.json says of what `--json` prints."""
     schema = json.loads(ANSWERS.read_text())
     validator, wrong = Validator(schema, strict=True), []
-    for name, said in [*answers(program), *broken_answers(program), *mistaken_answers(program)]:
+    every = [*answers(program), *broken_answers(program), *run_answers(program), *mistaken_answers(program)]
+    for name, said in every:
         try:
             found = validator.mistakes(json.loads(said), schema["definitions"][name], name)
         except json.JSONDecodeError:

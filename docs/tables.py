@@ -13,7 +13,8 @@
 - Blocks marked `console`, in each document: each command, run at the top of the repository, prints what stands below.
 - The JSON schemas in docs/ describe graph files and what `--json` prints (`schemas.py`).
 - A path that a document names is there, but in CHANGELOG.md. README.md names each document, examples/README.md each
-  folder there, hostile/README.md each program there, and CONTRIBUTING.md each crate of tests.
+  folder there, hostile/README.md each program there, CONTRIBUTING.md each crate of tests, and docs/PROOFS.md each
+  wrong body that the gate tries.
 - All documents name one kit, which README.md says that the text is proved with.
 - No line of a document is over 120 columns.
 
@@ -51,7 +52,8 @@ def fault(program, number):
     parts = dict(line.split(": ", 1) for line in rest)
     place = f", `{parts['where']}`" if "where" in parts else ""
     limits = f" Within: {parts['limits']}." if "limits" in parts else ""
-    text = f"- **{first}**{place}: {parts['means']}{limits} *{parts['remedy']}*"
+    remedy = f" *{parts['remedy']}*" if "remedy" in parts else ""
+    text = f"- **{first}**{place}: {parts['means']}{limits}{remedy}"
     lines = textwrap.wrap(text, WIDTH, subsequent_indent="  ", break_long_words=False, break_on_hyphens=False)
     return "\n".join(lines) + "\n"
 
@@ -306,6 +308,12 @@ def paths():
     return wrong
 
 
+def named_edits():
+    """The names of the wrong bodies that the gate tries."""
+    listed = re.findall(r"^\w+/(\w+)$", (TOP / "scripts/named.txt").read_text(), re.M)
+    return {*listed, *(path.stem for path in TOP.glob("crates/*/must-fail/*.edit"))}
+
+
 def named():
     """What a page is to name and does not."""
     owed = {
@@ -313,6 +321,7 @@ def named():
         "examples/README.md": [f"{path.name}/" for path in TOP.glob("examples/*") if path.is_dir()],
         "hostile/README.md": [path.name for path in [*TOP.glob("hostile/*.py"), *TOP.glob("hostile/*.c")]],
         "CONTRIBUTING.md": [path.name for path in TOP.glob("crates/*") if re.search("_tests$|^test_", path.name)],
+        "docs/PROOFS.md": [f"`{name}`" for name in named_edits()],
     }
     return [
         f"{paper}: it does not name {name}"

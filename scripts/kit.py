@@ -6,7 +6,6 @@ import importlib.util
 import os
 import shutil
 import sys
-import time
 from concurrent.futures import FIRST_COMPLETED, ThreadPoolExecutor, wait
 
 sys.dont_write_bytecode = True
@@ -29,60 +28,59 @@ rtlib = rt.rtlib
 rtlib.guarded()
 
 
-def share_work():
-    """Has checks use what those of other checkouts on this machine kept, in a kit whose `rt` can."""
-    if hasattr(rt, "share_work"):
-        rt.share_work(True)
+def lanes():
+    """How many checks go side by side: what RT_JOBS says, or one a processor if there are 4 GB of free memory for each.
 
-
-def is_refused(kind):
-    """Whether the prover refused an edit, by what `rt.must_fail` says of it: a kind of refusal, or in older kits a
-    truth."""
-    return kind is True or kind in {getattr(rt, name, True) for name in ("REFUSED", "AT_LIMIT")}
-
-
-def is_at_limit(kind):
-    """Whether an edit was refused by a limit of the prover alone, of which older kits tell nothing."""
-    return kind == getattr(rt, "AT_LIMIT", None)
-
-
-def copy_kept(folder, to):
-    """Copies what a check kept, by links where a kit knows of them: a check makes a file anew, and writes into none."""
-    getattr(rt, "linked", shutil.copytree)(folder, to)
+    `rt ci` by itself keeps free what a check might take, two to three times what any here was seen to take, and so
+    leaves a third of four processors idle. A check that is killed for lack of memory it makes once more."""
+    said = os.environ.get("RT_JOBS", "")
+    return int(said) if said.isdigit() and int(said) else max(1, min(rt.processors(), int(rt.free() // 4e9)))
 
 
 class Gate:
-    """The libraries that runs of `rt ci` on this machine made, each known by its files and by the libraries below."""
+    """What runs of `rt ci` on this machine made, each library and program known by its files and by the libraries
+    below."""
 
     def __init__(self, crates):
+        if not all(hasattr(rt, it) for it in ("Kept", "REFUSED", "linked", "share_work")):
+            sys.exit("the rt of this kit doesn't share what it keeps: rattle-kit-13f or a later kit is needed")
         rt.Crate.allowed = rt.handles_of(TOP)
         self.kept = rt.Kept(crates)
 
     def gives(self, crate):
-        """Puts the library of a crate in its place if one was made of the same files, over those below that were given,
-        and says whether it did."""
+        """Puts a crate's library or program in its place if one was made of the same files, over those libraries below
+        that were given, and says whether it did. The kit's other commands then find the library built."""
         key = self.kept.key(crate)
         if not self.kept.at or not os.path.isdir(self.kept.place(crate, False, key)):
             return False
-        shutil.rmtree(f"{crate.folder}/out/rlib", ignore_errors=True)
+        if crate.makes_rlib():
+            shutil.rmtree(f"{crate.folder}/out/rlib", ignore_errors=True)
         is_given = self.kept.give(crate, False, key)
-        if is_given:
+        if is_given and crate.makes_rlib():
+            with open(f"{crate.folder}/out/rlib/stamp", "w", encoding="utf-8") as it:
+                it.write(crate.stamp())
             self.kept.is_built(crate)
         return is_given
 
 
-class Said:
-    """A file of what a check says, each line with the seconds since it began."""
+class Refusals:
+    """The edits of a crate that were refused on this machine, kept beside what `rt ci` keeps: each by its text, by all
+    that the crate is proved from, and by the scripts that judged it."""
 
-    def __init__(self, path):
-        self.began, self.file = time.time(), open(path, "w", encoding="utf-8")
+    def __init__(self, gate, crate, paths):
+        self.kept, self.crates = gate.kept, [crate, *crate.below()]
+        judges = [rtlib.sum_of(f"{TOP}/scripts/{it}") for it in ("mutants", "sources.py")]
+        self.names = {it: self.kept.of_edit(it, repr((judges, self.kept.key(crate)))) for it in paths}
 
-    def write(self, text):
-        for line in text.splitlines(True):
-            self.file.write(f"{time.time() - self.began:8.2f} {line}")
+    def said(self, path):
+        """What was said of an edit when it was refused, or none."""
+        found = self.kept.tried(self.names[path])
+        return found[1] if found else ""
 
-    def flush(self):
-        self.file.flush()
+    def note(self, path, text):
+        """Keeps that an edit was refused, unless a source was touched since."""
+        if all(map(self.kept.is_untouched, self.crates)):
+            self.kept.keep_tried(self.names[path], rt.REFUSED, text)
 
 
 def crates_for(root, names):

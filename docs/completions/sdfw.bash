@@ -43,7 +43,7 @@ _sdfw() {
   case ${COMP_WORDS[1]}:$word in
     check:-*) mapfile -t COMPREPLY < <(compgen -W "--why --no-why --json --help" -- "$word") ;;
     schedule:-*) mapfile -t COMPREPLY < <(compgen -W "--blocking --workers --policy --placement --why --no-why --json --help" -- "$word") ;;
-    run:-*) mapfile -t COMPREPLY < <(compgen -W "--into --blocking --workers --policy --placement --runner --patience --parallel --open-ended --why --no-why --help" -- "$word") ;;
+    run:-*) mapfile -t COMPREPLY < <(compgen -W "--into --blocking --workers --policy --placement --runner --patience --parallel --open-ended --why --no-why --json --help" -- "$word") ;;
     analyze:-*) mapfile -t COMPREPLY < <(compgen -W "--blocking --workers --policy --placement --compare --why --no-why --json --help" -- "$word") ;;
     draw:-*) mapfile -t COMPREPLY < <(compgen -W "--blocking --workers --policy --placement --dot --why --no-why --help" -- "$word") ;;
     profile:-*) mapfile -t COMPREPLY < <(compgen -W "--write --why --no-why --help" -- "$word") ;;

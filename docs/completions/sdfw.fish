@@ -38,6 +38,7 @@ complete -c sdfw -n '__fish_seen_subcommand_from run' -l parallel -x -d 'Runs in
 complete -c sdfw -n '__fish_seen_subcommand_from run' -l open-ended -d 'Reads samples to the end of IN, whatever size its header gives'
 complete -c sdfw -n '__fish_seen_subcommand_from run' -l why -d 'Says more about a fault, and how loud each output is'
 complete -c sdfw -n '__fish_seen_subcommand_from run' -l no-why -d 'Says no more at a terminal than to a pipe or a log'
+complete -c sdfw -n '__fish_seen_subcommand_from run' -l json -d 'Prints the levels of each output as JSON, and a fault'
 complete -c sdfw -n '__fish_seen_subcommand_from run' -l help -d 'Print help (see more with \'--help\')'
 complete -c sdfw -n '__fish_seen_subcommand_from run' -F
 complete -c sdfw -n '__fish_seen_subcommand_from analyze' -l blocking -x -d 'Periods in a block, 1 to 64'

@@ -28,6 +28,8 @@ mod plain_splits;
 #[cfg(test)]
 mod plain_taps;
 #[cfg(test)]
+mod rates;
+#[cfg(test)]
 mod readings;
 #[cfg(test)]
 mod rounds;

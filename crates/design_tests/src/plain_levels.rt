@@ -86,7 +86,7 @@ fn plain_told(alloc: Global, wanted: FilterSpec, taps: &[i32]) -> Result<String,
     let ripple = saturating_f64_to_u64((ripple * 1e4).round());
     let down = saturating_f64_to_u64((-decibels(loudest) * 10.0).round());
     Ok(format!(in alloc;
-        "{} tap{}: {}.{:04} dB of ripple, what is stopped at least {}.{} dB down\n",
+        "{} tap{}: passband ripple {}.{:04} dB, stopband attenuation {}.{} dB\n",
         taps.len(),
         if taps.len() == 1 { "" } else { "s" },
         ripple / 10_000,

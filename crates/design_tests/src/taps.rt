@@ -123,27 +123,27 @@ fn faults(rt: HostRuntime) -> Result<(), Fail> {
     let alloc = rt.alloc();
     says(
         refusal_at(alloc, 0, 15, 40),
-        "`up` is 0: take one from 1 to 64",
+        "--up is 0: it must be 1 to 64",
     )?;
     says(
         refusal_at(alloc, 65, 15, 40),
-        "`up` is 65: take one from 1 to 64",
+        "--up is 65: it must be 1 to 64",
     )?;
     says(
         refusal_at(alloc, 1, 16, 40),
-        "`shift` is 16: take one from 0 to 15",
+        "--shift is 16: it must be 0 to 15",
     )?;
     says(
         refusal_at(alloc, 1, 15, 201),
-        "an attenuation of 201 dB: take one from 0 to 200",
+        "--attenuation is 201 dB: it must be 0 to 200",
     )?;
     says(
         refusal(alloc, Lowpass::new(8000, 3000, 3000, 40, 1, 15)),
-        "what passes ends at 3000 Hz, what is stopped begins at 3000: take `pass` lower, or `stop` higher",
+        "--pass is 3000 Hz and --stop is 3000 Hz: lower --pass or raise --stop",
     )?;
     says(
         refusal(alloc, Lowpass::new(8000, 1000, 4001, 40, 1, 15)),
-        "what is stopped begins at 4001 Hz, over half the rate of 8000: take it lower, or a higher rate",
+        "--stop is 4001 Hz, above half of --rate, which is 8000 Hz: lower --stop or raise --rate",
     )?;
     says(
         refusal(alloc, Lowpass::new(8000, 1000, 4000, 200, 64, 0)),

@@ -51,14 +51,14 @@ const PRINTED: &[(Band, u32, &str)] = &[
         1,
         "# fir up 1 shift 15, low-pass 1000..2500 Hz at 8000 Hz, 40 dB\nformat = 1\nvalues = [\n  \
          237, 359, -920, -1990, 1698, 9832, 14336, 9832, 1698, -1990, -920, 359,\n  237\n]\n\
-         13 taps: 0.1015 dB of ripple, what is stopped at least 38.2 dB down\n",
+         13 taps: passband ripple 0.1015 dB, stopband attenuation 38.2 dB\n",
     ),
     (
         HIGH,
         1,
         "# fir up 1 shift 15, high-pass 1000..2500 Hz at 8000 Hz, 40 dB\nformat = 1\nvalues = [\n  \
          -237, -359, 920, 1990, -1698, -9832, 18432, -9832, -1698, 1990, 920, -359,\n  -237\n]\n\
-         13 taps: 0.1079 dB of ripple, what is stopped at least 38.7 dB down\n",
+         13 taps: passband ripple 0.1079 dB, stopband attenuation 38.7 dB\n",
     ),
     (
         Band::Middle {
@@ -71,16 +71,16 @@ const PRINTED: &[(Band, u32, &str)] = &[
         "# fir up 1 shift 15, band-pass 200..1200..2000..3000 Hz at 8000 Hz, 40 dB\nformat = 1\nvalues = [\n  \
          37, 341, 899, -448, -971, 401, -4054, -7736, 4143, 14776, 4143, -7736,\n  \
          -4054, 401, -971, -448, 899, 341, 37\n]\n\
-         19 taps: 0.0842 dB of ripple, what is stopped at least 32.2 dB down\n",
+         19 taps: passband ripple 0.0842 dB, stopband attenuation 32.2 dB\n",
     ),
-    (HIGH, 2, "a high-pass with `up` 2: take 1"),
+    (HIGH, 2, "--up is 2: a high-pass needs --up 1"),
     (
         Band::High {
             stop: 2500,
             pass: 1000,
         },
         1,
-        "what is stopped ends at 2500 Hz, what passes begins at 1000: take `stop` lower, or `pass` higher",
+        "--stop is 2500 Hz and --pass is 1000 Hz: for a high-pass, lower --stop or raise --pass",
     ),
     (
         Band::High {
@@ -88,7 +88,7 @@ const PRINTED: &[(Band, u32, &str)] = &[
             pass: 4001,
         },
         1,
-        "what passes begins at 4001 Hz, over half the rate of 8000: take it lower, or a higher rate",
+        "--pass is 4001 Hz, above half of --rate, which is 8000 Hz: lower --pass or raise --rate",
     ),
     (
         Band::Middle {
@@ -98,7 +98,7 @@ const PRINTED: &[(Band, u32, &str)] = &[
             stop: 3000,
         },
         1,
-        "what passes begins at 1200 Hz and ends at 1200: take `--low-pass` lower, or `--pass` higher",
+        "--low-pass is 1200 Hz and --pass is 1200 Hz: lower --low-pass or raise --pass",
     ),
     (
         Band::Middle {
@@ -108,7 +108,7 @@ const PRINTED: &[(Band, u32, &str)] = &[
             stop: 3000,
         },
         1,
-        "`--low-stop` is 0, `--low-pass` is 0: give a band-pass both, the first lower",
+        "--low-stop is 0 Hz and --low-pass is 0 Hz: a band-pass needs both, the first lower",
     ),
     (
         Band::Low {
@@ -116,7 +116,7 @@ const PRINTED: &[(Band, u32, &str)] = &[
             stop: 1000,
         },
         1,
-        "what passes ends at 3000 Hz, what is stopped begins at 1000: take `pass` lower, or `stop` higher",
+        "--pass is 3000 Hz and --stop is 1000 Hz: lower --pass or raise --stop",
     ),
 ];
 
@@ -147,7 +147,7 @@ const TOLD: &[(FilterSpec, &str)] = &[
             up: 1,
             shift: 15,
         },
-        "37 taps: 0.1067 dB of ripple, what is stopped at least 39.2 dB down\n",
+        "37 taps: passband ripple 0.1067 dB, stopband attenuation 39.2 dB\n",
     ),
     (
         FilterSpec {
@@ -162,7 +162,7 @@ const TOLD: &[(FilterSpec, &str)] = &[
             up: 1,
             shift: 15,
         },
-        "73 taps: 0.0987 dB of ripple, what is stopped at least 41.4 dB down\n",
+        "73 taps: passband ripple 0.0987 dB, stopband attenuation 41.4 dB\n",
     ),
     (
         FilterSpec {
@@ -175,7 +175,7 @@ const TOLD: &[(FilterSpec, &str)] = &[
             up: 12,
             shift: 14,
         },
-        "132 taps: 0.0700 dB of ripple, what is stopped at least 41.4 dB down\n",
+        "132 taps: passband ripple 0.0700 dB, stopband attenuation 41.4 dB\n",
     ),
     (
         FilterSpec {
@@ -188,21 +188,21 @@ const TOLD: &[(FilterSpec, &str)] = &[
             up: 16,
             shift: 15,
         },
-        "128 taps: 0.0577 dB of ripple, what is stopped at least 42.2 dB down\n",
+        "128 taps: passband ripple 0.0577 dB, stopband attenuation 42.2 dB\n",
     ),
     (
         FilterSpec {
             attenuation: 110,
             ..LOW_PASS
         },
-        "39 taps: 0.0010 dB of ripple, what is stopped at least 78.0 dB down\n",
+        "39 taps: passband ripple 0.0010 dB, stopband attenuation 78.0 dB\n",
     ),
     (
         FilterSpec {
             attenuation: 150,
             ..LOW_PASS
         },
-        "54 taps: 0.0010 dB of ripple, what is stopped at least 74.3 dB down\n",
+        "54 taps: passband ripple 0.0010 dB, stopband attenuation 74.3 dB\n",
     ),
     (
         FilterSpec {
@@ -210,7 +210,7 @@ const TOLD: &[(FilterSpec, &str)] = &[
             shift: 14,
             ..LOW_PASS
         },
-        "1 tap: 0.0000 dB of ripple, what is stopped at least 0.0 dB down\n",
+        "1 tap: passband ripple 0.0000 dB, stopband attenuation 0.0 dB\n",
     ),
 ];
 
@@ -262,26 +262,26 @@ const TEXTS: &[(FilterFault, &str)] = &[
     (FilterFault::OutOfMemory, "out of memory"),
     (
         FilterFault::TooManyTaps { taps: 1025 },
-        "1025 taps, over 1024: take what passes and what is stopped further apart, or less attenuation",
+        "1025 taps, but 1024 is the limit: move --pass and --stop further apart, or lower --attenuation",
     ),
     (
         FilterFault::TapTooLarge { size: 32_768 },
-        "a tap of size 32768 has over 16 bits: take a smaller `shift`, or what passes and what is stopped lower",
+        "a tap of size 32768 does not fit in 16 bits: lower --shift, or lower --pass and --stop",
     ),
     (
         FilterFault::RateTooLarge {
             rate: 4_294_967_296,
         },
-        "a filter at 4294967296 Hz, over 4294967295: take lower rates",
+        "a filter would run at 4294967296 Hz, above 4294967295 Hz: use lower rates",
     ),
     (
         FilterFault::Channels { channels: 9 },
-        "9 channels: take 1 to 8",
+        "--channels is 9: it must be 1 to 8",
     ),
-    (FilterFault::NoRate, "a rate is 0: take both from 1 on"),
+    (FilterFault::NoRate, "a rate is 0: both must be at least 1"),
     (
         FilterFault::FactorTooLarge { factor: 67 },
-        "the ratio of the rates has the factor 67, which has no divisor from 2 to 64: take another rate",
+        "the ratio of the rates has the factor 67, which no number from 2 to 64 divides: use another rate",
     ),
 ];
 

@@ -52,7 +52,7 @@ pub(crate) fn show_ran(rt: &impl Print, answer: Result<Ran<i32>, RunFault>) -> i
 /// Returns the spin limit of a plan over rings. Other plans have none.
 pub(crate) fn patience_of(plan: &Plan) -> Option<u32> {
     match plan.way() {
-        Execution::Rings { patience, .. } => Some(*patience),
+        Execution::Rings(_) => Some(plan.patience()),
         Execution::One { .. } | Execution::Parts { .. } | Execution::Rows(_) => None,
     }
 }
@@ -81,7 +81,7 @@ pub(crate) fn run_by_workers<R: AllocGlobal + Sync + Threads, G: Gate>(
 fn blocking(plan: &Plan) -> u32 {
     match plan.way() {
         Execution::One { blocking, .. } | Execution::Parts { blocking, .. } => *blocking,
-        Execution::Rows(table) | Execution::Rings { table, .. } => table.blocking,
+        Execution::Rows(table) | Execution::Rings(table) => table.blocking,
     }
 }
 

@@ -36,7 +36,7 @@ fn paced_told(alloc: Global, paced: &ParallelPlan) -> Result<String, Fail> {
     let told = match paced.plan.way() {
         Execution::One { .. } => format!(in alloc; "one {pace:?}"),
         Execution::Parts { parts, .. } => format!(in alloc; "parts {parts} {pace:?}"),
-        Execution::Rows(_) | Execution::Rings { .. } => format!(in alloc; "workers {pace:?}"),
+        Execution::Rows(_) | Execution::Rings(_) => format!(in alloc; "workers {pace:?}"),
     };
     told.map_err(Fail::from)
 }

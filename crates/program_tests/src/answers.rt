@@ -88,14 +88,82 @@ const ANSWERS: &[Row] = &[
     ),
 ];
 
-/// Help, and the kinds of actors, on standard output. Refuses a program that takes help for a fault.
+/// The overview of all commands. A group's head stands above its commands, in the order in which they are met.
+const OVERVIEW: &str = "0
+A workbench for synchronous dataflow graphs over WAV files
+
+Usage: sdfw <COMMAND>
+
+Process sound:
+  run       Processes a WAV file, or several
+  resample  Writes a design that converts between two rates
+  fir       Prints a coefficient file for an actor of kind fir
+
+Understand a design:
+  check     Checks a graph file and prints its period
+  explain   Says what a fault means and what to do about it
+  kinds     Lists the kinds of actors, their keys and limits
+
+Schedule a design:
+  schedule  Prints a schedule of a graph file for some workers
+  analyze   Prints how long a schedule takes and what its links hold
+  draw      Draws a graph and its schedule
+  profile   Measures each actor's share of the time of a run
+
+Options:
+  -h, --help     Print help
+  -V, --version  Print version
+
+Examples:
+  sdfw resample 44100 48000 converter --channels 2
+…
+Exit status:
+  0  success
+  2  a mistake on the command line
+…
+More:
+…docs/FORMATS.md …
+--
+--
+";
+
+/// Help, and the kinds of actors, on standard output. Refuses a program that takes help for a fault, and a `run` whose
+/// options for the schedule come first.
 const HELP: &[Row] = &[
+    ("an overview", "--help", OVERVIEW),
+    (
+        "a run's options, those for the schedule last",
+        "run -h",
+        "0\n…Usage: sdfw run [OPTIONS] <GRAPH> <IN> <OUT>\n…\nOptions:\n      --parallel [<M>]…\n      --into \
+         <FOLDER>…\n      --open-ended…\n      --no-why…\n\nOptions for the schedule:\n      --blocking <J>…\n      \
+         --patience <T>…\n\nExamples:\n…",
+    ),
+    (
+        "a path in place of a number",
+        "run --parallel plain.toml in.wav out.wav",
+        "2\n--\nerror: --parallel takes the number after it: put it last, or write --parallel=4\n…",
+    ),
+    (
+        "several files without a folder",
+        "run plain.toml in.wav out.wav more.wav",
+        "2\n--\nerror: unexpected argument 'more.wav' found\n\n  tip: several files go into a folder: '--into out'\n…",
+    ),
+    (
+        "another mistake of a run",
+        "run plain.toml in.wav out.wav --inot made",
+        "2\n--\nerror: unexpected argument '--inot' found\n\n  tip: a similar argument exists: '--into'\n…",
+    ),
+    (
+        "a fault's number and another's name",
+        "explain 10 Read",
+        "2\n--\nerror: the fault Read has the number 47\n…",
+    ),
     (
         "help",
         "check -h",
         "0\nChecks a graph file and prints its period\n\nUsage: sdfw check [OPTIONS] <GRAPH>\n\nArguments:\n  \
          <GRAPH>  The graph file\n\nOptions:\n      --why     Says more about a fault: names, values and limits\n      \
-         --no-why  Says no more at a terminal than to a pipe or a log\n      --json    Prints JSON, also for a \
+         --no-why  Prints only the short messages, as to a pipe or a log\n      --json    Prints JSON, also for a \
          fault\n  -h, --help    Print help (see more with '--help')\n\n\
          Examples:\n  sdfw check graph.toml\n  sdfw check graph.toml --why\n--\n--\n",
     ),
@@ -105,7 +173,7 @@ const HELP: &[Row] = &[
         "0\nLists the kinds of actors, their keys and limits: a line for each kind, and a last one for the keys\n\
          that every actor may have. A number in parentheses is the default.\n\n\
          Usage: sdfw kinds [OPTIONS]\n\nOptions:\n      --json\n          Prints JSON, with the ports of each \
-         kind: one value on one line. A fault is one too, on standard error\n\n  -h, --help\n          \
+         kind: one value on one line. Errors are printed as JSON too, on standard error\n\n  -h, --help\n          \
          Print help (see a summary with '-h')\n\nExamples:\n  \
          sdfw kinds\n  sdfw kinds | grep fir\n  sdfw kinds --json\n--\n--\n",
     ),
@@ -150,17 +218,24 @@ const IN_JSON: &[Row] = &[
     (
         "a coefficient file that is not there",
         "check lacking.toml --json",
-        "3\n--\n{\"fault\":58,\"file\":\"two.toml\",\"name\":\"NoFile\"}\n--\n",
+        "3\n--\n{\"actor\":1,\"fault\":58,\"file\":\"two.toml\",\"hint\":[\"actor 1 is \\\"same\\\", a fir\",\
+         \"\\\"two.toml\\\": entity not found\",\"sdfw explain 58 says what to \
+         do\"],\"key\":\"file\",\"name\":\"NoFile\",\"path\":\"lacking.toml\",\
+         \"value\":\"\\\"two.toml\\\"\"}\n--\n",
     ),
     (
         "a design that is not there",
         "schedule none.toml --json",
-        "5\n--\n{\"fault\":47,\"name\":\"Read\"}\n--\n",
+        "5\n--\n{\"fault\":47,\"hint\":[\"\\\"none.toml\\\": entity not found\",\"sdfw explain 47 says what to \
+         do\"],\"name\":\"Read\",\
+         \"path\":\"none.toml\"}\n--\n",
     ),
     (
         "a comparison of a design that is not there",
         "analyze none.toml --compare --json",
-        "5\n--\n{\"fault\":47,\"name\":\"Read\"}\n--\n",
+        "5\n--\n{\"fault\":47,\"hint\":[\"\\\"none.toml\\\": entity not found\",\"sdfw explain 47 says what to \
+         do\"],\"name\":\"Read\",\
+         \"path\":\"none.toml\"}\n--\n",
     ),
     (
         "a mistake in the words",
@@ -170,7 +245,58 @@ const IN_JSON: &[Row] = &[
     (
         "an actor without a home",
         "analyze plain.toml --placement file --json",
-        "3\n--\n{\"actor\":0,\"fault\":19,\"name\":\"BadHome\"}\n--\n",
+        "3\n--\n{\"actor\":0,\"fault\":19,\"hint\":[\"actor 0 is \\\"in\\\", an input\",\
+         \"processor needs 0..0\",\"sdfw explain 19 says what to \
+         do\"],\"key\":\"processor\",\"limits\":\"0..0\",\"name\":\"BadHome\",\
+         \"path\":\"plain.toml\"}\n--\n",
+    ),
+    (
+        "the same by two workers",
+        "analyze far.toml --placement file --workers 2 --json --why",
+        "3\n--\n{\"actor\":0,\"fault\":19,\"hint\":[\"actor 0 is \\\"in\\\", an input\",\
+         \"processor = 3, needs 0..1\",\"sdfw explain 19 says what to \
+         do\"],\"key\":\"processor\",\"limits\":\"0..1\",\"name\":\"BadHome\",\
+         \"path\":\"far.toml\",\"value\":\"3\"}\n--\n",
+    ),
+    (
+        "a number outside its limits",
+        "check wide.toml --why --json",
+        "3\n--\n{\"actor\":0,\"column\":1,\"fault\":28,\"hint\":[\"actor 0 is \\\"half\\\", a fir\",\
+         \"up = 147, needs 1..64\",\"sdfw explain 28 says what to \
+         do\"],\"key\":\"up\",\"limits\":\"1..64\",\"line\":6,\"name\":\"KitValue\",\
+         \"path\":\"wide.toml\",\"value\":\"147\"}\n--\n",
+    ),
+    (
+        "a file that ends too soon",
+        "check broken.toml --json",
+        "3\n--\n{\"column\":…,\"fault\":49,\"hint\":[\"\\\"broken.toml\\\": TOML parse error at line 2, column \
+         …\",\"sdfw explain 49 says what to \
+         do\"],\"line\":2,\"name\":\"NotToml\",\"path\":\"broken.toml\",\"top\":true}\n--\n",
+    ),
+    (
+        "a deadlock",
+        "schedule stuck.toml --json",
+        "3\n--\n{\"actors\":[…],\"fault\":10,\"hint\":[\"link 3 is fork:1 -> add:1, holds 0, needs 1\",…,\"sdfw \
+         explain 10 says what to do\"],\
+         \"name\":\"Deadlock\",\"path\":\"stuck.toml\"}\n--\n",
+    ),
+    (
+        "the levels of a run in parallel",
+        "run plain.toml in.wav out.wav --json --parallel --why",
+        "0\n{\"outputs\":[{\"frames\":2,\"full_scale\":0,\"peak\":5}]}\n--\n--\n<5 -5>",
+    ),
+    (
+        "a sound that is cut off",
+        "run plain.toml cut.wav out.wav --json",
+        "4\n--\n{\"fault\":43,\"hint\":[\"\\\"cut.wav\\\": ends after 44 bytes, needs 48; `run --open-ended` reads to \
+         the end\",\"sdfw explain 43 says what to do\"],\"name\":\"Truncated\",\
+         \"path\":\"cut.wav\"}\n--\n<5 -5 to come>",
+    ),
+    (
+        "a sound and levels on one stream",
+        "run plain.toml in.wav - --json",
+        "2\n--\n{\"fault\":0,\"name\":\"Usage\",\"text\":\"error: --json prints to standard output, so OUT can't be \
+         `-`…\"}\n--\n",
     ),
     (
         "schedules compared",

@@ -5,14 +5,17 @@ use crate::commands::{MUTE, Row, TERMINAL, expect_rows_around};
 use crate::files::{
     HALVES, PLAIN, expect_rows, folder, has_bytes, is_gone, path_in, put, served, told, with_files,
 };
+use crate::parallel::processors;
 use crate::shelf::{HEADER, SOUND};
 use sdf_io::storage::Disk;
 use std::alloc::{AllocError, Global};
 use std::fs;
+use std::rt::Files;
 use std::test::Fail;
 use std::thread::Threads;
 use std::time::Clock;
-use test_texts::says;
+use test_devices::{CountedThreads, ThreadCount};
+use test_texts::{row_says, says};
 
 /// Batches over files in memory. Refuses a program that stops at a file that fails, or keeps what it has written for
 /// that file. Refuses also the least or the last exit status, and two files that are written in one place.
@@ -26,6 +29,11 @@ const BATCHES: &[Row] = &[
         "a file that ends too early, and another",
         "run plain.toml --into made cut.wav in.wav",
         "4\ncut.wav: 43 Truncated\nin.wav: done\n--\n--\n<5 -5>",
+    ),
+    (
+        "the same, read to their ends",
+        "run plain.toml --into made cut.wav in.wav --open-ended",
+        "0\ncut.wav: done\nin.wav: done\n--\n--\n<another sound>",
     ),
     (
         "the greatest status between others",
@@ -185,6 +193,11 @@ const ITSELF: &[Row] = &[
         "a file that would be written over",
         "run @/graph.toml --into @ @/in.wav",
         "2 error: …/in.wav is the same file as IN\n",
+    ),
+    (
+        "a coefficient file in the place of an output",
+        "run @/graph.toml --into @ @/out/one.toml",
+        "2 error: …/one.toml is the same file as the coefficient file one.toml\n",
     ),
     (
         "a graph file in the place of a part",
@@ -411,4 +424,38 @@ fn files_at_once(rt: HostRuntime) -> Result<(), Fail> {
     is_run(&rt, &rt, "many", 20, None, "")?;
     is_run(&rt, &rt, "few", 5, Some(1), "")?;
     is_run(&rt, &rt, "in-turn", 3, Some(0), " --parallel 2")
+}
+
+/// Runs a batch of twenty files with `option`, and returns the greatest number of threads at once. Until `wanted` threads
+/// were seen, threads wait for others.
+fn threads_told<T: Threads + AllocGlobal + Files + Clock + Sync>(
+    rt: &HostRuntime,
+    threads: &T,
+    option: &str,
+    wanted: usize,
+) -> Result<String, Fail> {
+    let count = ThreadCount::of(wanted as u64);
+    let counted = CountedThreads {
+        rt: threads,
+        count: &count,
+    };
+    is_run(rt, &counted, "at-once", 20, None, option)?;
+    format!(in rt.alloc(); "{}", count.greatest()).map_err(Fail::from)
+}
+
+/// Tests how many files run at the same time. Refuses a program that runs one file after the other on one thread, and
+/// one that starts more threads than there are processors.
+#[test]
+fn threads_of_a_batch(rt: HostRuntime) -> Result<(), Fail> {
+    let wanted = format!(in rt.alloc(); "{}", processors(&rt))?;
+    row_says(
+        "a file for each processor",
+        threads_told(&rt, &rt, "", processors(&rt)),
+        wanted.as_str(),
+    )?;
+    row_says(
+        "a file at a time, which one worker runs",
+        threads_told(&rt, &rt, " --parallel 1", 1),
+        "1",
+    )
 }

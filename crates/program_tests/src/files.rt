@@ -177,6 +177,12 @@ const LACKING: &[Row] = &[
     ),
     ("a folder", "check @", "5 sdfw: 47 Read\n"),
     (
+        "a folder, and the graph file in it",
+        "run @/ in out --why",
+        "5 sdfw: 47 Read\n  \"…/\": is a directory\n  GRAPH is a file, such as …/lacks/graph.toml\n  sdfw explain 47 \
+         says what to do\n",
+    ),
+    (
         "a coefficient file that is not there",
         "run @/graph.toml @/in.wav @/old.wav",
         "3 sdfw: 58 NoFile file one.toml\n",
@@ -220,7 +226,11 @@ fn files_that_are_not_there(rt: HostRuntime) -> Result<(), Fail> {
 
 /// A converter that is written into a folder, whether it is there or not, and a check of its design.
 const MADE: &[Row] = &[
-    ("a converter", "resample 8000 8000 @", "0 "),
+    (
+        "a converter",
+        "resample 8000 8000 @",
+        "0 made …/graph.toml\nrun it: sdfw run …/graph.toml IN.wav OUT.wav\n",
+    ),
     ("its design", "check @/graph.toml", "0 "),
 ];
 

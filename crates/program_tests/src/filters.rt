@@ -38,7 +38,7 @@ const FILTERS: &[Row] = &[
     (
         "a band that ends before it begins",
         "fir lowpass --rate 8000 --pass 3000 --stop 1000",
-        "2\n--\nerror: what passes ends at 3000 Hz…",
+        "2\n--\nerror: --pass is 3000 Hz and --stop is 1000 Hz: lower --pass or raise --stop\n…",
     ),
 ];
 
@@ -50,7 +50,8 @@ const CONVERTERS: &[Row] = &[
     (
         "channels",
         "resample 8000 8000 made --channels 8",
-        "0\n--\n--\n# from 8000\n# to 8000\n# channels 8\n…",
+        "0\n--\nmade made/graph.toml\nrun it: sdfw run made/graph.toml IN.wav OUT.wav\n--\n# from 8000\n# to \
+         8000\n# channels 8\n…",
     ),
     (
         "too many channels",
@@ -75,9 +76,15 @@ const CONVERTERS: &[Row] = &[
     (
         "a graph file alone",
         "resample 8000 8000 made",
-        "0\n--\n--\n# from 8000\n# to 8000\n# channels 1\nformat = 1\n\n[[actor]]\nname = \"in\"\nkind = \
+        "0\n--\nmade made/graph.toml\nrun it: sdfw run made/graph.toml IN.wav OUT.wav\n--\n# from 8000\n# to \
+         8000\n# channels 1\nformat = 1\n\n[[actor]]\nname = \"in\"\nkind = \
          \"input\"\nchannel = 0\n\n[[actor]]\nname = \"out\"\nkind = \"output\"\nchannel = 0\n\n[[link]]\nfrom = \
          \"in\"\nto = \"out\"\n",
+    ),
+    (
+        "a stage with too many taps, and no edges of bands to move",
+        "resample 8000 8001 made --attenuation 200",
+        "2\n--\nerror: a stage needs … taps, but 1024 is the limit: lower --attenuation\n…",
     ),
     (
         "a folder that can't be made",
@@ -92,14 +99,18 @@ const CONVERTERS: &[Row] = &[
     (
         "a greater attenuation than the usual one, which has other stages, and a line for each of them",
         "resample 44100 8000 made --attenuation 120",
-        "0\n--\n… dB down\n… dB down\n--\n# fir up 16 shift 15, low-pass 3636..10764 Hz at 705600 Hz, 120 dB\n…\n]\n\
+        "0\n--\n… taps: … dB\n… taps: … dB\nlate by 47 frames, which are cut off the end\n\
+         made made/graph.toml, stage1.toml, stage2.toml\nrun it: sdfw run made/graph.toml IN.wav OUT.wav\n--\n\
+         # fir up 16 shift 15, low-pass 3636..10764 Hz at 705600 Hz, 120 dB\n…\n]\n\
          # fir up 5 shift 15, low-pass 3636..4364 Hz at 72000 Hz, 120 dB\n…\n]\n# from 44100\n# to 8000\n…",
     ),
     (
         "a coefficient file, what it does on standard error, and the graph file",
         "resample 8000 16000 made --attenuation 40",
-        "0\n--\n… dB down\n--\n# fir up 2 shift 15, low-pass 3636..4364 Hz at 16000 Hz, 40 dB\nformat = 1\nvalues \
-         = […\n]\n# from 8000\n# to 16000\n# channels 1\n…to = \"out\"\n",
+        "0\n--\n… taps: … dB\nlate by 26 frames, which are cut off the end\nmade made/graph.toml, stage1.toml\n\
+         run it: sdfw run made/graph.toml IN.wav OUT.wav\n--\n\
+         # fir up 2 shift 15, low-pass 3636..4364 Hz at 16000 Hz, 40 dB\nformat = 1\nvalues = […\n]\n# from 8000\n\
+         # to 16000\n# channels 1\n…to = \"out\"\n",
     ),
 ];
 

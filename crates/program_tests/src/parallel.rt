@@ -145,14 +145,19 @@ const REFUSED: &[Row] = &[
     ),
 ];
 
+/// Returns the number of workers of a program that is given none: one for each processor, at most 16.
+pub(crate) fn processors<T: Threads>(rt: &T) -> usize {
+    match available_parallelism(rt) {
+        Ok(processors) => processors.get().min(16),
+        Err(_) => 4,
+    }
+}
+
 /// Serves a parallel run with the number of processors as the number of workers, and returns the report.
 fn by_number<T: Threads + AllocGlobal + Clock + Clone + Drop + Sync>(
     rt: &T,
 ) -> Result<String, Fail> {
-    let workers = match available_parallelism(rt) {
-        Ok(processors) => processors.get().min(16),
-        Err(_) => 4,
-    };
+    let workers = processors(rt);
     let line = format!(in rt.alloc();
         "run steep.toml silence.wav out.wav --parallel {workers} --why"
     )?;

@@ -118,7 +118,7 @@ const NOT_PRINTED: &[Row] = &[
     (
         "kinds in JSON that are not printed",
         "kinds --json",
-        "5\n--\n{\"fault\":48,\"name\":\"Write\"}\n--\n",
+        "5\n--\n{\"fault\":48,\"hint\":[\"sdfw explain 48 says what to do\"],\"name\":\"Write\"}\n--\n",
     ),
     ("an explanation that is not printed", "explain 5", UNWRITTEN),
     ("help that is not printed", "--help", UNWRITTEN),
@@ -131,7 +131,7 @@ const NOT_PRINTED: &[Row] = &[
     (
         "a filter that is not printed",
         "fir lowpass --rate 8000 --pass 1000 --stop 3000",
-        "5\n--\n… dB down\nsdfw: 48 Write\n--\n",
+        "5\n--\n26 taps: … dB\nsdfw: 48 Write\n--\n",
     ),
 ];
 
@@ -160,6 +160,11 @@ const NOT_TOLD: &[Row] = &[
     (
         "a converter whose taps can't be told of, of which nothing is left",
         "resample 8000 16000 made --attenuation 40",
+        "5\n--\n--\n",
+    ),
+    (
+        "a converter without stages whose files can't be told of",
+        "resample 8000 8000 made",
         "5\n--\n--\n",
     ),
     (

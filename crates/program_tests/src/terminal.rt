@@ -86,7 +86,9 @@ const FILES_AT_TERMINAL: &[Row] = &[
     (
         "a fault in JSON",
         "check none.toml --json",
-        "5\n--\n{\"fault\":47,\"name\":\"Read\"}\n--\n",
+        "5\n--\n{\"fault\":47,\"hint\":[\"\\\"none.toml\\\": entity not found\",\"sdfw explain 47 says what to \
+         do\"],\"name\":\"Read\",\
+         \"path\":\"none.toml\"}\n--\n",
     ),
 ];
 
@@ -101,6 +103,11 @@ const RUNS_AT_TERMINAL: &[Row] = &[
         "the same without more",
         "run plain.toml in.wav out.wav --no-why",
         "0\n--\n--\n<5 -5>",
+    ),
+    (
+        "a run in JSON, without other reports",
+        "run plain.toml in.wav out.wav --json",
+        "0\n{\"outputs\":[{\"frames\":2,\"full_scale\":0,\"peak\":5}]}\n--\n--\n<5 -5>",
     ),
     (
         "a run to standard output",

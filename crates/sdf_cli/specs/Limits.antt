@@ -6,7 +6,7 @@ use Rattle.sdf_cli.specs.declared.requests.TheConstants.{MAX_FAULT}
 use Rattle.sdf_cli.specs.declared.requests.ParallelWorkers.{ParallelWorkers}
 use Rattle.sdf_cli.specs.declared.requests.ParallelWorkers.TheVariants.{Processors, Workers}
 use Rattle.sdf_cli.specs.declared.requests.Words.{Words}
-use Rattle.sdf_cli.specs.declared.requests.Words.TheVariants.{Design, Batch, Fir, Resample, Kinds, Explain}
+use Rattle.sdf_cli.specs.declared.requests.Words.TheVariants.{Design, Batch, Fir, Resample, Kinds, Explain, Overview}
 use Rattle.sdf_cli.specs.declared.requests.DesignCommand.{DesignCommand}
 use Rattle.sdf_cli.specs.declared.requests.DesignCommand.TheVariants.{Check, Schedule, Analyze, Compare, Draw, Run}
 use Rattle.sdf_cli.specs.declared.requests.DesignCommand.TheVariants.{Profile}
@@ -34,3 +34,4 @@ IsWithinLimits (Fir wanted why) = Unit {0}
 IsWithinLimits (Resample conversion why) = Unit {0}
 IsWithinLimits (Kinds format) = Unit {0}
 IsWithinLimits (Explain number) = (1 ≤ number) × (number ≤ MAX_FAULT)
+IsWithinLimits Overview = Unit {0}

@@ -1,13 +1,17 @@
 //! Reading a command line.
 
-ghost use Rattle.std.specs.Prelude.{IfOk, IfErr, IfSome};
+ghost use Rattle.std.specs.Prelude.{◌≡◌, [], codes, map, option_map, unwrap_or, IfOk, IfErr, IfSome};
+ghost use Rattle.clap.specs.Words.{found_of, matched_of, raw_values};
 ghost use Rattle.sdf_options.specs.Limits.{IsUsage};
+ghost use Rattle.sdf_cli.specs.Batches.{AskForBatch};
 ghost use Rattle.sdf_cli.specs.Limits.{IsCommandWithinLimits, IsWithinLimits};
 ghost use Rattle.sdf_cli.specs.declared.requests.TheConstants.{MAX_FAULT};
 
 use crate::commands::{batch_command, sdfw_command};
-use crate::explain::{NAMES, number_named};
-use crate::requests::{BatchRequest, Conversion, DesignCommand, MAX_FAULT, RunRequest, Words};
+use crate::explained::{explain, explain_both, is_name};
+use crate::requests::{
+    BatchRequest, Conversion, DesignCommand, Format, MAX_FAULT, RunRequest, Words,
+};
 use crate::values::{
     any_number_of, band_of, format_of, number_of, options_of, parallel_of, picture_of,
     plan_options_of, why_of,
@@ -15,9 +19,7 @@ use crate::values::{
 use clap::error::ErrorKind;
 use clap::{ArgMatches, Command};
 use sdf_filters::FilterSpec;
-use sdf_options::printable::printable;
 use sdf_options::{WordFault, usage_error};
-use sdf_similar::nearest;
 use std::alloc::{AllocError, Global};
 
 /// Reads the task of the command `schedule`.
@@ -73,6 +75,7 @@ fn run_of<'a>(matches: &ArgMatches<'a>) -> Option<DesignCommand<'a>>
         options: options_of(matches)?,
         parallel: parallel_of(matches),
         open_ended: matches.get_flag("open-ended"),
+        format: format_of(matches),
     }))
 }
 
@@ -184,13 +187,43 @@ fn read_by<'a>(command: &mut Command<'a>, words: &'a [&'a str]) -> Result<Words<
     }
 }
 
+/// Checks whether a run would print both its sound and JSON on standard output.
+fn is_mixed(task: DesignCommand<'_>) -> bool {
+    match task {
+        DesignCommand::Run(
+            RunRequest {
+                output,
+                format: Format::Json,
+                ..
+            },
+        ) => output == "-",
+        _ => false,
+    }
+}
+
+/// Errs if a run would print both its sound and JSON on standard output.
+fn keep_apart<'a>(alloc: Global, read: Words<'a>) -> Result<Words<'a>, WordFault>
+    requires { IsWithinLimits read }
+    ensures within { IfOk result IsWithinLimits }
+    ensures usage { IfErr result IsUsage }
+{
+    match &read {
+        Words::Design { task, .. } if is_mixed(*task) => Err(usage_error(
+            alloc,
+            "--json prints to standard output, so OUT can't be `-`",
+        )),
+        _ => Ok(read),
+    }
+}
+
 /// Parses `words`, whose first one is the program's name.
 fn read<'a>(alloc: Global, words: &'a [&'a str]) -> Result<Words<'a>, WordFault>
     ensures within { IfOk result IsWithinLimits }
     ensures usage { IfErr result IsUsage }
 {
     let mut command = sdfw_command(alloc)?;
-    read_by(&mut command, words)
+    let read = read_by(&mut command, words)?;
+    keep_apart(alloc, read)
 }
 
 /// Returns whether `words`, which follow `run`, name a folder to write into.
@@ -207,7 +240,10 @@ fn is_batch(words: &[&str]) -> bool {
 }
 
 /// Returns the paths of the files that a batch reads.
-fn inputs_of<'a>(alloc: Global, matches: &ArgMatches<'a>) -> Result<Vec<&'a str>, AllocError> {
+fn inputs_of<'a>(alloc: Global, matches: &ArgMatches<'a>) -> Result<Vec<&'a str>, AllocError>
+    ensures { IfOk result (λ inputs. map (λ input. input.now) inputs.items
+        ≡ unwrap_or (option_map raw_values (matched_of (found_of matches.now) (codes "IN"))) []) }
+{
     match matches.get_strs("IN") {
         Some(paths) => Vec::from_slice(alloc, paths),
         None => Ok(Vec::new(alloc)),
@@ -216,7 +252,8 @@ fn inputs_of<'a>(alloc: Global, matches: &ArgMatches<'a>) -> Result<Vec<&'a str>
 
 /// Returns the batch that reads `inputs`, if no argument is missing.
 fn batch_of<'a>(matches: &ArgMatches<'a>, inputs: Vec<&'a str>) -> Option<Words<'a>>
-    ensures { IfSome result IsWithinLimits }
+    ensures within { IfSome result IsWithinLimits }
+    ensures fields { IfSome result (AskForBatch (found_of matches.now) (map (λ input. input.now) inputs.entry.items)) }
 {
     let graph = matches.get_str("GRAPH")?;
     let folder = matches.get_str("into")?;
@@ -270,42 +307,90 @@ fn read_batch<'a>(alloc: Global, words: &'a [&'a str]) -> Result<Words<'a>, Word
     read_batch_by(alloc, &mut command, words)
 }
 
-/// Checks whether `word` begins with a letter, like the name of a fault.
-fn is_name(word: &str) -> bool {
-    matches!(word.as_bytes(), [b'A'..=b'Z' | b'a'..=b'z', ..])
+/// Returns whether `word` would be the value of the option before it, but is not a number.
+fn is_path(word: &str) -> bool {
+    word == "-" || !(word.starts_with('-') || word.bytes().all(|byte| byte.is_ascii_digit()))
 }
 
-/// Returns the message for a `name` that no fault has, with the most similar name if there is one.
-fn unknown_name_text(alloc: Global, name: &str) -> Result<String, AllocError> {
-    let shown = printable(alloc, name)?;
-    let shown = shown.as_str();
-    match nearest(alloc, NAMES, name)? {
-        Some(near) => {
-            format!(in alloc; "no fault has the name '{shown}'\n\n  tip: did you mean '{near}'?")
+/// Returns whether `words`, which follow `run`, have a path where `--parallel` takes a number.
+fn has_path_for_number(words: &[&str]) -> bool {
+    let mut takes_number = false;
+    for word in words {
+        if *word == "--" {
+            return false;
         }
-        None => format!(in alloc; "no fault has the name '{shown}'"),
+        if takes_number && is_path(word) {
+            return true;
+        }
+        takes_number = *word == "--parallel";
     }
+    false
 }
 
-/// Returns the usage error for a `name` that no fault has.
-fn unknown_name(alloc: Global, name: &str) -> WordFault
+/// The message for a path behind `--parallel`.
+const PATH_FOR_NUMBER: &str =
+    "--parallel takes the number after it: put it last, or write --parallel=4";
+
+/// Returns the first line of clap's message `told`, without its head.
+fn message_in(told: &str) -> &str {
+    let first = match told.split_once('\n') {
+        Some((first, _)) => first,
+        None => told,
+    };
+    first.strip_prefix("error: ").unwrap_or(first)
+}
+
+/// Returns the message for a run with a word too many, if clap's error `told` is about that word.
+fn too_many_text(alloc: Global, told: &clap::Error) -> Result<Option<String>, AllocError> {
+    let text = format!(in alloc; "{told}")?;
+    let message = message_in(text.as_str());
+    if told.kind() != ErrorKind::UnknownArgument || message.starts_with("unexpected argument '-") {
+        return Ok(None);
+    }
+    let tip = "several files go into a folder: '--into out'";
+    Ok(Some(format!(in alloc; "{message}\n\n  tip: {tip}")?))
+}
+
+/// Returns the usage error for a `run` of one file that clap refused with `told`. If there is a word too many, it names
+/// `--into`.
+fn run_fault(alloc: Global, told: clap::Error) -> WordFault
     ensures { IsUsage result }
 {
-    match unknown_name_text(alloc, name) {
-        Ok(text) => usage_error(alloc, text.as_str()),
+    match too_many_text(alloc, &told) {
+        Ok(Some(text)) => usage_error(alloc, text.as_str()),
+        Ok(None) => WordFault::from(told),
         Err(_) => WordFault::OutOfMemory,
     }
 }
 
-/// Returns the command that explains the fault with this `name`.
-fn explain<'a>(alloc: Global, name: &str) -> Result<Words<'a>, WordFault>
+/// Parses `words` as a `run` of one file. The first word is the program's name.
+fn read_run<'a>(alloc: Global, words: &'a [&'a str]) -> Result<Words<'a>, WordFault>
     ensures within { IfOk result IsWithinLimits }
     ensures usage { IfErr result IsUsage }
 {
-    match number_named(name) {
-        Some(number) => Ok(Words::Explain { number }),
-        None => Err(unknown_name(alloc, name)),
+    match read(alloc, words) {
+        Err(WordFault::Usage(told)) => Err(run_fault(alloc, told)),
+        read => read,
     }
+}
+
+/// Parses the words of a `run`, which are `rest` behind the program's name and `run`.
+fn run_words<'a>(alloc: Global, words: &'a [&'a str], rest: &[&str]) -> Result<Words<'a>, WordFault>
+    ensures within { IfOk result IsWithinLimits }
+    ensures usage { IfErr result IsUsage }
+{
+    if has_path_for_number(rest) {
+        Err(usage_error(alloc, PATH_FOR_NUMBER))
+    } else if is_batch(rest) {
+        read_batch(alloc, words)
+    } else {
+        read_run(alloc, words)
+    }
+}
+
+/// Returns whether `words`, which follow the program's name, ask for the overview of all commands. A bare call does.
+fn is_overview(words: &[&str]) -> bool {
+    matches!(words, [] | ["help"] | ["-h" | "--help", ..])
 }
 
 /// Parses a command line, whose first word is the program's name.
@@ -314,8 +399,11 @@ pub fn words<'a>(alloc: Global, words: &'a [&'a str]) -> Result<Words<'a>, WordF
     ensures usage { IfErr result IsUsage }
 {
     match words {
+        [] => Ok(Words::Overview),
+        [_, rest @ ..] if is_overview(rest) => Ok(Words::Overview),
         [_, "explain", name] if is_name(name) => explain(alloc, name),
-        [_, "run", rest @ ..] if is_batch(rest) => read_batch(alloc, words),
+        [_, "explain", number, name] if is_name(name) => explain_both(alloc, number, name),
+        [_, "run", rest @ ..] => run_words(alloc, words, rest),
         _ => read(alloc, words),
     }
 }

@@ -2,17 +2,18 @@
 
 mod designs;
 mod filters;
-pub(crate) mod reference;
+mod groups;
+mod reference;
 mod views;
 
 use clap::builder::ValueParser;
 use clap::{Arg, ArgAction, Command};
+use groups::GROUPS;
+pub use groups::overview;
 use std::alloc::{AllocError, Global};
 
-/// The examples of the program itself.
-const EXAMPLES: &str = "Examples:
-  sdfw check graph.toml
-  sdfw run graph.toml in.wav out.wav";
+/// The head of a run's options for its schedule and its workers.
+const SCHEDULING: &str = "Options for the schedule";
 
 /// The type and the range of a value.
 #[derive(Clone, Copy)]
@@ -63,15 +64,15 @@ struct Argument {
     syntax: Syntax,
 }
 
-/// A command and its arguments. If it `schedules`, the options of a schedule come first. `-h` prints `help`, and
+/// A command and its arguments. The arguments in `scheduling` have a head of their own. `-h` prints `help`, and
 /// `--help` prints `more`. The help ends with the examples.
 #[derive(Clone, Copy)]
 struct CommandRow {
     name: &'static str,
     help: &'static str,
     more: &'static str,
-    schedules: bool,
     arguments: &'static [Argument],
+    scheduling: &'static [Argument],
     examples: &'static str,
 }
 
@@ -146,21 +147,13 @@ fn with_arguments<'a>(
     Ok(command)
 }
 
-fn with_options<'a>(alloc: Global, command: Command<'a>) -> Result<Command<'a>, AllocError> {
-    with_arguments(alloc, command, designs::OPTIONS)
-}
-
 fn command_of<'a>(alloc: Global, row: CommandRow) -> Result<Command<'a>, AllocError> {
     let command = Command::new(alloc, row.name)
         .about(row.help)
         .long_about(row.more)
         .after_help(row.examples);
-    let command = if row.schedules {
-        with_options(alloc, command)?
-    } else {
-        command
-    };
-    with_arguments(alloc, command, row.arguments)
+    let command = with_arguments(alloc, command, row.arguments)?;
+    with_arguments(alloc, command.next_help_heading(SCHEDULING), row.scheduling)
 }
 
 fn with_command<'a>(
@@ -185,21 +178,20 @@ fn with_commands<'a>(
 /// Returns the program's command without subcommands.
 fn program<'a>(alloc: Global) -> Command<'a> {
     Command::new(alloc, "sdfw")
-        .about("A workbench for synchronous dataflow graphs over WAV files")
         .version("0.1.0")
-        .after_help(EXAMPLES)
         .subcommand_required(true)
 }
 
 /// Returns the program's command with `run` for several files.
 pub(crate) fn batch_command<'a>(alloc: Global) -> Result<Command<'a>, AllocError> {
-    with_commands(alloc, program(alloc), designs::BATCH)
+    with_command(alloc, program(alloc), designs::BATCH)
 }
 
 /// Returns the program's command with all its subcommands.
 pub(crate) fn sdfw_command<'a>(alloc: Global) -> Result<Command<'a>, AllocError> {
-    let command = with_commands(alloc, program(alloc), designs::ROWS)?;
-    let command = with_commands(alloc, command, views::ROWS)?;
-    let command = with_commands(alloc, command, filters::ROWS)?;
-    with_commands(alloc, command, reference::ROWS)
+    let mut command = program(alloc);
+    for group in GROUPS {
+        command = with_commands(alloc, command, group.rows)?;
+    }
+    Ok(command)
 }

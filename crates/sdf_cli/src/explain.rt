@@ -17,8 +17,8 @@ pub(crate) use names::NAMES;
 use repairs::REPAIRS;
 use std::alloc::{AllocError, Global};
 
-/// The meaning of a fault, the limits within which it does not occur, and a remedy. `place` is the rest of the fault's
-/// line.
+/// The meaning of a fault, the limits within which it does not occur, and a remedy if it can occur. `place` is the rest
+/// of the fault's line.
 #[derive(Clone, Copy)]
 struct Meaning {
     place: &'static str,

@@ -52,7 +52,7 @@ impl Why {
 }
 
 /// A run from one file to another. If `parallel` is given, the options have no effect. If `open_ended`, the samples are
-/// read to the end of the input.
+/// read to the end of the input. In JSON the levels of the outputs are printed, and then the output is a file.
 #[derive(Clone, Copy, Debug, PartialEq, Eq)]
 pub struct RunRequest<'a> {
     pub input: &'a str,
@@ -60,6 +60,7 @@ pub struct RunRequest<'a> {
     pub options: Options,
     pub parallel: Option<ParallelWorkers>,
     pub open_ended: bool,
+    pub format: Format,
 }
 
 /// Runs from each of `inputs` to a file with its name in `folder`. The other fields are as in `RunRequest`.
@@ -158,4 +159,6 @@ pub enum Words<'a> {
     Explain {
         number: u32,
     },
+    /// The overview of all commands.
+    Overview,
 }

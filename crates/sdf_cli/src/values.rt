@@ -1,6 +1,7 @@
 //! The values of arguments.
 
-ghost use Rattle.std.specs.Prelude.{◌≡◌, ◌≤◌, IfSome, option_and_then, position, slice_get};
+ghost use Rattle.std.specs.Prelude.{◌≡◌, ◌≤◌, IfSome, codes, is_some, option_and_then, position, slice_get};
+ghost use Rattle.clap.specs.Words.{found_of, matched_of};
 ghost use Rattle.std.specs.Str.{bytes_eq};
 ghost use Rattle.sdf_options.specs.Limits.{AreWithinLimits};
 ghost use Rattle.sdf_cli.specs.Limits.{IsParallelWorkers};
@@ -93,12 +94,15 @@ pub(crate) fn picture_of(matches: &ArgMatches<'_>) -> Picture {
 
 /// Reads `--parallel`: its number of workers, or one per processor if it has no value.
 pub(crate) fn parallel_of(matches: &ArgMatches<'_>) -> Option<ParallelWorkers>
-    ensures { IfSome result IsParallelWorkers }
+    ensures within { IfSome result IsParallelWorkers }
+    ensures given { is_some result ≡ is_some (matched_of (found_of matches.now) (codes "parallel")) }
 {
+    if !matches.contains_id("parallel") {
+        return None;
+    }
     match number_of(matches, "parallel", 1, MAX_WORKERS as u32) {
         Some(workers) => Some(ParallelWorkers::Workers(workers as usize)),
-        None if matches.contains_id("parallel") => Some(ParallelWorkers::Processors),
-        None => None,
+        None => Some(ParallelWorkers::Processors),
     }
 }
 

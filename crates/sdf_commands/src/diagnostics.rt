@@ -1,14 +1,17 @@
 //! The diagnostics of faults.
 
+use crate::details::details_of;
 use crate::remedies::remedy_text;
 use crate::sounds::{format_text, header_of, unsuited_text};
 use sdf_cli::{DesignCommand, Format, Words};
 use sdf_document::DocumentFault;
-use sdf_faults::{Fault, Stalled};
+use sdf_faults::{Fault, Stalled, fault_text};
 use sdf_file::FileFault;
 use sdf_io::files::Sources;
 use sdf_io::input::InputTrace;
+use sdf_json::{Details, fault_json};
 use sdf_options::Options;
+use sdf_options::printable::printable;
 use sdf_prec::PrecFault;
 use sdf_why::{
     DesignFiles, Halt, block_text, channels_text, deadlock_text, device_text, file_text, home_text,
@@ -35,6 +38,24 @@ fn refusals(alloc: Global, sources: &Sources) -> Result<String, AllocError> {
     for refused in &sources.refused {
         let line = device_text(alloc, refused.name.as_str(), refused.said.as_str())?;
         text.push_str(line.as_str())?;
+    }
+    Ok(text)
+}
+
+/// Returns whether the system refused GRAPH since it is a folder.
+fn is_folder(sources: &Sources) -> bool {
+    sources.refused.iter().any(|refused| {
+        refused.name == sources.path && refused.said.as_str().ends_with("s a directory")
+    })
+}
+
+/// Returns what the system reported about a file that was not read. If GRAPH is a folder, names a graph file in it.
+fn unread(alloc: Global, sources: &Sources) -> Result<String, AllocError> {
+    let mut text = refusals(alloc, sources)?;
+    if is_folder(sources) {
+        let folder = printable(alloc, sources.path.as_str().trim_end_matches('/'))?;
+        let folder = folder.as_str();
+        writeln!(text, "  GRAPH is a file, such as {folder}/graph.toml")?;
     }
     Ok(text)
 }
@@ -105,7 +126,8 @@ fn diagnostic_of(
     };
     match fault {
         Fault::File(fault) => design_text(alloc, fault, sources, given),
-        Fault::Read | Fault::Write => refusals(alloc, sources),
+        Fault::Read => unread(alloc, sources),
+        Fault::Write => refusals(alloc, sources),
         Fault::Deadlock(stalled) => deadlock_text(alloc, &halts_of(alloc, stalled)?, given),
         Fault::Table(PrecFault::BadHome { actor }) => {
             home_text(alloc, options.workers, *actor, given.graph)
@@ -128,12 +150,12 @@ pub fn why(
     Ok(text)
 }
 
-/// The form of a fault's report: its line, its line with a diagnostic for these options, or JSON.
+/// The form of a fault's report: its line, its line with a diagnostic for these options, or JSON with the same.
 #[derive(Clone, Copy)]
 enum ReportForm {
     Line,
     Why(Options),
-    Json,
+    Json(Options),
 }
 
 /// Returns the options of `task`, which the diagnostics of its faults use.
@@ -155,15 +177,15 @@ fn format_of(task: &DesignCommand<'_>) -> Format {
         | DesignCommand::Schedule { format, .. }
         | DesignCommand::Analyze { format, .. }
         | DesignCommand::Compare { format, .. } => *format,
-        DesignCommand::Draw { .. } | DesignCommand::Run(_) | DesignCommand::Profile { .. } =>
-            Format::Text,
+        DesignCommand::Run(run) => run.format,
+        DesignCommand::Draw { .. } | DesignCommand::Profile { .. } => Format::Text,
     }
 }
 
 /// Returns the form in which faults of `task` are reported. Diagnostics need `is_verbose`.
 fn form_of(task: &DesignCommand<'_>, is_verbose: bool) -> ReportForm {
     match format_of(task) {
-        Format::Json => ReportForm::Json,
+        Format::Json => ReportForm::Json(options_of(task)),
         Format::Text if is_verbose => ReportForm::Why(options_of(task)),
         Format::Text => ReportForm::Line,
     }
@@ -197,7 +219,7 @@ impl Background {
             }
             Words::Kinds {
                 format: Format::Json,
-            } => self.form = ReportForm::Json,
+            } => self.form = ReportForm::Json(Options::DEFAULT),
             Words::Batch { .. } => {}
             Words::Fir { why, .. } | Words::Resample { why, .. } if !why.is_verbose(terminal) => {}
             Words::Fir { .. } | Words::Resample { .. } => {
@@ -211,15 +233,27 @@ impl Background {
     /// Sets the form of the report to JSON if `line`, which has a usage error, asks for JSON.
     pub fn set_form_of_mistake(&mut self, line: &[&str]) {
         if line.iter().any(|word| *word == "--json") {
-            self.form = ReportForm::Json;
+            self.form = ReportForm::Json(Options::DEFAULT);
         }
     }
 
-    /// Returns the format in which a fault is reported.
-    pub fn format(&self) -> Format {
+    /// Returns the text of `fault`, for standard error. In JSON, what is known of it is left out if memory is refused
+    /// for that.
+    pub fn text(&self, alloc: Global, fault: &Fault) -> Result<String, AllocError> {
         match self.form {
-            ReportForm::Json => Format::Json,
-            ReportForm::Line | ReportForm::Why(_) => Format::Text,
+            ReportForm::Json(options) => match details_of(alloc, fault, &options, &self.sources) {
+                Ok(details) => fault_json(alloc, fault, &details),
+                Err(_) => fault_json(alloc, fault, &Details::new(alloc)),
+            },
+            ReportForm::Line | ReportForm::Why(_) => fault_text(alloc, fault),
+        }
+    }
+
+    /// Returns the text of the fault `OutOfMemory`. It needs no allocation.
+    pub fn text_without_memory(&self) -> &'static [u8] {
+        match self.form {
+            ReportForm::Json(_) => b"{\"fault\":1,\"name\":\"OutOfMemory\"}\n",
+            ReportForm::Line | ReportForm::Why(_) => b"sdfw: 1 OutOfMemory\n",
         }
     }
 

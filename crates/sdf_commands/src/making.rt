@@ -4,26 +4,47 @@ use crate::printing::{show, test_plan};
 use sdf_cli::Conversion;
 use sdf_faults::Fault;
 use sdf_file::{CoefficientFile, Design, read_design};
-use sdf_filters::{ConverterTexts, FilterFault, FilterSpec, converter_texts, filter_texts};
+use sdf_filters::{
+    ConverterTexts, FilterFault, FilterSpec, StageFile, converter_texts, filter_texts,
+};
 use sdf_io::files::{Refused, Sources, make_at, note_left, refuse};
 use sdf_io::overwriting::{canonical_path, keep_file};
 use sdf_io::storage::Storage;
 use sdf_io::world::World;
+use sdf_options::printable::printable;
 use sdf_options::usage_error;
-use std::alloc::Global;
+use std::alloc::{AllocError, Global};
 use std::io::{ErrorKind, Write};
 
 /// The name of a converter's graph file.
 const GRAPH: &str = "graph.toml";
 
+/// Returns the usage error with the message `text`, or `OutOfMemory` if memory was refused for it.
+fn usage_fault(alloc: Global, text: Result<String, AllocError>) -> Fault {
+    match text {
+        Ok(text) => Fault::from(usage_error(alloc, text.as_str())),
+        Err(_) => Fault::OutOfMemory,
+    }
+}
+
 /// Returns `fault` as a usage error, or `OutOfMemory` if memory was refused.
 fn filter_fault(alloc: Global, fault: FilterFault) -> Fault {
-    match fault.to_string(alloc) {
-        Ok(text) if fault != FilterFault::OutOfMemory => Fault::from(usage_error(
+    match fault {
+        FilterFault::OutOfMemory => Fault::OutOfMemory,
+        _ => usage_fault(alloc, fault.to_string(alloc)),
+    }
+}
+
+/// Returns `fault` of a conversion as a usage error. A conversion has no edges of bands that its user could move.
+fn conversion_fault(alloc: Global, fault: FilterFault) -> Fault {
+    match fault {
+        FilterFault::TooManyTaps { taps } => usage_fault(
             alloc,
-            text.as_str(),
-        )),
-        _ => Fault::OutOfMemory,
+            format!(in alloc;
+                "a stage needs {taps} taps, but 1024 is the limit: lower --attenuation"
+            ),
+        ),
+        _ => filter_fault(alloc, fault),
     }
 }
 
@@ -109,8 +130,38 @@ fn write_into<S: Storage, T: AllocGlobal>(
     Ok(())
 }
 
+/// Adds the line about the delay of a converter, unless there is none.
+fn push_delay(text: &mut String, delay: u128) -> Result<(), AllocError> {
+    match delay {
+        0 => Ok(()),
+        1 => text.push_str("late by 1 frame, which is cut off the end\n"),
+        _ => writeln!(text, "late by {delay} frames, which are cut off the end"),
+    }
+}
+
+/// Adds the names of the files of a converter. The first one is its graph file.
+fn push_made(text: &mut String, folder: &str, files: &[StageFile]) -> Result<(), AllocError> {
+    write!(text, "made {folder}/{GRAPH}")?;
+    for file in files {
+        text.push_str(", ")?;
+        text.push_str(file.name.as_str())?;
+    }
+    text.push_str("\n")
+}
+
+/// Returns the last lines of a conversion: its delay, the files that were made, and the command that runs the design.
+fn closing(alloc: Global, folder: &str, texts: &ConverterTexts) -> Result<String, AllocError> {
+    let shown = printable(alloc, folder)?;
+    let folder = shown.as_str();
+    let mut text = String::new(alloc);
+    push_delay(&mut text, texts.delay)?;
+    push_made(&mut text, folder, &texts.files)?;
+    writeln!(text, "run it: sdfw run {folder}/{GRAPH} IN.wav OUT.wav")?;
+    Ok(text)
+}
+
 /// Writes the files of a converter into `folder`, adds their paths to `made`, and writes the measures of each stage's
-/// taps to `err`.
+/// taps and the closing lines to `err`.
 fn write_all<S: Storage, T: AllocGlobal, E: Write>(
     world: &World<S, T>,
     err: &mut E,
@@ -130,7 +181,9 @@ fn write_all<S: Storage, T: AllocGlobal, E: Write>(
         )?;
         show(err, file.summary.as_str())?;
     }
-    write_into(world, folder, GRAPH, texts.graph.as_str(), made, refused)
+    write_into(world, folder, GRAPH, texts.graph.as_str(), made, refused)?;
+    let closing = closing(world.threads.alloc(), folder, texts)?;
+    show(err, closing.as_str())
 }
 
 /// Removes the files in `made`. Notes in `refused` which files are left.
@@ -200,6 +253,6 @@ pub fn resample<S: Storage, T: AllocGlobal, E: Write>(
     } = conversion;
     match converter_texts(alloc, from, to, channels, attenuation) {
         Ok(texts) => write_design(world, err, folder, &texts, &mut sources.refused),
-        Err(fault) => Err(filter_fault(alloc, fault)),
+        Err(fault) => Err(conversion_fault(alloc, fault)),
     }
 }

@@ -3,7 +3,7 @@
 ghost use Rattle.sdf_options.specs.Limits.{AreWithinLimits};
 
 use sdf_analyze::analyze;
-use sdf_cli::{Format, Picture, explanation};
+use sdf_cli::{Format, Picture, explanation, overview};
 use sdf_draw::{dot, svg};
 use sdf_faults::Fault;
 use sdf_file::Design;
@@ -106,4 +106,9 @@ pub fn print_kinds<O: Write>(alloc: Global, out: &mut O, format: Format) -> Resu
 /// Prints the explanation of the fault of this `number`.
 pub fn print_meaning<O: Write>(alloc: Global, out: &mut O, number: u32) -> Result<(), Fault> {
     show(out, explanation(alloc, number)?.as_str())
+}
+
+/// Prints the overview of all commands.
+pub fn print_overview<O: Write>(alloc: Global, out: &mut O) -> Result<(), Fault> {
+    show(out, overview(alloc)?.as_str())
 }

@@ -1,6 +1,6 @@
 -- What a whole graph file says, or the first test that it fails.
 use Rattle.std.specs.Prelude.{◌≡◌, ℕ, suc, ◌+◌, ◌&&◌, not, List, [], ◌∷◌, ◌++◌, codes, map, Option, None, Result, Ok}
-use Rattle.std.specs.Prelude.{Err}
+use Rattle.std.specs.Prelude.{Err, ◌≤◌, IfSome}
 use Rattle.std.specs.Prelude.{nat_le, bytes_eq, if◌then◌else◌}
 use Rattle.std.specs.List.{filter, filter_map}
 use Rattle.toml.specs.Data.{Data, Items, no_items, item, get_member, as_array}
@@ -12,8 +12,10 @@ use Rattle.sdf_document.specs.declared.document.FileParts.{FileParts}
 use Rattle.sdf_document.specs.Fault.{top, Fault, actor_count, channel_count, not_toml, missing_key, wrong_type, ◌>>=◌}
 use Rattle.sdf_document.specs.Fault.{or_fault}
 use Rattle.sdf_document.specs.Tables.{table_in, format_at, known_keys}
+use Rattle.sdf_document.specs.Values.{optional_at}
 use Rattle.sdf_document.specs.Lists.{Files, Lookup, unread, read}
 use Rattle.sdf_limits.specs.declared.TheConstants.{MAX_ACTORS, MAX_LINKS}
+use Rattle.sdf_document.specs.declared.document.TheConstants.{MAX_HZ}
 use Rattle.sdf_document.specs.declared.entry.KindEntry.{KindEntry}
 use Rattle.sdf_document.specs.declared.entry.KindEntry.TheVariants.{Fir, Table}
 use Rattle.sdf_document.specs.Actors.{ActorValue, actor_view, names_in, actor_at}
@@ -55,40 +57,49 @@ abbrev pub count_within : Fault → ℕ → ℕ → ℕ → Result (Unit {0}) Fa
 count_within f least most n = if nat_le least n && nat_le n most then Ok tt else Err f
 
 abbrev pub top_keys : List (List ℕ)
-top_keys = codes "format" ∷ codes "actor" ∷ codes "link" ∷ []
+top_keys = codes "format" ∷ codes "rate" ∷ codes "actor" ∷ codes "link" ∷ []
 
--- the format, and the items of `actor` and of `link`
+-- the rate in Hz of the sound that the design is made for, if the file has the key
+unfoldable pub rate_at : Members → Result (Option ℕ) Fault
+rate_at ms = optional_at top (codes "rate") 1 MAX_HZ (get_member (codes "rate") ms)
+
+-- the format, the rate, and the items of `actor` and of `link`
 pub record FilePartsValue : Type 0 where
   pub format : ℕ
+  pub rate : Option ℕ
   pub actors : Items
   pub links : Items
 
 abbrev pub parts_view : FileParts → FilePartsValue
-parts_view p = record { format = p.format; actors = items_view p.actors.now; links = items_view p.links.now }
+parts_view p =
+    record { format = p.format; rate = p.rate; actors = items_view p.actors.now; links = items_view p.links.now }
 
 unfoldable pub parts_at : Members → Result FilePartsValue Fault
 parts_at ms = do
   format ← format_at top 2 ms
   known ← known_keys top top_keys ms
+  rate ← rate_at ms
   actors ← array_at (codes "actor") ms
   links ← array_at (codes "link") ms
   some_actors ← count_within actor_count 1 MAX_ACTORS (item_count actors)
   few_links ← count_within channel_count 0 MAX_LINKS (item_count links)
-  Ok (record { format = format; actors = actors; links = links })
+  Ok (record { format = format; rate = rate; actors = actors; links = links })
 
 pub record DocumentValue : Type 0 where
+  pub rate : Option ℕ
   pub actors : List ActorValue
   pub links : List LinkValue
 
 abbrev pub document_view : Document → DocumentValue
-document_view d = record { actors = map actor_view d.actors.items; links = map link_view d.links.items }
+document_view d =
+    record { rate = d.rate; actors = map actor_view d.actors.items; links = map link_view d.links.items }
 
--- the actors, and the links between them
+-- the rate, the actors, and the links between them
 abbrev pub entries_at : Files → FilePartsValue → Result DocumentValue Fault
 entries_at files parts = do
   actors ← actors_in parts.format (read files) parts.actors
   links ← links_in (names_in actors) parts.links
-  Ok (record { actors = actors; links = links })
+  Ok (record { rate = parts.rate; actors = actors; links = links })
 
 -- the TOML table in the bytes of a graph file
 unfoldable pub graph_table : List ℕ → Result Members Fault
@@ -121,6 +132,10 @@ actor_file a = kind_file a.kind
 abbrev pub first_seen : List (List ℕ) → List (List ℕ)
 first_seen [] = []
 first_seen (x ∷ xs) = x ∷ filter (λ y. not (bytes_eq x y)) (first_seen xs)
+
+-- a rate, if there is one, is within its limits
+abbrev pub IsRated : Option ℕ → Type 0
+IsRated rate = IfSome rate (λ n. (1 ≤ n) × (n ≤ MAX_HZ))
 
 -- no name is there twice
 abbrev pub AreDistinct : List (List ℕ) → Type 0

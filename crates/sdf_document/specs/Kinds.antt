@@ -15,7 +15,7 @@ use Rattle.sdf_document.specs.declared.entry.KindEntry.TheVariants.{Fork, Gain, 
 use Rattle.sdf_document.specs.declared.entry.KindEntry.TheVariants.{Offset}
 use Rattle.sdf_document.specs.Fault.{actor, Fault, kit_value, missing_key, unknown_kind, ◌>>=◌, or_fault}
 use Rattle.sdf_kinds.specs.Rows.{KeyFormValue, row_of, kinds, shared_keys}
-use Rattle.sdf_document.specs.Values.{text_at, within_natural, natural_in, within_integer, integer_in}
+use Rattle.sdf_document.specs.Values.{text_at, within_natural, natural_in, optional_at, within_integer, integer_in}
 use Rattle.sdf_document.specs.Lists.{Lookup, ListValue, no_list, list_at, IsListed}
 
 -- ---- the kind that an actor's table names
@@ -54,15 +54,11 @@ actor_keys ks ms = (codes "name" ∷ codes "kind" ∷ names_of_keys ms ks) ++ na
 -- the number of an absent key, if it may be absent
 abbrev pub absent_as : ℕ → List ℕ → ℕ → ℕ → Option ℕ → Result ℕ Fault
 absent_as a key least most None = Err (missing_key (actor a) key)
-absent_as a key least most (Some n) = within_natural a key least most (pos n)
+absent_as a key least most (Some n) = within_natural (actor a) key least most (pos n)
 
 abbrev pub natural_at : ℕ → List ℕ → ℕ → ℕ → Option ℕ → Option Data → Result ℕ Fault
 natural_at a key least most absent None = absent_as a key least most absent
-natural_at a key least most absent (Some d) = natural_in a key least most d
-
-abbrev pub optional_at : ℕ → List ℕ → ℕ → ℕ → Option Data → Result (Option ℕ) Fault
-optional_at a key least most None = Ok None
-optional_at a key least most (Some d) = natural_in a key least most d >>= λ n. Ok (Some n)
+natural_at a key least most absent (Some d) = natural_in (actor a) key least most d
 
 -- the number, of either sign, of an absent key, if it may be absent
 abbrev pub absent_integer : ℕ → List ℕ → ℤ → ℤ → Option ℤ → Result ℤ Fault
@@ -77,7 +73,7 @@ abbrev pub key_value_at : ℕ → Lookup → List ℕ → Form → Members → R
 key_value_at a files key (forms.Natural least most absent) ms =
     natural_at a key least most absent (get_member key ms) >>= λ n. Ok (Natural n)
 key_value_at a files key (forms.Optional least most) ms =
-    optional_at a key least most (get_member key ms) >>= λ n. Ok (Optional n)
+    optional_at (actor a) key least most (get_member key ms) >>= λ n. Ok (Optional n)
 key_value_at a files key (forms.Integer least most absent) ms =
     integer_at a key least most absent (get_member key ms) >>= λ z. Ok (Integer z)
 key_value_at a files key (forms.FromLeast least most absent) ms =

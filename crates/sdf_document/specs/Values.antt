@@ -1,6 +1,6 @@
 -- Values at single keys.
-use Rattle.std.specs.Prelude.{ℕ, ℤ, pos, negsuc, ◌&&◌, List, [], ◌∷◌, Option, Some, option_map, option_and_then, Result}
-use Rattle.std.specs.Prelude.{Ok, Err, nat_le, int_le, if◌then◌else◌}
+use Rattle.std.specs.Prelude.{ℕ, ℤ, pos, negsuc, ◌&&◌, List, [], ◌∷◌, Option, Some, None, option_map, option_and_then}
+use Rattle.std.specs.Prelude.{Result, Ok, Err, nat_le, int_le, if◌then◌else◌}
 use Rattle.toml.specs.Data.{Data, Items, no_items, item, Members, get_member, as_str, as_integer, as_array}
 use Rattle.sdf_document.specs.Fault.{Place, actor, Fault, kit_value, missing_key, wrong_type, ◌>>=◌, or_fault}
 
@@ -10,16 +10,20 @@ text_at p key ms = do
   d ← or_fault (missing_key p key) (get_member key ms)
   or_fault (wrong_type p key) (as_str d)
 
-abbrev pub within_natural : ℕ → List ℕ → ℕ → ℕ → ℤ → Result ℕ Fault
-within_natural a key least most (pos n) = if nat_le least n
-    && nat_le n most then Ok n else Err (kit_value (actor a) key)
-within_natural a key least most (negsuc n) = Err (kit_value (actor a) key)
+abbrev pub within_natural : Place → List ℕ → ℕ → ℕ → ℤ → Result ℕ Fault
+within_natural p key least most (pos n) = if nat_le least n && nat_le n most then Ok n else Err (kit_value p key)
+within_natural p key least most (negsuc n) = Err (kit_value p key)
 
--- a whole number from least to most, at a key of actor a
-unfoldable pub natural_in : ℕ → List ℕ → ℕ → ℕ → Data → Result ℕ Fault
-natural_in a key least most d = do
-  z ← or_fault (wrong_type (actor a) key) (as_integer d)
-  within_natural a key least most z
+-- a whole number from least to most, at a key
+unfoldable pub natural_in : Place → List ℕ → ℕ → ℕ → Data → Result ℕ Fault
+natural_in p key least most d = do
+  z ← or_fault (wrong_type p key) (as_integer d)
+  within_natural p key least most z
+
+-- a whole number from least to most, at a key that may be absent
+abbrev pub optional_at : Place → List ℕ → ℕ → ℕ → Option Data → Result (Option ℕ) Fault
+optional_at p key least most None = Ok None
+optional_at p key least most (Some d) = natural_in p key least most d >>= λ n. Ok (Some n)
 
 abbrev pub within_integer : ℕ → List ℕ → ℤ → ℤ → ℤ → Result ℤ Fault
 within_integer a key least most z = if int_le least z && int_le z most then Ok z else Err (kit_value (actor a) key)

@@ -9,10 +9,10 @@ ghost use Rattle.sdf_document.specs.Tables.{texts_of};
 ghost use Rattle.sdf_document.specs.Lists.{files_view, lookup_of, are_read, unread};
 ghost use Rattle.sdf_document.specs.Actors.{actor_view, names_in, IsActorWithin};
 ghost use Rattle.sdf_document.specs.Links.{link_view};
-ghost use Rattle.sdf_document.specs.Document.{actors_in, links_in, array_at, item_count, top_keys, parts_at};
+ghost use Rattle.sdf_document.specs.Document.{actors_in, links_in, array_at, item_count, top_keys, rate_at, parts_at};
 ghost use Rattle.sdf_document.specs.Document.{parts_view, document_view, document_of, kind_file, actor_file};
 ghost use Rattle.sdf_document.specs.Document.{entries_at, first_seen, file_names_of, AreDistinct};
-ghost use Rattle.sdf_document.specs.Document.{graph_table, document_in, file_names_in};
+ghost use Rattle.sdf_document.specs.Document.{graph_table, document_in, file_names_in, IsRated};
 
 use crate::actor::actor_at;
 use crate::entry::{ActorEntry, Document, KindEntry, LinkEntry};
@@ -21,7 +21,7 @@ use crate::file::{CoefficientFile, Files};
 use crate::link::link_at;
 use crate::name::put_name;
 use crate::table::{format_at, table_in, test_keys};
-use crate::value::at;
+use crate::value::{at, optional_at};
 use indexmap::IndexSet;
 use sdf_limits::{MAX_ACTORS, MAX_LINKS};
 use std::alloc::{AllocError, Global};
@@ -79,7 +79,10 @@ fn array_at<'a>(key: &'static str, table: &'a Table) -> Result<&'a [Value], Read
     }
 }
 
-static TOP_KEYS: [&str; 3] = ["format", "actor", "link"];
+/// Rate of the sound of a design in Hz: 1 to this.
+pub const MAX_HZ: u32 = u32::MAX;
+
+static TOP_KEYS: [&str; 4] = ["format", "rate", "actor", "link"];
 
 /// Returns the keys at the top of a graph file.
 pub fn top_keys() -> &'static [&'static str]
@@ -88,20 +91,32 @@ pub fn top_keys() -> &'static [&'static str]
     TOP_KEYS.as_slice()
 }
 
-/// The format of a graph file, and the items of its two arrays.
+/// Returns the rate in Hz of the sound that a design is made for, if `table` has it.
+#[tactic(auto, unfolding(crate::specs::Document::rate_at))]
+fn rate_at(table: &Table) -> Result<Option<u32>, ReadFault>
+    ensures given { Gives (λ n. n) result (rate_at (table_view table.now)) }
+    ensures rated { IfOk result IsRated }
+{
+    optional_at(Place::Top, "rate", 1, MAX_HZ, table)
+}
+
+/// The format of a graph file, its rate, and the items of its two arrays.
 #[derive(Clone, Copy)]
 struct FileParts<'a> {
     format: u32,
+    rate: Option<u32>,
     actors: &'a [Value],
     links: &'a [Value],
 }
 
 #[tactic(auto, using(crate::proofs::Turns::item_count_view), unfolding(crate::specs::Document::parts_at))]
 fn parts_at(alloc: Global, table: &Table) -> Result<FileParts<'_>, ReadFault>
-    ensures { Gives parts_view result (parts_at (table_view table.now)) }
+    ensures given { Gives parts_view result (parts_at (table_view table.now)) }
+    ensures rated { IfOk result (λ p. IsRated p.rate) }
 {
     let format = format_at(alloc, BorrowedPlace::Top, 2, table)?;
     test_keys(alloc, BorrowedPlace::Top, top_keys(), table)?;
+    let rate = rate_at(table)?;
     let actors = array_at("actor", table)?;
     let links = array_at("link", table)?;
     if actors.is_empty() || actors.len() > MAX_ACTORS {
@@ -112,20 +127,23 @@ fn parts_at(alloc: Global, table: &Table) -> Result<FileParts<'_>, ReadFault>
     }
     Ok(FileParts {
         format,
+        rate,
         actors,
         links,
     })
 }
 
-/// Reads the actors and links of a graph file, and puts the names of its actors into `names`.
+/// Reads the rate, the actors and the links of a graph file, and puts the names of its actors into `names`.
 fn document_in(
     alloc: Global,
     parts: FileParts<'_>,
     files: &[CoefficientFile],
     names: &mut IndexSet<String>,
 ) -> Result<Document, ReadFault>
-    requires { names_of names.old.keys ≡ [] }
+    requires named { names_of names.old.keys ≡ [] }
+    requires rated { IsRated parts.rate }
     ensures given { Gives document_view result (entries_at (files_view files.now) (parts_view parts.entry)) }
+    ensures rated { IfOk result (λ d. IsRated d.rate) }
     ensures distinct { IfOk result (λ d. AreDistinct (names_in (map actor_view d.actors.items))) }
     ensures within { IfOk result (λ d. All (IsActorWithin true) d.actors.items) }
 {
@@ -137,7 +155,11 @@ fn document_in(
         parts.actors,
     )?;
     let links = links_in(alloc, names, parts.links)?;
-    Ok(Document { actors, links })
+    Ok(Document {
+        rate: parts.rate,
+        actors,
+        links,
+    })
 }
 
 /// Returns the name of the coefficient file of `kind`, if its list has one.
@@ -231,12 +253,14 @@ impl GraphFile {
         Ok(names_wanted(alloc, actors.as_slice())?)
     }
 
-    /// Reads the actors and links of the graph file with its coefficient `files`, or returns the first failed test.
+    /// Reads the rate, the actors and the links of the graph file with its coefficient `files`, or returns the first
+    /// failed test.
     ///
     /// If two of `files` have the same name, the first counts.
     #[tactic(auto, unfolding(crate::specs::Document::document_in))]
     pub fn document(&self, alloc: Global, files: &[CoefficientFile]) -> Result<Document, ReadFault>
         ensures given { Gives document_view result (document_in (table_view self.now) (files_view files.now)) }
+        ensures rated { IfOk result (λ d. IsRated d.rate) }
         ensures distinct { IfOk result (λ d. AreDistinct (names_in (map actor_view d.actors.items))) }
         ensures within { IfOk result (λ d. All (IsActorWithin true) d.actors.items) }
     {
@@ -256,6 +280,7 @@ pub fn read_document(
     files: &[CoefficientFile],
 ) -> Result<Document, ReadFault>
     ensures given { Gives document_view result (document_of graph.now (files_view files.now)) }
+    ensures rated { IfOk result (λ d. IsRated d.rate) }
     ensures distinct { IfOk result (λ d. AreDistinct (names_in (map actor_view d.actors.items))) }
     ensures within { IfOk result (λ d. All (IsActorWithin true) d.actors.items) }
 {

@@ -2,9 +2,10 @@
 
 use std::marker::Model;
 
-/// A graph file: its actors and links, in file order.
+/// A graph file: its rate in Hz, if it has one, and its actors and links in file order.
 #[derive(Debug, Drop)]
 pub struct Document {
+    pub rate: Option<u32>,
     pub actors: Vec<ActorEntry>,
     pub links: Vec<LinkEntry>,
 }

@@ -1,5 +1,5 @@
 //! Values of the keys of a row: one reader for all kinds.
-ghost use Rattle.std.specs.Prelude.{◌≡◌, ◌++◌, ◌≤◌, ◌≤ℤ◌, map, IfOk, IfSome, OnOk};
+ghost use Rattle.std.specs.Prelude.{◌≡◌, ◌++◌, ◌≤◌, ◌≤ℤ◌, map, IfOk, OnOk};
 ghost use Rattle.std.specs.Vec.Iter.{into_iter_items};
 ghost use Rattle.toml.specs.Data.{get_member};
 ghost use Rattle.toml.specs.View.{table_view};
@@ -7,14 +7,14 @@ ghost use Rattle.sdf_document.specs.Fault.{Gives};
 ghost use Rattle.sdf_document.specs.Tables.{texts_of};
 ghost use Rattle.sdf_document.specs.Lists.{lookup_of, are_read};
 ghost use Rattle.sdf_kinds.specs.Rows.{keys_view};
-ghost use Rattle.sdf_document.specs.Kinds.{used_key, names_of_keys, actor_keys, natural_at, optional_at, integer_at};
+ghost use Rattle.sdf_document.specs.Kinds.{used_key, names_of_keys, actor_keys, natural_at, integer_at};
 ghost use Rattle.sdf_document.specs.Kinds.{key_value_at, values_at, HasForm, HaveForms};
 
 use crate::entry::ListEntry;
 use crate::fault::{DocumentFault, Place, ReadFault};
 use crate::file::Files;
 use crate::list::{Limits, list_at};
-use crate::value::{at, integer_in, natural_in};
+use crate::value::{at, integer_in, natural_in, optional_at};
 use sdf_kinds::{Form, KeyForm, shared_keys};
 use std::alloc::{AllocError, Global};
 use toml::Table;
@@ -82,29 +82,12 @@ fn natural_at(
     ensures within { IfOk result (λ n. (least ≤ n) × (n ≤ most)) }
 {
     if let Some(value) = at(table, key) {
-        return natural_in(actor, key, least, most, value);
+        return natural_in(Place::Actor(actor), key, least, most, value);
     }
     match absent {
         Some(number) if least <= number && number <= most => Ok(number),
         Some(_) => Err(DocumentFault::KitValue(Place::Actor(actor), key).into()),
         None => Err(DocumentFault::MissingKey(Place::Actor(actor), key).into()),
-    }
-}
-
-fn optional_at(
-    actor: usize,
-    key: &'static str,
-    least: u32,
-    most: u32,
-    table: &Table,
-) -> Result<Option<u32>, ReadFault>
-    ensures given { Gives (λ n. n) result (optional_at actor key.now least most
-        (get_member key.now (table_view table.now))) }
-    ensures within { IfOk result (λ o. IfSome o (λ n. (least ≤ n) × (n ≤ most))) }
-{
-    match at(table, key) {
-        Some(value) => Ok(Some(natural_in(actor, key, least, most, value)?)),
-        None => Ok(None),
     }
 }
 
@@ -149,7 +132,7 @@ fn key_value_at(
             Ok(KeyValue::Natural(number))
         }
         Form::Optional(least, most) => {
-            let number = optional_at(actor, key, least, most, table)?;
+            let number = optional_at(Place::Actor(actor), key, least, most, table)?;
             Ok(KeyValue::Optional(number))
         }
         Form::Integer(least, most, absent) => {

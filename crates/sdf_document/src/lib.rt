@@ -20,7 +20,7 @@ mod name;
 mod table;
 mod value;
 
-pub use document::{GraphFile, file_names, read_document, top_keys};
+pub use document::{GraphFile, MAX_HZ, file_names, read_document, top_keys};
 pub use entry::{ActorEntry, Document, KindEntry, LinkEntry, ListEntry};
 pub use fault::{DocumentFault, Place, ReadFault};
 pub use file::{CoefficientFile, file_keys, file_named};

@@ -1,9 +1,9 @@
 //! Values at single keys.
-ghost use Rattle.std.specs.Prelude.{◌≡◌, ◌≤◌, ◌≤ℤ◌, option_map, IfOk};
+ghost use Rattle.std.specs.Prelude.{◌≡◌, ◌≤◌, ◌≤ℤ◌, option_map, IfOk, IfSome};
 ghost use Rattle.toml.specs.Data.{get_member};
 ghost use Rattle.toml.specs.View.{table_view, view, items_view};
 ghost use Rattle.sdf_document.specs.Fault.{Gives, place_view, borrowed_view};
-ghost use Rattle.sdf_document.specs.Values.{text_at, natural_in, integer_in, integers_in, integers_at};
+ghost use Rattle.sdf_document.specs.Values.{text_at, natural_in, optional_at, integer_in, integers_in, integers_at};
 
 use crate::fault::{BorrowedPlace, DocumentFault, Place, ReadFault};
 use std::alloc::{AllocError, Global};
@@ -34,25 +34,43 @@ pub(crate) fn text_at<'a>(
     }
 }
 
-/// Reads `value`, at `key` of an actor, as a whole number from `least` to `most`.
+/// Reads `value`, at `key`, as a whole number from `least` to `most`.
 #[tactic(auto, unfolding(crate::specs::Values::natural_in))]
 pub(crate) fn natural_in(
-    actor: usize,
+    place: Place,
     key: &'static str,
     least: u32,
     most: u32,
     value: &Value,
 ) -> Result<u32, ReadFault>
-    ensures given { Gives (λ n. n) result (natural_in actor key.now least most (view value.now)) }
+    ensures given { Gives (λ n. n) result (natural_in (place_view place) key.now least most (view value.now)) }
     ensures within { IfOk result (λ n. (least ≤ n) × (n ≤ most)) }
 {
     let Some(number) = value.as_integer() else {
-        return Err(DocumentFault::WrongType(Place::Actor(actor), key).into());
+        return Err(DocumentFault::WrongType(place, key).into());
     };
     if i64::from(least) <= number && number <= i64::from(most) {
         Ok(number as u32)
     } else {
-        Err(DocumentFault::KitValue(Place::Actor(actor), key).into())
+        Err(DocumentFault::KitValue(place, key).into())
+    }
+}
+
+/// Reads the value at `key` as a whole number from `least` to `most`, if `table` has the key.
+pub(crate) fn optional_at(
+    place: Place,
+    key: &'static str,
+    least: u32,
+    most: u32,
+    table: &Table,
+) -> Result<Option<u32>, ReadFault>
+    ensures given { Gives (λ n. n) result (optional_at (place_view place) key.now least most
+        (get_member key.now (table_view table.now))) }
+    ensures within { IfOk result (λ o. IfSome o (λ n. (least ≤ n) × (n ≤ most))) }
+{
+    match at(table, key) {
+        Some(value) => Ok(Some(natural_in(place, key, least, most, value)?)),
+        None => Ok(None),
     }
 }
 

@@ -7,7 +7,7 @@ use Rattle.sdf_document.specs.declared.entry.KindEntry.{KindEntry}
 use Rattle.sdf_document.specs.declared.entry.KindEntry.TheVariants as entry
 use Rattle.sdf_document.specs.Actors.{ActorValue}
 use Rattle.sdf_document.specs.Links.{LinkValue}
-use Rattle.sdf_document.specs.Document.{DocumentValue, AreDistinct, document_of, file_names_of}
+use Rattle.sdf_document.specs.Document.{DocumentValue, AreDistinct, IsRated, document_of, file_names_of}
 use Rattle.sdf_actor.specs.declared.node.Node.{Node}
 use Rattle.sdf_actor.specs.declared.node.Node.TheVariants.{Source, Sink, Inner}
 use Rattle.sdf_actor.specs.declared.fault.NetFault.{NetFault}
@@ -22,8 +22,10 @@ use Rattle.sdf_kit.specs.Kit.{kit_steps}
 use Rattle.sdf_file.specs.declared.fault.FileFault.{FileFault}
 use Rattle.sdf_file.specs.declared.fault.FileFault.TheVariants.{OutOfMemory, Document, Net}
 
--- a net, with the name, the home processor and the cost of a firing of each actor
+-- the rate in Hz of the sound that it is made for, if it has one, and a net, with the name, the home processor and the
+-- cost of a firing of each actor
 pub record DesignValue : Type 0 where
+  pub rate : Option ℕ
   pub net : Netlist Kit ℤ
   pub names : List (List ℕ)
   pub homes : List (Option ℕ)
@@ -54,6 +56,7 @@ wire_of l = record { from = l.from; to = l.to; initial = l.initial }
 
 abbrev pub design_of : DocumentValue → DesignValue
 design_of d = record {
+  rate = d.rate;
   net = record { nodes = map (λ (a : ActorValue). node_of a.kind) d.actors; wires = map wire_of d.links };
   names = map (λ (a : ActorValue). a.name) d.actors;
   homes = map (λ (a : ActorValue). a.processor) d.actors;
@@ -115,9 +118,10 @@ pub record HaveCosts (n : ℕ) (costs : List ℕ) : Type 0 where
   pub all : length costs ≡ n
   pub each : (a : ℕ) → a < n → (1 ≤ slice_index costs a) × (slice_index costs a ≤ MAX_COST)
 
--- each node has a name of its own, a home or none, and a cost; a WAV file can have a channel for each input, and one
--- for each output
+-- the rate is within its limits; each node has a name of its own, a home or none, and a cost; a WAV file can have a
+-- channel for each input, and one for each output
 pub record IsDesign (d : DesignValue) : Type 0 where
+  pub rated : IsRated d.rate
   pub named : length d.names ≡ length d.net.nodes
   pub distinct : AreDistinct d.names
   pub housed : length d.homes ≡ length d.net.nodes

@@ -4,7 +4,7 @@ ghost use Rattle.std.specs.Prelude.{MatchResult, Ok};
 ghost use Rattle.std.specs.List.{All};
 ghost use Rattle.sdf_document.specs.Lists.{files_view};
 ghost use Rattle.sdf_document.specs.Actors.{actor_view, names_in, IsActorWithin};
-ghost use Rattle.sdf_document.specs.Document.{document_view, AreDistinct};
+ghost use Rattle.sdf_document.specs.Document.{document_view, AreDistinct, IsRated};
 ghost use Rattle.sdf_document.specs.Document.{table_view, graph_table, document_in, file_names_in};
 ghost use Rattle.sdf_document.specs.Names.{names_of};
 ghost use Rattle.sdf_actor.specs.NetFaults.{WasAccepted};
@@ -20,8 +20,10 @@ use sdf_kit::Kit;
 use std::alloc::Global;
 use std::marker::Model;
 
-/// A design: a net, with the name, the home processor and the cost of a firing of each actor.
+/// A design: the rate that it is made for, if it has one, and a net, with the name, the home processor and the cost of
+/// a firing of each actor.
 pub struct Design {
+    rate: Option<u32>,
     net: Net<Kit>,
     names: Vec<String>,
     homes: Vec<Option<usize>>,
@@ -35,6 +37,7 @@ impl Model for Design {
     ghost Value = { DesignValue };
 
     ghost view = { λ d. record {
+      rate = d.rate;
       net = d.net;
       names = names_of d.names.items;
       homes = d.homes.items;
@@ -42,6 +45,7 @@ impl Model for Design {
     } };
 
     ghost invariant = { λ d. IsDesign (record {
+      rate = d.rate;
       net = d.net;
       names = names_of d.names.items;
       homes = d.homes.items;
@@ -53,6 +57,7 @@ impl Model for Design {
 impl Drop for Design {
     fn drop(self) {
         let Design {
+            rate: _,
             net: _,
             names: _,
             homes: _,
@@ -62,6 +67,14 @@ impl Drop for Design {
 }
 
 impl Design {
+    /// Returns the rate in Hz of the sound that the design is made for, or `None` if its key `rate` is absent.
+    pub fn rate(&self) -> Option<u32>
+        ensures value { result ≡ self.now.rate }
+        ensures rated { IsRated result }
+    {
+        self.rate
+    }
+
     /// Returns the net. Its nodes and links have the numbers of the actors and links in the graph file.
     pub fn net(&self) -> &Net<Kit>
         ensures value { result.now ≡ self.now.net }
@@ -128,17 +141,23 @@ pub fn design_files(alloc: Global, graph: &[u8]) -> Result<Vec<String>, FileFaul
 
 /// Makes the design of `document`, or returns the first test that its net fails.
 fn design_of(alloc: Global, document: Document) -> Result<Design, FileFault>
+    requires rated { IsRated document.rate }
     requires distinct { AreDistinct (names_in (map actor_view document.actors.items)) }
     requires within { All (IsActorWithin true) document.actors.items }
     ensures { MatchResult result
         (λ d. (d ≡ design_of (document_view document)) × WasAccepted kit_steps d.net)
         (IsMadeFault (design_of (document_view document)).net) }
 {
-    let Document { actors, links } = document;
+    let Document {
+        rate,
+        actors,
+        links,
+    } = document;
     let parts = parts_of(alloc, actors)?;
     let links = links_of(alloc, links)?;
     let net = Net::new(alloc, parts.nodes, links)?;
     Ok(Design {
+        rate,
         net,
         names: parts.names,
         homes: parts.homes,

@@ -7,7 +7,7 @@ use Rattle.std.proofs.lemmas.List.{get_or_push, get_or_append_left, length_push}
 use Rattle.std.proofs.lemmas.Option.{slice_get_read, slice_get-get_or}
 use Rattle.sdf_filters.specs.declared.stage.Stage.{Stage}
 use Rattle.sdf_filters.specs.declared.filter_spec.FilterSpec.{FilterSpec}
-use Rattle.sdf_filters.specs.declared.converter.StageFile.{StageFile}
+use Rattle.sdf_filters.specs.declared.stage.StageFile.{StageFile}
 use Rattle.sdf_filters.specs.declared.fault.FilterFault.{FilterFault}
 use Rattle.sdf_filters.specs.declared.fault.FilterFault.TheVariants.{OutOfMemory}
 use Rattle.sdf_filters.specs.FilterSpecs.{IsFault}

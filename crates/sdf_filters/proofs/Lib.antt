@@ -5,3 +5,5 @@ mod Values
 mod Counts
 mod Differing
 mod Files
+mod DelaySums
+pub mod TapCounts

@@ -8,12 +8,13 @@ use Rattle.sdf_filters.specs.declared.fault.FilterFault.TheVariants.{OutOfMemory
 use Rattle.sdf_filters.specs.declared.stage.Stage.{Stage}
 use Rattle.sdf_filters.specs.declared.filter_spec.Band.TheVariants.{Low}
 use Rattle.sdf_filters.specs.declared.filter_spec.FilterSpec.{FilterSpec}
-use Rattle.sdf_filters.specs.declared.converter.StageFile.{StageFile}
+use Rattle.sdf_filters.specs.declared.stage.StageFile.{StageFile}
 use Rattle.sdf_filters.specs.Lowpass.{tested}
 use Rattle.sdf_filters.specs.FilterSpecs.{IsFault}
 use Rattle.sdf_filters.specs.Filters.{AreFilterTexts}
 use Rattle.sdf_filters.specs.Stages.{IsSplit, IsSplitFault}
 use Rattle.sdf_filters.specs.Graphs.{stage_name, graph_text}
+use Rattle.sdf_filters.specs.Delays.{delay}
 
 -- the highest frequency that passes a conversion: ten elevenths of half the lower rate
 abbrev pub passed : ℕ → ℕ → ℕ
@@ -39,11 +40,12 @@ stage_spec rate pass attenuation s = record {
   shift = STAGE_SHIFT;
 }
 
--- the coefficient file of a stage: the taps of its filter, whose rate fits in 32 bits
+-- the coefficient file of a stage: the taps of its filter, whose rate fits in 32 bits, and their number
 pub record IsStageFile (w : FilterSpec) (number : ℕ) (f : StageFile) : Type 0 where
   pub rate : w.rate < 2 ^ 32
   pub name : string_bytes f.name ≡ stage_name number ++ codes ".toml"
-  pub texts : AreFilterTexts w (string_bytes f.text) (string_bytes f.summary)
+  pub texts : AreFilterTexts w (string_bytes f.text) (string_bytes f.summary) f.taps
+  pub rate_is : f.rate ≡ w.rate
 
 -- a file belongs to the stage with this number, which takes this rate
 abbrev pub IsFileOf : ℕ → ℕ → ℕ → ℕ → Option Stage → Option StageFile → Type 0
@@ -66,13 +68,15 @@ abbrev pub channels_test : ℕ → Result (Unit {0}) FilterFault
 channels_test channels = tested (nat_le 1 channels && nat_le channels (MAX_CHANNEL + 1)) (Channels channels) (Ok tt)
 
 -- The channels are 1 to 8. The graph file and the coefficient files are made for stages whose product is the ratio of
--- the rates.
-pub record IsConverter (from to channels attenuation : ℕ) (graph : List ℕ) (files : List StageFile) : Type 0 where
-  pub allowed : channels_test channels ≡ Ok tt
-  pub stages : List Stage
-  pub split : IsSplit from to stages
-  pub graph_is : graph ≡ graph_text from to channels stages
-  pub files_are : AreStageFiles from (passed from to) attenuation stages files
+-- the rates. The output is late by the delay of their filters.
+pub record IsConverter (from to channels attenuation : ℕ) (graph : List ℕ) (files : List StageFile) (late : ℕ) : Type 0
+  where
+    pub allowed : channels_test channels ≡ Ok tt
+    pub stages : List Stage
+    pub split : IsSplit from to stages
+    pub graph_is : graph ≡ graph_text from to channels stages
+    pub files_are : AreStageFiles from (passed from to) attenuation stages files
+    pub late_is : late ≡ delay to files
 
 -- a rate has over 32 bits
 pub record IsRateFault (rate : ℕ) (fault : FilterFault) : Type 0 where

@@ -1,5 +1,7 @@
 -- The texts that are printed of a filter.
-use Rattle.std.specs.Prelude.{◌≡◌, ◌==◌, ℕ, ◌/◌, ◌%◌, ℤ, List, [], ◌∷◌, ◌++◌, length, codes, decimal, if◌then◌else◌}
+use Rattle.std.specs.Prelude.{◌≡◌, ◌==◌, ℕ, ◌/◌, ◌%◌, ◌≤◌, ℤ, List, [], ◌∷◌, ◌++◌, length, codes, decimal}
+use Rattle.std.specs.Prelude.{if◌then◌else◌}
+use Rattle.sdf_limits.specs.declared.TheConstants.{MAX_TAPS}
 use Rattle.sdf_filters.specs.declared.measure.Measured.{Measured}
 use Rattle.sdf_filters.specs.declared.filter_spec.Band.{Band}
 use Rattle.sdf_filters.specs.declared.filter_spec.Band.TheVariants.{Low, High, Middle}
@@ -35,20 +37,23 @@ with_places n =
 abbrev pub with_place : ℕ → List ℕ
 with_place n = decimal (n / 10) ++ codes "." ++ decimal (n % 10)
 
--- the number of taps: `1 tap: `, otherwise `N taps: `
+-- the number of taps, `1 tap` or `N taps`, and the name of the first measure
 abbrev pub counted_taps : ℕ → List ℕ
-counted_taps count = if count == 1 then codes "1 tap: " else decimal count ++ codes " taps: "
+counted_taps count =
+    if count == 1 then codes "1 tap: passband ripple " else decimal count ++ codes " taps: passband ripple "
 
 -- the number of taps, and their measures
 unfoldable pub summary_text : ℕ → Measured → List ℕ
 summary_text count m =
-    counted_taps count ++ with_places m.ripple ++ codes " dB of ripple, what is stopped at least "
-    ++ with_place m.attenuation ++ codes " dB down" ++ end
+    counted_taps count ++ with_places m.ripple ++ codes " dB, stopband attenuation "
+    ++ with_place m.attenuation ++ codes " dB" ++ end
 
--- the coefficient file of the filter's taps, and the line with their measures, which may be any numbers
-pub record AreFilterTexts (w : FilterSpec) (file summary : List ℕ) : Type 0 where
+-- the coefficient file of the filter's taps, the line with their measures, which may be any numbers, and their number
+pub record AreFilterTexts (w : FilterSpec) (file summary : List ℕ) (count : ℕ) : Type 0 where
   pub taps : List ℤ
   pub are : AreTaps w taps
+  pub count_is : count ≡ length taps
+  pub few : count ≤ MAX_TAPS
   pub file_is : file ≡ head_text w ++ coefficient_text taps
   pub measures : Measured
   pub summary_is : summary ≡ summary_text (length taps) measures

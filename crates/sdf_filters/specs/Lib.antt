@@ -8,3 +8,4 @@ pub mod FilterSpecs
 pub mod Filters
 pub mod Graphs
 pub mod Converters
+pub mod Delays

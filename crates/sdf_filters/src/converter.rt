@@ -8,28 +8,23 @@ ghost use Rattle.sdf_filters.specs.Converters.{channels_test, IsRateFault, IsSta
 ghost use Rattle.sdf_filters.specs.Converters.{IsConverterFault};
 ghost use Rattle.sdf_filters.specs.FilterSpecs.{IsFault};
 
+use crate::delay::delay;
 use crate::fault::{FilterFault, test};
 use crate::filter_spec::{Band, FilterSpec};
 use crate::graph::{STAGE_SHIFT, graph_text, push_stage_name};
 use crate::split::stages;
-use crate::stage::Stage;
+use crate::stage::{Stage, StageFile};
 use crate::texts::filter_texts;
 use sdf_limits::MAX_CHANNEL;
 use std::alloc::{AllocError, Global};
-
-/// The coefficient file of a stage: its name, its text, and the line with the measures of its taps.
-#[derive(Drop)]
-pub struct StageFile {
-    pub name: String,
-    pub text: String,
-    pub summary: String,
-}
 
 /// A design that converts between two rates: its graph file, and the coefficient file of each stage, in order.
 #[derive(Drop)]
 pub struct ConverterTexts {
     pub graph: String,
     pub files: Vec<StageFile>,
+    /// By how many frames the output is late, rounded to the nearest.
+    pub delay: u128,
 }
 
 /// Tests the number of channels.
@@ -101,6 +96,8 @@ fn stage_file(alloc: Global, number: usize, wanted: FilterSpec) -> Result<StageF
         name,
         text: texts.file,
         summary: texts.summary,
+        rate: wanted.rate,
+        taps: texts.taps,
     })
 }
 
@@ -140,12 +137,17 @@ pub fn converter_texts(
     attenuation: u32,
 ) -> Result<ConverterTexts, FilterFault>
     ensures { MatchResult result
-        (λ texts. IsConverter from to channels attenuation (string_bytes texts.graph) texts.files.items)
+        (λ texts. IsConverter from to channels attenuation (string_bytes texts.graph) texts.files.items texts.delay)
         (IsConverterFault from to channels attenuation) }
 {
     check_channels(channels)?;
     let stages = stages(alloc, from, to, attenuation)?;
     let files = stage_files(alloc, from, passed(from, to), attenuation, &stages)?;
     let graph = graph_text(alloc, from, to, channels, &stages)?;
-    Ok(ConverterTexts { graph, files })
+    let delay = delay(to, &files);
+    Ok(ConverterTexts {
+        graph,
+        files,
+        delay,
+    })
 }

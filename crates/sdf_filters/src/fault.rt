@@ -13,52 +13,52 @@ pub enum FilterFault {
     #[error("out of memory")]
     OutOfMemory,
     /// The filter's `up` is outside its limits.
-    #[error("`up` is {up}: take one from 1 to 64")]
+    #[error("--up is {up}: it must be 1 to 64")]
     Up { up: u32 },
     /// The filter's `shift` is over its limit.
-    #[error("`shift` is {shift}: take one from 0 to 15")]
+    #[error("--shift is {shift}: it must be 0 to 15")]
     Shift { shift: u32 },
     /// The attenuation is over 200 dB.
-    #[error("an attenuation of {attenuation} dB: take one from 0 to 200")]
+    #[error("--attenuation is {attenuation} dB: it must be 0 to 200")]
     Attenuation { attenuation: u32 },
     /// The passed frequencies do not end below the stopped ones.
-    #[error("what passes ends at {pass} Hz, what is stopped begins at {stop}: take `pass` lower, or `stop` higher")]
+    #[error("--pass is {pass} Hz and --stop is {stop} Hz: lower --pass or raise --stop")]
     PassNotBelowStop { pass: u32, stop: u32 },
     /// The stopped frequencies begin above half the rate.
-    #[error("what is stopped begins at {stop} Hz, over half the rate of {rate}: take it lower, or a higher rate")]
+    #[error("--stop is {stop} Hz, above half of --rate, which is {rate} Hz: lower --stop or raise --rate")]
     StopOverHalf { stop: u32, rate: u32 },
     /// Kaiser's formula asks for more taps than a filter may have.
-    #[error("{taps} taps, over 1024: take what passes and what is stopped further apart, or less attenuation")]
+    #[error("{taps} taps, but 1024 is the limit: move --pass and --stop further apart, or lower --attenuation")]
     TooManyTaps { taps: usize },
     /// A tap of this size has more than 16 bits.
-    #[error("a tap of size {size} has over 16 bits: take a smaller `shift`, or what passes and what is stopped lower")]
+    #[error("a tap of size {size} does not fit in 16 bits: lower --shift, or lower --pass and --stop")]
     TapTooLarge { size: u32 },
     /// The stopped frequencies of a high-pass do not end below the passed ones.
-    #[error("what is stopped ends at {stop} Hz, what passes begins at {pass}: take `stop` lower, or `pass` higher")]
+    #[error("--stop is {stop} Hz and --pass is {pass} Hz: for a high-pass, lower --stop or raise --pass")]
     StopNotBelowPass { stop: u32, pass: u32 },
     /// The stopped frequencies below a band-pass do not end below the passed ones.
-    #[error("`--low-stop` is {low_stop}, `--low-pass` is {low_pass}: give a band-pass both, the first lower")]
+    #[error("--low-stop is {low_stop} Hz and --low-pass is {low_pass} Hz: a band-pass needs both, the first lower")]
     LowStopNotBelowLowPass { low_stop: u32, low_pass: u32 },
     /// The passed frequencies begin above half the rate.
-    #[error("what passes begins at {pass} Hz, over half the rate of {rate}: take it lower, or a higher rate")]
+    #[error("--pass is {pass} Hz, above half of --rate, which is {rate} Hz: lower --pass or raise --rate")]
     PassOverHalf { pass: u32, rate: u32 },
     /// The passed frequencies do not begin below their end.
-    #[error("what passes begins at {low_pass} Hz and ends at {pass}: take `--low-pass` lower, or `--pass` higher")]
+    #[error("--low-pass is {low_pass} Hz and --pass is {pass} Hz: lower --low-pass or raise --pass")]
     NothingPasses { low_pass: u32, pass: u32 },
     /// A high-pass has no phases, but its `up` is not 1.
-    #[error("a high-pass with `up` {up}: take 1")]
+    #[error("--up is {up}: a high-pass needs --up 1")]
     UpOfHighpass { up: u32 },
     /// A filter of a conversion would work at a rate of more than 32 bits.
-    #[error("a filter at {rate} Hz, over 4294967295: take lower rates")]
+    #[error("a filter would run at {rate} Hz, above 4294967295 Hz: use lower rates")]
     RateTooLarge { rate: u64 },
     /// The number of channels is not 1 to 8, the numbers that a WAV file may have.
-    #[error("{channels} channels: take 1 to 8")]
+    #[error("--channels is {channels}: it must be 1 to 8")]
     Channels { channels: u32 },
     /// A rate is 0.
-    #[error("a rate is 0: take both from 1 on")]
+    #[error("a rate is 0: both must be at least 1")]
     NoRate,
     /// The ratio of the rates, in lowest terms, has this factor over 64, which no number from 2 to 64 divides.
-    #[error("the ratio of the rates has the factor {factor}, which has no divisor from 2 to 64: take another rate")]
+    #[error("the ratio of the rates has the factor {factor}, which no number from 2 to 64 divides: use another rate")]
     FactorTooLarge { factor: u32 },
 }
 

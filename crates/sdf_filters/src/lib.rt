@@ -5,14 +5,15 @@
 //! taps) and `texts` (what `sdfw fir` prints). These use `lowpass`, `differences` (high-passes and band-passes),
 //! `coefficients` (the text of taps) and `settling`. `settling` makes the sum of each phase exact by the steps of
 //! `phases`, in the `order` of taps. `split` splits a conversion into stages. `converter` makes their design for `sdfw
-//! resample`, with the graph file from `graph`. `sinc`, `cost` and `measure` compute with floats, and no clause says
-//! anything of their values. The definitions are in `specs/FilterSpecs.antt`, `specs/Phases.antt` (the sums of phases),
-//! `specs/Stages.antt` and `specs/Converters.antt`.
+//! resample`, with the graph file from `graph` and the delay from `delay`. `sinc`, `cost` and `measure` compute with
+//! floats, and no clause says anything of their values. The definitions are in `specs/FilterSpecs.antt`,
+//! `specs/Phases.antt` (the sums of phases), `specs/Stages.antt` and `specs/Converters.antt`.
 #![tactic(auto)]
 
 mod coefficients;
 mod converter;
 mod cost;
+mod delay;
 mod differences;
 mod fault;
 mod filter;
@@ -30,7 +31,7 @@ mod stage;
 mod texts;
 
 pub use coefficients::coefficient_text;
-pub use converter::{ConverterTexts, StageFile, converter_texts};
+pub use converter::{ConverterTexts, converter_texts};
 pub use fault::FilterFault;
 pub use filter::taps_of;
 pub use filter_spec::{Band, FilterSpec};
@@ -38,5 +39,5 @@ pub use lowpass::{Lowpass, MAX_ATTENUATION};
 pub use measure::Measured;
 pub use settling::settle;
 pub use split::stages;
-pub use stage::Stage;
+pub use stage::{Stage, StageFile};
 pub use texts::{FilterTexts, filter_texts};

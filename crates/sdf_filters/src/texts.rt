@@ -17,6 +17,7 @@ use std::alloc::{AllocError, Global};
 pub struct FilterTexts {
     pub file: String,
     pub summary: String,
+    pub taps: u32,
 }
 
 /// Adds the kind of a filter and the edges of its bands.
@@ -70,13 +71,13 @@ fn push_place(text: &mut String, number: u64) -> Result<(), AllocError>
     write!(text, "{whole}.{tenths}")
 }
 
-/// Adds the number of taps, which begins the line.
+/// Adds the number of taps, which begins the line, and the name of the first measure.
 fn push_count(text: &mut String, count: usize) -> Result<(), AllocError>
     ensures { OnOk result (string_bytes text.new ≡ string_bytes text.old ++ counted_taps count) }
 {
     match count {
-        1 => text.push_str("1 tap: "),
-        _ => write!(text, "{count} taps: "),
+        1 => text.push_str("1 tap: passband ripple "),
+        _ => write!(text, "{count} taps: passband ripple "),
     }
 }
 
@@ -87,15 +88,17 @@ fn push_summary(text: &mut String, count: usize, measures: Measured) -> Result<(
 {
     push_count(text, count)?;
     push_places(text, measures.ripple)?;
-    text.push_str(" dB of ripple, what is stopped at least ")?;
+    text.push_str(" dB, stopband attenuation ")?;
     push_place(text, measures.attenuation)?;
-    text.push_str(" dB down\n")
+    text.push_str(" dB\n")
 }
 
 /// Returns the coefficient file of the taps of a filter, and the line with their measures.
+#[tactic(auto, using(crate::proofs::TapCounts::few_taps))]
 pub fn filter_texts(alloc: Global, wanted: FilterSpec) -> Result<FilterTexts, FilterFault>
     ensures { MatchResult result
-        (λ texts. AreFilterTexts wanted (string_bytes texts.file) (string_bytes texts.summary)) (IsFault wanted) }
+        (λ texts. AreFilterTexts wanted (string_bytes texts.file) (string_bytes texts.summary) texts.taps)
+        (IsFault wanted) }
 {
     let taps = taps_of(alloc, wanted)?;
     let mut file = String::new(alloc);
@@ -103,5 +106,9 @@ pub fn filter_texts(alloc: Global, wanted: FilterSpec) -> Result<FilterTexts, Fi
     push_coefficients(&mut file, &taps)?;
     let mut summary = String::new(alloc);
     push_summary(&mut summary, taps.len(), wanted.measures(&taps))?;
-    Ok(FilterTexts { file, summary })
+    Ok(FilterTexts {
+        file,
+        summary,
+        taps: taps.len() as u32,
+    })
 }

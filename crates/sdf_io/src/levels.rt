@@ -3,6 +3,7 @@
 ghost use Rattle.std.specs.Prelude.{◌≤◌, ◌<◌, length};
 
 use crate::lanes::{LANES, Lane, Lanes};
+use byteorder::{ByteOrder, LittleEndian};
 use sdf_options::plural::plural;
 use sdf_wav::{HEADER_BYTES, MAX_CHANNELS};
 use std::alloc::{AllocError, Global};
@@ -16,12 +17,12 @@ const MAX_OUTPUTS: usize = MAX_CHANNELS as usize;
 
 /// The levels of an output.
 #[derive(Clone, Copy)]
-struct Level {
-    frames: u64,
+pub struct Level {
+    pub frames: u64,
     /// The greatest absolute value of a sample.
-    peak: u16,
+    pub peak: u16,
     /// The number of samples at full scale, -32768 or 32767.
-    full: u64,
+    pub full: u64,
 }
 
 impl Level {
@@ -117,7 +118,7 @@ impl SoundLevels {
             None => self.low = Some(byte),
             Some(low) => {
                 self.low = None;
-                self.count(i16::from_le_bytes([low, byte]));
+                self.count(LittleEndian::read_i16(&[low, byte]));
             }
         }
     }
@@ -175,13 +176,7 @@ impl SoundLevels {
     fn number(&self, at: usize) -> u64
         requires { at < 41 }
     {
-        let [a, b, c, d] = [
-            self.header[at],
-            self.header[at + 1],
-            self.header[at + 2],
-            self.header[at + 3],
-        ];
-        u64::from(u32::from_le_bytes([a, b, c, d]))
+        u64::from(LittleEndian::read_u32(&self.header[at..]))
     }
 
     /// Returns how far the sound is written, once its header is whole.
@@ -202,13 +197,20 @@ impl SoundLevels {
         self.outputs[0].frames
     }
 
+    /// Returns the levels of each output, or none before the header is whole.
+    pub fn outputs(&self) -> &[Level] {
+        if self.has_header() {
+            &self.outputs[..self.channels()]
+        } else {
+            &[]
+        }
+    }
+
     /// Returns a line with the levels of each output, or nothing before the header is whole.
     pub fn text(&self, alloc: Global) -> Result<String, AllocError> {
         let mut text = String::new(alloc);
-        if self.has_header() {
-            for output in 0..self.channels() {
-                push_level(&mut text, output, self.outputs[output])?;
-            }
+        for (output, level) in self.outputs().iter().enumerate() {
+            push_level(&mut text, output, *level)?;
         }
         Ok(text)
     }

@@ -2,10 +2,10 @@
 //! overwriting.
 //!
 //! It depends on `sdf_file`, which reads a design, on `sdf_wav` for the sizes of headers, on `sdf_faults`, and on
-//! `sdf_options` for texts that are safe to print and for usage errors. Begin at `storage`, then `files` and
-//! `overwriting`. A run reads through `input`. There `open_ended` reads to the end, and `opening` hides the size of the
-//! samples. A run writes through `output`, with `progress` and `levels`. `lanes` counts the samples by SIMD. `world`
-//! has what the commands work with.
+//! `sdf_options` for texts that are safe to print and for usage errors. `byteorder` reads numbers in a sound's bytes.
+//! Begin at `storage`, then `files` and `overwriting`. A run reads through `input`. There `open_ended` reads to the
+//! end, and `opening` hides the size of the samples. A run writes through `output`, with `progress` and `levels`.
+//! `lanes` counts the samples by SIMD. `world` has what the commands work with.
 #![tactic(auto)]
 
 pub mod files;
@@ -20,4 +20,4 @@ pub mod progress;
 pub mod storage;
 pub mod world;
 
-pub use levels::SoundLevels;
+pub use levels::{Level, SoundLevels};

@@ -2,6 +2,8 @@
 
 ghost use Rattle.std.specs.Prelude.{◌≤◌, IfSome};
 
+use byteorder::{ByteOrder, LittleEndian};
+
 /// The bytes before the first chunk: `RIFF`, a size and `WAVE`.
 const START: u64 = 12;
 
@@ -72,8 +74,7 @@ impl Opening {
     fn pass(&mut self) {
         self.is_over = self.is_data();
         self.has_format = self.has_format || &self.header[..4] == b"fmt ".as_slice();
-        let [_, _, _, _, a, b, c, d] = self.header;
-        let size = u64::from(u32::from_le_bytes([a, b, c, d]));
+        let size = u64::from(LittleEndian::read_u32(&self.header[4..]));
         self.skipped = size + size % 2;
         self.read = 0;
     }

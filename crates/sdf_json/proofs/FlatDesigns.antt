@@ -1,5 +1,5 @@
 -- The values of designs do not nest deep.
-use Rattle.std.proofs.Common.{◌≤◌, ℕ, suc, List, [], ◌∷◌, length, arith}
+use Rattle.std.proofs.Common.{◌≤◌, ℕ, suc, List, [], ◌∷◌, length, Option, Some, None, arith}
 use Rattle.std.specs.Prelude.{sum, codes, slice_index}
 use Rattle.std.specs.List.{AllByRecursion}
 use Rattle.serde_json.specs.Data.{Data, no_members, depth, string}
@@ -10,7 +10,7 @@ use Rattle.sdf_actor.specs.declared.sides.Lists.TheVariants.{Inputs, Outputs}
 use Rattle.sdf_file.specs.Designs.{DesignValue}
 use Rattle.sdf_texts.specs.Schedules.{name_of}
 use Rattle.sdf_json.specs.Values.{natural, object_of, list_of, each_to}
-use Rattle.sdf_json.specs.Designs.{actor_value, end_value, ends_of, link_value, check_value}
+use Rattle.sdf_json.specs.Designs.{actor_value, end_value, ends_of, link_value, rate_member, check_value}
 use Rattle.sdf_json.proofs.Depths.{IsFlat, with_flat, each_flat}
 
 pub object_flat : (n : ℕ) (ms : List (List ℕ × Data)) → AllByRecursion (λ (m : List ℕ × Data). IsFlat n m.1) ms →
@@ -39,14 +39,21 @@ list_flat n f m each = let inner = each_flat n f m each in omega (arith, inner)
 pub weaker : (m n : ℕ) (d : Data) → m ≤ n → IsFlat m d → IsFlat n d
 weaker m n d less flat = omega (arith, less, flat)
 
+rate_each : (rate : Option ℕ) → AllByRecursion (λ (m : List ℕ × Data). IsFlat 3 m.1) (rate_member rate)
+rate_each None = tt
+rate_each (Some n) = (omega arith, tt)
+
 pub check_flat : (d : DesignValue) (q : List ℕ) → depth (check_value d q) ≤ max_depth
 check_flat d q =
     let actors = list_of (each_to (actor_value d q) (length d.net.nodes)) in
     let links = list_of (each_to (link_value d) (length d.net.wires)) in
     let flat = object_flat 3 ((codes "actors", actors) ∷ (codes "links", links) ∷ (codes "period", natural (sum q))
     ∷ (codes "input", natural (period_samples d.net.nodes Inputs q))
-    ∷ (codes "output", natural (period_samples d.net.nodes Outputs q)) ∷ []) (
+    ∷ (codes "output", natural (period_samples d.net.nodes Outputs q)) ∷ rate_member d.rate) (
       weaker 2 3 actors (omega arith) (list_flat 1 (actor_value d q) (length d.net.nodes) (actor_flat d q)),
-      (list_flat 2 (link_value d) (length d.net.wires) (link_flat d), (omega arith, (omega arith, (omega arith, tt)))),
+      (
+        list_flat 2 (link_value d) (length d.net.wires) (link_flat d),
+        (omega arith, (omega arith, (omega arith, rate_each d.rate))),
+      ),
     ) in
     omega (arith, flat)

@@ -12,6 +12,9 @@ use Rattle.sdf_json.specs.Values.{natural, or_null, list_of}
 use Rattle.sdf_json.specs.FaultMembers.{plain_fault}
 use Rattle.sdf_json.specs.Faults.{progress_value, stalled_value, usage_value, IsWordsValue, IsFaultValue}
 use Rattle.sdf_json.proofs.Depths.{IsFlat, with_flat, map_flat, perhaps_flat}
+use Rattle.sdf_json.specs.declared.details.Details.{Details}
+use Rattle.sdf_json.specs.Details.{detailed}
+use Rattle.sdf_json.proofs.FlatDetails.{detailed_flat}
 use Rattle.sdf_json.proofs.FlatLayers.{told_flat, plain_flat, file_flat, prec_flat, format_flat}
 
 progress_flat : (p : Progress) → IsFlat 1 (progress_value p)
@@ -58,5 +61,5 @@ value_flat fault.Write d is = is_plain is
 value_flat fault.ChannelsMissing d is = is_plain is
 value_flat fault.RateNotWhole d is = is_plain is
 
-pub fault_flat : (f : Fault) (d : Data) → IsFaultValue f d → depth d ≤ max_depth
-fault_flat f d is = let flat = value_flat f d is in omega (arith, flat)
+pub fault_flat : (f : Fault) (x : Details) (d : Data) → IsFaultValue f d → depth (detailed x d) ≤ max_depth
+fault_flat f x d is = let flat = detailed_flat x d (value_flat f d is) in omega (arith, flat)

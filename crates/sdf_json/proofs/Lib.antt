@@ -2,7 +2,9 @@ mod Depths
 mod FlatDesigns
 mod FlatTables
 mod FlatLayers
+mod FlatDetails
 mod FlatFaults
 mod FlatSchedules
+mod FlatRuns
 mod FlatKinds
 mod KindPorts

@@ -1,5 +1,5 @@
 -- The line that the command `check --json` prints.
-use Rattle.std.specs.Prelude.{ℕ, List, [], ◌∷◌, length, sum, codes, slice_index}
+use Rattle.std.specs.Prelude.{ℕ, List, [], ◌∷◌, length, sum, codes, slice_index, Option, Some, None}
 use Rattle.serde_json.specs.Data.{Data, string}
 use Rattle.sdf_graph.specs.Rates.{rates}
 use Rattle.sdf_graph.specs.Periods.{IsLeastPeriod}
@@ -29,8 +29,13 @@ ends_of d c =
 abbrev pub link_value : DesignValue → ℕ → Data
 link_value d c = object_of (ends_of d c)
 
+-- the rate in Hz that a design is made for, if it has one
+abbrev pub rate_member : Option ℕ → List (List ℕ × Data)
+rate_member None = []
+rate_member (Some n) = (codes "rate", natural n) ∷ []
+
 -- a design with repetition vector q: its actors and links in file order; then the firings, the samples that each input
--- puts, and the samples that each output takes, all in a period
+-- puts, and the samples that each output takes, all in a period; and the rate, if there is one
 abbrev pub check_value : DesignValue → List ℕ → Data
 check_value d q = object_of (
     (codes "actors", list_of (each_to (actor_value d q) (length d.net.nodes)))
@@ -38,7 +43,7 @@ check_value d q = object_of (
     ∷ (codes "period", natural (sum q))
     ∷ (codes "input", natural (period_samples d.net.nodes Inputs q))
     ∷ (codes "output", natural (period_samples d.net.nodes Outputs q))
-    ∷ [])
+    ∷ rate_member d.rate)
 
 -- the text of a design, whose repetition vector is the least
 pub record IsCheckJson (d : DesignValue) (text : List ℕ) : Type 0 where

@@ -10,6 +10,8 @@ use Rattle.sdf_json.specs.Values.{natural, or_null, object_of, list_of, IsLineOf
 use Rattle.sdf_json.specs.FaultMembers.{told, plain_fault}
 use Rattle.sdf_json.specs.DesignFaults.{file_value}
 use Rattle.sdf_json.specs.RunFaults.{prec_value, format_value}
+use Rattle.sdf_json.specs.Details.{detailed}
+use Rattle.sdf_json.specs.declared.details.Details.{Details}
 
 -- how far an actor got before a deadlock, and the link that holds too little
 abbrev pub progress_value : Progress → Data
@@ -49,8 +51,8 @@ IsFaultValue fault.Write d = d ≡ plain_fault 48 (codes "Write")
 IsFaultValue fault.ChannelsMissing d = d ≡ plain_fault 59 (codes "ChannelsMissing")
 IsFaultValue fault.RateNotWhole d = d ≡ plain_fault 60 (codes "RateNotWhole")
 
--- the text of a fault
-pub record IsFaultJson (f : Fault) (text : List ℕ) : Type 0 where
+-- the text of a fault, with what a diagnostic says
+pub record IsFaultJson (f : Fault) (x : Details) (text : List ℕ) : Type 0 where
   pub value : Data
   pub of_fault : IsFaultValue f value
-  pub is : IsLineOf value text
+  pub is : IsLineOf (detailed x value) text

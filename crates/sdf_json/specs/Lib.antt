@@ -2,11 +2,13 @@ pub mod Values
 pub mod FaultMembers
 pub mod DesignFaults
 pub mod RunFaults
+pub mod Details
 pub mod Faults
 pub mod Designs
 pub mod Tables
 pub mod Schedules
 pub mod Analyses
 pub mod Comparisons
+pub mod Runs
 pub mod Ports
 pub mod Kinds

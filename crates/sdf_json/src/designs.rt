@@ -8,7 +8,8 @@ ghost use Rattle.sdf_graph.specs.Periods.{IsLeastPeriod};
 ghost use Rattle.sdf_actor.specs.Graphs.{graph_of};
 ghost use Rattle.sdf_kit.specs.Kit.{kit_steps};
 ghost use Rattle.sdf_json.specs.Values.{with, each_to};
-ghost use Rattle.sdf_json.specs.Designs.{actor_value, end_value, ends_of, link_value, check_value, IsCheckJson};
+ghost use Rattle.sdf_json.specs.Designs.{actor_value, end_value, ends_of, link_value, rate_member, check_value};
+ghost use Rattle.sdf_json.specs.Designs.{IsCheckJson};
 
 use crate::values::{Members, line_of, put_number, put_text};
 use sdf_file::Design;
@@ -96,6 +97,17 @@ fn links(alloc: Global, design: &Design) -> Result<Vec<Value>, AllocError>
     Ok(list)
 }
 
+/// Adds the rate in Hz that a design is made for, if it has one.
+fn put_rate(members: &mut Members, alloc: Global, rate: Option<u32>) -> Result<(), AllocError>
+    ensures { OnOk result (members_view members.new.entries ≡
+        with (members_view members.old.entries) (rate_member rate)) }
+{
+    match rate {
+        Some(rate) => put_number(members, alloc, "rate", u64::from(rate)),
+        None => Ok(()),
+    }
+}
+
 fn check_value(
     alloc: Global,
     design: &Design,
@@ -118,11 +130,13 @@ fn check_value(
     )?;
     put_number(&mut members, alloc, "input", net.samples_in() as u64)?;
     put_number(&mut members, alloc, "output", net.samples_out() as u64)?;
+    put_rate(&mut members, alloc, design.rate())?;
     Ok(Value::Object(members))
 }
 
 /// Returns `design` as a line of JSON: its actors with their firings in a period, its links, and the firings of a
-/// period. Last are the samples that each input puts and each output takes in a period.
+/// period. Then come the samples that each input puts and each output takes in a period, and the rate in Hz that it is
+/// made for, if it has one.
 pub fn check_json(alloc: Global, design: &Design) -> Result<String, AllocError>
     ensures { IfOk result (λ text. IsCheckJson design.now (string_bytes text)) }
 {

@@ -8,6 +8,7 @@ ghost use Rattle.sdf_json.specs.Faults.{progress_value, stalled_value, usage_val
 ghost use Rattle.sdf_json.specs.Faults.{IsFaultJson};
 
 use crate::design_faults::file_value;
+use crate::details::{Details, detailed};
 use crate::fault_members::{number_and_name, plain_fault};
 use crate::run_faults::{format_value, prec_value};
 use crate::values::{line_of, or_null, put_number, put_text};
@@ -94,10 +95,11 @@ fn fault_value(alloc: Global, fault: &Fault) -> Result<Value, AllocError>
 }
 
 /// Returns the line that the program prints about `fault` on standard error when it prints JSON. It reads as the
-/// fault's number, its name, and everything that the fault carries, each under its own name.
-pub fn fault_json(alloc: Global, fault: &Fault) -> Result<String, AllocError>
-    ensures { IfOk result (λ text. IsFaultJson fault.now (string_bytes text)) }
+/// fault's number, its name, everything that the fault carries, and what `details` say, each under its own name.
+pub fn fault_json(alloc: Global, fault: &Fault, details: &Details) -> Result<String, AllocError>
+    ensures { IfOk result (λ text. IsFaultJson fault.now details.now (string_bytes text)) }
 {
-    let value = fault_value(alloc, fault)?;
+    let plain = fault_value(alloc, fault)?;
+    let value = detailed(alloc, plain, details)?;
     line_of(alloc, &value)
 }

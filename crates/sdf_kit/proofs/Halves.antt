@@ -11,7 +11,7 @@ use borrow.Rule.Simd.Lanes.{act2}
 use borrow.Table.Row.{s_int}
 use mir.Syntax.{signed, shr, bit_and as and_op}
 
-abbrev upper_lane : ℕ → ℕ → ℕ
+abbrev pub upper_lane : ℕ → ℕ → ℕ
 upper_lane = act2 (shr signed) (s_int w32) (s_int w32) (s_int w32)
 
 abbrev lower_lane : ℕ → ℕ → ℕ

@@ -20,7 +20,7 @@ use Rattle.sdf_kit.specs.Dots.{wrap, neighbours, AreLanes}
 abbrev added : List ℕ → ℕ → ℕ → ℤ
 added bits i j = to_z w32 ((slice_index_or bits i 0 + slice_index_or bits j 0) % 4294967296)
 
-sum_is : (a b : ℤ) → FitsSigned w32 a → FitsSigned w32 b →
+pub sum_is : (a b : ℤ) → FitsSigned w32 a → FitsSigned w32 b →
     to_z w32 ((of_z w32 a + of_z w32 b) % 4294967296) ≡ wrap (a +ℤ b)
 sum_is a b f g = wrapping_add_is w32 a b f g
 
@@ -171,7 +171,7 @@ products_are x h f g =
     ap (λ p. sums_from (p ++ p) 0 8) (lanes_are x h f.fits g.fits) ∙ twice_are 8 (zip2 (λ a b. a *ℤ b) x h)
     (record { many = long ∙ f.many; fits = products_fit x h f.fits g.fits })
 
-abbrev plus_lane : ℕ → ℕ → ℕ
+abbrev pub plus_lane : ℕ → ℕ → ℕ
 plus_lane = act2 wrap_add (s_int w32) (s_int w32) (s_int w32)
 
 pub plus_is : (a b : List ℤ) → Each1 (FitsSigned w32) a → Each1 (FitsSigned w32) b →

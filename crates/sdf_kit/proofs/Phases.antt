@@ -86,7 +86,7 @@ dot_sum (suc n) (h ∷ hs) (x ∷ xs) e f =
     ap (λ z. (h *ℤ x) +ℤ z) (dot_sum n hs xs (omega (arith, e)) (omega (arith, f)))
     ∙ sym (sum_below-suc n (λ i. get_or (h ∷ hs) i (pos 0) *ℤ get_or (x ∷ xs) i (pos 0)))
 
-reversed : (n : ℕ) (f : ℕ → ℤ) → sum_below n f ≡ sum_below n (λ k. f (n - 1 - k))
+pub reversed : (n : ℕ) (f : ℕ → ℤ) → sum_below n f ≡ sum_below n (λ k. f (n - 1 - k))
 reversed zero f = sum_below-zero f ∙ sym (sum_below-zero (λ k. f (zero - 1 - k)))
 reversed (suc n) f =
     let one : suc n ≡ n + 1 = omega arith in
@@ -99,7 +99,8 @@ reversed (suc n) f =
     sum_below_same n (λ k. f (suc n - 1 - suc k)) (λ k. f (n - 1 - k)) (λ k l. ap f (omega arith)) in
     omega (arith, ints, first, ih, apart, head, tail)
 
-zero_terms : (n m : ℕ) (f : ℕ → ℤ) → ((k : ℕ) → n ≤ k → k < n + m → f k ≡ pos 0) → sum_below (n + m) f ≡ sum_below n f
+pub zero_terms : (n m : ℕ) (f : ℕ → ℤ) → ((k : ℕ) → n ≤ k → k < n + m → f k ≡ pos 0) →
+    sum_below (n + m) f ≡ sum_below n f
 zero_terms n zero f none = let e : n + zero ≡ n = omega arith in ap (λ k. sum_below k f) e
 zero_terms n (suc m) f none =
     let e : n + suc m ≡ n + m + 1 = omega arith in

@@ -44,7 +44,8 @@ length_held Split high low n limits are =
     let hb : length (take n low) ≡ n = length-take-le n low are.low_room in
     length-zip2 (λ a b. (pos 256 *ℤ a) +ℤ b) (take n high) (take n low) (ha ∙ sym hb) ∙ ha
 
-within_part : (xs : List ℤ) (m at len : ℕ) → AreWithin m xs → at + len ≤ length xs → AreWithin m (take len (drop at xs))
+pub within_part : (xs : List ℤ) (m at len : ℕ) → AreWithin m xs → at + len ≤ length xs →
+    AreWithin m (take len (drop at xs))
 within_part xs m at len w room k l =
     let size : length (take len (drop at xs)) ≡ len =
     length-take-le len (drop at xs) (omega (arith, length-drop at xs)) in
@@ -327,8 +328,8 @@ short_fit xs m w few low k l = one (get_or xs k (pos 0)) (w k l) (low k l)
     one (negsuc n) h g = record { sfits = omega (arith, ints) }
 
 -- a window that was loaded
-module _ (high low : List ℤ) (pad : ℕ) (kept taken : List ℤ) (limits : Limits) (high_long : length high ≡ 2048)
-    (low_long : length low ≡ 2048) (room : pad + (length kept + length taken) ≤ 2048) (few : limits.peak ≤ 32767) where
+module _ (high low : List ℤ) (pad : ℕ) (kept taken : List ℤ) (limits : Limits) (high_long : length high ≡ 2064)
+    (low_long : length low ≡ 2064) (room : pad + (length kept + length taken) ≤ 2048) (few : limits.peak ≤ 32767) where
   abbrev loaded : List ℤ
   loaded = replicate pad (pos 0) ++ (kept ++ taken)
 

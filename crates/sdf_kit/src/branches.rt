@@ -107,7 +107,7 @@ fn table_of(taps: &[i32], up: u32, width: usize) -> [i16; PLACES]
 }
 
 /// Returns the tap at place `at`, or zero if there is none.
-fn tap_at(taps: &[i32], at: usize) -> i16
+pub(crate) fn tap_at(taps: &[i32], at: usize) -> i16
     requires { AreTaps taps.now }
     ensures { result ≡ sample taps.now at }
 {

@@ -10,7 +10,7 @@ ghost use Rattle.sdf_kit.specs.Stretches.{weight, IsStretch, AreLanesWithin, Are
 use std::simd::prelude::*;
 
 /// Multiplies lane by lane and sums each two neighbours. One `vpmaddwd`, or two `pmaddwd`.
-fn products(x: i16x16, h: i16x16) -> i32x8
+pub(crate) fn products(x: i16x16, h: i16x16) -> i32x8
     requires x { AreLanes w16 16 x }
     requires h { AreLanes w16 16 h }
     ensures { result ≡ neighbours (zip2 (λ a b. a *ℤ b) x h) }
@@ -29,7 +29,7 @@ fn pairs(a: i32x4, b: i32x4) -> i32x4
 }
 
 /// Returns the sums lane by lane. One `vpaddd`, or two `paddd`.
-fn plus(a: i32x8, b: i32x8) -> i32x8
+pub(crate) fn plus(a: i32x8, b: i32x8) -> i32x8
     requires a { AreLanes w32 8 a }
     requires b { AreLanes w32 8 b }
     ensures { result ≡ zip2 (λ x y. wrap (x +ℤ y)) a b }
@@ -46,7 +46,7 @@ fn folded(a: i32x8) -> i32x4
 }
 
 /// Returns the upper sixteen bits of each lane, with their sign.
-fn upper(a: i32x8) -> i32x8
+pub(crate) fn upper(a: i32x8) -> i32x8
     requires { AreLanes w32 8 a }
     ensures lanes { AreLanes w32 8 result }
     ensures value { result ≡ map (λ x. int_shr x 16) a }
@@ -55,7 +55,7 @@ fn upper(a: i32x8) -> i32x8
 }
 
 /// Returns the lowest sixteen bits of each lane.
-fn lower(a: i32x8) -> i32x8
+pub(crate) fn lower(a: i32x8) -> i32x8
     requires { AreLanes w32 8 a }
     ensures lanes { AreLanes w32 8 result }
     ensures value { result ≡ map (λ x. x -ℤ (pos 65536 *ℤ int_shr x 16)) a }
@@ -76,7 +76,7 @@ fn totals(a: i32x8, b: i32x8, c: i32x8, d: i32x8) -> i32x4
 }
 
 /// Returns sixteen samples from place `at` on.
-fn load(x: &[i16], at: usize) -> i16x16
+pub(crate) fn load(x: &[i16], at: usize) -> i16x16
     requires room { at + 16 ≤ length x.now }
     requires short { Each1 (FitsSigned w16) x.now }
     ensures value { result ≡ take 16 (drop at x.now) }
@@ -122,11 +122,11 @@ fn sums(h: &[i16], x: &[i16]) -> i32x8
 
 /// The products of the same taps with the samples of four places, summed lane by lane.
 #[derive(Clone, Copy)]
-struct FourSums {
-    a: i32x8,
-    b: i32x8,
-    c: i32x8,
-    d: i32x8,
+pub(crate) struct FourSums {
+    pub(crate) a: i32x8,
+    pub(crate) b: i32x8,
+    pub(crate) c: i32x8,
+    pub(crate) d: i32x8,
 }
 
 /// Four dot products with the same taps.

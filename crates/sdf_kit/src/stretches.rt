@@ -36,7 +36,7 @@ pub(crate) fn reach(taps: &[i16]) -> u8
 }
 
 /// Returns the greatest sum of the absolute values of two neighbours.
-fn weight(taps: &[i16]) -> u32
+pub(crate) fn weight(taps: &[i16]) -> u32
     requires { length taps.now ≡ 16 }
     ensures is { result ≡ weight_is taps.now }
     ensures small { result ≤ 65536 }

@@ -1,23 +1,28 @@
 //! The samples that a block of firings reads, as 16-bit numbers.
 
 ghost use Rattle.std.specs.Prelude.{ℕ, ◌≡◌, ◌+◌, ◌*◌, ◌%◌, ◌<◌, ◌≤◌, ℤ, pos, true, [], ◌∷◌, ◌++◌, length, take, drop};
-ghost use Rattle.std.specs.Prelude.{replicate, FitsSigned, ◌*ℤ◌, ◌+ℤ◌, ◌≤ℤ◌, map};
+ghost use Rattle.std.specs.Prelude.{replicate, FitsSigned, ◌*ℤ◌, ◌+ℤ◌, ◌≤ℤ◌, map, unsigned_abs};
+ghost use Rattle.std.specs.List.{range_with_len};
 ghost use Rattle.std.specs.Int.{w16};
 ghost use Rattle.std.specs.Simd.Lanes.{Each1};
 ghost use Rattle.sdf_kit.specs.Samples.{sample, rescaled};
-ghost use Rattle.sdf_kit.specs.Dots.{dot as dot_of, wrap};
+ghost use Rattle.sdf_kit.specs.Dots.{dot as dot_of, wrap, AreWithin};
+ghost use Rattle.sdf_kit.specs.Branches.{AreFirings};
+ghost use Rattle.sdf_kit.specs.Tiles.{AreTiles, AreWideTiles, keep_of, whole_output};
 ghost use Rattle.sdf_kit.specs.Stretches.{AreStretches, AreVectors, IsBranch};
 ghost use Rattle.sdf_kit.specs.Window.{part_as, seen, output_of, AreFit};
 
 use crate::arithmetic::{max_abs, rescale, rescale_small};
 use crate::branches::{LEAST_PEAK_TO_SPLIT, Limits};
 use crate::dots::{FourDots, dot, dots};
+use crate::polyphase::Firings;
 use crate::stretches::{Branch, wide_dot, wide_dots};
+use crate::tiles::{TileSamples, Tiles, put_tiles};
 use sdf_limits::MAX_SHIFT;
 use std::marker::Model;
 
-/// The number of samples that a window can hold.
-pub(crate) const ROOM: usize = 2048;
+/// The number of places in a window: at most 2,048 samples, and some that tiles read beyond them.
+pub(crate) const ROOM: usize = 2064;
 
 /// Samples in 16-bit numbers: whole in `high`, or split into upper bits in `high` and the lowest eight in `low`.
 #[derive(Drop)]
@@ -165,6 +170,58 @@ impl Window {
     }
 }
 
+impl Window {
+    /// Puts the outputs of `firings` by tiles, on the samples from `pad` on. Returns false, and puts nothing, if
+    /// samples are split, or exceed the peak and the tiles have no stretches.
+    pub(crate) fn put_tiles(
+        &self,
+        tiles: &Tiles,
+        taps: &[i32],
+        pad: usize,
+        firings: Firings,
+        put: &mut [i32],
+    ) -> bool
+        requires tiles { AreTiles taps.now firings.up firings.down tiles.now }
+        requires wide { tiles.now.is_wide ≡ true → AreWideTiles firings.shift tiles.now }
+        requires firings { AreFirings firings }
+        requires many { firings.many ≤ 1024 }
+        requires whole { firings.many % (4 * tiles.now.firings) ≡ 0 }
+        requires samples { pad + (keep_of taps.now firings.up + firings.many * firings.down) ≡ length self.now.samples }
+        requires room { length self.now.samples ≤ 2048 }
+        requires small { AreWithin self.now.limits.peak self.now.samples → (n : ℕ) → n < firings.many * firings.up →
+            unsigned_abs (whole_output taps.now firings.up firings.down (drop pad self.now.samples) n) ≤ 2147467263 }
+        requires put { length put.old ≡ firings.many * firings.up }
+        ensures len { length put.new ≡ length put.old }
+        ensures put { result ≡ true → put.new ≡ map (λ n. rescaled (whole_output taps.now firings.up firings.down
+            (drop pad self.now.samples) n) firings.shift) (range_with_len 0 (firings.many * firings.up)) }
+    {
+        // Tiles read two places beyond the samples. These meet no taps, and hold 16-bit numbers, too.
+        match self.form {
+            SampleForm::Quiet => {
+                let _beyond = (self.high[self.len], self.high[self.len + 1]);
+                let input = TileSamples {
+                    samples: &self.high[pad..self.len + 2],
+                    len: self.len - pad,
+                    is_wide: false,
+                };
+                put_tiles(tiles, taps, input, firings, put);
+                true
+            }
+            SampleForm::Wide if tiles.is_wide => {
+                let _beyond = (self.high[self.len], self.high[self.len + 1]);
+                let input = TileSamples {
+                    samples: &self.high[pad..self.len + 2],
+                    len: self.len - pad,
+                    is_wide: true,
+                };
+                put_tiles(tiles, taps, input, firings, put);
+                true
+            }
+            SampleForm::Wide | SampleForm::Split => false,
+        }
+    }
+}
+
 /// Returns the dot products of `h` with four pieces of `x`, `step` samples apart, each wrapped to 32 bits.
 fn four_dots(h: &[i16], x: &[i16], at: usize, step: usize) -> [i32; 4]
     requires lanes { length h.now % 16 ≡ 0 }
@@ -220,7 +277,7 @@ fn one_dot(h: &[i16], x: &[i16], at: usize) -> i32
 }
 
 /// Returns `len` numbers from place `at` on.
-fn piece(numbers: &[i16], at: usize, len: usize) -> &[i16]
+pub(crate) fn piece(numbers: &[i16], at: usize, len: usize) -> &[i16]
     requires { at + len ≤ length numbers.now }
     ensures { result.now ≡ take len (drop at numbers.now) }
 {

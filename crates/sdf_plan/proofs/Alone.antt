@@ -20,7 +20,7 @@ passed : ArePassed one_thread
 passed = record { patience = tt; sizes = ((omega arith, omega arith), (omega arith, omega arith)) }
 
 module _ (d : DesignValue) (s : Schedule) (by_policy : IsScheduleBy Round (graph_of kit_steps d.net) s) where
-  plan_of : IsPlanOf d one_thread (plan_by (One s 1))
+  plan_of : IsPlanOf d one_thread (plan_by (One s 1) one_thread.patience)
   plan_of = record {
     options = passed;
     blocking = refl;
@@ -31,20 +31,20 @@ module _ (d : DesignValue) (s : Schedule) (by_policy : IsScheduleBy Round (graph
     by_placement = refl;
   }
 
-  pub is_alone : (p : PlanValue) → p ≡ plan_by (One s 1) → IsPlanOf d one_thread p
+  pub is_alone : (p : PlanValue) → p ≡ plan_by (One s 1) one_thread.patience → IsPlanOf d one_thread p
   is_alone p made = subst (IsPlanOf d one_thread) (sym made) plan_of
 
-  pub suits : (p : PlanValue) → p ≡ plan_by (One s 1) → Suits d.net p
+  pub suits : (p : PlanValue) → p ≡ plan_by (One s 1) one_thread.patience → Suits d.net p
   suits p made = subst (Suits d.net) (sym made)
       (record { period = by_policy.period; table = tt; homes = tt; patience = tt })
 
-  pub is_in_parts : (m periods samples : ℕ) (p : PlanValue) → p ≡ plan_by (Parts s 1 m) → 2 ≤ m →
+  pub is_in_parts : (m periods samples : ℕ) (p : PlanValue) → p ≡ plan_by (Parts s 1 m) one_thread.patience → 2 ≤ m →
       IsLeast (WarmsIn kit_steps d.net s.repetitions) periods →
       samples ≡ periods * period_samples d.net.nodes Inputs s.repetitions → IsInParts d m p m periods samples
   is_in_parts m periods samples p made several warm_up read =
       subst (λ x. IsInParts d m x m periods samples) (sym made)
       (record {
-        on_one_thread = plan_by (One s 1);
+        on_one_thread = plan_by (One s 1) one_thread.patience;
         by_options = plan_of;
         plan = refl;
         all = refl;
@@ -53,7 +53,7 @@ module _ (d : DesignValue) (s : Schedule) (by_policy : IsScheduleBy Round (graph
         read = read;
       })
 
-  pub parts_suit : (m : ℕ) (p : PlanValue) → p ≡ plan_by (Parts s 1 m) → Suits d.net p
+  pub parts_suit : (m : ℕ) (p : PlanValue) → p ≡ plan_by (Parts s 1 m) one_thread.patience → Suits d.net p
   parts_suit m p made = subst (Suits d.net) (sym made)
       (record { period = by_policy.period; table = tt; homes = tt; patience = tt })
 

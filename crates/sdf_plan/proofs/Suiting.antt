@@ -13,8 +13,7 @@ use Rattle.sdf_options.specs.declared.options.Policy.{Policy}
 use Rattle.sdf_options.specs.declared.options.Runner.{Runner}
 use Rattle.sdf_options.specs.declared.options.Runner.TheVariants.{One, Rows, Rings}
 use Rattle.sdf_plan.specs.Placements.{rates_of, firings_of, IsPlaced, IsTableBy}
-use Rattle.sdf_plan.specs.Plans.{PlanValue, IsPlanOf, IsPlanFault, IsTableFor, HasPatience}
-use Rattle.sdf_plan.specs.Plans.{patience_for, SuitsRunner, Suits}
+use Rattle.sdf_plan.specs.Plans.{PlanValue, IsPlanOf, IsPlanFault, IsTableFor, HasPatience, SuitsRunner, Suits}
 
 pub placed_table : (placement : Placement) (policy : Policy) (d : DesignValue) (j m : ℕ) (s : Schedule)
     (t : TableValue) →
@@ -50,12 +49,6 @@ homes_suit Rows d o s j None is = absurd is
 homes_suit Rings d o s j (Some t) is = is.1
 homes_suit Rings d o s j None is = absurd is
 
-patience_fits : (runner : Runner) (patience : ℕ) → HasPatience runner patience →
-    HasPatience runner (patience_for runner patience)
-patience_fits One patience few = tt
-patience_fits Rows patience few = tt
-patience_fits Rings patience few = few
-
 pub suits_of : (d : DesignValue) (o : Options) (r : Result PlanValue Fault) →
     MatchResult r (IsPlanOf d o) (IsPlanFault d o) → IfOk r (Suits d.net)
 suits_of d o (Ok p) is = record {
@@ -64,6 +57,6 @@ suits_of d o (Ok p) is = record {
   homes = subst (λ r. IfSome p.table (SuitsRunner r)) (sym is.same_runner)
       (homes_suit o.runner d o p.period p.blocking p.table is.by_placement);
   patience = subst (λ r. HasPatience r p.patience) (sym is.same_runner)
-      (subst (HasPatience o.runner) (sym is.same_patience) (patience_fits o.runner o.patience is.options.patience));
+      (subst (HasPatience o.runner) (sym is.same_patience) is.options.patience);
 }
 suits_of d o (Err f) is = tt

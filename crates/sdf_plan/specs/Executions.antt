@@ -1,38 +1,38 @@
 -- Executions: the ways in which a design is run.
-use Rattle.std.specs.Prelude.{◌≡◌, Some, None}
+use Rattle.std.specs.Prelude.{◌≡◌, ℕ, Some, None}
 use Rattle.sdf_prec.specs.declared.block_table.BlockTable.{BlockTable}
 use Rattle.sdf_options.specs.declared.options.Runner.TheVariants as runners
 use Rattle.sdf_plan.specs.declared.plan.Execution.{Execution}
 use Rattle.sdf_plan.specs.declared.plan.Execution.TheVariants.{One, Parts, Rows, Rings}
 use Rattle.sdf_plan.specs.Plans.{PlanValue}
 
--- the plan that runs a design by an execution
-abbrev pub plan_by : Execution → PlanValue
-plan_by (One period blocking) = record {
+-- the plan that runs a design by an execution, where the options ask for this spin limit
+abbrev pub plan_by : Execution → ℕ → PlanValue
+plan_by (One period blocking) patience = record {
   blocking = blocking;
   runner = runners.One;
-  patience = 0;
+  patience = patience;
   parts = 1;
   period = period;
   table = None;
 }
-plan_by (Parts period blocking parts) = record {
+plan_by (Parts period blocking parts) patience = record {
   blocking = blocking;
   runner = runners.One;
-  patience = 0;
+  patience = patience;
   parts = parts;
   period = period;
   table = None;
 }
-plan_by (Rows t) = record {
+plan_by (Rows t) patience = record {
   blocking = t.blocking;
   runner = runners.Rows;
-  patience = 0;
+  patience = patience;
   parts = 1;
   period = t.period;
   table = Some t.table;
 }
-plan_by (Rings t patience) = record {
+plan_by (Rings t) patience = record {
   blocking = t.blocking;
   runner = runners.Rings;
   patience = patience;

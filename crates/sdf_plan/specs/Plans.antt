@@ -36,8 +36,8 @@ use Rattle.sdf_faults.specs.declared.fault.Fault.TheVariants.{OutOfMemory, Patie
 use Rattle.sdf_faults.specs.declared.fault.Fault.TheVariants.{Deadlock, Table, NotHomed}
 use Rattle.sdf_plan.specs.Placements.{ArePeriodsOf, IsTableBy, IsPlaceFault}
 
--- the periods of a block, the runner, the spin limit of workers over rings, the most parts of a sound that run in
--- parallel on one thread each, the order of one period, and the table of a block
+-- the periods of a block, the runner, the spin limit that the options ask for (only workers over rings have one), the
+-- most parts of a sound that run in parallel on one thread each, the order of one period, and the table of a block
 pub record PlanValue : Type 0 where
   pub blocking : ℕ
   pub runner : Runner
@@ -104,17 +104,12 @@ IsTableFor Rows d o s j (Some t) = IsTableBy d o s j t
 IsTableFor Rings d o s j (Some t) = IsTableBy d o s j t × IsHomed t
 IsTableFor runner d o s j None = ⊥
 
--- the spin limit of workers over rings, and 0 for the other runners
-abbrev pub patience_for : Runner → ℕ → ℕ
-patience_for Rings patience = patience
-patience_for runner patience = 0
-
 -- the plan of a design by options, for blocks of j periods: its period, and the table that the runner needs
 pub record IsRunBy (d : DesignValue) (o : Options) (s : Schedule) (j : ℕ) (p : PlanValue) : Type 0 where
   pub is : p ≡ record {
     blocking = j;
     runner = o.runner;
-    patience = patience_for o.runner o.patience;
+    patience = o.patience;
     parts = 1;
     period = s;
     table = p.table;
@@ -126,7 +121,7 @@ pub record IsPlanOf (d : DesignValue) (o : Options) (p : PlanValue) : Type 0 whe
   pub options : ArePassed o
   pub blocking : ArePeriodsOf d o p.period p.blocking
   pub same_runner : p.runner ≡ o.runner
-  pub same_patience : p.patience ≡ patience_for o.runner o.patience
+  pub same_patience : p.patience ≡ o.patience
   pub whole : p.parts ≡ 1
   pub schedule : IsScheduleBy o.policy (graph_of kit_steps d.net) p.period
   pub by_placement : IsTableFor o.runner d o p.period p.blocking p.table

@@ -9,9 +9,10 @@ ghost use Rattle.sdf_kit.specs.declared.kit.Kit.{Kit};
 ghost use Rattle.sdf_kit.specs.Kit.{kit_steps};
 ghost use Rattle.sdf_plan.specs.declared.plan.Execution.TheVariants.{One, Parts};
 ghost use Rattle.sdf_plan.specs.Executions.{plan_by, HasBlockTable};
+ghost use Rattle.sdf_plan.specs.ParallelPlans.{one_thread};
 ghost use Rattle.sdf_plan.specs.Plans.{Suits};
 
-use sdf_options::Runner;
+use sdf_options::{Options, Runner};
 use sdf_prec::BlockTable;
 use sdf_sched::Period;
 use std::marker::Model;
@@ -32,17 +33,15 @@ pub enum Execution {
     },
     /// By the rows of a table (barrier-synchronous).
     Rows(BlockTable),
-    /// Over rings (self-timed), by a worker for each processor of a table. `patience` is the spin limit: a worker
-    /// repeats at most this many tests in a round.
-    Rings {
-        table: BlockTable,
-        patience: u32,
-    },
+    /// Over rings (self-timed), by a worker for each processor of a table. The patience of the plan is the spin limit:
+    /// a worker repeats at most this many tests in a round.
+    Rings(BlockTable),
 }
 
 /// A way to run a design that passed the tests of `plan`.
 pub struct Plan {
     way: Execution,
+    patience: u32,
 }
 
 impl Model for Plan {
@@ -51,49 +50,54 @@ impl Model for Plan {
 
     ghost Value = { PlanValue };
 
-    ghost view = { λ p. plan_by p.way };
+    ghost view = { λ p. plan_by p.way p.patience };
 }
 
 /// Not derived: a derived drop is expanded, with each variant, wherever a plan may be dropped.
 impl Drop for Plan {
     fn drop(self) {
-        let Plan { way: _ } = self;
+        let Plan {
+            way: _,
+            patience: _,
+        } = self;
     }
 }
 
 impl Plan {
-    /// Makes the plan that runs a design by `way`.
-    pub(crate) fn new(way: Execution) -> Plan
-        ensures { result ≡ plan_by way }
+    /// Makes the plan that runs a design by `way`, where the options ask for `patience`.
+    pub(crate) fn new(way: Execution, patience: u32) -> Plan
+        ensures { result ≡ plan_by way patience }
     {
-        Plan { way }
+        Plan { way, patience }
     }
 
     /// Makes the plan that runs a design on one thread by the order of `period`, in blocks of one period.
     pub(crate) fn on_one_thread(period: Period) -> Plan
-        ensures { result ≡ plan_by (One period 1) }
+        ensures { result ≡ plan_by (One period 1) one_thread.patience }
     {
-        Plan::new(Execution::One {
+        let way = Execution::One {
             period,
             blocking: 1,
-        })
+        };
+        Plan::new(way, Options::DEFAULT.patience)
     }
 
     /// Makes the plan that runs up to `parts` parts of the sound in parallel, each as `on_one_thread` runs the whole
     /// sound.
     pub(crate) fn in_parts(period: Period, parts: u32) -> Plan
-        ensures { result ≡ plan_by (Parts period 1 parts) }
+        ensures { result ≡ plan_by (Parts period 1 parts) one_thread.patience }
     {
-        Plan::new(Execution::Parts {
+        let way = Execution::Parts {
             period,
             blocking: 1,
             parts,
-        })
+        };
+        Plan::new(way, Options::DEFAULT.patience)
     }
 
     /// Returns the way in which it runs a design.
     pub fn way(&self) -> &Execution
-        ensures { plan_by result.now ≡ self.now }
+        ensures { plan_by result.now self.now.patience ≡ self.now }
     {
         &self.way
     }
@@ -104,7 +108,7 @@ impl Plan {
     {
         match &self.way {
             Execution::One { blocking, .. } | Execution::Parts { blocking, .. } => *blocking,
-            Execution::Rows(table) | Execution::Rings { table, .. } => table.blocking,
+            Execution::Rows(table) | Execution::Rings(table) => table.blocking,
         }
     }
 
@@ -115,18 +119,15 @@ impl Plan {
         match &self.way {
             Execution::One { .. } | Execution::Parts { .. } => Runner::One,
             Execution::Rows(_) => Runner::Rows,
-            Execution::Rings { .. } => Runner::Rings,
+            Execution::Rings(_) => Runner::Rings,
         }
     }
 
-    /// Returns the spin limit of workers over rings, or 0 for another runner.
+    /// Returns the spin limit that the options ask for. Only the runner over rings uses it.
     pub fn patience(&self) -> u32
         ensures { result ≡ self.now.patience }
     {
-        match &self.way {
-            Execution::One { .. } | Execution::Parts { .. } | Execution::Rows(_) => 0,
-            Execution::Rings { patience, .. } => *patience,
-        }
+        self.patience
     }
 
     /// Returns the firings of one period, in their order.
@@ -135,7 +136,7 @@ impl Plan {
     {
         match &self.way {
             Execution::One { period, .. } | Execution::Parts { period, .. } => period,
-            Execution::Rows(table) | Execution::Rings { table, .. } => &table.period,
+            Execution::Rows(table) | Execution::Rings(table) => &table.period,
         }
     }
 
@@ -148,7 +149,7 @@ impl Plan {
     {
         match &self.way {
             Execution::One { .. } | Execution::Parts { .. } => None,
-            Execution::Rows(table) | Execution::Rings { table, .. } => Some(table),
+            Execution::Rows(table) | Execution::Rings(table) => Some(table),
         }
     }
 }

@@ -164,7 +164,8 @@ fn execution_for(
     blocking: u32,
 ) -> Result<Execution, Fault>
     requires { IsPeriodOf (rates_of design.now) period }
-    ensures { MatchResult result (λ way. IsRunBy design.now options.now period blocking (plan_by way))
+    ensures { MatchResult result
+        (λ way. IsRunBy design.now options.now period blocking (plan_by way options.now.patience))
         (IsTableFault design.now options.now period blocking) }
 {
     match options.runner {
@@ -175,10 +176,7 @@ fn execution_for(
             if !table.table.homed() {
                 return Err(Fault::NotHomed);
             }
-            Ok(Execution::Rings {
-                table,
-                patience: options.patience,
-            })
+            Ok(Execution::Rings(table))
         }
     }
 }
@@ -193,7 +191,8 @@ fn make_plan(alloc: Global, design: &Design, options: &Options) -> Result<Plan, 
     }
     let period = period_by(alloc, design, options.policy)?;
     let blocking = blocking_by(design, options, &period);
-    Ok(Plan::new(execution_for(alloc, design, period, options, blocking)?))
+    let way = execution_for(alloc, design, period, options, blocking)?;
+    Ok(Plan::new(way, options.patience))
 }
 
 /// Plans a run of `design` by `options`, or returns the first test that fails.

@@ -176,12 +176,12 @@ pub(crate) fn run_by_plan<T: Threads + AllocGlobal + Sync, R: Reader, W: Writer,
             };
             run_session(rt, reader, writer, gate, terms, opened_output)
         }
-        Execution::Rings { table, patience } => {
+        Execution::Rings(table) => {
             let terms = SessionTerms {
                 net: planned.net,
                 table,
                 mode: Mode::Rings {
-                    patience: *patience,
+                    patience: planned.plan.patience(),
                 },
             };
             run_session(rt, reader, writer, gate, terms, opened_output)

@@ -54,6 +54,7 @@ AreCosted ns old new = ⊥
 
 -- the second document is the first one with these costs
 pub record IsCostedDocument (ns : List ℕ) (old new : DocumentValue) : Type 0 where
+  pub rate : new.rate ≡ old.rate
   pub actors : AreCosted ns old.actors new.actors
   pub links : new.links ≡ old.links
 

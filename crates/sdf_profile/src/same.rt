@@ -67,5 +67,7 @@ fn same_links(one: &[LinkEntry], other: &[LinkEntry]) -> bool
 pub(crate) fn is_costed(old: &Document, new: &Document, costs: &[u32]) -> bool
     ensures { IsTrue result ↔ IsCostedDocument costs.now (document_view old.now) (document_view new.now) }
 {
-    same_actors(&old.actors, &new.actors, costs) && same_links(&new.links, &old.links)
+    new.rate == old.rate
+        && same_actors(&old.actors, &new.actors, costs)
+        && same_links(&new.links, &old.links)
 }

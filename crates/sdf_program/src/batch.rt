@@ -10,7 +10,7 @@ use crate::items::{Batching, Item, finish_output, items_of};
 use crate::outcome::Outcome;
 use crate::plans::{Prepared, plan_of, workers_of};
 use crate::running::{Planned, Running, run_planned};
-use sdf_cli::{BatchRequest, ParallelWorkers, RunRequest};
+use sdf_cli::{BatchRequest, Format, ParallelWorkers, RunRequest};
 use sdf_commands::making::make_folder;
 use sdf_faults::Fault;
 use sdf_io::files::Sources;
@@ -50,6 +50,7 @@ fn running_of<'a>(batching: Batching<'a>, input: &'a str, output: &'a str) -> Ru
             options: *options,
             parallel: *parallel,
             open_ended: *open_ended,
+            format: Format::Text,
         },
         // Each line already begins with the name of the file.
         sound: "the sound",

@@ -16,13 +16,14 @@ use sdf_commands::comparing::print_comparison;
 use sdf_commands::diagnostics::Background;
 use sdf_commands::making::{fir, resample};
 use sdf_commands::printing::{
-    print_analysis, print_check, print_kinds, print_meaning, print_picture, print_schedule, show,
+    print_analysis, print_check, print_kinds, print_meaning, print_overview, print_picture,
+    print_schedule, show,
 };
-use sdf_faults::{Fault, fault_text, status};
+use sdf_faults::{Fault, status};
 use sdf_io::files::{Loaded, Sources, load_into};
 use sdf_io::storage::Storage;
 use sdf_io::world::{STANDARD, World};
-use sdf_json::{comparison_json, fault_json};
+use sdf_json::comparison_json;
 use sdf_options::{Options, WordFault};
 use std::alloc::{AllocError, Global};
 use std::io::{Read, Write};
@@ -49,6 +50,7 @@ struct Job<'a> {
 
 impl<'a> Job<'a> {
     /// Returns the run that `request` asks for. Its progress is shown if reports are printed and `can_show` is true.
+    /// JSON takes the place of the other reports.
     fn running(self, request: RunRequest<'a>, can_show: bool) -> Running<'a>
         ensures loaded { result.loaded ≡ self.entry.loaded }
         ensures request { result.request ≡ request.entry }
@@ -62,7 +64,7 @@ impl<'a> Job<'a> {
             } else {
                 request.input
             },
-            is_verbose: self.is_verbose,
+            is_verbose: self.is_verbose && request.format == Format::Text,
             is_shown: self.is_verbose && can_show,
         }
     }
@@ -249,6 +251,7 @@ fn execute<
         )),
         Words::Kinds { format } => status_or_fault(print_kinds(alloc, out, format)),
         Words::Explain { number } => status_or_fault(print_meaning(alloc, out, number)),
+        Words::Overview => status_or_fault(print_overview(alloc, out)),
     }
 }
 
@@ -266,39 +269,19 @@ fn help_or_fault<O: Write>(alloc: Global, out: &mut O, fault: WordFault) -> Resu
     }
 }
 
-/// Returns the text of `fault`, for standard error.
-fn report_text(
-    alloc: Global,
-    fault: &Fault,
-    background: &Background,
-) -> Result<String, AllocError> {
-    match background.format() {
-        Format::Text => fault_text(alloc, fault),
-        Format::Json => fault_json(alloc, fault),
-    }
-}
-
-/// Returns the text of the fault `OutOfMemory` in `format`. It needs no allocation.
-fn report_without_memory(format: Format) -> &'static [u8] {
-    match format {
-        Format::Text => b"sdfw: 1 OutOfMemory\n",
-        Format::Json => b"{\"fault\":1,\"name\":\"OutOfMemory\"}\n",
-    }
-}
-
 /// Reports `fault` and its diagnostic on standard error, and returns its exit status. If there is no memory for the
 /// text, reports `OutOfMemory` and returns its status instead.
 fn report<E: Write>(alloc: Global, err: &mut E, fault: &Fault, background: &Background) -> u8
     ensures { (result ≡ status_of fault.now) ⊎ (result ≡ status_of OutOfMemory) }
 {
-    match report_text(alloc, fault, background) {
+    match background.text(alloc, fault) {
         Ok(text) => {
             let _ = err.write_all(text.as_bytes());
             background.report(alloc, err, fault);
             status(fault)
         }
         Err(_) => {
-            let _ = err.write_all(report_without_memory(background.format()));
+            let _ = err.write_all(background.text_without_memory());
             status(&Fault::OutOfMemory)
         }
     }

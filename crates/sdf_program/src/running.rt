@@ -5,11 +5,11 @@ ghost use Rattle.sdf_plan.specs.Plans.{Suits};
 ghost use Rattle.sdf_cli.specs.Limits.{IsParallelWorkers};
 
 use crate::plans::plan_of;
-use sdf_cli::RunRequest;
+use sdf_cli::{Format, RunRequest};
 use sdf_commands::notes::notes_text;
+use sdf_commands::printing::show;
 use sdf_faults::Fault;
 use sdf_file::Design;
-use sdf_io::SoundLevels;
 use sdf_io::files::{Loaded, Refused, Sources, note_refusal, or_refuse};
 use sdf_io::input::{Input, InputTrace};
 use sdf_io::output::{Output, ProgressLine};
@@ -17,6 +17,8 @@ use sdf_io::overwriting::{Paths, refuse_overwriting};
 use sdf_io::progress::Progress;
 use sdf_io::storage::Storage;
 use sdf_io::world::{STANDARD, World};
+use sdf_io::{Level, SoundLevels};
+use sdf_json::{OutputLevels, run_json};
 use sdf_limits::MAX_WORKERS;
 use sdf_options::plural::plural;
 use sdf_plan::Plan;
@@ -51,6 +53,16 @@ impl<'a> Running<'a> {
             input: self.request.input,
             output: self.request.output,
         }
+    }
+
+    /// Returns whether the levels of the outputs are counted, for a report or for the progress.
+    fn counts_levels(self) -> bool {
+        self.is_verbose || self.is_shown || self.is_in_json()
+    }
+
+    /// Returns whether the levels of the outputs are printed as JSON.
+    fn is_in_json(self) -> bool {
+        self.request.format == Format::Json
     }
 }
 
@@ -105,16 +117,16 @@ fn parts_text(alloc: Global, planned: Planned<'_>, frames: u64) -> Result<String
     )
 }
 
-/// Reports how a run went in parts and how loud its outputs are. Reports nothing if the levels were not counted.
+/// Reports how a run went in parts and how loud its outputs are, if reports are asked for.
 fn report_end<E: Write>(
     alloc: Global,
     err: &mut E,
     planned: Planned<'_>,
-    levels: Option<SoundLevels>,
+    levels: &SoundLevels,
 ) -> Result<(), AllocError> {
-    let Some(levels) = levels else {
+    if !planned.running.is_verbose {
         return Ok(());
-    };
+    }
     let mut text = parts_text(alloc, planned, levels.frames())?;
     text.push_str(levels.text(alloc)?.as_str())?;
     let _ = err.write_all(text.as_bytes());
@@ -130,19 +142,23 @@ struct Ran {
 }
 
 impl Ran {
-    /// Notes in `refused` how the system refused the output, and reports how the run went if it ended well.
+    /// Notes in `refused` how the system refused the output, and reports how the run went if it ended well. Returns the
+    /// levels if they were counted.
     fn finish<E: Write>(
         self,
         alloc: Global,
         err: &mut E,
         planned: Planned<'_>,
         refused: &mut Vec<Refused>,
-    ) -> Result<(), Fault> {
+    ) -> Result<Option<SoundLevels>, Fault> {
         if let Some(error) = self.refused {
             note_refusal(alloc, refused, planned.running.request.output, &error);
         }
         self.ended?;
-        Ok(report_end(alloc, err, planned, self.levels)?)
+        if let Some(levels) = &self.levels {
+            report_end(alloc, err, planned, levels)?;
+        }
+        Ok(self.levels)
     }
 }
 
@@ -167,7 +183,7 @@ fn run_shown<T: Threads + AllocGlobal + Clock + Sync, R: Read, W: Write, E: Writ
             None
         },
     };
-    let mut output = Output::new(to, progress_line, running.is_verbose);
+    let mut output = Output::new(to, progress_line, running.counts_levels());
     let ended = run_between(threads, from, &mut output, &running.loaded.design, plan);
     output.progress_line.hide();
     Ran {
@@ -177,7 +193,8 @@ fn run_shown<T: Threads + AllocGlobal + Clock + Sync, R: Read, W: Write, E: Writ
     }
 }
 
-/// Runs a plan from `from` to `to`. A run that ends well reports how it went, if reports are asked for.
+/// Runs a plan from `from` to `to`. A run that ends well reports how it went, if reports are asked for. Returns the
+/// levels if they were counted.
 fn run_into<T: Threads + AllocGlobal + Clock + Sync, R: Read, W: Write, E: Write>(
     threads: &T,
     from: &mut R,
@@ -185,11 +202,37 @@ fn run_into<T: Threads + AllocGlobal + Clock + Sync, R: Read, W: Write, E: Write
     err: &mut E,
     planned: Planned<'_>,
     refused: &mut Vec<Refused>,
-) -> Result<(), Fault>
+) -> Result<Option<SoundLevels>, Fault>
     requires { Suits planned.running.loaded.now.design.net planned.plan.now }
 {
     let ran = run_shown(threads, from, to, err, planned);
     ran.finish(threads.alloc(), err, planned, refused)
+}
+
+/// Returns `levels` as a line of JSON.
+fn levels_json(alloc: Global, levels: &SoundLevels) -> Result<String, AllocError> {
+    let mut outputs = Vec::new(alloc);
+    for Level { frames, peak, full } in levels.outputs() {
+        outputs.push(OutputLevels {
+            frames: *frames,
+            peak: *peak,
+            full_scale: *full,
+        })?;
+    }
+    run_json(alloc, &outputs)
+}
+
+/// Prints the `levels` of a run that ended well, if it prints JSON.
+fn print_levels<O: Write>(
+    alloc: Global,
+    out: &mut O,
+    running: Running<'_>,
+    levels: Option<SoundLevels>,
+) -> Result<(), Fault> {
+    match levels {
+        Some(levels) if running.is_in_json() => show(out, levels_json(alloc, &levels)?.as_str()),
+        _ => Ok(()),
+    }
 }
 
 /// Runs a plan from `from`, which is open. Errs if OUT is one of the files that are read, otherwise creates or empties
@@ -209,11 +252,13 @@ fn run_from<S: Storage, T: Threads + AllocGlobal + Clock + Sync, R: Read, O: Wri
     let names = &planned.running.loaded.names;
     refuse_overwriting(alloc, world.storage, "OUT", paths, names)?;
     if paths.output == STANDARD {
-        return run_into(world.threads, from, out, err, planned, refused);
+        run_into(world.threads, from, out, err, planned, refused)?;
+        return Ok(());
     }
     let created = world.storage.create(paths.output);
     let mut to = or_refuse(alloc, refused, paths.output, created, Fault::Write)?;
-    run_into(world.threads, from, &mut to, err, planned, refused)
+    let levels = run_into(world.threads, from, &mut to, err, planned, refused)?;
+    print_levels(alloc, out, planned.running, levels)
 }
 
 /// Prints the notes on a run that ended well, if reports are asked for and memory is not refused for them. `from` is at

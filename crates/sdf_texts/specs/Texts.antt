@@ -1,5 +1,6 @@
 -- The texts of designs.
 use Rattle.std.specs.Prelude.{◌≡◌, ℕ, List, [], ◌∷◌, ◌++◌, length, sum, codes, decimal, slice_index, slice_index_or}
+use Rattle.std.specs.Prelude.{Option, Some, None}
 use Rattle.std.specs.List.{flat_map, range_with_len}
 use Rattle.sdf_graph.specs.Rates.{rates}
 use Rattle.sdf_graph.specs.Periods.{IsLeastPeriod}
@@ -25,6 +26,11 @@ q_lines d q n = flat_map (λ a. q_line (slice_index_or d.names a []) (slice_inde
 abbrev pub period_text : DesignValue → List ℕ → List ℕ
 period_text d q = codes "period " ++ decimal (sum q) ++ end ++ q_lines d q (length d.net.nodes)
 
+-- the rate in Hz that a design is made for, if it has one
+abbrev pub rate_line : Option ℕ → List ℕ
+rate_line None = []
+rate_line (Some n) = codes "rate " ++ decimal n ++ end
+
 -- what `check` prints of a design with repetition vector q
 abbrev pub check_text : DesignValue → List ℕ → List ℕ
 check_text d q =
@@ -33,6 +39,7 @@ check_text d q =
     ++ period_text d q
     ++ codes "input " ++ decimal (period_samples d.net.nodes Inputs q) ++ codes " output "
     ++ decimal (period_samples d.net.nodes Outputs q) ++ end
+    ++ rate_line d.rate
 
 -- the text of a design, by its least repetition vector
 pub record IsCheckText (d : DesignValue) (text : List ℕ) : Type 0 where

@@ -1,6 +1,6 @@
 //! The texts of designs.
 ghost use Rattle.std.specs.Prelude.{◌≡◌, ◌++◌, IfOk, OnOk, length, string_bytes};
-ghost use Rattle.sdf_texts.specs.Texts.{q_line, q_lines, period_text, check_text, IsCheckText};
+ghost use Rattle.sdf_texts.specs.Texts.{q_line, q_lines, period_text, rate_line, check_text, IsCheckText};
 ghost use Rattle.sdf_graph.specs.Rates.{rates};
 ghost use Rattle.sdf_graph.specs.Periods.{IsLeastPeriod};
 ghost use Rattle.sdf_actor.specs.Graphs.{graph_of};
@@ -47,6 +47,16 @@ pub(crate) fn push_period(
     push_q_lines(text, design, repetitions)
 }
 
+/// Adds the line of the rate in Hz that a design is made for, if it has one.
+fn push_rate(text: &mut String, rate: Option<u32>) -> Result<(), AllocError>
+    ensures { OnOk result (string_bytes text.new ≡ string_bytes text.old ++ rate_line rate) }
+{
+    match rate {
+        Some(rate) => writeln!(text, "rate {rate}"),
+        None => Ok(()),
+    }
+}
+
 fn text_with(
     alloc: Global,
     design: &Design,
@@ -63,12 +73,14 @@ fn text_with(
     let mut text = format!(in alloc; "actors {actors}\nlinks {links}\n")?;
     push_period(&mut text, design, repetitions)?;
     writeln!(text, "input {input} output {output}")?;
+    push_rate(&mut text, design.rate())?;
     Ok(text)
 }
 
 /// Returns the text of a design: the numbers of its actors and links, and the repetition vector with its sum.
 ///
-/// The last line has the samples that each input puts and each output takes in a period.
+/// Then it has the samples that each input puts and each output takes in a period, and last the rate that the design is
+/// made for, if it has one.
 pub fn check_text(alloc: Global, design: &Design) -> Result<String, AllocError>
     ensures { IfOk result (λ s. IsCheckText design.now (string_bytes s)) }
 {

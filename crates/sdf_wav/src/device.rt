@@ -7,9 +7,11 @@ ghost use Rattle.sdf_wav.specs.Device.{device_result, failures_after_read, failu
 ghost use Rattle.sdf_wav.specs.Device.{WriterState};
 
 use std::io;
+use thiserror::Error;
 
 /// The failure of a device.
-#[derive(Clone, Copy, Debug, PartialEq, Eq)]
+#[derive(Clone, Copy, Debug, PartialEq, Eq, Error)]
+#[error("a device failed")]
 pub struct DeviceFault;
 
 /// A source of bytes, like std's `Read`, that counts its failed calls.

@@ -9,8 +9,11 @@ pub mod Values
 pub mod Coefficients
 pub mod Places
 pub mod Types
+pub mod Synonyms
 pub mod Kinds
 pub mod Documents
+pub mod Spots
+pub mod Facts
 pub mod Nets
 pub mod Cycles
 pub mod Sounds

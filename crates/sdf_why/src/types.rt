@@ -60,7 +60,11 @@ fn push_limits_behind(text: &mut String, limits: Option<&str>) -> Result<(), All
 }
 
 /// Returns the type that `key` needs, and its `limits` if it has some and is not a text.
-fn type_within(alloc: Global, key: &str, limits: Option<&str>) -> Result<String, AllocError>
+pub(crate) fn type_within(
+    alloc: Global,
+    key: &str,
+    limits: Option<&str>,
+) -> Result<String, AllocError>
     ensures { IfOk result (λ text. string_bytes text ≡ type_within key.now (option_map (λ s. s.now) limits.entry)) }
 {
     let mut text = String::from_str(alloc, type_of(key))?;

@@ -17,19 +17,27 @@ fn design(alloc: Global) -> Result<Design, Fail> {
     Ok(read_design(alloc, BLOCKS.as_bytes(), &[])?)
 }
 
-fn checked(alloc: Global) -> Result<String, Fail> {
-    let design = design(alloc)?;
+/// Returns the JSON of `BLOCKS` with `top` in place of its first line.
+fn checked(alloc: Global, top: &str) -> Result<String, Fail> {
+    let graph = BLOCKS.replace(alloc, "format = 1", top)?;
+    let design = read_design(alloc, graph.as_bytes(), &[])?;
     Ok(check_json(alloc, &design)?)
 }
 
-/// Tests the JSON of a design. A `check_json` that always reports refused memory fails here.
+/// Tests the JSON of a design without and with a rate. A `check_json` that always reports refused memory fails here.
 #[test]
 fn json_of_a_design(rt: HostRuntime) -> Result<(), Fail> {
     says(
-        checked(rt.alloc()),
+        checked(rt.alloc(), "format = 1"),
         "{\"actors\":[{\"firings\":3,\"name\":\"in\"},{\"firings\":2,\"name\":\"out\"}],\"input\":6,\
          \"links\":[{\"from\":{\"actor\":\"in\",\"port\":0},\"to\":{\"actor\":\"out\",\"port\":0}}],\"output\":6,\
          \"period\":5}\n",
+    )?;
+    says(
+        checked(rt.alloc(), "format = 1\nrate = 44100"),
+        "{\"actors\":[{\"firings\":3,\"name\":\"in\"},{\"firings\":2,\"name\":\"out\"}],\"input\":6,\
+         \"links\":[{\"from\":{\"actor\":\"in\",\"port\":0},\"to\":{\"actor\":\"out\",\"port\":0}}],\"output\":6,\
+         \"period\":5,\"rate\":44100}\n",
     )
 }
 

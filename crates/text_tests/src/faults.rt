@@ -4,7 +4,7 @@ use sdf_actor::{NetFault, Side};
 use sdf_faults::Fault;
 use sdf_file::{FileFault, read_design};
 use sdf_graph::GraphFault;
-use sdf_json::{fault_json, schedule_json};
+use sdf_json::{Details, fault_json, schedule_json};
 use sdf_options::Options;
 use sdf_prec::{Firing, PrecFault};
 use sdf_wav::FormatFault;
@@ -21,6 +21,11 @@ const OTHER: Firing = Firing {
     actor: 2,
     number: 3,
 };
+
+/// Returns the JSON of a fault of which no more is known.
+fn line(alloc: Global, fault: &Fault) -> Result<String, Fail> {
+    Ok(fault_json(alloc, fault, &Details::new(alloc))?)
+}
 
 /// A net's fault, and its line.
 const NETS: &[(NetFault, &str)] = &[
@@ -51,7 +56,7 @@ const NETS: &[(NetFault, &str)] = &[
 ];
 
 fn net(alloc: Global, fault: NetFault) -> Result<String, Fail> {
-    Ok(fault_json(alloc, &Fault::File(FileFault::Net(fault)))?)
+    line(alloc, &Fault::File(FileFault::Net(fault)))
 }
 
 /// Tests the JSON of faults of nets. A `fault_json` that always reports refused memory fails here.
@@ -89,7 +94,7 @@ const TABLES: &[(PrecFault, &str)] = &[
 ];
 
 fn table(alloc: Global, fault: PrecFault) -> Result<String, Fail> {
-    Ok(fault_json(alloc, &Fault::Table(fault))?)
+    line(alloc, &Fault::Table(fault))
 }
 
 #[test]
@@ -101,7 +106,7 @@ fn json_of_table_faults(rt: HostRuntime) -> Result<(), Fail> {
 }
 
 fn plain(alloc: Global, fault: Fault) -> Result<String, Fail> {
-    Ok(fault_json(alloc, &fault)?)
+    line(alloc, &fault)
 }
 
 #[test]
@@ -124,7 +129,7 @@ fn refused(alloc: Global, text: &str) -> Result<String, Fail> {
         Err(fault) => Some(Fault::from(fault)),
     };
     let fault = fault.ok_or("a fault")?;
-    Ok(fault_json(alloc, &fault)?)
+    line(alloc, &fault)
 }
 
 /// A graph file, and the line of its fault.
@@ -164,4 +169,42 @@ fn json_of_file_faults(rt: HostRuntime) -> Result<(), Fail> {
         row_says("file", refused(rt.alloc(), text), wanted)?;
     }
     Ok(())
+}
+
+/// Returns details that say all that there is to say.
+fn full(alloc: Global) -> Result<Details, Fail> {
+    let mut details = Details::new(alloc);
+    details.path = Some(String::from_str(alloc, "a/b.toml")?);
+    details.line = Some(3);
+    details.column = Some(5);
+    details.actor = Some(7);
+    details.link = Some(9);
+    details.key = Some(String::from_str(alloc, "up")?);
+    details.value = Some(String::from_str(alloc, "\"x\"")?);
+    details.limits = Some(String::from_str(alloc, "1..64")?);
+    details.hint.push(String::from_str(alloc, "one")?)?;
+    details.hint.push(String::from_str(alloc, "two")?)?;
+    Ok(details)
+}
+
+fn with_details(alloc: Global, fault: Fault) -> Result<String, Fail> {
+    Ok(fault_json(alloc, &fault, &full(alloc)?)?)
+}
+
+/// Tests that what is known of a fault is beside its own members, which stay as they are.
+#[test]
+fn json_with_details(rt: HostRuntime) -> Result<(), Fail> {
+    let alloc = rt.alloc();
+    says(
+        with_details(alloc, Fault::Read),
+        "{\"actor\":7,\"column\":5,\"fault\":47,\"hint\":[\"one\",\"two\"],\"key\":\"up\",\
+            \"limits\":\"1..64\",\"line\":3,\"link\":9,\"name\":\"Read\",\"path\":\"a/b.toml\",\
+            \"value\":\"\\\"x\\\"\"}\n",
+    )?;
+    says(
+        with_details(alloc, Fault::Table(PrecFault::BadHome { actor: 1 })),
+        "{\"actor\":1,\"column\":5,\"fault\":19,\"hint\":[\"one\",\"two\"],\"key\":\"up\",\
+            \"limits\":\"1..64\",\"line\":3,\"link\":9,\"name\":\"BadHome\",\"path\":\"a/b.toml\",\
+            \"value\":\"\\\"x\\\"\"}\n",
+    )
 }

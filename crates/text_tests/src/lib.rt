@@ -14,6 +14,8 @@ mod designs;
 #[cfg(test)]
 mod document_diagnostics;
 #[cfg(test)]
+mod facts;
+#[cfg(test)]
 mod faults;
 #[cfg(test)]
 mod net_diagnostics;

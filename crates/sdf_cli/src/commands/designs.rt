@@ -35,6 +35,14 @@ const INPUTS: Argument = Argument {
     syntax: Syntax::Places(Values::Text),
 };
 
+/// `--into` in the help of a run of one file. The words of a run with it are parsed by `BATCH`.
+const INTO_FOLDER: Argument = Argument {
+    name: "into",
+    help: "Writes several files into FOLDER",
+    more: "Writes several files into FOLDER, in place of OUT: `sdfw run GRAPH --into FOLDER IN..`",
+    syntax: Syntax::Choice("FOLDER", Values::Path, None),
+};
+
 const INTO: Argument = Argument {
     name: "into",
     help: "The folder to write into, each file by its name",
@@ -44,7 +52,7 @@ ended well. If the run fails, NAME.part is removed and NAME stays as it was",
     syntax: Syntax::Choice("FOLDER", Values::Text, None),
 };
 
-const BLOCKING: Argument = Argument {
+pub(super) const BLOCKING: Argument = Argument {
     name: "blocking",
     help: "Periods in a block, 1 to 64",
     more: "Periods in a block, 1 to 64. The table has the firings of one block: in a longer block more of
@@ -53,7 +61,7 @@ In `run` it has no effect without `--runner rows` or `--runner rings`",
     syntax: Syntax::Choice("J", Values::Signed(1, MAX_BLOCKING as i64), Some("1")),
 };
 
-const WORKERS: Argument = Argument {
+pub(super) const WORKERS: Argument = Argument {
     name: "workers",
     help: "Workers, 1 to 16",
     more: "Workers, 1 to 16: the columns of the table, each of which does its firings in a thread.
@@ -61,7 +69,7 @@ In `run` it has no effect without `--runner rows` or `--runner rings`",
     syntax: Syntax::Choice("M", Values::Unsigned(1, MAX_WORKERS as u64), Some("1")),
 };
 
-const POLICY: Argument = Argument {
+pub(super) const POLICY: Argument = Argument {
     name: "policy",
     help: "Which actor fires next",
     more: "Which of the actors that may fire is next in the order of a period:
@@ -73,14 +81,14 @@ In `run` it has no effect without that and `--runner rows` or `--runner rings`",
     syntax: Syntax::Choice("P", Values::OneOf(POLICY_WORDS), Some("round")),
 };
 
-const PLACEMENT: Argument = Argument {
+pub(super) const PLACEMENT: Argument = Argument {
     name: "placement",
-    help: "How firings come to workers",
+    help: "How firings are assigned to workers",
     more: "Which worker does a firing, and in which row of the table:
 - hu: any worker that is not busy; first those firings on which the longest chain of others waits
 - homed: the same, but each actor stays with the worker that its first firing went to
 - file: the worker that the key `processor` of the actor names; one firing a row
-- spread: a worker by the actor's share of what all actors weigh; one firing a row, the whole block by the
+- spread: workers get actors in proportion to their load; one firing a row, the whole block by the
   policy runs. `--blocking` has no effect: a block has the most periods, but at least one, that put at
   most 1024 samples on each link and have at most 65536 firings
 In `run` it has no effect without `--runner rows` or `--runner rings`",
@@ -100,9 +108,9 @@ const RUNNER: Argument = Argument {
 
 const PATIENCE: Argument = Argument {
     name: "patience",
-    help: "Repeated tests in a round, at most 1000000",
-    more: "How often a worker whose next firing lacks samples or room tests again, in all, before its round
-ends; at most 1000000.
+    help: "How often an idle worker looks again before the round ends, at most 1000000",
+    more: "How often an idle worker looks again before the round ends, at most 1000000. A worker is idle if its
+next firing lacks samples or room.
 It has no effect without `--runner rings`",
     syntax: Syntax::Choice("T", Values::Signed(0, MAX_PATIENCE as i64), Some("1000")),
 };
@@ -139,9 +147,9 @@ if standard error is a terminal, or if the environment has `SDFW_WHY=1`",
 
 pub(super) const NO_WHY: Argument = Argument {
     name: "no-why",
-    help: "Says no more at a terminal than to a pipe or a log",
-    more: "Says no more at a terminal than to a pipe or a log: a fault is one line, and a deadlock has a line for each
-actor too",
+    help: "Prints only the short messages, as to a pipe or a log",
+    more: "Prints only the short messages, as to a pipe or a log: a fault is one line, and a deadlock has a line for
+each actor too",
     syntax: Syntax::Switch(Switch {
         against: &["why"],
         value: None,
@@ -160,8 +168,8 @@ progress",
 };
 
 const QUIET: Argument = Argument {
-    more: "Says no more at a terminal than to a pipe or a log: a fault is one line, and a deadlock has a line for each
-actor too. A run reports neither the levels of its outputs, nor its progress, nor how it ran in parallel",
+    more: "Prints only the short messages, as to a pipe or a log: a fault is one line, and a deadlock has a line for
+each actor too. A run reports neither the levels of its outputs, nor its progress, nor how it ran in parallel",
     ..NO_WHY
 };
 
@@ -177,74 +185,87 @@ whole sound is read before OUT is written",
 pub(super) const JSON: Argument = Argument {
     name: "json",
     help: "Prints JSON, also for a fault",
-    more: "Prints JSON: one value on one line in place of the text. A fault is one too, on standard error.
-It can't be combined with `--why`",
-    syntax: Syntax::Switch(Switch {
-        against: &["why"],
-        value: None,
-    }),
+    more: "Prints JSON: one value on one line in place of the text. An error is printed as JSON too, on standard error,
+with the file, the line and all that `--why` says",
+    syntax: PLAIN,
 };
 
-/// The options of a schedule.
-pub(super) const OPTIONS: &[Argument] = &[BLOCKING, WORKERS, POLICY, PLACEMENT];
+const RUN_JSON: Argument = Argument {
+    help: "Prints the levels of each output as JSON, and an error too",
+    more: "Prints JSON: one value on one line, with the frames of each output, the greatest absolute value of its
+samples, and the number of its samples at full scale. OUT can't be `-` then. An error is printed as JSON too, on
+standard error, with the file, the line and all that `--why` says",
+    ..JSON
+};
 
-pub(super) const ROWS: &[CommandRow] = &[
-    CommandRow {
-        name: "check",
-        help: "Checks a graph file and prints its period",
-        more: "Checks a graph file and prints its period: the numbers of actors and links, the firings in a period and
+/// The options of a run for its schedule and its workers.
+const SCHEDULING: &[Argument] = &[BLOCKING, WORKERS, POLICY, PLACEMENT, RUNNER, PATIENCE];
+
+pub(super) const CHECK: CommandRow = CommandRow {
+    name: "check",
+    help: "Checks a graph file and prints its period",
+    more: "Checks a graph file and prints its period: the numbers of actors and links, the firings in a period and
 those of each actor, and the samples that an input puts and an output takes in it. A fault is a line on
 standard error, and a deadlock has a line for each actor too. At a terminal, further lines say what is in the
 files. `sdfw explain` says what a fault means.",
-        schedules: false,
-        arguments: &[GRAPH, WHY, NO_WHY, JSON],
-        examples: "Examples:
+    arguments: &[GRAPH, WHY, NO_WHY, JSON],
+    scheduling: &[],
+    examples: "Examples:
   sdfw check graph.toml
   sdfw check graph.toml --why",
-    },
-    CommandRow {
-        name: "schedule",
-        help: "Prints a schedule of a graph file for some workers",
-        more: "Prints a schedule of a graph file for some workers: the order of a period's firings one by one, then
+};
+
+pub(super) const SCHEDULE: CommandRow = CommandRow {
+    name: "schedule",
+    help: "Prints a schedule of a graph file for some workers",
+    more: "Prints a schedule of a graph file for some workers: the order of a period's firings one by one, then
 the table of a block, a line for each row with the firing of each worker, and the most samples that
 each link holds.",
-        schedules: true,
-        arguments: &[GRAPH, WHY, NO_WHY, JSON],
-        examples: "Examples:
+    arguments: &[
+        GRAPH, BLOCKING, WORKERS, POLICY, PLACEMENT, WHY, NO_WHY, JSON,
+    ],
+    scheduling: &[],
+    examples: "Examples:
   sdfw schedule graph.toml --policy lean
   sdfw schedule graph.toml --workers 2 --blocking 4",
-    },
-    CommandRow {
-        name: "run",
-        help: "Processes a WAV file",
-        more: "Processes a WAV file: runs enough periods of the design to read all of IN, and writes what its outputs
+};
+
+pub(super) const RUN: CommandRow = CommandRow {
+    name: "run",
+    help: "Processes a WAV file, or several",
+    more: "Processes a WAV file: runs enough periods of the design to read all of IN, and writes what its outputs
 take to OUT. The bytes are the same for every runner, schedule and number of workers.
 `sdfw run GRAPH --into FOLDER IN..` writes several files into a folder; `sdfw run --into FOLDER --help`
 says more.",
-        schedules: true,
-        arguments: &[
-            GRAPH, IN, OUT, RUNNER, PATIENCE, PARALLEL, OPEN_ENDED, LEVELS, QUIET,
-        ],
-        examples: "Examples:
+    arguments: &[
+        GRAPH,
+        IN,
+        OUT,
+        PARALLEL,
+        INTO_FOLDER,
+        OPEN_ENDED,
+        LEVELS,
+        QUIET,
+        RUN_JSON,
+    ],
+    scheduling: SCHEDULING,
+    examples: "Examples:
   sdfw run graph.toml in.wav out.wav
   sdfw run graph.toml in.wav out.wav --parallel
   sdfw run graph.toml --into out in/*.wav
   sdfw run graph.toml - - --runner rings --workers 2 --blocking 64 < in.wav > out.wav",
-    },
-];
+};
 
 /// The command `run` for several files.
-pub(super) const BATCH: &[CommandRow] = &[CommandRow {
+pub(super) const BATCH: CommandRow = CommandRow {
     name: "run",
     help: "Processes WAV files, each into a file of its name in a folder",
     more: "Processes WAV files, each into a file of its name in FOLDER. They run in parallel, one for each processor,
 at most 16 at a time; with `--parallel` they run one after the other. A line for each on standard output says
 what became of it, in the order of the files. The exit status is the greatest of all files.",
-    schedules: true,
-    arguments: &[
-        GRAPH, INPUTS, INTO, RUNNER, PATIENCE, PARALLEL, OPEN_ENDED, LEVELS, QUIET,
-    ],
+    arguments: &[GRAPH, INPUTS, PARALLEL, INTO, OPEN_ENDED, LEVELS, QUIET],
+    scheduling: SCHEDULING,
     examples: "Examples:
   sdfw run graph.toml --into out in/*.wav
   sdfw run graph.toml --into out in/*.wav --parallel",
-}];
+};

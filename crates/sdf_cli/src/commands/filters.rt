@@ -8,56 +8,53 @@ use sdf_limits::{MAX_CHANNEL, MAX_FACTOR, MAX_SHIFT};
 const SHAPE: Argument = Argument {
     name: "SHAPE",
     help: "lowpass, highpass or bandpass",
-    more: "What passes:
-- lowpass: what is up to `--pass` passes, what is from `--stop` on is stopped
-- highpass: what is up to `--stop` is stopped, what is from `--pass` on passes
-- bandpass: what is up to `--low-stop` is stopped, what is from `--low-pass` to `--pass` passes, and
-  what is from `--stop` on is stopped",
+    more: "The shape of the filter:
+- lowpass: passes up to `--pass`, stops from `--stop`
+- highpass: stops up to `--stop`, passes from `--pass`
+- bandpass: stops up to `--low-stop`, passes from `--low-pass` to `--pass`, stops from `--stop`",
     syntax: Syntax::Place(Values::OneOf(&["lowpass", "highpass", "bandpass"])),
 };
 
 const RATE: Argument = Argument {
     name: "rate",
-    help: "Samples a second at the filter",
-    more: "Samples a second at the filter: those of the actor's input times its `up`",
+    help: "The sample rate that the filter runs at, in Hz",
+    more: "The sample rate that the filter runs at, in Hz: the rate of the actor's input times its `up`",
     syntax: Syntax::Choice("HZ", Values::Unsigned(1, u32::MAX as u64), None),
 };
 
 const PASS: Argument = Argument {
     name: "pass",
-    help: "The edge of the passband, in Hz",
-    more: "The last frequency that passes, in Hz; of a high-pass the first one",
+    help: "Passband edge in Hz",
+    more: "Passband edge in Hz (for a high-pass, its lower end)",
     syntax: Syntax::Choice("HZ", Values::Unsigned(0, u32::MAX as u64), None),
 };
 
 const STOP: Argument = Argument {
     name: "stop",
-    help: "The edge of the stopband, in Hz",
-    more: "The first frequency that is stopped, in Hz; of a high-pass the last one",
+    help: "Stopband edge in Hz",
+    more: "Stopband edge in Hz (for a high-pass, its upper end)",
     syntax: Syntax::Choice("HZ", Values::Unsigned(0, u32::MAX as u64), None),
 };
 
 const LOW_STOP: Argument = Argument {
     name: "low-stop",
-    help: "The edge of a band-pass's lower stopband, in Hz",
-    more: "Of a band-pass, the last frequency that is stopped below what passes, in Hz.
-It has no effect on other shapes",
+    help: "Edge of a band-pass's lower stopband in Hz",
+    more: "Edge of a band-pass's lower stopband in Hz. It has no effect on other shapes",
     syntax: Syntax::Choice("HZ", Values::Unsigned(0, u32::MAX as u64), Some("0")),
 };
 
 const LOW_PASS: Argument = Argument {
     name: "low-pass",
-    help: "The lower edge of a band-pass's passband, in Hz",
-    more: "Of a band-pass, the first frequency that passes, in Hz.
-It has no effect on other shapes",
+    help: "Lower edge of a band-pass's passband in Hz",
+    more: "Lower edge of a band-pass's passband in Hz. It has no effect on other shapes",
     syntax: Syntax::Choice("HZ", Values::Unsigned(0, u32::MAX as u64), Some("0")),
 };
 
 const ATTENUATION: Argument = Argument {
     name: "attenuation",
-    help: "Attenuation of the stopband, in dB, at most 200",
-    more: "The attenuation of the stopband, in dB, at most 200. Taps of 16 bits limit it: a line on standard error
-says what a filter reaches",
+    help: "Stopband attenuation in dB, at most 200",
+    more: "Stopband attenuation in dB, at most 200. Taps of 16 bits limit it: a line on standard error says what a
+filter reaches",
     syntax: Syntax::Choice(
         "DB",
         Values::Unsigned(0, MAX_ATTENUATION as u64),
@@ -110,42 +107,46 @@ const CHANNELS: Argument = Argument {
     syntax: Syntax::Choice("N", Values::Unsigned(1, MAX_CHANNEL as u64 + 1), Some("1")),
 };
 
-pub(super) const ROWS: &[CommandRow] = &[
-    CommandRow {
-        name: "fir",
-        help: "Prints a coefficient file for an actor of kind fir",
-        more: "Prints a coefficient file for an actor of kind fir: at most 1024 taps of 16 bits, a sinc under Kaiser's
+pub(super) const FIR: CommandRow = CommandRow {
+    name: "fir",
+    help: "Prints a coefficient file for an actor of kind fir",
+    more: "Prints a coefficient file for an actor of kind fir: at most 1024 taps of 16 bits, a sinc under Kaiser's
 window. A line on standard error has the number of taps, the ripple of the passband and the attenuation of the
 stopband. No frequency may be over half the rate.",
-        schedules: false,
-        arguments: &[
-            SHAPE,
-            RATE,
-            PASS,
-            STOP,
-            LOW_STOP,
-            LOW_PASS,
-            ATTENUATION,
-            UP,
-            SHIFT,
-            WHY,
-            NO_WHY,
-        ],
-        examples: "Examples:
+    arguments: &[
+        SHAPE,
+        RATE,
+        PASS,
+        STOP,
+        LOW_STOP,
+        LOW_PASS,
+        ATTENUATION,
+        UP,
+        SHIFT,
+        WHY,
+        NO_WHY,
+    ],
+    scheduling: &[],
+    examples: "Examples:
   sdfw fir lowpass --rate 44100 --pass 2000 --stop 2900 > taps.toml
   sdfw fir lowpass --rate 336000 --pass 20000 --stop 24000 --up 7 > a.toml",
-    },
-    CommandRow {
-        name: "resample",
-        help: "Writes a design that converts between two rates",
-        more: "Writes a design that converts between two rates: its graph file and a coefficient file for each stage.
+};
+
+pub(super) const RESAMPLE: CommandRow = CommandRow {
+    name: "resample",
+    help: "Writes a design that converts between two rates",
+    more: "Writes a design that converts between two rates: its graph file and a coefficient file for each stage.
 It has the cheapest stages by products a second: at most three, unless the ratio needs more. A ratio with a
 prime factor over 64 is refused. Frequencies up to ten elevenths of half the lower rate pass, and what would be
-folded onto them is stopped. A line on standard error says what the taps of each stage do.",
-        schedules: false,
-        arguments: &[FROM, TO, FOLDER, CHANNELS, ATTENUATION, WHY, NO_WHY],
-        examples: "Examples:
-  sdfw resample 48000 44100 converter
-  sdfw resample 44100 96000 converter --channels 2 --attenuation 80",
-    },
-];
+folded onto them is stopped.
+The output is late by the delay of the filters, 0.9 to 1.8 ms between common rates, and the sound's end is cut
+off by the same time. If the end matters, append a little silence to IN first. Lines on standard error have the
+ripple and the attenuation of each stage, the delay, the files that were made, and the command that runs the
+design.",
+    arguments: &[FROM, TO, FOLDER, CHANNELS, ATTENUATION, WHY, NO_WHY],
+    scheduling: &[],
+    examples: "Examples:
+  sdfw resample 44100 48000 converter --channels 2
+  sdfw run converter/graph.toml in.wav out.wav
+  sdfw resample 44100 96000 to-96000 --attenuation 80",
+};

@@ -1,6 +1,6 @@
 //! The commands that show what a schedule does and what a run costs: their arguments and help texts.
 
-use super::designs::{GRAPH, IN, JSON, NO_WHY, WHY};
+use super::designs::{BLOCKING, GRAPH, IN, JSON, NO_WHY, PLACEMENT, POLICY, WHY, WORKERS};
 use super::{Argument, CommandRow, PLAIN, Syntax, Values};
 
 const COMPARE: Argument = Argument {
@@ -31,42 +31,46 @@ Each actor needs a table of its own, below a line `[[actor]]`. A cost that it ha
     syntax: Syntax::Choice("FILE", Values::Path, None),
 };
 
-pub(super) const ROWS: &[CommandRow] = &[
-    CommandRow {
-        name: "analyze",
-        help: "Prints how long a schedule takes and what its links hold",
-        more: "Prints how long a schedule takes and what its links hold. A firing starts as soon as it may, and takes
+pub(super) const ANALYZE: CommandRow = CommandRow {
+    name: "analyze",
+    help: "Prints how long a schedule takes and what its links hold",
+    more: "Prints how long a schedule takes and what its links hold. A firing starts as soon as it may, and takes
 the time that the key `cost` of its actor gives, or 1. The makespan is the time when the last firing ends, and
 the work is the sum of all costs. No schedule of the block ends before the bound. The speedup is the work over
 the makespan. For each worker, the part of the makespan in which it fires is printed.",
-        schedules: true,
-        arguments: &[GRAPH, COMPARE, WHY, NO_WHY, JSON],
-        examples: "Examples:
+    arguments: &[
+        GRAPH, BLOCKING, WORKERS, POLICY, PLACEMENT, COMPARE, WHY, NO_WHY, JSON,
+    ],
+    scheduling: &[],
+    examples: "Examples:
   sdfw analyze graph.toml --workers 2
   sdfw analyze graph.toml --workers 8 --compare",
-    },
-    CommandRow {
-        name: "draw",
-        help: "Draws a graph and its schedule",
-        more: "Draws a graph and its schedule as one SVG image on standard output, for a browser: the actors with
+};
+
+pub(super) const DRAW: CommandRow = CommandRow {
+    name: "draw",
+    help: "Draws a graph and its schedule",
+    more: "Draws a graph and its schedule as one SVG image on standard output, for a browser: the actors with
 their firings in a period, the links with their rates, initial samples and capacities, and below them
 the table against time, a lane for each worker.",
-        schedules: true,
-        arguments: &[GRAPH, DOT, WHY, NO_WHY],
-        examples: "Examples:
+    arguments: &[
+        GRAPH, BLOCKING, WORKERS, POLICY, PLACEMENT, DOT, WHY, NO_WHY,
+    ],
+    scheduling: &[],
+    examples: "Examples:
   sdfw draw graph.toml --workers 2 > graph.svg
   sdfw draw graph.toml --dot | dot -Tpdf > graph.pdf",
-    },
-    CommandRow {
-        name: "profile",
-        help: "Measures each actor's share of the time of a run",
-        more: "Measures a run over a WAV file in one thread: each actor's share of the time, and the nanoseconds of a
+};
+
+pub(super) const PROFILE: CommandRow = CommandRow {
+    name: "profile",
+    help: "Measures each actor's share of the time of a run",
+    more: "Measures a run over a WAV file in one thread: each actor's share of the time, and the nanoseconds of a
 firing. Prints them with the keys `cost` for the graph file, the least of which is 1. The output of the run is
 not written. IN is read whole, and has at most 1073741824 bytes.",
-        schedules: false,
-        arguments: &[GRAPH, IN, WRITE, WHY, NO_WHY],
-        examples: "Examples:
+    arguments: &[GRAPH, IN, WRITE, WHY, NO_WHY],
+    scheduling: &[],
+    examples: "Examples:
   sdfw profile graph.toml in.wav
   sdfw profile graph.toml in.wav --write measured.toml",
-    },
-];
+};

@@ -22,7 +22,7 @@ pub(super) static MEANINGS: [Meaning; 15] = [
     Meaning {
         place: "PLACE key K",
         means: "A key does not belong there, or `file` is given beside `taps` or `values`, which it replaces.",
-        limits: "an actor: `name`, `kind`, `processor`, `cost` and the keys of its kind (`sdfw kinds`); a link: `from`, `to` and `initial`; the top: `format`, `actor` and `link`; a coefficient file: `format` and `values`",
+        limits: "an actor: `name`, `kind`, `processor`, `cost` and the keys of its kind (`sdfw kinds`); a link: `from`, `to` and `initial`; the top: `format`, `rate`, `actor` and `link`; a coefficient file: `format` and `values`",
         remedy: "Remove it, or correct its spelling; keep either the list or `file`.",
     },
     // 52 MissingKey
@@ -43,7 +43,7 @@ pub(super) static MEANINGS: [Meaning; 15] = [
     Meaning {
         place: "PLACE key K",
         means: "A name breaks its rule.",
-        limits: "actors: 1 to 32 of `A-Z a-z 0-9 _ -`, the first a letter; files: 1 to 64 of `A-Z a-z 0-9 _ - .`, the first no dot",
+        limits: "actors: 1 to 32 of `A-Z a-z 0-9 _ -`, the first a letter; files: 1 to 64 of `A-Z a-z 0-9 _ - .`, not starting with a dot",
         remedy: "Change the name.",
     },
     // 55 NameTwice
@@ -57,8 +57,8 @@ pub(super) static MEANINGS: [Meaning; 15] = [
     Meaning {
         place: "actor A",
         means: "No kind has this name, or `format = 1` does not have it.",
-        limits: "",
-        remedy: "See `sdfw kinds`; a kind that it lists with `format 2` needs `format = 2`.",
+        limits: "`input`, `output`, `fir`, `decimate`, `interpolate`, `add`, `fork`, `gain`, `delay`, `table`; with `format = 2` also `deal`, `gather`, `clip` and `offset`",
+        remedy: "See `sdfw kinds`. A low-pass, high-pass or band-pass is a `fir` with the taps that `sdfw fir` prints, volume is a `gain`, a mixer is an `add`, a splitter is a `fork`, and `sdfw resample` writes a whole rate converter. A kind that `sdfw kinds` lists with `format 2` needs `format = 2`.",
     },
     // 57 BadPort
     Meaning {
@@ -91,9 +91,9 @@ pub(super) static MEANINGS: [Meaning; 15] = [
     // 61 NotYet
     Meaning {
         place: "",
-        means: "An early version gave this where something was not built yet. This version never gives it.",
+        means: "Something is not built yet. The program never gives this: everything is built.",
         limits: "",
-        remedy: "Nothing has to be done.",
+        remedy: "",
     },
     // 62 BadCost
     Meaning {

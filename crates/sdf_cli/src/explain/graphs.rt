@@ -28,7 +28,7 @@ pub(super) static MEANINGS: [Meaning; 12] = [
     // 4 BadEnd
     Meaning {
         place: "link C",
-        means: "A channel's end names no actor. Only a program that makes graphs in code meets this: a graph file has 57 in its place.",
+        means: "A link's end names no actor. Only a program that makes graphs in code meets this: a graph file has 57 in its place.",
         limits: "",
         remedy: "Name an actor that the graph has.",
     },
@@ -49,14 +49,14 @@ pub(super) static MEANINGS: [Meaning; 12] = [
     // 7 NotConnected
     Meaning {
         place: "actor A",
-        means: "Walking links in either direction, this actor is not reached from the first one.",
+        means: "No path of links, in either direction, leads from the first actor to this one.",
         limits: "every actor is reached from the first",
         remedy: "Write two files, or join the parts by a link, as `examples/swap` does.",
     },
     // 8 Inconsistent
     Meaning {
         place: "link C",
-        means: "There are no numbers of firings that put as much on every link as they take from it.",
+        means: "No choice of firing counts balances every link, so that the samples put on it equal the samples taken from it.",
         limits: "",
         remedy: "Compare the rates on the two ways that meet at this link, and change one of them.",
     },

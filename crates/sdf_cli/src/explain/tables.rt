@@ -140,9 +140,9 @@ pub(super) static MEANINGS: [Meaning; 21] = [
     // 32 NoWorker
     Meaning {
         place: "",
-        means: "A thread could not be started. This version never reports it: if a thread can't be started, the workers run one after another.",
+        means: "A thread could not be started. The program never gives this: if a thread can't be started, the workers run one after another.",
         limits: "",
-        remedy: "Use fewer workers.",
+        remedy: "",
     },
     // 33 SessionFailed
     Meaning {

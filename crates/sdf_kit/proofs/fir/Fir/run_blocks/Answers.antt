@@ -12,7 +12,7 @@ rounds-preserved c =
       shift = c.self.inside.shift;
     } in
     let done : ℕ = c.rounds.done in
-    let now : ℕ = c.min.result in
+    let now : ℕ = c.block_of.result in
     let block : List ℤ = take ((done + now) * c.self.inside.down - done * c.self.inside.down)
     (drop (done * c.self.inside.down) c.args.taken.now) in
     let after : List ℤ =
@@ -33,7 +33,7 @@ rounds-preserved c =
     (ap (λ n. run_put f n c.items.result.now block) back ∙ ap (λ k. run_put f now k block) c.items.ensures.all)) in
     let next = round_more f c.self.invariant.filter.up.0 c.self.invariant.filter.down.0 c.args.kept.now c.args.taken.now
     c.rounds.kept c.rounds.put c.put_block.new.put c.args.many done now was long size
-    (omega (arith, c.min.ensures, c.rounds-test.true)) value in
+    (omega (arith, c.block_of.ensures.few, c.rounds-test.true)) value in
     subst (λ (g : Filter). IsDone g c.args.kept.now c.args.taken.now c.slide.new.self after c.args.many
     (done + now)) c.self.view_is
     (subst (λ k. IsDone f c.args.kept.now c.args.taken.now k after c.args.many (done + now)) (sym c.slide.ensures) next)
