@@ -219,19 +219,22 @@ const IN_JSON: &[Row] = &[
         "a coefficient file that is not there",
         "check lacking.toml --json",
         "3\n--\n{\"actor\":1,\"fault\":58,\"file\":\"two.toml\",\"hint\":[\"actor 1 is \\\"same\\\", a fir\",\
-         \"\\\"two.toml\\\": entity not found\"],\"key\":\"file\",\"name\":\"NoFile\",\"path\":\"lacking.toml\",\
+         \"\\\"two.toml\\\": entity not found\",\"sdfw explain 58 says what to \
+         do\"],\"key\":\"file\",\"name\":\"NoFile\",\"path\":\"lacking.toml\",\
          \"value\":\"\\\"two.toml\\\"\"}\n--\n",
     ),
     (
         "a design that is not there",
         "schedule none.toml --json",
-        "5\n--\n{\"fault\":47,\"hint\":[\"\\\"none.toml\\\": entity not found\"],\"name\":\"Read\",\
+        "5\n--\n{\"fault\":47,\"hint\":[\"\\\"none.toml\\\": entity not found\",\"sdfw explain 47 says what to \
+         do\"],\"name\":\"Read\",\
          \"path\":\"none.toml\"}\n--\n",
     ),
     (
         "a comparison of a design that is not there",
         "analyze none.toml --compare --json",
-        "5\n--\n{\"fault\":47,\"hint\":[\"\\\"none.toml\\\": entity not found\"],\"name\":\"Read\",\
+        "5\n--\n{\"fault\":47,\"hint\":[\"\\\"none.toml\\\": entity not found\",\"sdfw explain 47 says what to \
+         do\"],\"name\":\"Read\",\
          \"path\":\"none.toml\"}\n--\n",
     ),
     (
@@ -243,33 +246,38 @@ const IN_JSON: &[Row] = &[
         "an actor without a home",
         "analyze plain.toml --placement file --json",
         "3\n--\n{\"actor\":0,\"fault\":19,\"hint\":[\"actor 0 is \\\"in\\\", an input\",\
-         \"processor needs 0..0\"],\"key\":\"processor\",\"limits\":\"0..0\",\"name\":\"BadHome\",\
+         \"processor needs 0..0\",\"sdfw explain 19 says what to \
+         do\"],\"key\":\"processor\",\"limits\":\"0..0\",\"name\":\"BadHome\",\
          \"path\":\"plain.toml\"}\n--\n",
     ),
     (
         "the same by two workers",
         "analyze far.toml --placement file --workers 2 --json --why",
         "3\n--\n{\"actor\":0,\"fault\":19,\"hint\":[\"actor 0 is \\\"in\\\", an input\",\
-         \"processor = 3, needs 0..1\"],\"key\":\"processor\",\"limits\":\"0..1\",\"name\":\"BadHome\",\
+         \"processor = 3, needs 0..1\",\"sdfw explain 19 says what to \
+         do\"],\"key\":\"processor\",\"limits\":\"0..1\",\"name\":\"BadHome\",\
          \"path\":\"far.toml\",\"value\":\"3\"}\n--\n",
     ),
     (
         "a number outside its limits",
         "check wide.toml --why --json",
         "3\n--\n{\"actor\":0,\"column\":1,\"fault\":28,\"hint\":[\"actor 0 is \\\"half\\\", a fir\",\
-         \"up = 147, needs 1..64\"],\"key\":\"up\",\"limits\":\"1..64\",\"line\":6,\"name\":\"KitValue\",\
+         \"up = 147, needs 1..64\",\"sdfw explain 28 says what to \
+         do\"],\"key\":\"up\",\"limits\":\"1..64\",\"line\":6,\"name\":\"KitValue\",\
          \"path\":\"wide.toml\",\"value\":\"147\"}\n--\n",
     ),
     (
         "a file that ends too soon",
         "check broken.toml --json",
         "3\n--\n{\"column\":…,\"fault\":49,\"hint\":[\"\\\"broken.toml\\\": TOML parse error at line 2, column \
-         …\"],\"line\":2,\"name\":\"NotToml\",\"path\":\"broken.toml\",\"top\":true}\n--\n",
+         …\",\"sdfw explain 49 says what to \
+         do\"],\"line\":2,\"name\":\"NotToml\",\"path\":\"broken.toml\",\"top\":true}\n--\n",
     ),
     (
         "a deadlock",
         "schedule stuck.toml --json",
-        "3\n--\n{\"actors\":[…],\"fault\":10,\"hint\":[\"link 3 is fork:1 -> add:1, holds 0, needs 1\",…],\
+        "3\n--\n{\"actors\":[…],\"fault\":10,\"hint\":[\"link 3 is fork:1 -> add:1, holds 0, needs 1\",…,\"sdfw \
+         explain 10 says what to do\"],\
          \"name\":\"Deadlock\",\"path\":\"stuck.toml\"}\n--\n",
     ),
     (
@@ -280,7 +288,8 @@ const IN_JSON: &[Row] = &[
     (
         "a sound that is cut off",
         "run plain.toml cut.wav out.wav --json",
-        "4\n--\n{\"fault\":43,\"hint\":[\"\\\"cut.wav\\\": ends after 44 bytes, needs 48\"],\"name\":\"Truncated\",\
+        "4\n--\n{\"fault\":43,\"hint\":[\"\\\"cut.wav\\\": ends after 44 bytes, needs 48; `run --open-ended` reads to \
+         the end\",\"sdfw explain 43 says what to do\"],\"name\":\"Truncated\",\
          \"path\":\"cut.wav\"}\n--\n<5 -5 to come>",
     ),
     (

@@ -86,7 +86,8 @@ const FILES_AT_TERMINAL: &[Row] = &[
     (
         "a fault in JSON",
         "check none.toml --json",
-        "5\n--\n{\"fault\":47,\"hint\":[\"\\\"none.toml\\\": entity not found\"],\"name\":\"Read\",\
+        "5\n--\n{\"fault\":47,\"hint\":[\"\\\"none.toml\\\": entity not found\",\"sdfw explain 47 says what to \
+         do\"],\"name\":\"Read\",\
          \"path\":\"none.toml\"}\n--\n",
     ),
 ];
