@@ -317,6 +317,7 @@ fn command_told(alloc: Global, read: &Words) -> Result<String, Fail> {
                     options,
                     parallel,
                     open_ended: false,
+                    format: Format::Text,
                 },
             ),
             why: Why::AtTerminal,

@@ -135,7 +135,7 @@ fn shown_of_long<R: Threads + AllocGlobal + Sync>(rt: &R) -> Result<String, Fail
         clock: &paced,
         progress: Some(Progress::new(&paced)),
     };
-    let mut output = Output::new(&mut to, progress_line, true);
+    let mut output = Output::new(&mut to, progress_line, true)?;
     output.write_all(LONG)?;
     output.write_all(&[0; 2_000])?;
     drop(output);

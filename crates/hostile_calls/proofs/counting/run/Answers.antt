@@ -16,7 +16,7 @@ run_blocks-made-requires-clause-fits g c κs within =
         workers = c.in_ok-table.ensures.0.workers;
         short = c.in_ok-table.ensures.0.short;
         table = subst (λ x. IsTable (rates x) (slice_index
-                (block c.args.sizes.blocking c.in_ok-period.period.repetitions))
+            (block c.args.sizes.blocking c.in_ok-period.period.repetitions))
             c.args.sizes.workers c.in_ok-table.table) c.graph-graph.ensures.value c.in_ok-table.ensures.1.table;
       };
     }
