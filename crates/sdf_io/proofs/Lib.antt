@@ -1,1 +1,1 @@
-mod Held
+mod Taken

@@ -30,7 +30,7 @@ impl<'a, W: Write> HeldStart<'a, W> {
     }
 
     /// Writes what is held, in one call if `to` takes all of it. Bytes that `to` refuses stay held.
-    #[tactic(auto, using(crate::proofs::Held::unchanged, crate::proofs::Held::handed_on, crate::proofs::Held::refused))]
+    #[tactic(auto, using(crate::proofs::Taken::unchanged, crate::proofs::Taken::handed_on, crate::proofs::Taken::refused))]
     pub(crate) fn hand_on(&mut self) -> io::Result<()>
         ensures bytes { Keeps (append_known (W.contents self.old.to.now) self.old.held.items)
             (append_known (W.contents self.new.to.now) self.new.held.items) }
@@ -51,7 +51,7 @@ impl<'a, W: Write> HeldStart<'a, W> {
 impl<W: Write> Write for HeldStart<'_, W> {
     ghost contents = { λ start. append_known (W.contents start.to.now) start.held.items };
 
-    #[tactic(auto, using(crate::proofs::Held::held_more, crate::proofs::Held::passed_on, crate::proofs::Held::refused))]
+    #[tactic(auto, using(crate::proofs::Taken::held_more, crate::proofs::Taken::passed_on, crate::proofs::Taken::refused))]
     fn write(&mut self, bytes: &[u8]) -> io::Result<usize> {
         let room = MAX_HELD.saturating_sub(self.held.len());
         if !self.is_over && room > 0 {
@@ -63,7 +63,7 @@ impl<W: Write> Write for HeldStart<'_, W> {
         self.to.write(bytes)
     }
 
-    #[tactic(auto, using(crate::proofs::Held::refused))]
+    #[tactic(auto, using(crate::proofs::Taken::refused))]
     fn flush(&mut self) -> io::Result<()> {
         self.hand_on()?;
         self.to.flush()
