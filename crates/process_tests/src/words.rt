@@ -2,7 +2,7 @@
 //! after the last one of a command.
 
 use crate::running::status_told;
-use sdf_cli::{DesignCommand, ParallelWorkers, RunRequest, Why, Words, words};
+use sdf_cli::{DesignCommand, Format, ParallelWorkers, RunRequest, Why, Words, words};
 use sdf_faults::Fault;
 use sdf_options::Options;
 use std::alloc::{AllocError, Global};

@@ -40,6 +40,18 @@ const UNREAD: &[Heard] = &[
     ),
 ];
 
+/// Sounds of another rate than the design's. Refuses a program that notes nothing, that notes equal rates, or that turns
+/// the quotient round.
+const RATES: &[Heard] = &[
+    (
+        b"",
+        "run rated.toml in.wav out.wav --why",
+        "0\n--\noutput 0: 2 frames, …\nthe design is for 48000 Hz, in.wav has 44100: its frequencies are 0.919 times as \
+         high\n--\n<5 -5>",
+    ),
+    (b"", "run rated.toml in.wav out.wav", "0\n--\n--\n<5 -5>"),
+];
+
 /// Sounds of a size of 0. Refuses a program that says nothing of bytes behind it, or that takes another chunk for
 /// samples.
 const EMPTY: &[Heard] = &[
@@ -129,6 +141,9 @@ const CUT: &[Heard] = &[
 #[test]
 fn notes_on_runs(rt: HostRuntime) -> Result<(), Fail> {
     for (stdin, line, wanted) in UNREAD {
+        expect_text(line, told_of(&rt, stdin, line), wanted)?;
+    }
+    for (stdin, line, wanted) in RATES {
         expect_text(line, told_of(&rt, stdin, line), wanted)?;
     }
     for (stdin, line, wanted) in EMPTY {

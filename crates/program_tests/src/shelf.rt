@@ -212,6 +212,12 @@ to = \"out\"
 const ODD: &str = "format = 1\nvalues = [1]\ntap = 1\n";
 
 /// A coefficient file with the values of `TAPS` that is longer than the graph file.
+/// The design of `PLAIN`, made for 48,000 Hz.
+const RATED: &str = r#"format = 1
+rate = 48000
+actor = [{ name = "in", kind = "input", channel = 0 }, { name = "out", kind = "output", channel = 0 }]
+link = [{ from = "in", to = "out" }]"#;
+
 pub(crate) const PADDED: &str = "format = 1
 # The taps of a filter that hands on what it takes: it has one tap, which is 1, and divides by nothing. What is said
 # here makes the file longer than the graph file that names it, so that a limit can stand between the two: no graph file
@@ -236,6 +242,7 @@ const SOUNDS: &[(&str, &[u8])] = &[
 /// Graph files that name no other file.
 const DESIGNS: &[(&str, &str)] = &[
     ("plain.toml", PLAIN),
+    ("rated.toml", RATED),
     ("-", PLAIN),
     ("commented.toml", COMMENTED),
     ("begun.toml", BEGUN),
