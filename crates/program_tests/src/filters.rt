@@ -83,7 +83,7 @@ const CONVERTERS: &[Row] = &[
     ),
     (
         "a stage with too many taps, and no edges of bands to move",
-        "resample 8000 8001 made --attenuation 200",
+        "resample 5900 6100 made --attenuation 200",
         "2\n--\nerror: a stage needs … taps, but 1024 is the limit: lower --attenuation\n…",
     ),
     (

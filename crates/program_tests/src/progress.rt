@@ -148,7 +148,8 @@ fn long_lines_are_cut(rt: HostRuntime) -> Result<(), Fail> {
     expect_text(
         "a long line",
         shown_of_long(&rt),
-        "\r0.0 of 2147483647.0 s, 0.0x real time\x1b[K\r1000.0 of 2147483647.0 s, 125.0x real t\x1b[K",
+        "\r0.0 of 2147483647.0 s, 0.0x real time\x1b[K\r106.0 of 2147483647.0 s, 13.2x real tim\x1b[K\
+         \r1000.0 of 2147483647.0 s, 83.3x real ti\x1b[K",
     )
 }
 

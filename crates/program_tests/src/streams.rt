@@ -136,7 +136,7 @@ const NOT_PRINTED: &[Row] = &[
     (
         "a sound that is not written",
         "run plain.toml in.wav - --why",
-        "5\n--\nsdfw: 48 Write\n  \"-\": broken pipe\n--\n",
+        "5\n--\nsdfw: 48 Write\n  \"-\": broken pipe\n  sdfw explain 48 says what to do\n--\n",
     ),
     (
         "a header that is not written, before a sound that ends too soon",

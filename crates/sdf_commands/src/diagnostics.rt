@@ -45,7 +45,7 @@ fn refusals(alloc: Global, sources: &Sources) -> Result<String, AllocError> {
 /// Returns whether the system refused GRAPH since it is a folder.
 fn is_folder(sources: &Sources) -> bool {
     sources.refused.iter().any(|refused| {
-        refused.name == sources.path && refused.said.as_str().ends_with("s a directory")
+        refused.name == sources.path && refused.said.as_str().contains("s a directory")
     })
 }
 
