@@ -9,7 +9,6 @@ pub mod Values
 pub mod Coefficients
 pub mod Places
 pub mod Types
-pub mod Synonyms
 pub mod Kinds
 pub mod Documents
 pub mod Spots
