@@ -146,6 +146,12 @@ link = [{ from = "in", to = "fork" }, { from = "fork:0", to = "x", initial = [0]
     { from = "fork:1", to = "y", initial = [0] }, { from = "x", to = "add:0" }, { from = "y", to = "add:1" },
     { from = "add", to = "out" }]"#;
 
+/// A design that returns a sample after 65,536 others.
+pub(crate) const FAR_BACK: &str = r#"format = 1
+actor = [{ name = "in", kind = "input", channel = 0 }, { name = "late", kind = "delay", length = 65536 },
+    { name = "out", kind = "output", channel = 0 }]
+link = [{ from = "in", to = "late" }, { from = "late", to = "out" }]"#;
+
 /// The sum of two channels. One of two workers is the home of the sources, and the other of the rest: by the file, and
 /// also if homes are spread.
 pub(crate) const SUM: &str = r#"format = 1
@@ -166,6 +172,12 @@ link = [{ from = "in", to = "deal" }, { from = "deal:0", to = "left" }, { from =
 /// A design that copies its input. One of two workers is the home of the source, and the other of the sink.
 pub(crate) const PLAIN: &str = r#"format = 1
 actor = [{ name = "in", kind = "input", channel = 0 }, { name = "out", kind = "output", channel = 0 }]
+link = [{ from = "in", to = "out" }]"#;
+
+/// A design that copies its input, 1,024 samples at a time.
+pub(crate) const BY_BLOCKS: &str = r#"format = 1
+actor = [{ name = "in", kind = "input", channel = 0, block = 1024 },
+    { name = "out", kind = "output", channel = 0, block = 1024 }]
 link = [{ from = "in", to = "out" }]"#;
 
 /// An input of 1,024 samples a firing, linked to an output of 1,023, on one worker. By the policy `runs` the source

@@ -22,6 +22,8 @@ mod faults;
 #[cfg(test)]
 mod long_lists;
 #[cfg(test)]
+mod long_runs;
+#[cfg(test)]
 mod made;
 #[cfg(test)]
 mod meetings;

@@ -13,7 +13,7 @@ use test_texts::row_says;
 
 /// A filter with values in place of `LIST`. In the designs that follow the values are in a table, on a link, or in a
 /// coefficient file of a filter or a table.
-const FILTER: &str = r#"format = 1
+pub(crate) const FILTER: &str = r#"format = 1
 actor = [{ name = "in", kind = "input", channel = 0 }, { name = "sum", kind = "fir", shift = 0, taps = [LIST] },
     { name = "out", kind = "output", channel = 0 }]
 link = [{ from = "in", to = "sum" }, { from = "sum", to = "out" }]"#;
@@ -39,7 +39,7 @@ actor = [{ name = "in", kind = "input", channel = 0 }, { name = "out", kind = "o
 link = [{ from = "in", to = "out", initial = [LIST] }]"#;
 
 /// Returns `text` with `many` values in place of `LIST`: 1, 2, 3 and so on up to 9, then from 1 again.
-fn with_list(alloc: Global, text: &str, many: usize) -> Result<String, AllocError> {
+pub(crate) fn with_list(alloc: Global, text: &str, many: usize) -> Result<String, AllocError> {
     let mut list = String::new(alloc);
     for number in 0..many {
         list.push(char::from(b'1' + (number % 9) as u8))?;

@@ -3,9 +3,9 @@
 //!
 //! It depends on `sdf_program` and `sdf_io`, on `sdf_cli` for the words that are given, on `sdf_profile` for the
 //! text with costs, on `sdf_faults`, on `sdf_options` for faults of words, on `test_texts`, and on `test_devices` to
-//! count threads. It contains tests only:
-//! testing a crate proves its functions once more, so the tests have a crate of their own. Begin at `commands`, which
-//! has the call that most tests make, and `shelf`, the files in memory.
+//! count threads and for long sounds. It contains tests only: testing a crate proves its functions once more, so the
+//! tests have a crate of their own. Begin at `commands`, which has the call that most tests make, and `shelf`, the
+//! files in memory.
 #![tactic(auto)]
 
 #[cfg(test)]
@@ -26,6 +26,8 @@ mod filters;
 mod left;
 #[cfg(test)]
 mod levels;
+#[cfg(test)]
+mod long_sounds;
 #[cfg(test)]
 mod notes;
 #[cfg(test)]

@@ -1,4 +1,4 @@
-//! How many threads this program has and how much memory it holds, as the system reports while a test runs.
+//! How many threads this program has, as the system reports while a test runs.
 
 use std::alloc::Global;
 use std::fs;
@@ -34,13 +34,8 @@ fn reported<R: AllocGlobal + Files>(rt: &R, key: &str) -> io::Result<u64> {
 }
 
 /// Returns how many threads this program has.
-pub fn threads_now<R: AllocGlobal + Files>(rt: &R) -> io::Result<u64> {
+fn threads_now<R: AllocGlobal + Files>(rt: &R) -> io::Result<u64> {
     reported(rt, "Threads:")
-}
-
-/// Returns how many kilobytes of memory are resident.
-pub fn resident_now<R: AllocGlobal + Files>(rt: &R) -> io::Result<u64> {
-    reported(rt, "VmRSS:")
 }
 
 /// What `CountedThreads` saw of the threads of this program. All counts include the first thread.
