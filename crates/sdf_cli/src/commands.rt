@@ -8,8 +8,7 @@ mod views;
 
 use clap::builder::ValueParser;
 use clap::{Arg, ArgAction, Command};
-use groups::GROUPS;
-pub use groups::overview;
+pub use groups::OVERVIEW;
 use std::alloc::{AllocError, Global};
 
 /// The head of a run's options for its schedule and its workers.
@@ -189,9 +188,5 @@ pub(crate) fn batch_command<'a>(alloc: Global) -> Result<Command<'a>, AllocError
 
 /// Returns the program's command with all its subcommands.
 pub(crate) fn sdfw_command<'a>(alloc: Global) -> Result<Command<'a>, AllocError> {
-    let mut command = program(alloc);
-    for group in GROUPS {
-        command = with_commands(alloc, command, group.rows)?;
-    }
-    Ok(command)
+    groups::with_all(alloc, program(alloc))
 }

@@ -16,7 +16,7 @@ mod requests;
 mod values;
 
 pub use command_line::words;
-pub use commands::overview;
+pub use commands::OVERVIEW;
 pub use explain::{explanation, fault_name};
 pub use requests::{
     BatchRequest, Conversion, DesignCommand, Format, MAX_FAULT, ParallelWorkers, Picture,

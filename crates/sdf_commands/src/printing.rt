@@ -3,7 +3,7 @@
 ghost use Rattle.sdf_options.specs.Limits.{AreWithinLimits};
 
 use sdf_analyze::analyze;
-use sdf_cli::{Format, Picture, explanation, overview};
+use sdf_cli::{Format, OVERVIEW, Picture, explanation};
 use sdf_draw::{dot, svg};
 use sdf_faults::Fault;
 use sdf_file::Design;
@@ -109,6 +109,6 @@ pub fn print_meaning<O: Write>(alloc: Global, out: &mut O, number: u32) -> Resul
 }
 
 /// Prints the overview of all commands.
-pub fn print_overview<O: Write>(alloc: Global, out: &mut O) -> Result<(), Fault> {
-    show(out, overview(alloc)?.as_str())
+pub fn print_overview<O: Write>(out: &mut O) -> Result<(), Fault> {
+    show(out, OVERVIEW)
 }

@@ -252,7 +252,7 @@ fn execute<
         )),
         Words::Kinds { format } => status_or_fault(print_kinds(alloc, out, format)),
         Words::Explain { number } => status_or_fault(print_meaning(alloc, out, number)),
-        Words::Overview => status_or_fault(print_overview(alloc, out)),
+        Words::Overview => status_or_fault(print_overview(out)),
     }
 }
 

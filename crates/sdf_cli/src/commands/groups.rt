@@ -1,42 +1,99 @@
-//! The commands in groups, and the overview of them that `sdfw --help` prints.
+//! The commands in the order in which a user meets them, and the overview of them that `sdfw --help` prints.
 
-use super::{CommandRow, designs, filters, reference, views};
+use super::{designs, filters, reference, views, with_command};
+use clap::Command;
 use std::alloc::{AllocError, Global};
 
-/// Commands for one purpose.
-#[derive(Clone, Copy)]
-pub(super) struct Group {
-    head: &'static str,
-    pub(super) rows: &'static [CommandRow],
+fn with_run<'a>(alloc: Global, command: Command<'a>) -> Result<Command<'a>, AllocError> {
+    with_command(alloc, command, designs::RUN)
 }
 
-/// The commands, in the order in which a user meets them.
-pub(super) const GROUPS: &[Group] = &[
-    Group {
-        head: "Process sound",
-        rows: &[designs::RUN, filters::RESAMPLE, filters::FIR],
-    },
-    Group {
-        head: "Understand a design",
-        rows: &[designs::CHECK, reference::EXPLAIN, reference::KINDS],
-    },
-    Group {
-        head: "Schedule a design",
-        rows: &[
-            designs::SCHEDULE,
-            views::ANALYZE,
-            views::DRAW,
-            views::PROFILE,
-        ],
-    },
-];
+fn with_resample<'a>(alloc: Global, command: Command<'a>) -> Result<Command<'a>, AllocError> {
+    with_command(alloc, command, filters::RESAMPLE)
+}
 
-const HEAD: &str = "A workbench for synchronous dataflow graphs over WAV files
+fn with_fir<'a>(alloc: Global, command: Command<'a>) -> Result<Command<'a>, AllocError> {
+    with_command(alloc, command, filters::FIR)
+}
+
+fn with_check<'a>(alloc: Global, command: Command<'a>) -> Result<Command<'a>, AllocError> {
+    with_command(alloc, command, designs::CHECK)
+}
+
+fn with_explain<'a>(alloc: Global, command: Command<'a>) -> Result<Command<'a>, AllocError> {
+    with_command(alloc, command, reference::EXPLAIN)
+}
+
+fn with_kinds<'a>(alloc: Global, command: Command<'a>) -> Result<Command<'a>, AllocError> {
+    with_command(alloc, command, reference::KINDS)
+}
+
+fn with_schedule<'a>(alloc: Global, command: Command<'a>) -> Result<Command<'a>, AllocError> {
+    with_command(alloc, command, designs::SCHEDULE)
+}
+
+fn with_analyze<'a>(alloc: Global, command: Command<'a>) -> Result<Command<'a>, AllocError> {
+    with_command(alloc, command, views::ANALYZE)
+}
+
+fn with_draw<'a>(alloc: Global, command: Command<'a>) -> Result<Command<'a>, AllocError> {
+    with_command(alloc, command, views::DRAW)
+}
+
+fn with_profile<'a>(alloc: Global, command: Command<'a>) -> Result<Command<'a>, AllocError> {
+    with_command(alloc, command, views::PROFILE)
+}
+
+/// Adds the commands that process sound.
+fn with_sound<'a>(alloc: Global, command: Command<'a>) -> Result<Command<'a>, AllocError> {
+    let command = with_run(alloc, command)?;
+    let command = with_resample(alloc, command)?;
+    with_fir(alloc, command)
+}
+
+/// Adds the commands that say what a design is.
+fn with_design<'a>(alloc: Global, command: Command<'a>) -> Result<Command<'a>, AllocError> {
+    let command = with_check(alloc, command)?;
+    let command = with_explain(alloc, command)?;
+    with_kinds(alloc, command)
+}
+
+/// Adds the commands that schedule a design.
+fn with_schedules<'a>(alloc: Global, command: Command<'a>) -> Result<Command<'a>, AllocError> {
+    let command = with_schedule(alloc, command)?;
+    let command = with_analyze(alloc, command)?;
+    let command = with_draw(alloc, command)?;
+    with_profile(alloc, command)
+}
+
+/// Adds all commands. A function names the row of one command alone, since it is proved with all texts of the row.
+pub(super) fn with_all<'a>(alloc: Global, command: Command<'a>) -> Result<Command<'a>, AllocError> {
+    let command = with_sound(alloc, command)?;
+    let command = with_design(alloc, command)?;
+    with_schedules(alloc, command)
+}
+
+/// The overview of all commands. It says of each what its row says in short.
+pub const OVERVIEW: &str = "A workbench for synchronous dataflow graphs over WAV files
 
 Usage: sdfw <COMMAND>
-";
 
-const CLOSING: &str = "
+Process sound:
+  run       Processes a WAV file, or several
+  resample  Writes a design that converts between two rates
+  fir       Prints a coefficient file for an actor of kind fir
+
+Understand a design:
+  check     Checks a graph file and prints its period
+  explain   Says what a fault means and what to do about it
+  kinds     Lists the kinds of actors, their keys and limits
+
+Schedule a design:
+  schedule  Prints a schedule of a graph file for some workers
+  analyze   Prints how long a schedule takes and what its links hold
+  draw      Draws a graph and its schedule
+  profile   Measures each actor's share of the time of a run
+
 Options:
   -h, --help     Print help
   -V, --version  Print version
@@ -58,33 +115,3 @@ More:
   `sdfw COMMAND --help` describes a command, and `sdfw COMMAND -h` in short.
   README.md, docs/TUTORIAL.md and docs/FORMATS.md are in the sources, and in share/doc/sdfw once it is installed.
 ";
-
-/// Adds the line of a command. The longest names have eight letters.
-fn push_row(text: &mut String, row: CommandRow) -> Result<(), AllocError> {
-    let CommandRow { name, help, .. } = row;
-    writeln!(text, "  {name:<8}  {help}")
-}
-
-fn push_rows(text: &mut String, rows: &[CommandRow]) -> Result<(), AllocError> {
-    for row in rows {
-        push_row(text, *row)?;
-    }
-    Ok(())
-}
-
-/// Adds the head of a group and the lines of its commands.
-fn push_group(text: &mut String, group: Group) -> Result<(), AllocError> {
-    let head = group.head;
-    writeln!(text, "\n{head}:")?;
-    push_rows(text, group.rows)
-}
-
-/// Returns the overview of all commands.
-pub fn overview(alloc: Global) -> Result<String, AllocError> {
-    let mut text = String::from_str(alloc, HEAD)?;
-    for group in GROUPS {
-        push_group(&mut text, *group)?;
-    }
-    text.push_str(CLOSING)?;
-    Ok(text)
-}
