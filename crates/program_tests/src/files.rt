@@ -183,7 +183,7 @@ const LACKING: &[Row] = &[
     (
         "a folder, and the graph file in it",
         "run @/ in out --why",
-        "5 sdfw: 47 Read\n  \"…/\": Is a directory (os error 21)\n  GRAPH is a file, such as …/lacks/graph.toml\n  sdfw explain 47 \
+        "5 sdfw: 47 Read\n  \"…/\": Is a directory (os error 21)\n  GRAPH is a file, such as …/graph.toml\n  sdfw explain 47 \
          says what to do\n",
     ),
     (
