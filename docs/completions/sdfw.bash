@@ -3,15 +3,12 @@ _sdfw() {
   local word=${COMP_WORDS[COMP_CWORD]} before=${COMP_WORDS[COMP_CWORD-1]}
   COMPREPLY=()
   if [ "$COMP_CWORD" -eq 1 ]; then
-    mapfile -t COMPREPLY < <(compgen -W "check schedule run analyze draw profile fir resample kinds explain help --help --version" -- "$word")
+    mapfile -t COMPREPLY < <(compgen -W "run resample fir check explain kinds schedule analyze draw profile help --help --version" -- "$word")
     return
   fi
   case ${COMP_WORDS[1]}:$before in
-    help:help) mapfile -t COMPREPLY < <(compgen -W "check schedule run analyze draw profile fir resample kinds explain" -- "$word"); return ;;
-    schedule:--blocking) :; return ;;
-    schedule:--workers) :; return ;;
-    schedule:--policy) mapfile -t COMPREPLY < <(compgen -W "round lean runs" -- "$word"); return ;;
-    schedule:--placement) mapfile -t COMPREPLY < <(compgen -W "hu homed file spread" -- "$word"); return ;;
+    help:help) mapfile -t COMPREPLY < <(compgen -W "run resample fir check explain kinds schedule analyze draw profile" -- "$word"); return ;;
+    run:--parallel) :; return ;;
     run:--into) compopt -o filenames; mapfile -t COMPREPLY < <(compgen -d -- "$word"); return ;;
     run:--blocking) :; return ;;
     run:--workers) :; return ;;
@@ -19,7 +16,20 @@ _sdfw() {
     run:--placement) mapfile -t COMPREPLY < <(compgen -W "hu homed file spread" -- "$word"); return ;;
     run:--runner) mapfile -t COMPREPLY < <(compgen -W "one rows rings" -- "$word"); return ;;
     run:--patience) :; return ;;
-    run:--parallel) :; return ;;
+    resample:--channels) :; return ;;
+    resample:--attenuation) :; return ;;
+    fir:--rate) :; return ;;
+    fir:--pass) :; return ;;
+    fir:--stop) :; return ;;
+    fir:--low-stop) :; return ;;
+    fir:--low-pass) :; return ;;
+    fir:--attenuation) :; return ;;
+    fir:--up) :; return ;;
+    fir:--shift) :; return ;;
+    schedule:--blocking) :; return ;;
+    schedule:--workers) :; return ;;
+    schedule:--policy) mapfile -t COMPREPLY < <(compgen -W "round lean runs" -- "$word"); return ;;
+    schedule:--placement) mapfile -t COMPREPLY < <(compgen -W "hu homed file spread" -- "$word"); return ;;
     analyze:--blocking) :; return ;;
     analyze:--workers) :; return ;;
     analyze:--policy) mapfile -t COMPREPLY < <(compgen -W "round lean runs" -- "$word"); return ;;
@@ -29,30 +39,20 @@ _sdfw() {
     draw:--policy) mapfile -t COMPREPLY < <(compgen -W "round lean runs" -- "$word"); return ;;
     draw:--placement) mapfile -t COMPREPLY < <(compgen -W "hu homed file spread" -- "$word"); return ;;
     profile:--write) compopt -o filenames; mapfile -t COMPREPLY < <(compgen -f -- "$word"); return ;;
-    fir:--rate) :; return ;;
-    fir:--pass) :; return ;;
-    fir:--stop) :; return ;;
-    fir:--low-stop) :; return ;;
-    fir:--low-pass) :; return ;;
-    fir:--attenuation) :; return ;;
-    fir:--up) :; return ;;
-    fir:--shift) :; return ;;
-    resample:--channels) :; return ;;
-    resample:--attenuation) :; return ;;
   esac
   case ${COMP_WORDS[1]}:$word in
+    run:-*) mapfile -t COMPREPLY < <(compgen -W "--parallel --into --open-ended --why --no-why --json --help --blocking --workers --policy --placement --runner --patience" -- "$word") ;;
+    resample:-*) mapfile -t COMPREPLY < <(compgen -W "--channels --attenuation --why --no-why --help" -- "$word") ;;
+    fir:-*) mapfile -t COMPREPLY < <(compgen -W "--rate --pass --stop --low-stop --low-pass --attenuation --up --shift --why --no-why --help" -- "$word") ;;
+    fir:*) mapfile -t COMPREPLY < <(compgen -W "lowpass highpass bandpass" -- "$word") ;;
     check:-*) mapfile -t COMPREPLY < <(compgen -W "--why --no-why --json --help" -- "$word") ;;
+    explain:-*) mapfile -t COMPREPLY < <(compgen -W "--help" -- "$word") ;;
+    kinds:-*) mapfile -t COMPREPLY < <(compgen -W "--json --help" -- "$word") ;;
     schedule:-*) mapfile -t COMPREPLY < <(compgen -W "--blocking --workers --policy --placement --why --no-why --json --help" -- "$word") ;;
-    run:-*) mapfile -t COMPREPLY < <(compgen -W "--into --blocking --workers --policy --placement --runner --patience --parallel --open-ended --why --no-why --json --help" -- "$word") ;;
     analyze:-*) mapfile -t COMPREPLY < <(compgen -W "--blocking --workers --policy --placement --compare --why --no-why --json --help" -- "$word") ;;
     draw:-*) mapfile -t COMPREPLY < <(compgen -W "--blocking --workers --policy --placement --dot --why --no-why --help" -- "$word") ;;
     profile:-*) mapfile -t COMPREPLY < <(compgen -W "--write --why --no-why --help" -- "$word") ;;
-    fir:-*) mapfile -t COMPREPLY < <(compgen -W "--rate --pass --stop --low-stop --low-pass --attenuation --up --shift --help" -- "$word") ;;
-    fir:*) mapfile -t COMPREPLY < <(compgen -W "lowpass highpass bandpass" -- "$word") ;;
-    resample:-*) mapfile -t COMPREPLY < <(compgen -W "--channels --attenuation --help" -- "$word") ;;
-    kinds:-*) mapfile -t COMPREPLY < <(compgen -W "--json --help" -- "$word") ;;
-    explain:-*) mapfile -t COMPREPLY < <(compgen -W "--help" -- "$word") ;;
-    check:*|schedule:*|run:*|analyze:*|draw:*|profile:*|resample:*)
+    run:*|resample:*|check:*|schedule:*|analyze:*|draw:*|profile:*)
       compopt -o filenames
       mapfile -t COMPREPLY < <(compgen -f -- "$word")
       ;;
