@@ -10,12 +10,11 @@ use crate::shelf::{HEADER, SOUND};
 use sdf_io::storage::Disk;
 use std::alloc::{AllocError, Global};
 use std::fs;
-use std::rt::Files;
 use std::test::Fail;
 use std::thread::Threads;
 use std::time::Clock;
 use test_devices::{CountedThreads, ThreadCount};
-use test_texts::{row_says, says};
+use test_texts::says;
 
 /// Batches over files in memory. Refuses a program that stops at a file that fails, or keeps what it has written for
 /// that file. Refuses also the least or the last exit status, and two files that are written in one place.
@@ -431,36 +430,18 @@ fn files_at_once(rt: HostRuntime) -> Result<(), Fail> {
     is_run(&rt, &rt, "in-turn", 3, Some(0), " --parallel 2")
 }
 
-/// Runs a batch of twenty files with `option`, and returns the greatest number of threads at once. Until `wanted` threads
-/// were seen, threads wait for others.
-fn threads_told<T: Threads + AllocGlobal + Files + Clock + Sync>(
-    rt: &HostRuntime,
-    threads: &T,
-    option: &str,
-    wanted: usize,
-) -> Result<String, Fail> {
-    let count = ThreadCount::of(wanted as u64);
-    let counted = CountedThreads {
-        rt: threads,
-        count: &count,
-    };
-    is_run(rt, &counted, "at-once", 20, None, option)?;
-    format!(in rt.alloc(); "{}", count.greatest()).map_err(Fail::from)
-}
-
 /// Tests how many files run at the same time. Refuses a program that runs one file after the other on one thread, and
 /// one that starts more threads than there are processors.
 #[test]
 fn threads_of_a_batch(rt: HostRuntime) -> Result<(), Fail> {
-    let wanted = format!(in rt.alloc(); "{}", processors(&rt))?;
-    row_says(
-        "a file for each processor",
-        threads_told(&rt, &rt, "", processors(&rt)),
-        wanted.as_str(),
-    )?;
-    row_says(
-        "a file at a time, which one worker runs",
-        threads_told(&rt, &rt, " --parallel 1", 1),
-        "1",
-    )
+    let wanted = processors(&rt) as u64;
+    let count = ThreadCount::of(wanted);
+    let counted = CountedThreads {
+        rt: &rt,
+        count: &count,
+    };
+    is_run(&rt, &counted, "at-once", 20, None, "")?;
+    let seen = format!(in rt.alloc(); "{}", count.greatest())?;
+    let wanted = format!(in rt.alloc(); "{wanted}")?;
+    says(Ok(seen), wanted.as_str())
 }

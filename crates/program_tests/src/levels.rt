@@ -62,7 +62,7 @@ fn levels_of(rt: &HostRuntime, sound: &[u8], most: usize) -> Result<String, Fail
         progress: None,
     };
     let mut output = Output::new(&mut to, progress_line, true)?;
-    for piece in sound.chunks(most) {
+    for piece in sound.chunks(most.max(1)) {
         output.write_all(piece)?;
     }
     match &output.levels {

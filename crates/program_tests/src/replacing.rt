@@ -287,24 +287,31 @@ fn links_and_permissions(rt: HostRuntime) -> Result<(), Fail> {
     expect_text("the link", link_told(&rt, &folder), "true 640")
 }
 
-/// Writes `bytes` into a part of `place` while `inner` is done, and moves the part there.
-fn with_part(
-    rt: &HostRuntime,
-    place: &str,
-    bytes: &[u8],
-    inner: &impl Fn() -> Result<(), Fail>,
-) -> Result<(), Fail> {
+/// Writes `bytes` twice into a part of `place`, and moves it there.
+fn put_part(rt: &HostRuntime, place: &str, bytes: &[u8]) -> Result<(), Fail> {
     let alloc: Global = rt.alloc();
     let mut refused = Vec::new(alloc);
     let storage = Disk { rt };
     let named = String::from_str(alloc, place)?;
     let (part, mut file) = Part::create(alloc, &storage, named, &mut refused)?;
     put_all(&mut file, bytes)?;
-    inner()?;
     put_all(&mut file, bytes)?;
     drop(file);
-    part.finish(alloc, &storage, Ok(()), &mut refused)?;
-    Ok(())
+    Ok(part.finish(alloc, &storage, Ok(()), &mut refused)?)
+}
+
+/// Writes a part of `place`. Another part is written whole and moved there in the middle of it.
+fn put_around(rt: &HostRuntime, place: &str) -> Result<(), Fail> {
+    let alloc: Global = rt.alloc();
+    let mut refused = Vec::new(alloc);
+    let storage = Disk { rt };
+    let named = String::from_str(alloc, place)?;
+    let (part, mut file) = Part::create(alloc, &storage, named, &mut refused)?;
+    put_all(&mut file, b"first")?;
+    put_part(rt, place, b"second")?;
+    put_all(&mut file, b"first")?;
+    drop(file);
+    Ok(part.finish(alloc, &storage, Ok(()), &mut refused)?)
 }
 
 /// Tests two runs over one OUT at once. Refuses parts by one name, in which the bytes of both are mixed.
@@ -312,11 +319,6 @@ fn with_part(
 fn parts_at_once(rt: HostRuntime) -> Result<(), Fail> {
     let folder = with_files(&rt, "parts")?;
     let place = path_in(rt.alloc(), &folder, "both.wav")?;
-    let is_second = || has_bytes(&rt, &folder, "both.wav", b"secondsecond", "the second");
-    let is_within = || {
-        with_part(&rt, place.as_str(), b"second", &|| Ok(()))?;
-        is_second()
-    };
-    with_part(&rt, place.as_str(), b"first", &is_within)?;
+    put_around(&rt, place.as_str())?;
     has_bytes(&rt, &folder, "both.wav", b"firstfirst", "the first")
 }
