@@ -64,7 +64,7 @@ abbrev pub tile_tap : List ℤ → ℕ → ℕ → ℕ → ℕ → ℕ → ℤ
 tile_tap taps up down v l i =
     lane_tap taps up ((8 * v + l) * down % up) (reach up down v l + keep_of taps up) i
 
--- the row of vector v in a table whose rows have so many pairs
+-- the row of vector v in a table whose rows have `pairs` pairs of samples
 abbrev pub row_of : List ℤ → ℕ → ℕ → List ℤ
 row_of table pairs v = take (16 * pairs) (drop (v * (16 * pairs)) table)
 

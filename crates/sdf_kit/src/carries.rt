@@ -38,7 +38,7 @@ fn carry(carried: Carried, sums: i32x8) -> Carried
     }
 }
 
-/// Divides each sum by `2^shift` and rounds to the nearest. What comes must fit in 32 bits.
+/// Divides each sum by `2^shift` and rounds to the nearest. The result must fit in 32 bits.
 pub(crate) fn rescale_carried(carried: Carried, shift: u32) -> i32x8
     requires high { AreLanes w32 8 carried.high }
     requires low { AreLanes w32 8 carried.low }

@@ -12,8 +12,8 @@ use std::alloc::Global;
 /// The greatest weight of a stretch: 65,535 times 32,768 is less than 2^31.
 const MAX_WEIGHT: u64 = 65_535;
 
-/// Returns the number of pairs in the stretch at each pair, for all rows of a table together. Returns `None` if one has
-/// none, if sums can exceed 32 bits after they are shifted, or if there is no memory.
+/// Returns the number of pairs in the stretch at each pair, for all rows of a table together. Returns `None` if a pair
+/// has no stretch, if sums can exceed 32 bits after they are shifted, or if memory is refused.
 pub(crate) fn stretches_of(
     alloc: Global,
     table: &[i16],

@@ -26,8 +26,8 @@ use std::simd::prelude::*;
 /// The greatest number of pairs in a row.
 const MAX_PAIRS: usize = 1024;
 
-/// FourWindows windows of samples, `step` places apart, the first at `first`, and the places of their outputs, `stride`
-/// apart, the first at `at`.
+/// Four windows of samples, `step` places apart, the first at `first`, and the places of their outputs, `stride` apart,
+/// the first at `at`.
 #[derive(Clone, Copy)]
 struct FourWindows {
     first: usize,
@@ -191,7 +191,7 @@ pub(crate) struct Tiles {
 
 impl Tiles {
     /// Lays out the taps of a filter whose branches have `width` places. Returns `None` if branches cost less, or if
-    /// there is no memory.
+    /// memory is refused.
     pub(crate) fn new(
         alloc: Global,
         taps: &[i32],
@@ -224,7 +224,7 @@ impl Tiles {
         })
     }
 
-    /// Finds stretches for sums of any 16-bit samples, shifted by `shift`, if there is memory for them.
+    /// Finds stretches for sums of any 16-bit samples, shifted by `shift`, unless memory for them is refused.
     pub(crate) fn widened(self, alloc: Global, shift: u32) -> Tiles
         requires few { self.vectors ≤ 64 }
         requires pairs { self.pairs ≤ 1024 }
@@ -297,8 +297,8 @@ fn put_turn(
     requires small { input.is_wide ≡ false → (n : ℕ) → n < firings.many * firings.up →
         unsigned_abs (whole_output taps.now firings.up firings.down (take input.len input.samples.now) n) ≤ 2147467263 }
     requires put { length put.old ≡ firings.many * firings.up }
-    ensures { IsTurn (λ n. rescaled (whole_output taps.now firings.up firings.down (take input.entry.len input.entry.samples.now)
-        n) firings.shift)
+    ensures { IsTurn (λ n. rescaled (whole_output taps.now firings.up firings.down
+        (take input.entry.len input.entry.samples.now) n) firings.shift)
         done tiles.now.firings firings.up put.old put.new (8 * tiles.now.vectors) }
 {
     let step = (tiles.firings * firings.down) as usize;
@@ -354,7 +354,7 @@ pub(crate) fn put_tiles(
 }
 
 /// Lays out the taps of a filter whose branches have `width` places, and finds stretches if they are `wanted`. Returns
-/// `None` if branches cost less, or if there is no memory.
+/// `None` if branches cost less, or if memory is refused.
 pub(crate) fn tiles_of(
     alloc: Global,
     taps: &[i32],
