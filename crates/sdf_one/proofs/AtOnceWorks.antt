@@ -44,12 +44,12 @@ module _ {A S T Z : Type 0} (s : Steps A S T) (inputs : List (List T)) (many tim
       IsWork s inputs outputs many x past w → CanBatch s w ins outs → cycle_of s x ≡ 1
   one_phase (node.Source ext block) past (Source e next size) outputs ins outs is at = refl
   one_phase (node.Sink ext block) past (Sink e) outputs ins outs is at = refl
-  one_phase (node.Inner x) past (Inner actor j state taken put lengths) outputs ins outs is at =
+  one_phase (node.Inner x) past (Inner actor j state taken put) outputs ins outs is at =
       ap s.cycle (sym is.0) ∙ at.0
   one_phase (node.Source ext block) past (Sink e) outputs ins outs is at = absurd is
-  one_phase (node.Source ext block) past (Inner actor j state taken put lengths) outputs ins outs is at = absurd is
+  one_phase (node.Source ext block) past (Inner actor j state taken put) outputs ins outs is at = absurd is
   one_phase (node.Sink ext block) past (Source e next size) outputs ins outs is at = absurd is
-  one_phase (node.Sink ext block) past (Inner actor j state taken put lengths) outputs ins outs is at = absurd is
+  one_phase (node.Sink ext block) past (Inner actor j state taken put) outputs ins outs is at = absurd is
   one_phase (node.Inner x) past (Source e next size) outputs ins outs is at = absurd is
   one_phase (node.Inner x) past (Sink e) outputs ins outs is at = absurd is
 
@@ -62,20 +62,20 @@ module _ {A S T Z : Type 0} (s : Steps A S T) (inputs : List (List T)) (many tim
       (omega (arith, in_is), omega (arith, out_is), λ some l same. absurd (omega (arith, in_is)))
   few_channels (node.Sink ext block) past (Sink e) outputs ins outs is at in_is out_is =
       (omega (arith, in_is), omega (arith, out_is), λ l some same. absurd (omega (arith, out_is)))
-  few_channels (node.Inner x) past (Inner actor j state taken put lengths) outputs ins outs is at in_is out_is =
+  few_channels (node.Inner x) past (Inner actor j state taken put) outputs ins outs is at in_is out_is =
       (omega (arith, at.1), omega (arith, at.2), λ l some same. at.3 same)
   few_channels (node.Source ext block) past (Sink e) outputs ins outs is at in_is out_is = absurd is
-  few_channels (node.Source ext block) past (Inner actor j state taken put lengths) outputs ins outs is at in_is
+  few_channels (node.Source ext block) past (Inner actor j state taken put) outputs ins outs is at in_is
       out_is = absurd is
   few_channels (node.Sink ext block) past (Source e next size) outputs ins outs is at in_is out_is = absurd is
-  few_channels (node.Sink ext block) past (Inner actor j state taken put lengths) outputs ins outs is at in_is out_is =
+  few_channels (node.Sink ext block) past (Inner actor j state taken put) outputs ins outs is at in_is out_is =
       absurd is
   few_channels (node.Inner x) past (Source e next size) outputs ins outs is at in_is out_is = absurd is
   few_channels (node.Inner x) past (Sink e) outputs ins outs is at in_is out_is = absurd is
 
   pub one_in : (x : A) (past : List (List T)) (w : Work A T S) (outputs : List (Vec T Z)) (ins outs : List ℕ) →
       IsWork s inputs outputs many (node.Inner x) past w → CanBatch s w ins outs → length ins ≡ 1
-  one_in x past (Inner actor j state taken put lengths) outputs ins outs is at = at.1
+  one_in x past (Inner actor j state taken put) outputs ins outs is at = at.1
   one_in x past (Source e next size) outputs ins outs is at = absurd is
   one_in x past (Sink e) outputs ins outs is at = absurd is
 
@@ -105,7 +105,7 @@ module _ {A S T Z : Type 0} (s : Steps A S T) (inputs : List (List T)) (many tim
       let all : length (list outputs ext) ≡ block * length past = ap length is.2 ∙ long ext block refl in
       let fits : length (list outputs ext) + take ≤ capacity outputs ext = omega (arith, is.3) in
       (none_of outs out_is, in_is, rw is.0 is.1, rw is.0 fits)
-  can_work (node.Inner x) past (Inner actor j state taken put' lengths) outputs ins outs take put is at left in_is
+  can_work (node.Inner x) past (Inner actor j state taken put') outputs ins outs take put is at left in_is
       out_is take_is put_is long =
       let one : s.cycle x ≡ 1 = ap s.cycle (sym is.0) ∙ at.0 in
       let below : phase s x (length past) < s.cycle x = mod_below (length past) (s.cycle x) is.3.some in
@@ -129,11 +129,11 @@ module _ {A S T Z : Type 0} (s : Steps A S T) (inputs : List (List T)) (many tim
       )
   can_work (node.Source ext block) past (Sink e) outputs ins outs take put is at left in_is out_is take_is put_is long =
       absurd is
-  can_work (node.Source ext block) past (Inner actor j state taken put' lengths) outputs ins outs take put is at left
+  can_work (node.Source ext block) past (Inner actor j state taken put') outputs ins outs take put is at left
       in_is out_is take_is put_is long = absurd is
   can_work (node.Sink ext block) past (Source e next size) outputs ins outs take put is at left in_is out_is take_is
       put_is long = absurd is
-  can_work (node.Sink ext block) past (Inner actor j state taken put' lengths) outputs ins outs take put is at left
+  can_work (node.Sink ext block) past (Inner actor j state taken put') outputs ins outs take put is at left
       in_is out_is take_is put_is long = absurd is
   can_work (node.Inner x) past (Source e next size) outputs ins outs take put is at left in_is out_is take_is put_is
       long = absurd is
@@ -148,12 +148,12 @@ module _ {A S T Z : Type 0} (s : Steps A S T) (inputs : List (List T)) (many tim
       let end : next + size * times ≡ block * (length past + times) = omega (arith, is.2) in
       λ i. between (is.2 i) (end i) (get_or inputs (is.0 i) [])
   made_is (node.Sink ext block) past (Sink e) outputs b is = refl
-  made_is (node.Inner x) past (Inner actor j state taken put' lengths) outputs b is =
+  made_is (node.Inner x) past (Inner actor j state taken put') outputs b is =
       λ i. puts_to s (is.0 i) (is.1 i) (is.2 i) b times
   made_is (node.Source ext block) past (Sink e) outputs b is = absurd is
-  made_is (node.Source ext block) past (Inner actor j state taken put' lengths) outputs b is = absurd is
+  made_is (node.Source ext block) past (Inner actor j state taken put') outputs b is = absurd is
   made_is (node.Sink ext block) past (Source e next size) outputs b is = absurd is
-  made_is (node.Sink ext block) past (Inner actor j state taken put' lengths) outputs b is = absurd is
+  made_is (node.Sink ext block) past (Inner actor j state taken put') outputs b is = absurd is
   made_is (node.Inner x) past (Source e next size) outputs b is = absurd is
   made_is (node.Inner x) past (Sink e) outputs b is = absurd is
 
@@ -184,7 +184,7 @@ module _ {A S T Z : Type 0} (s : Steps A S T) (inputs : List (List T)) (many tim
       let room : block * many ≤ capacity outputs' ext = omega (arith, is.3, caps ext is.1) in
       subst (λ w'. IsWork s inputs outputs' many (node.Sink ext block) past' w') (sym worked)
       (is.0, omega (arith, is.1), now, room)
-  work_next (node.Inner x) past past' (Inner actor j state taken put' lengths) w' outputs outputs' b is one worked on
+  work_next (node.Inner x) past past' (Inner actor j state taken put') w' outputs outputs' b is one worked on
       states joins len lists caps =
       let still : j ≡ phase s x (length past') = is.1
       ∙ (at_none s x one (length past) ∙ sym (at_none s x one (length past'))) in
@@ -193,11 +193,11 @@ module _ {A S T Z : Type 0} (s : Steps A S T) (inputs : List (List T)) (many tim
       subst (λ w'. IsWork s inputs outputs' many (node.Inner x) past' w') (sym worked) (is.0, still, next, is.3)
   work_next (node.Source ext block) past past' (Sink e) w' outputs outputs' b is one worked on states joins len lists
       caps = absurd is
-  work_next (node.Source ext block) past past' (Inner actor j state taken put' lengths) w' outputs outputs' b is one
+  work_next (node.Source ext block) past past' (Inner actor j state taken put') w' outputs outputs' b is one
       worked on states joins len lists caps = absurd is
   work_next (node.Sink ext block) past past' (Source e next size) w' outputs outputs' b is one worked on states joins
       len lists caps = absurd is
-  work_next (node.Sink ext block) past past' (Inner actor j state taken put' lengths) w' outputs outputs' b is one
+  work_next (node.Sink ext block) past past' (Inner actor j state taken put') w' outputs outputs' b is one
       worked on states joins len lists caps = absurd is
   work_next (node.Inner x) past past' (Source e next size) w' outputs outputs' b is one worked on states joins len lists
       caps = absurd is

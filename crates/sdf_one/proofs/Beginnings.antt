@@ -89,30 +89,25 @@ module _ {A S T : Type 0} (s : Steps A S T) (n : Netlist A T) (good : IsNet s n)
       (λ j h. ap (total_out s x) (ap (λ v. v % s.cycle x) (let v : 0 + j ≡ j = omega arith in v) ∙ mod-eq_of_lt h)
       ∙ sym (all_out j h))
 
-  pub blocks : (taken put : Vec T Global) (lengths : Vec ℕ Global) (cycle : ℕ) → cycle ≡ s.cycle x →
-      vec_len lengths ≡ cycle →
+  pub blocks : (taken put : Vec T Global) (cycle : ℕ) → cycle ≡ s.cycle x →
       sum_to (λ j. sum_by (λ c. get_or (at_phase z.takes j) c 0) ((wiring s n).ins a)) cycle ≤ vec_len taken →
-      ((j : ℕ) → j < cycle → get_or lengths.items j 0 ≡
-      sum_by (λ c. get_or (at_phase z.puts j) c 0) ((wiring s n).outs a)) →
       sum_to (λ j. sum_by (λ c. get_or (at_phase z.puts j) c 0) ((wiring s n).outs a)) cycle ≤ vec_len put →
-      HasBlocks s x taken put lengths
-  blocks taken put lengths cycle own long fits_in each fits_out =
+      HasBlocks s x taken put
+  blocks taken put cycle own fits_in fits_out =
       let ins : ℕ → ℕ = λ j. sum_by (λ c. get_or (at_phase z.takes j) c 0) ((wiring s n).ins a) in
       let outs : ℕ → ℕ = λ j. sum_by (λ c. get_or (at_phase z.puts j) c 0) ((wiring s n).outs a) in
       let all_taken : sum_to ins (s.cycle x) ≤ vec_len taken = subst (λ m. sum_to ins m ≤ vec_len taken) own fits_in in
       let all_put : sum_to outs (s.cycle x) ≤ vec_len put = subst (λ m. sum_to outs m ≤ vec_len put) own fits_out in
       record {
         some = some_phases;
-        cycle = vec_long lengths ∙ (long ∙ own);
         taken_fits = λ j h. omega (arith, all_in j h, one_of_sum ins (s.cycle x) j h, all_taken, vec_room taken);
         put_fits = λ j h. omega (arith, all_out j h, one_of_sum outs (s.cycle x) j h, all_put, vec_long put);
         taken_cycle = omega (arith, cycle_in, all_taken, vec_room taken);
         put_cycle = omega (arith, cycle_out, all_put, vec_long put);
-        lengths_are = λ j h. each j (omega (arith, own, h)) ∙ all_out j h;
       }
 
-  pub begun : (actor : Bor A) (state : S) (taken put : Vec T Global) (lengths : Vec ℕ Global) → actor.now ≡ x →
-      state ≡ s.start x → HasBlocks s x taken put lengths →
-      BeginsWork s (nets.node n a) (Inner actor 0 state taken put lengths)
-  begun actor state taken put lengths actor_is state_is has =
-      subst (λ y. BeginsWork s y (Inner actor 0 state taken put lengths)) (sym is) (actor_is, refl, state_is, has)
+  pub begun : (actor : Bor A) (state : S) (taken put : Vec T Global) → actor.now ≡ x →
+      state ≡ s.start x → HasBlocks s x taken put →
+      BeginsWork s (nets.node n a) (Inner actor 0 state taken put)
+  begun actor state taken put actor_is state_is has =
+      subst (λ y. BeginsWork s y (Inner actor 0 state taken put)) (sym is) (actor_is, refl, state_is, has)

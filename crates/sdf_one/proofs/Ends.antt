@@ -28,12 +28,12 @@ module _ {A S T Z : Type 0} (s : Steps A S T) (inputs : List (List T)) (outputs 
       (is.0, found.0, omega (arith, is.1), is.2, found.1)
   begun_work (node.Sink ext block) (Sink e) is reads makes = let room = makes ext block refl in
       (is, room.0, room.1, room.2)
-  begun_work (node.Inner x) (Inner actor j state taken put lengths) is reads makes =
+  begun_work (node.Inner x) (Inner actor j state taken put) is reads makes =
       (is.0, is.1 ∙ sym (zero-mod (s.cycle x)), is.2, is.3)
   begun_work (node.Source ext block) (Sink e) is reads makes = absurd is
-  begun_work (node.Source ext block) (Inner actor j state taken put lengths) is reads makes = absurd is
+  begun_work (node.Source ext block) (Inner actor j state taken put) is reads makes = absurd is
   begun_work (node.Sink ext block) (Source e next size) is reads makes = absurd is
-  begun_work (node.Sink ext block) (Inner actor j state taken put lengths) is reads makes = absurd is
+  begun_work (node.Sink ext block) (Inner actor j state taken put) is reads makes = absurd is
   begun_work (node.Inner x) (Source e next size) is reads makes = absurd is
   begun_work (node.Inner x) (Sink e) is reads makes = absurd is
 
@@ -41,7 +41,7 @@ module _ {A S T Z : Type 0} (s : Steps A S T) (inputs : List (List T)) (outputs 
       IsWork s inputs outputs many (node.Sink ext block) past w → list outputs ext ≡ flat_map (λ b. b) past
   sink_list ext block past (Sink e) is = is.2
   sink_list ext block past (Source e next size) is = absurd is
-  sink_list ext block past (Inner actor j state taken put lengths) is = absurd is
+  sink_list ext block past (Inner actor j state taken put) is = absurd is
 
 module _ {A S T Z : Type 0} (s : Steps A S T) (n : Netlist A T) (wired : IsWired (wiring s n)) (inputs : List (List T))
     (many k : ℕ → ℕ) (works : List (Work A T S)) (qs : List (QueueValue T)) (outputs : List (Vec T Z)) where

@@ -121,18 +121,18 @@ module _ {A S T Z : Type 0} (s : Steps A S T) (inputs : List (List T)) (times : 
 
   -- an actor's
   pub fired_actor : (w : Work A T S) (actor : Bor A) (phase : ℕ) (state state' : S) (taken put : Vec T Global)
-      (lengths : Vec ℕ Global) (qs' : List (QueueValue T)) → w ≡ Inner actor phase state taken put lengths →
+      (qs' : List (QueueValue T)) → w ≡ Inner actor phase state taken put →
       state' ≡ state_at s actor.now phase state (fronts times takes ins qs) times →
       ((c : ℕ) → c < length qs → samples qs' c ≡ drop (at_ports ins (times * get_or takes c 0) c) (samples qs c)
       ++ spread (λ d. times * get_or puts d 0) outs
       (puts_to s actor.now phase state (fronts times takes ins qs) times) c) →
       ((c : ℕ) → c < length qs → room qs' c ≡ room qs c) →
-      AreFired s inputs times ins outs takes puts w (Inner actor phase state' taken put lengths) qs qs' outputs outputs
-  fired_actor w actor phase state state' taken put lengths qs' is next moved rooms =
-      subst (λ w. AreFired s inputs times ins outs takes puts w (Inner actor phase state' taken put lengths) qs qs'
+      AreFired s inputs times ins outs takes puts w (Inner actor phase state' taken put) qs qs' outputs outputs
+  fired_actor w actor phase state state' taken put qs' is next moved rooms =
+      subst (λ w. AreFired s inputs times ins outs takes puts w (Inner actor phase state' taken put) qs qs'
       outputs outputs) (sym is)
       (record {
-        work = ap (λ x. Inner actor phase x taken put lengths) next;
+        work = ap (λ x. Inner actor phase x taken put) next;
         queues = moved;
         rooms = rooms;
         lists = λ e l. sym (append-nil (list outputs e));

@@ -1,12 +1,12 @@
 -- What lemmas of firings stand on together: a net, what a runner holds there, and the firings of one of its nodes.
-use Rattle.std.proofs.Common.{◌≡◌, ℕ, ◌+◌, ◌*◌, ◌≤◌, ◌<◌, List, length, get_or}
+use Rattle.std.proofs.Common.{◌≡◌, ℕ, ◌+◌, ◌≤◌, ◌<◌, List, length, get_or}
 use Rattle.std.specs.declared.vec.Vec.{Vec}
 use Rattle.sdf_actor.specs.declared.node.Node.TheVariants.{Inner}
-use Rattle.sdf_actor.specs.Steps.{Steps, PutsFit}
+use Rattle.sdf_actor.specs.Steps.{Steps}
 use Rattle.sdf_actor.specs.Histories.{taken_before}
-use Rattle.sdf_actor.specs.Nets.{Netlist, node, wiring, cycle_of}
+use Rattle.sdf_actor.specs.Nets.{Netlist, node, wiring}
 use Rattle.sdf_queues.specs.QueueValue.{QueueValue}
-use Rattle.sdf_queues.specs.Blocks.{HoldManyBlocks}
+use Rattle.sdf_queues.specs.Blocks.{room, HoldManyBlocks}
 use Rattle.sdf_queues.specs.Sizes.{SizesValue, AreSizes}
 use Rattle.sdf_one.specs.declared.cycles.Cycles.{Cycles}
 use Rattle.sdf_one.specs.declared.work.Work.{Work}
@@ -63,14 +63,15 @@ pub record Ahead {A S T Z : Type 0} (g : Holding A S T Z) (times : ℕ) : Type 0
   pub own : m g.a ≡ g.k g.a + times
   pub others : (b : ℕ) → (g.a ≡ b → ⊥) → m b ≡ g.k b
   pub below : (b : ℕ) → b < length g.n.nodes → m b ≤ g.many b
+  -- the queues have room for all that is put until then, beside what stands there
+  pub rooms : (c : ℕ) → c < length g.n.wires → let r = (wiring g.s g.n).rates in
+      r.initial c + r.produced c (m (r.source c)) ≤ room g.qs c + r.consumed c (g.k (r.target c))
 
 -- so many cycles of the node through its blocks
 pub record Cycling {A S T Z : Type 0} (g : Holding A S T Z) : Type 0 where
-  pub fits : (x : A) → PutsFit g.s x
   pub goes : (d : Work A T S) →
       CanBatchCycles g.s g.z (get_or g.works g.a d) ((wiring g.s g.n).ins g.a) ((wiring g.s g.n).outs g.a)
   pub times : ℕ
-  pub ahead : Ahead g (times * cycle_of g.s (node g.n g.a))
   pub held : HoldManyBlocks times ((wiring g.s g.n).ins g.a) g.y.takes.items g.qs
 
 -- what a runner holds after firings of the node: the works of the others stay

@@ -26,13 +26,13 @@ state_is : {A S T Z : Type 0} (s : Steps A S T) (inputs : List (List T)) (output
     IsWork s inputs outputs many x past w → state_in w ≡ state_left s x past
 state_is s inputs outputs many (node.Source e block) past (Source ext next size) is = refl
 state_is s inputs outputs many (node.Source e block) past (Sink ext) is = absurd is
-state_is s inputs outputs many (node.Source e block) past (Inner actor phase state taken put lengths) is = absurd is
+state_is s inputs outputs many (node.Source e block) past (Inner actor phase state taken put) is = absurd is
 state_is s inputs outputs many (node.Sink e block) past (Source ext next size) is = absurd is
 state_is s inputs outputs many (node.Sink e block) past (Sink ext) is = refl
-state_is s inputs outputs many (node.Sink e block) past (Inner actor phase state taken put lengths) is = absurd is
+state_is s inputs outputs many (node.Sink e block) past (Inner actor phase state taken put) is = absurd is
 state_is s inputs outputs many (node.Inner x) past (Source ext next size) is = absurd is
 state_is s inputs outputs many (node.Inner x) past (Sink ext) is = absurd is
-state_is s inputs outputs many (node.Inner x) past (Inner actor phase state taken put lengths) is = ap Some is.2
+state_is s inputs outputs many (node.Inner x) past (Inner actor phase state taken put) is = ap Some is.2
 
 -- what holds of an item, whatever stands for one that is not there, holds of what is made of it
 made_at : {X Y : Type 0} (f : X → Option Y) (P : X → Type 0) (Q : Option Y → Type 0) → ((x : X) → P x → Q (f x)) →

@@ -8,8 +8,6 @@ mod Readings
 mod Beginnings
 mod Sweeping
 mod Parts
-mod Longer
-mod Answered
 mod Passing
 mod Steady
 mod AtOnce
@@ -23,6 +21,9 @@ mod Turns
 mod WholeCycles
 mod ManyWorks
 mod CycleBlocks
+mod Batch
 mod Many
+mod Cycled
+mod Single
 mod Idle
 pub mod Theorems

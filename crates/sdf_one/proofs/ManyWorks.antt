@@ -1,80 +1,69 @@
 -- An actor's work over so many cycles, and what its firings take and put.
-use Rattle.std.proofs.Common.{◌≡◌, ℕ, zero, suc, ◌+◌, ◌*◌, ◌≤◌, ◌<◌, List, [], ◌∷◌, ◌++◌, length}
+use Rattle.std.proofs.Common.{◌≡◌, ℕ, zero, suc, ◌+◌, ◌*◌, ◌%◌, ◌<◌, List, [], ◌∷◌, length}
 use Rattle.std.proofs.Common.{get_or, refl, sym, ap, ◌∙◌, subst, inl, inr, ◌⊎◌, arith}
 use Rattle.std.specs.Borrow.{Bor}
 use Rattle.std.specs.Global.{Global}
 use Rattle.std.specs.List.{flat_map, sum_by}
-use Rattle.std.proofs.lemmas.Bool.{cases_eq, cases_lt}
+use Rattle.std.proofs.lemmas.Bool.{cases_eq}
 use Rattle.std.proofs.lemmas.List.{length-append}
-use Rattle.std.proofs.lemmas.List.{get_or_append_left, get_or_push}
 use Rattle.std.proofs.lemmas.List.Sums.{sum_by-cons}
 use Rattle.std.specs.declared.vec.Vec.{Vec}
 use Rattle.sdf_actor.specs.declared.node.Node.{Node}
 use Rattle.sdf_actor.specs.declared.node.Node.TheVariants as node
-use Rattle.sdf_actor.specs.Steps.{Steps, phase, sum_in, sum_out, block_at, state_at, puts_to}
+use Rattle.sdf_actor.specs.Steps.{Steps, phase, sum_in, sum_out, state_at}
 use Rattle.sdf_actor.specs.Steps.{state_after}
-use Rattle.sdf_actor.specs.Histories.{Wiring, taken, taken_before}
+use Rattle.sdf_actor.specs.Histories.{taken, taken_before}
 use Rattle.sdf_actor.specs.Nets as nets
 use Rattle.sdf_actor.specs.Nets.{wiring}
 use Rattle.sdf_one.specs.declared.work.Work.{Work}
 use Rattle.sdf_one.specs.declared.work.Work.TheVariants.{Source, Sink, Inner}
-use Rattle.sdf_queues.specs.QueueValue.{QueueValue}
-use Rattle.sdf_queues.specs.Blocks.{samples}
-use Rattle.sdf_node.specs.Many.{joined}
-use Rattle.sdf_one.specs.Many.{HasRows, FitsCycles, HaveManyWorked}
-use Rattle.sdf_one.specs.Runs.{HasBlocks, IsWork, IsState}
+use Rattle.sdf_one.specs.Many.{HasRows, FitsCycles, HaveWorkedInParts}
+use Rattle.sdf_one.specs.Runs.{HasBlocks, IsWork}
 use Rattle.sdf_one.proofs.WholeCycles as cycle
 use Rattle.sdf_one.proofs.Holding.{Holding, HasWork, actor_of}
 
 -- what an actor's work says of its node
 inner_of : {A S T Z : Type 0} (s : Steps A S T) (inputs : List (List T)) (outputs : List (Vec T Z)) (many : ℕ)
-    (x : Node A) (past : List (List T)) (actor : Bor A) (j : ℕ) (state : S) (taken put : Vec T Global)
-    (lengths : Vec ℕ Global) →
-    IsWork s inputs outputs many x past (Inner actor j state taken put lengths) →
+    (x : Node A) (past : List (List T)) (actor : Bor A) (j : ℕ) (state : S) (taken put : Vec T Global) →
+    IsWork s inputs outputs many x past (Inner actor j state taken put) →
     (x ≡ node.Inner actor.now) × (j ≡ phase s actor.now (length past)) × (state ≡ state_after s actor.now past)
-    × HasBlocks s actor.now taken put lengths
-inner_of s inputs outputs many (node.Source ext block) past actor j state taken put lengths is = absurd is
-inner_of s inputs outputs many (node.Sink ext block) past actor j state taken put lengths is = absurd is
-inner_of s inputs outputs many (node.Inner x) past actor j state taken put lengths is = (
+    × HasBlocks s actor.now taken put
+inner_of s inputs outputs many (node.Source ext block) past actor j state taken put is = absurd is
+inner_of s inputs outputs many (node.Sink ext block) past actor j state taken put is = absurd is
+inner_of s inputs outputs many (node.Inner x) past actor j state taken put is = (
   ap node.Inner (sym is.0),
   is.1 ∙ ap (λ y. phase s y (length past)) (sym is.0),
   is.2 ∙ ap (λ y. state_after s y past) (sym is.0),
-  subst (λ y. HasBlocks s y taken put lengths) (sym is.0) is.3,
+  subst (λ y. HasBlocks s y taken put) (sym is.0) is.3,
 )
 
 -- and it stays where its blocks keep their room
-worked_of : {A S T Z : Type 0} (s : Steps A S T) (inputs : List (List T)) (outputs : List (Vec T Z))
-    (many times : ℕ)
-    (x : Node A) (past : List (List T)) (actor : Bor A) (j : ℕ) (state : S) (taken put : Vec T Global)
-    (lengths : Vec ℕ Global) (b : List T) (y : Work A T S) →
-    HaveManyWorked s times (Inner actor j state taken put lengths) b y →
+pub worked_of : {A S T Z : Type 0} (s : Steps A S T) (inputs : List (List T)) (outputs : List (Vec T Z))
+    (many firings : ℕ) (x : Node A) (past : List (List T)) (actor : Bor A) (j : ℕ) (state : S)
+    (taken put : Vec T Global)
+    (b : List T) (y : Work A T S) → HaveWorkedInParts s firings (Inner actor j state taken put) b y →
     IsWork s inputs outputs many x past
-    (Inner actor j (state_at s actor.now j state b (times * s.cycle actor.now)) taken put lengths) →
+    (Inner actor ((j + firings) % s.cycle actor.now) (state_at s actor.now j state b firings) taken put) →
     IsWork s inputs outputs many x past y
-worked_of s inputs outputs many times (node.Inner x) past actor j state taken put lengths b
-    (Inner actor' j' state' taken' put' lengths') worked is =
-    let same : lengths'.items ≡ lengths.items = ap (λ v. v.items) worked.5 in
+worked_of s inputs outputs many firings (node.Inner x) past actor j state taken put b
+    (Inner actor' j' state' taken' put') worked is =
     let blocks = is.3 in (
       ap (λ y. y.now) worked.0 ∙ is.0,
       worked.1 ∙ is.1,
       worked.2 ∙ is.2,
       record {
         some = blocks.some;
-        cycle = ap length same ∙ blocks.cycle;
         taken_fits = λ i h. omega (arith, blocks.taken_fits i h, worked.3);
         put_fits = λ i h. omega (arith, blocks.put_fits i h, worked.4);
         taken_cycle = omega (arith, blocks.taken_cycle, worked.3);
         put_cycle = omega (arith, blocks.put_cycle, worked.4);
-        lengths_are = λ i h. ap (λ ls. get_or ls i 0) same ∙ blocks.lengths_are i h;
       },
     )
-worked_of s inputs outputs many times (node.Source ext block) past actor j state taken put lengths b y worked is =
-    absurd is
-worked_of s inputs outputs many times (node.Sink ext block) past actor j state taken put lengths b y worked is =
-    absurd is
-worked_of s inputs outputs many times (node.Inner x) past actor j state taken put lengths b (Source ext next block)
-    worked is = absurd worked
-worked_of s inputs outputs many times (node.Inner x) past actor j state taken put lengths b (Sink ext) worked is =
+worked_of s inputs outputs many firings (node.Source ext block) past actor j state taken put b y worked is = absurd is
+worked_of s inputs outputs many firings (node.Sink ext block) past actor j state taken put b y worked is = absurd is
+worked_of s inputs outputs many firings (node.Inner x) past actor j state taken put b (Source ext next block) worked
+    is = absurd worked
+worked_of s inputs outputs many firings (node.Inner x) past actor j state taken put b (Sink ext) worked is =
     absurd worked
 
 -- where a runner holds a node's work
@@ -84,18 +73,11 @@ module _ {A S T Z : Type 0} (g : Holding A S T Z) where
   abbrev past : List (List T)
   past = taken_before (wiring s n) st.history a (k a)
 
-  pub inner_work : (actor : Bor A) (j : ℕ) (state : S) (taken put : Vec T Global) (lengths : Vec ℕ Global) →
-      HasWork g a (Inner actor j state taken put lengths) →
+  pub inner_work : (actor : Bor A) (j : ℕ) (state : S) (taken put : Vec T Global) →
+      HasWork g a (Inner actor j state taken put) →
       (nets.node n a ≡ node.Inner actor.now) × (j ≡ phase s actor.now (length past))
-      × (state ≡ state_after s actor.now past) × HasBlocks s actor.now taken put lengths
+      × (state ≡ state_after s actor.now past) × HasBlocks s actor.now taken put
   inner_work = inner_of s inputs outputs (many a) (nets.node n a) past
-
-  pub worked_same : (times : ℕ) (actor : Bor A) (j : ℕ) (state : S) (taken put : Vec T Global)
-      (lengths : Vec ℕ Global) (b : List T) (w : Work A T S) →
-      HaveManyWorked s times (Inner actor j state taken put lengths) b w →
-      HasWork g a (Inner actor j (state_at s actor.now j state b (times * s.cycle actor.now)) taken put lengths) →
-      HasWork g a w
-  worked_same times = worked_of s inputs outputs (many a) times (nets.node n a) past
 
   -- an actor's blocks have room for a cycle, and its phases have their rows
   pub its_blocks : (w : Work A T S) → HasWork g a w →
@@ -103,8 +85,8 @@ module _ {A S T Z : Type 0} (g : Holding A S T Z) where
       (sum_by (λ c. get_or y.puts.items c 0) ((wiring s n).outs a)) 1
   its_blocks (Source ext next block) is = tt
   its_blocks (Sink ext) is = tt
-  its_blocks (Inner actor j state taken put lengths) is =
-      let it = inner_work actor j state taken put lengths is in
+  its_blocks (Inner actor j state taken put) is =
+      let it = inner_work actor j state taken put is in
       let its = actor_of g actor.now it.0 in
       let turn : 1 * s.cycle actor.now ≡ s.cycle actor.now = omega arith in (
         omega (arith, it.3.taken_cycle, cycle.all_in its 1, ap (sum_in s actor.now 0) turn),
@@ -114,53 +96,10 @@ module _ {A S T Z : Type 0} (g : Holding A S T Z) where
   pub has_rows : (w : Work A T S) → HasWork g a w → HasRows s z w ((wiring s n).ins a) ((wiring s n).outs a)
   has_rows (Source ext next block) is = tt
   has_rows (Sink ext) is = tt
-  has_rows (Inner actor j state taken put lengths) is =
-      let it = inner_work actor j state taken put lengths is in
+  has_rows (Inner actor j state taken put) is =
+      let it = inner_work actor j state taken put is in
       let its = actor_of g actor.now it.0 in
       (cycle.rows_in its, cycle.rows_out its)
-
-  -- a run stands where what it holds is the same
-  pub stands_along : {m : ℕ → ℕ} {works' : List (Work A T S)} {qs' : List (QueueValue T)} → k ≡ m →
-      length works' ≡ length works → length qs' ≡ length qs →
-      ((c : ℕ) → c < length n.wires → samples qs' c ≡ samples qs c) →
-      ((b : ℕ) (d : Work A T S) → b < length n.nodes → HasWork g b (get_or works b d) →
-      HasWork g b (get_or works' b d)) →
-      IsState s n inputs many m works' qs' outputs
-  stands_along {m} {works'} {qs'} same same_works same_queues left each =
-      subst (λ j. IsState s n inputs many j works' qs' outputs) same
-      (record {
-        history = st.history;
-        is = st.is;
-        channels = same_queues ∙ st.channels;
-        left = λ c l. left c l ∙ st.left c l;
-        nodes = same_works ∙ st.nodes;
-        each = λ b d l. each b d l (st.each b d l);
-      })
-
--- what so many firings put is what each puts, one after another
-pub puts_chained : {A S T : Type 0} (s : Steps A S T) (x : A) (j : ℕ) (state : S) (b : List T) (i : ℕ) →
-    puts_to s x j state b i ≡ joined (λ i. s.puts x (phase s x (j + i)) (state_at s x j state b i)
-    (block_at s x j b i)) i
-puts_chained s x j state b zero = refl
-puts_chained s x j state b (suc i) = ap (λ ys. ys
-    ++ s.puts x (phase s x (j + i)) (state_at s x j state b i) (block_at s x j b i)) (puts_chained s x j state b i)
-
--- what a firing took, of those before another
-pub taken_at : {T : Type 0} (f : Wiring T) (V : ℕ → List T) (a : ℕ) → ((i : ℕ) → length (taken_before f V a i) ≡ i) →
-    (i e : ℕ) → e < i → get_or (taken_before f V a i) e [] ≡ taken f V a e
-taken_at f V a counts zero e l = absurd (omega arith)
-taken_at f V a counts (suc i) e l = go (λ less. taken_at f V a counts i e less) (cases_lt e i)
-  where
-    long : length (taken_before f V a i) ≡ i
-    long = counts i
-
-    go : (e < i → get_or (taken_before f V a i) e [] ≡ taken f V a e) → (e < i) ⊎ (i ≤ e) →
-        get_or (taken_before f V a i ++ taken f V a i ∷ []) e [] ≡ taken f V a e
-    go before (inl less) = get_or_append_left (taken_before f V a i) (taken f V a i ∷ []) [] e
-        (omega (arith, long)) ∙ before less
-    go before (inr last) =
-        let same : i ≡ e = omega arith in
-        get_or_push (taken_before f V a i) (taken f V a i) [] e (long ∙ same) ∙ ap (taken f V a) same
 
 -- parts that have their lengths, joined
 pub parts_long : {T : Type 0} (g : ℕ → List T) (size : ℕ → ℕ) (ds : List ℕ) →

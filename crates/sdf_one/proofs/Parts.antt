@@ -1,10 +1,9 @@
 -- Parts of lists.
 use Rattle.std.proofs.Common.{◌≡◌, ℕ, suc, ◌+◌, ◌-◌, ◌≤◌, ◌<◌, List, [], ◌∷◌, ◌++◌, length, get_or, take, drop, cond}
-use Rattle.std.proofs.Common.{refl, sym, ap, ◌∙◌, arith}
+use Rattle.std.proofs.Common.{refl, ap, ◌∙◌, arith}
 use Rattle.std.specs.List.{between, flat_map}
-use Rattle.std.proofs.lemmas.List.{drop-drop, take-take}
+use Rattle.std.proofs.lemmas.List.{drop-drop}
 use Rattle.std.proofs.lemmas.Bool.{ne_eqb}
-use Rattle.std.proofs.lemmas.Slice.{between_is}
 use Rattle.sdf_actor.specs.Histories.{spread}
 use Rattle.std.proofs.Math.Seq.{take-add}
 
@@ -30,17 +29,6 @@ joined xs i j k h g =
     take_on (drop i xs) (j - i) (k - i) less ∙
     ap (λ ys. between i j xs ++ ys)
     (ap (take ((k - i) - (j - i))) (drop-drop (j - i) i xs) ∙ (λ l. take (rest l) (drop (from l) xs)))
-
--- a part of a part
-pub inner : {X : Type 0} (xs : List X) (i j k l : ℕ) → i + l ≤ j →
-    between k l (between i j xs) ≡ between (i + k) (i + l) xs
-inner xs i j k l h =
-    let short : l ≤ j - i = omega arith in
-    let long : l - k ≡ (i + l) - (i + k) = omega arith in
-    between_is (between i j xs) k l ∙
-    (ap (drop k) (take-take l (j - i) (drop i xs) short) ∙
-    (sym (between_is (drop i xs) k l) ∙
-    (ap (take (l - k)) (drop-drop k i xs) ∙ ap (λ m. take m (drop (i + k) xs)) long)))
 
 -- a list of none
 pub none_of : {X : Type 0} (xs : List X) → length xs ≡ 0 → xs ≡ []

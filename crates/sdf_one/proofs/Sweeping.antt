@@ -9,11 +9,11 @@ use Rattle.std.proofs.lemmas.List.{length-map, length-set, get_or-set_same, get_
 use Rattle.std.proofs.lemmas.List.{get_or-map}
 use Rattle.std.proofs.lemmas.List.Sums.{sum_by-set}
 use Rattle.std.proofs.lemmas.Bool.{cases_lt, cases_eq}
-use Rattle.sdf_graph.specs.Sequences.{tokens, IsRunnable}
+use Rattle.sdf_graph.specs.Sequences.{IsRunnable}
 use Rattle.sdf_graph.specs.Rates.{IsSound}
 use Rattle.sdf_graph.proofs.Theorems.{lists_sum_within}
 use Rattle.sdf_sched.proofs.Theorems.{stuck_counts_mean_deadlock}
-use Rattle.sdf_actor.specs.Steps.{Steps, PutsFit}
+use Rattle.sdf_actor.specs.Steps.{Steps}
 use Rattle.sdf_actor.specs.Nets.{node, wiring}
 use Rattle.sdf_actor.specs.Wires.{lists}
 use Rattle.sdf_actor.specs.Laws.{HistoryGrowsByFiring}
@@ -25,16 +25,19 @@ use Rattle.sdf_queues.specs.Blocks.{room, ArePorts, HoldBlocks, HoldManyBlocks}
 use Rattle.sdf_queues.specs.Sizes.{phase_of, at_phase}
 use Rattle.sdf_one.specs.Firings.{phase_at, IsActor}
 use Rattle.sdf_one.specs.AtOnce.{CanBatch, CanFireBatchAt, AreFiredAt}
-use Rattle.sdf_one.specs.Many.{HasRows, CanBatchCycles, FitsCycles, CanBatchCyclesAt, CanFireManyAt, AreManyFiredAt}
-use Rattle.sdf_one.specs.Many.{firings_in}
-use Rattle.sdf_one.specs.Runs.{IsState, IsInRun, FiresAlone, CanFireAt, IsFiredAt}
+use Rattle.sdf_one.specs.Many.{HasRows, CanBatchCycles, FitsCycles, CanBatchCyclesAt, CanFireInPartsAt}
+use Rattle.sdf_one.specs.Many.{AreFiredInPartsAt}
+use Rattle.sdf_one.specs.Many.{firings_in, takes_next, puts_next, takes_cycle, puts_cycle}
+use Rattle.sdf_one.specs.Runs.{IsState, IsInRun, FiresAlone}
 use Rattle.sdf_queues.specs.RunResults.{periods_of}
 use Rattle.sdf_one.specs.Sweeps.{Sweeps, IsSwept, MayFire, HasRoom, Keeps, IsMoved, AreHeld}
 use Rattle.sdf_one.proofs.Readings.{some_of}
 use Rattle.sdf_one.proofs.AtOnce as at_once
 use Rattle.sdf_one.proofs.Known.{Known}
-use Rattle.sdf_one.proofs.Holding.{Holding, Ahead, Cycling, After, HasWork}
-use Rattle.sdf_one.proofs.Many.{can_fire_many, stands_many}
+use Rattle.sdf_one.proofs.Holding.{Holding, Ahead, After, HasWork}
+use Rattle.sdf_one.proofs.Many.{InParts, can_fire, stands_then}
+use Rattle.sdf_one.proofs.Cycled.{by_cycles}
+use Rattle.sdf_one.proofs.Single.{by_itself, fits_itself}
 use Rattle.sdf_one.proofs.ManyWorks.{its_blocks, has_rows}
 use Rattle.sdf_one.proofs.Standing as standing
 
@@ -112,7 +115,7 @@ sweep_on s r r' x y z i still before moved here none b l may = go (cases_lt b i)
     go (inr past) = here (still none).1 (subst (λ b. MayFire s r b) (let e : b ≡ i = omega arith in e) back)
 
 -- what a step of a run stands on
-net_known : {A S T : Type 0} (s : Steps A S T) (r : Run A T S) → IsSwept s r → Known s r.net.now
+pub net_known : {A S T : Type 0} (s : Steps A S T) (r : Run A T S) → IsSwept s r → Known s r.net.now
 net_known s r sw = record { good = sw.good; wired = nets_are_wired s r.net.now sw.good }
 
 -- at the same ports and queues
@@ -230,23 +233,25 @@ module _ {A S T : Type 0} (p : Swept A S T) (times : ℕ)
       omega arith in e) in
       omega (arith, below b l)
 
-  abbrev ahead : Ahead (holding p) times
-  ahead = record { m = after; own = own; others = others; below = within }
-
   -- so the queues have room
-  rooms : (c : ℕ) → c < length r.net.now.wires → tokens (wiring s r.net.now).rates after c ≤ room r.queues.items c
-  rooms c l =
-      let w = (wiring s r.net.now).rates in
-      let sound = (net_known s r sw).wired.sound in
-      let x : ℕ = w.source c in
-      let y : ℕ = w.target c in
-      let up : w.produced c (after x) ≤ w.produced c (r.high * get_or r.repetitions.now x 0) =
-      sound.produced_rises c (after x) (r.high * get_or r.repetitions.now x 0)
-      (below x (sound.source_in c l)) in
-      let down : w.consumed c (sw.low * get_or r.repetitions.now y 0) ≤ w.consumed c (after y) =
-      sound.consumed_rises c (sw.low * get_or r.repetitions.now y 0) (after y)
-      (above y (sound.target_in c l)) in
-      omega (arith, sw.fits c l)
+  abbrev ahead : Ahead (holding p) times
+  ahead = record {
+    m = after;
+    own = own;
+    others = others;
+    below = within;
+    rooms = λ c l.
+        let w = (wiring s r.net.now).rates in
+        let sound = (net_known s r sw).wired.sound in
+        let x : ℕ = w.source c in
+        let y : ℕ = w.target c in
+        let up : w.produced c (after x) ≤ w.produced c (r.high * get_or r.repetitions.now x 0) =
+        sound.produced_rises c (after x) (r.high * get_or r.repetitions.now x 0) (below x (sound.source_in c l)) in
+        let down : w.consumed c (sw.low * get_or r.repetitions.now y 0) ≤ w.consumed c (before y) =
+        sound.consumed_rises c (sw.low * get_or r.repetitions.now y 0) (before y)
+        (was_above y (sound.target_in c l)) in
+        omega (arith, sw.fits c l);
+  }
 
   few : before a + times < 2 ^ 63
   few =
@@ -351,35 +356,53 @@ module _ {A S T : Type 0} (p : Swept A S T) where
     same_queues = alone.queues;
   }
 
--- a firing of an actor that may fire
-module _ {A S T : Type 0} (p : Swept A S T) (may : MayFire p.s p.r p.a)
-    (actor : (d : Work A T S) → IsActor (get_or p.r.works.items p.a d)) where
+-- firings of an actor in parts
+module _ {A S T : Type 0} (p : Swept A S T) (times firings : ℕ)
+    (inside : get_or p.r.done.items p.a 0 + firings ≤ p.r.high * get_or p.r.repetitions.now p.a 0)
+    (takes puts : Work A T S → List ℕ) (parts : (d : Work A T S) → InParts (holding p) d times firings
+    (takes (get_or p.r.works.items p.a d)) (puts (get_or p.r.works.items p.a d))) where
   open p use {s, r, sw, a}
 
-  next : get_or r.done.items a 0 + 1 ≤ r.high * get_or r.repetitions.now a 0
-  next = omega (arith, may.1)
+  abbrev pub FitIn : ℕ → Type 0
+  FitIn times = (d : Work A T S) → let w = get_or r.works.items a d in
+      FitsCycles w (sum_by (λ c. get_or (takes w) c 0) ((wiring s r.net.now).ins a))
+      (sum_by (λ c. get_or (puts w) c 0) ((wiring s r.net.now).outs a)) times
 
-  pub can_fire : CanFireAt s r a
-  can_fire = record {
-    inside = in_run p 1 next;
-    can = λ d.
-        standing.can_fire (holding p) d (ahead p 1 next) may.2 sw.reach (actor d) (rooms p 1 next);
+  pub can_fire_in_parts : FitIn times → FitIn 1 → CanFireInPartsAt s r a times firings takes puts
+  can_fire_in_parts fit one = record {
+    inside = in_run p firings inside;
+    can = λ d. can_fire (parts d) (ahead p firings inside) (fit d) (one d)
+        (let v : firings < 2 ^ 63 = omega (arith, few p firings inside) in v);
   }
 
-  module _ (grows : HistoryGrowsByFiring s) (r' : Run A T S) (fired : IsFiredAt s r r' a) where
-    stands : IsState s r.net.now (lists r.inputs.now) (periods_of r.repetitions.now r.periods) (after p 1 next)
+  module _ (grows : HistoryGrowsByFiring s) (r' : Run A T S)
+      (fired : AreFiredInPartsAt s r r' a times firings takes puts) where
+    stand : IsState s r.net.now (lists r.inputs.now) (periods_of r.repetitions.now r.periods) (after p firings inside)
         r'.works.items r'.queues.items r'.outputs.items
-    stands =
-        subst (λ x. IsState s r.net.now (lists r.inputs.now) (periods_of r.repetitions.now r.periods) (after p 1 next)
-        r'.works.items r'.queues.items x.items) (sym fired.lists)
-        (standing.fired_stands (holding p) (its_work p) (ahead p 1 next) may.2 sw.reach (actor (its_work p)) grows
-        (left_by p r' fired.alone) (fired.fired (its_work p)))
+    stand =
+        subst (λ x. IsState s r.net.now (lists r.inputs.now) (periods_of r.repetitions.now r.periods)
+        (after p firings inside) r'.works.items r'.queues.items x.items) (sym fired.lists)
+        (stands_then (parts (its_work p)) (ahead p firings inside) grows sw.reach (left_by p r' fired.alone)
+        (fired.fired (its_work p)))
 
-    pub swept : IsSwept s r'
-    swept = swept_on p 1 next r' fired.alone (fired.fired (its_work p)).rooms stands
+    pub swept_in_parts : IsSwept s r'
+    swept_in_parts = swept_on p firings inside r' fired.alone (fired.fired (its_work p)).rooms stand
 
-    pub moved : IsMoved r r' true
-    moved = moved_by p 1 next r' fired.alone (fired.fired (its_work p)).rooms stands (omega arith)
+    pub moved_in_parts : 0 < firings → IsMoved r r' true
+    moved_in_parts = moved_by p firings inside r' fired.alone (fired.fired (its_work p)).rooms stand
+
+-- one firing of an actor that may fire
+module _ {A S T : Type 0} (p : Swept A S T) (may : MayFire p.s p.r p.a)
+    (actor : (d : Work A T S) → IsActor (get_or p.r.works.items p.a d)) where
+  pub next_in : get_or p.r.done.items p.a 0 + 1 ≤ p.r.high * get_or p.r.repetitions.now p.a 0
+  next_in = omega (arith, may.1)
+
+  pub one_part : (d : Work A T S) → InParts (holding p) d 1 1 (takes_next p.r (get_or p.r.works.items p.a d))
+      (puts_next p.r (get_or p.r.works.items p.a d))
+  one_part d = by_itself (holding p) d (actor d) may.2
+
+  pub one_fits : FitIn p 1 1 next_in (takes_next p.r) (puts_next p.r) one_part 1
+  one_fits d = fits_itself (holding p) d (actor d) may.2
 
 -- the work of a node of a run, as it is read
 pub goes_at : {A S T : Type 0} (s : Steps A S T) (r : Run A T S) (a : ℕ) → a < length r.works.items →
@@ -406,8 +429,7 @@ module _ {A S T : Type 0} (p : Swept A S T) (times : ℕ)
   pub can_fire_at_once : CanFireBatchAt s r a times
   can_fire_at_once = record {
     inside = in_run p times inside;
-    can = λ d. at_once.can_fire (holding p) d (goes d) (ahead p times inside) (held d 0) sw.reach
-        (rooms p times inside);
+    can = λ d. at_once.can_fire (holding p) d (goes d) (ahead p times inside) (held d 0);
   }
 
   module _ (grows : HistoryGrowsByFiring s) (r' : Run A T S) (fired : AreFiredAt s r r' a times) where
@@ -425,39 +447,17 @@ module _ {A S T : Type 0} (p : Swept A S T) (times : ℕ)
     moved_at_once = moved_by p times inside r' fired.alone (fired.fired (its_work p)).rooms all_stand
 
 -- so many cycles of an actor through its blocks
-module _ {A S T : Type 0} (p : Swept A S T) (fits : (x : A) → PutsFit p.s x) (times : ℕ)
-    (inside : get_or p.r.done.items p.a 0 + firings_in p.s p.r p.a times ≤ p.r.high * get_or p.r.repetitions.now p.a 0)
-    (go : CanBatchCyclesAt p.s p.r p.a times) where
-  open p use {s, r, sw, a}
+pub cycles_part : {A S T : Type 0} (p : Swept A S T) (times : ℕ) → CanBatchCyclesAt p.s p.r p.a times →
+    (d : Work A T S) →
+    InParts (holding p) d times (firings_in p.s p.r p.a times) (takes_cycle p.r (get_or p.r.works.items p.a d))
+    (puts_cycle p.r (get_or p.r.works.items p.a d))
+cycles_part p times go = by_cycles (holding p) (record { goes = go.goes; times = times; held = go.held })
 
-  abbrev all : ℕ
-  all = firings_in s r a times
-
-  abbrev cycling : Cycling (holding p)
-  cycling = record { fits = fits; goes = go.goes; times = times; ahead = ahead p all inside; held = go.held }
-
-  pub can_fire_many_at : CanFireManyAt s r a times
-  can_fire_many_at = record {
-    inside = in_run p all inside;
-    can = λ d.
-        can_fire_many (holding p) cycling d (go.fit d)
-        (let v : all < 2 ^ 63 = omega (arith, few p all inside) in v) (rooms p all inside);
-  }
-
-  module _ (grows : HistoryGrowsByFiring s) (r' : Run A T S) (fired : AreManyFiredAt s r r' a times) where
-    many_stand : IsState s r.net.now (lists r.inputs.now) (periods_of r.repetitions.now r.periods)
-        (after p all inside) r'.works.items r'.queues.items r'.outputs.items
-    many_stand =
-        subst (λ x. IsState s r.net.now (lists r.inputs.now) (periods_of r.repetitions.now r.periods)
-        (after p all inside) r'.works.items r'.queues.items x.items) (sym fired.lists)
-        (stands_many (holding p) cycling (its_work p) grows sw.reach (left_by p r' fired.alone)
-        (fired.fired (its_work p)))
-
-    pub swept_many : IsSwept s r'
-    swept_many = swept_on p all inside r' fired.alone (fired.fired (its_work p)).rooms many_stand
-
-    pub moved_many : 0 < all → IsMoved r r' true
-    moved_many = moved_by p all inside r' fired.alone (fired.fired (its_work p)).rooms many_stand
+-- its blocks have room for one cycle
+pub its_blocks_at : {A S T : Type 0} (p : Swept A S T) (d : Work A T S) → let w = get_or p.r.works.items p.a d in
+    FitsCycles w (sum_by (λ c. get_or (takes_cycle p.r w) c 0) ((wiring p.s p.r.net.now).ins p.a))
+    (sum_by (λ c. get_or (puts_cycle p.r w) c 0) ((wiring p.s p.r.net.now).outs p.a)) 1
+its_blocks_at p d = its_blocks (holding p) (get_or p.r.works.items p.a d) (p.sw.stands.each p.a d p.known)
 
 -- a node that fired has fired more often
 pub further : {A S T : Type 0} (s : Steps A S T) (r r' : Run A T S) (a times : ℕ) → IsSwept s r →

@@ -128,7 +128,7 @@ module _ {A S T : Type 0} (its : ActorOf A S T) where
   pub some_phases : 0 < s.cycle x
   some_phases = subst (λ y. 0 < nets.cycle_of s y) is (sizes.some a known)
 
-  plan_by : (i j : ℕ) → i % s.cycle x ≡ j % s.cycle x → IsPlan s n a i (takes_at j) (puts_at j)
+  pub plan_by : (i j : ℕ) → i % s.cycle x ≡ j % s.cycle x → IsPlan s n a i (takes_at j) (puts_at j)
   plan_by i j e = subst (λ v. IsPlan s n a i (at_phase z.takes v) (at_phase z.puts v))
       (ap (λ y. i % nets.cycle_of s y) is ∙ e) (sizes.plan a i known)
 

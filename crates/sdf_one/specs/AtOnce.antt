@@ -22,7 +22,7 @@ use Rattle.sdf_one.specs.Runs.{HoldsOfWork, IsInRun, FiresAlone}
 abbrev pub CanBatch : {A S T : Type 0} → Steps A S T → Work A T S → List ℕ → List ℕ → Type 0
 CanBatch s (Source ext next block) ins outs = Unit {0}
 CanBatch s (Sink ext) ins outs = Unit {0}
-CanBatch s (Inner actor phase state taken put lengths) ins outs =
+CanBatch s (Inner actor phase state taken put) ins outs =
     (s.cycle actor.now ≡ 1) × (length ins ≡ 1) × (length outs ≡ 1) × (slice_index ins 0 ≡ slice_index outs 0 → ⊥)
 
 -- the input of `times` firings, at the fronts of the queues
@@ -33,14 +33,14 @@ fronts times takes ins qs = flat_map (λ c. take (times * slice_index takes c) (
 abbrev pub all_made : {A S T : Type 0} → Steps A S T → List (List T) → ℕ → Work A T S → List T → List T
 all_made s inputs times (Source ext next block) b = between next (next + block * times) (slice_index_or inputs ext [])
 all_made s inputs times (Sink ext) b = []
-all_made s inputs times (Inner actor phase state taken put lengths) b = puts_to s actor.now phase state b times
+all_made s inputs times (Inner actor phase state taken put) b = puts_to s actor.now phase state b times
 
 -- the work after `times` firings that took b
 abbrev pub HaveWorked : {A S T : Type 0} → Steps A S T → ℕ → Work A T S → List T → Work A T S → Type 0
 HaveWorked s times (Source ext next block) b w = w ≡ Source ext (next + block * times) block
 HaveWorked s times (Sink ext) b w = w ≡ Sink ext
-HaveWorked s times (Inner actor phase state taken put lengths) b w =
-    w ≡ Inner actor phase (state_at s actor.now phase state b times) taken put lengths
+HaveWorked s times (Inner actor phase state taken put) b w =
+    w ≡ Inner actor phase (state_at s actor.now phase state b times) taken put
 
 -- `times` firings take `many` samples and put `more`: a source finds what it reads, a sink has room in its output list,
 -- and an actor moves what its rates say
@@ -51,7 +51,7 @@ CanWorkBatch s inputs times (Source ext next block) ins outs many more outputs =
     × (next + block * times ≤ length (slice_index_or inputs ext []))
 CanWorkBatch s inputs times (Sink ext) ins outs many more outputs =
     (outs ≡ []) × (length ins ≡ 1) × (ext < length outputs) × (length (list outputs ext) + many ≤ capacity outputs ext)
-CanWorkBatch s inputs times (Inner actor phase state taken put lengths) ins outs many more outputs =
+CanWorkBatch s inputs times (Inner actor phase state taken put) ins outs many more outputs =
     (phase < s.cycle actor.now) × (length ins ≡ 1) × (length outs ≡ 1) × (slice_index ins 0 ≡ slice_index outs 0 → ⊥) ×
     (many ≡ sum_in s actor.now phase times) × (more ≡ sum_out s actor.now phase times)
 

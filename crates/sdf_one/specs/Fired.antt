@@ -42,4 +42,4 @@ pub record HasFiredPeriods {A S T : Type 0} (s : Steps A S T) (n : Netlist A T) 
 abbrev pub state_in : {A S T : Type 0} → Work A T S → Option S
 state_in (Source ext next size) = None
 state_in (Sink ext) = None
-state_in (Inner actor phase state taken put lengths) = Some state
+state_in (Inner actor phase state taken put) = Some state

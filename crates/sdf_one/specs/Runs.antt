@@ -16,21 +16,16 @@ use Rattle.sdf_one.specs.declared.work.Work.TheVariants.{Source, Sink, Inner}
 use Rattle.sdf_one.specs.declared.run.Run.{Run}
 use Rattle.sdf_queues.specs.QueueValue.{QueueValue}
 use Rattle.sdf_queues.specs.Blocks.{samples}
-use Rattle.sdf_queues.specs.Sizes.{at_phase}
 use Rattle.sdf_queues.specs.Lists.{list, capacity}
-use Rattle.sdf_one.specs.Firings.{phase_at, ActorCanFire, IsFired}
+use Rattle.sdf_one.specs.Firings.{phase_at}
 
--- an actor's two blocks have room for a firing at each phase and for a whole cycle, and lengths has the length of what
--- it puts at each phase
-pub record HasBlocks {A S T : Type 0} (s : Steps A S T) (x : A) (taken put : Vec T Global)
-    (lengths : Vec ℕ Global) : Type 0 where
+-- an actor's two blocks have room for a firing at each phase and for a whole cycle
+pub record HasBlocks {A S T : Type 0} (s : Steps A S T) (x : A) (taken put : Vec T Global) : Type 0 where
   pub some : 0 < s.cycle x
-  pub cycle : length lengths.items ≡ s.cycle x
   pub taken_fits : (j : ℕ) → j < s.cycle x → total_in s x j ≤ vec_capacity taken
   pub put_fits : (j : ℕ) → j < s.cycle x → total_out s x j ≤ length put.items
   pub taken_cycle : sum_in s x 0 (s.cycle x) ≤ vec_capacity taken
   pub put_cycle : sum_out s x 0 (s.cycle x) ≤ length put.items
-  pub lengths_are : (j : ℕ) → j < s.cycle x → slice_index lengths.items j ≡ total_out s x j
 
 -- a node's work after it took the blocks past, with room for `many` firings in all
 abbrev pub IsWork : {A S T Z : Type 0} → Steps A S T → List (List T) → List (Vec T Z) → ℕ → Node A → List (List T) →
@@ -41,8 +36,8 @@ IsWork s inputs outputs many (node.Source ext block) past (Source e next size) =
 IsWork s inputs outputs many (node.Sink ext block) past (Sink e) =
     (e ≡ ext) × (ext < length outputs) × (list outputs ext ≡ flat_map (λ b. b) past)
     × (block * many ≤ capacity outputs ext)
-IsWork s inputs outputs many (node.Inner x) past (Inner actor j state taken put lengths) =
-    (actor.now ≡ x) × (j ≡ phase s x (length past)) × (state ≡ state_after s x past) × HasBlocks s x taken put lengths
+IsWork s inputs outputs many (node.Inner x) past (Inner actor j state taken put) =
+    (actor.now ≡ x) × (j ≡ phase s x (length past)) × (state ≡ state_after s x past) × HasBlocks s x taken put
 IsWork s inputs outputs many x past w = ⊥
 
 -- after k a firings of each node a: a history, the queues with what is left of it, and each node's work
@@ -75,12 +70,6 @@ pub record IsInRun {A S T : Type 0} (r : Run A T S) (a times : ℕ) : Type 0 whe
   pub counted : a < length r.done.items
   pub few : slice_index r.done.items a + times < 2 ^ 63
 
--- actor a of a run can fire
-pub record CanFireAt {A S T : Type 0} (s : Steps A S T) (r : Run A T S) (a : ℕ) : Type 0 where
-  pub inside : IsInRun r a 1
-  pub can : HoldsOfWork r a (λ w. ActorCanFire s ((wiring s r.net.now).ins a) ((wiring s r.net.now).outs a)
-      (at_phase r.sizes.takes (phase_at w)) (at_phase r.sizes.puts (phase_at w)) w r.queues.items)
-
 -- `times` firings of node a change nothing that is not its own
 pub record FiresAlone {A S T : Type 0} (r r' : Run A T S) (a times : ℕ) : Type 0 where
   pub net : r'.net ≡ r.net
@@ -97,21 +86,12 @@ pub record FiresAlone {A S T : Type 0} (r r' : Run A T S) (a times : ℕ) : Type
   pub others : (b : ℕ) (d : Work A T S) → (a ≡ b → ⊥) →
       slice_index_or r'.works.items b d ≡ slice_index_or r.works.items b d
 
--- what a firing of actor a of a run does
-pub record IsFiredAt {A S T : Type 0} (s : Steps A S T) (r r' : Run A T S) (a : ℕ) : Type 0 where
-  pub alone : FiresAlone r r' a 1
-  pub lists : r'.outputs ≡ r.outputs
-  pub fired : (d : Work A T S) → let w = slice_index_or r.works.items a d in
-      IsFired s ((wiring s r.net.now).ins a) ((wiring s r.net.now).outs a)
-      (at_phase r.sizes.takes (phase_at w)) (at_phase r.sizes.puts (phase_at w)) w (slice_index_or r'.works.items a d)
-      r.queues.items r'.queues.items
-
 -- a node's work before its first firing
 abbrev pub BeginsWork : {A S T : Type 0} → Steps A S T → Node A → Work A T S → Type 0
 BeginsWork s (node.Source ext block) (Source e next size) = (e ≡ ext) × (next ≡ 0) × (size ≡ block)
 BeginsWork s (node.Sink ext block) (Sink e) = e ≡ ext
-BeginsWork s (node.Inner x) (Inner actor j state taken put lengths) =
-    (actor.now ≡ x) × (j ≡ 0) × (state ≡ s.start x) × HasBlocks s x taken put lengths
+BeginsWork s (node.Inner x) (Inner actor j state taken put) =
+    (actor.now ≡ x) × (j ≡ 0) × (state ≡ s.start x) × HasBlocks s x taken put
 BeginsWork s x w = ⊥
 
 -- each node's work before its first firing

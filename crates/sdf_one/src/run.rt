@@ -5,8 +5,9 @@ ghost use Rattle.std.specs.Prelude.{IsTrue};
 ghost use Rattle.sdf_actor.specs.Nets.{wiring};
 ghost use Rattle.sdf_queues.specs.Sizes.{at_phase};
 ghost use Rattle.sdf_one.specs.AtOnce.{CanFireBatchAt, AreFiredAt};
-ghost use Rattle.sdf_one.specs.Many.{CanFireManyAt, AreManyFiredAt, CanBatchCyclesAt, firings_in};
-ghost use Rattle.sdf_one.specs.Runs.{HoldsOfWork, CanFireAt, IsFiredAt};
+ghost use Rattle.sdf_one.specs.Many.{CanFireInPartsAt, AreFiredInPartsAt, CanBatchCyclesAt, firings_in};
+ghost use Rattle.sdf_one.specs.Many.{takes_next, puts_next, takes_cycle, puts_cycle};
+ghost use Rattle.sdf_one.specs.Runs.{HoldsOfWork};
 ghost use Rattle.sdf_one.specs.Sweeps.{IsSwept, MayFire, HasRoom, Keeps, IsMoved, IsLeft, AreHeld};
 
 use crate::block::{blocks_held, hold_blocks};
@@ -84,17 +85,6 @@ fn ports_of<'b, A: Actor>(net: &'b Net<A>, cycles: &'b Cycles, a: usize) -> Node
 }
 
 impl<'a, A: Actor> Run<'a, A> {
-    /// Fires actor `a` once.
-    fn fire(&mut self, a: usize)
-        requires { CanFireAt A.steps self.old a }
-        ensures { IsFiredAt A.steps self.old self.new a }
-    {
-        let phase = self.works[a].phase();
-        let ports = ports_at(self.net, &self.sizes, a, phase);
-        self.works[a].fire(&ports, &mut self.queues);
-        self.done[a] += 1;
-    }
-
     /// Fires node `a` `times` times in one batch, from queue to queue.
     fn fire_batch(&mut self, a: usize, times: usize)
         requires { CanFireBatchAt A.steps self.old a times }
@@ -112,14 +102,28 @@ impl<'a, A: Actor> Run<'a, A> {
         self.done[a] += times;
     }
 
+    /// Fires actor `a` once, through its blocks.
+    fn fire(&mut self, a: usize)
+        requires { CanFireInPartsAt A.steps self.old a 1 1 (takes_next self.old) (puts_next self.old) }
+        ensures { AreFiredInPartsAt A.steps self.old self.new a 1 1 (takes_next self.old) (puts_next self.old) }
+    {
+        let phase = self.works[a].phase();
+        let ports = ports_at(self.net, &self.sizes, a, phase);
+        self.works[a].fire_in_parts(1, 1, self.filler, &ports, &mut self.queues);
+        self.done[a] += 1;
+    }
+
     /// Fires actor `a` for `times` cycles in one batch, through its blocks.
-    fn fire_many(&mut self, a: usize, times: usize)
-        requires { CanFireManyAt A.steps self.old a times }
-        ensures { AreManyFiredAt A.steps self.old self.new a times }
+    fn fire_cycles(&mut self, a: usize, times: usize)
+        requires { CanFireInPartsAt A.steps self.old a times (firings_in A.steps self.old a times)
+            (takes_cycle self.old) (puts_cycle self.old) }
+        ensures { AreFiredInPartsAt A.steps self.old self.new a times (firings_in A.steps self.old a times)
+            (takes_cycle self.old) (puts_cycle self.old) }
     {
         let ports = ports_of(self.net, &self.cycles, a);
-        self.works[a].fire_many(times, self.filler, &ports, &mut self.queues);
-        self.done[a] += times * self.net.node(a).cycle() as usize;
+        let firings = times * self.net.node(a).cycle() as usize;
+        self.works[a].fire_in_parts(times, firings, self.filler, &ports, &mut self.queues);
+        self.done[a] += firings;
     }
 
     /// Returns how many firings node `a` has left within the block.
@@ -197,7 +201,7 @@ impl<'a, A: Actor> Run<'a, A> {
             if cycles == 0 {
                 self.fire(a);
             } else {
-                self.fire_many(a, cycles);
+                self.fire_cycles(a, cycles);
             }
         }
     }

@@ -62,31 +62,27 @@ impl<T: Copy> Blank<T> {
     }
 }
 
-/// Makes a block with a place for each sample that a cycle moves at `ports`, and `blank.more` places beyond them. Also
-/// returns how many samples a firing moves there, by phase.
-fn make_blocks<T: Copy>(
+/// Makes a block with a place for each sample that a cycle moves at `ports`, and `blank.more` places beyond them.
+fn make_block<T: Copy>(
     alloc: Global,
     ports: &[usize],
     sizes: &Sizes,
     side: Side,
     cycle: u32,
     blank: Blank<T>,
-) -> Result<(Vec<T>, Vec<usize>), AllocError>
+) -> Result<Vec<T>, AllocError>
     requires rows { AreRowsAt ports.now (rows_on side sizes.now) cycle }
     requires few { blank.more ≤ 1024 }
-    ensures { IfOk result (λ b. (vec_len b.1 ≡ cycle) × ((j : ℕ) → j < cycle →
-        slice_index b.1.items j ≡ sum_by (slice_index (at_phase (rows_on side sizes.now) j)) ports.now)
-        × (sum_to (λ j. sum_by (slice_index (at_phase (rows_on side sizes.now) j)) ports.now) cycle ≤ vec_len b.0)) }
+    ensures { IfOk result (λ b. sum_to (λ j. sum_by (slice_index (at_phase (rows_on side sizes.now) j))
+        ports.now) cycle ≤
+        vec_len b) }
 {
     let mut block = Vec::with_capacity(alloc, 2 * blank.more)?;
-    let mut lengths = Vec::with_capacity(alloc, cycle as usize)?;
     for phase in 0..cycle {
-        let before = block.len();
         extend_by(&mut block, ports, sizes.on(side, phase), blank.filler)?;
-        lengths.push(block.len() - before)?;
     }
     extend(&mut block, blank.more, blank.filler)?;
-    Ok((block, lengths))
+    Ok(block)
 }
 
 /// Makes the runtime of node `a` before its first firing.
@@ -117,15 +113,14 @@ fn make_work<'a, A: Actor>(
             let ins = net.channels_in(a);
             let outs = net.channels_out(a);
             let blank = Blank::new(filler, cycle, ins, outs);
-            let (taken, _) = make_blocks(alloc, ins, sizes, Side::Input, cycle, blank)?;
-            let (put, lengths) = make_blocks(alloc, outs, sizes, Side::Output, cycle, blank)?;
+            let taken = make_block(alloc, ins, sizes, Side::Input, cycle, blank)?;
+            let put = make_block(alloc, outs, sizes, Side::Output, cycle, blank)?;
             Ok(Work::Inner {
                 actor,
                 phase: 0,
                 state,
                 taken,
                 put,
-                lengths,
             })
         }
     }

@@ -1,18 +1,18 @@
 //! Node runtimes.
 
-ghost use Rattle.std.specs.Prelude.{◌≡◌, ◌+◌, ◌*◌, ◌<◌, ◌≤◌, ◌++◌, ℕ, length, slice_index, take, drop, IsTrue, false};
+ghost use Rattle.std.specs.Prelude.{◌≡◌, ◌+◌, ◌*◌, ◌%◌, ◌^◌, ◌<◌, ◌≤◌, ◌++◌, ℕ, length, slice_index, take, drop};
+ghost use Rattle.std.specs.Prelude.{IsTrue, false};
 ghost use Rattle.sdf_actor.specs.Histories.{spread};
-ghost use Rattle.sdf_actor.specs.Steps.{total_in, total_out, sum_in, sum_out, state_at, puts_to};
+ghost use Rattle.sdf_actor.specs.Steps.{sum_in, sum_out, state_at, puts_to};
 ghost use Rattle.sdf_actor.specs.Wires.{lists};
 ghost use Rattle.sdf_one.specs.AtOnce.{fronts};
 ghost use Rattle.sdf_queues.specs.Blocks.{samples, room, at_ports, ArePorts, KeepRoom};
 
-use crate::block::{block_size, put_front, put_fronts, take_fronts};
+use crate::block::{block_size, put_fronts, take_fronts};
 use crate::cycles::is_in_turn;
-use sdf_actor::actor::next_phase;
 use sdf_actor::{Actor, Side};
 use sdf_node::append;
-use sdf_queues::blocks::{Ports, take_block};
+use sdf_queues::blocks::Ports;
 use sdf_queues::many_blocks::whole_blocks;
 use sdf_queues::queue::{Batch, lengthen};
 use sdf_queues::{Queue, Sizes};
@@ -30,15 +30,13 @@ pub(crate) enum Work<'a, A: Actor> {
     Sink {
         ext: usize,
     },
-    /// An actor: it fires from the block `taken` to the block `put`. `lengths` has the length of its output at each
-    /// phase.
+    /// An actor: it fires from the block `taken` to the block `put`.
     Inner {
         actor: &'a A,
         phase: u32,
         state: A::State,
         taken: Vec<A::Token>,
         put: Vec<A::Token>,
-        lengths: Vec<usize>,
     },
 }
 
@@ -47,27 +45,6 @@ pub(crate) enum Work<'a, A: Actor> {
 pub(crate) struct NodePorts<'a> {
     pub(crate) ins: Ports<'a>,
     pub(crate) outs: Ports<'a>,
-}
-
-/// Fires `actor` at `phase` on the block `taken`. Its `many` samples of output go to the front of `put`.
-fn fire_into<A: Actor>(
-    actor: &A,
-    phase: u32,
-    state: &mut A::State,
-    taken: &Vec<A::Token>,
-    put: &mut Vec<A::Token>,
-    many: usize,
-)
-    requires phase { phase < A.steps.cycle actor.now }
-    requires taken { length taken.now.items ≡ total_in A.steps actor.now phase }
-    requires put { total_out A.steps actor.now phase ≤ length put.old.items }
-    requires many { many ≡ total_out A.steps actor.now phase }
-    ensures state { state.new ≡ A.steps.next actor.now phase state.old taken.now.items }
-    ensures put { take many put.new.items ≡ A.steps.puts actor.now phase state.old taken.now.items }
-    ensures len { length put.new.items ≡ length put.old.items }
-{
-    let (front, _) = put.as_mut_slice().split_at_mut(many);
-    actor.fire(phase, state, taken.as_slice(), front);
 }
 
 /// Fires an actor in one batch on the first `all` samples of `taken`. Its `many` samples of output go to the front of
@@ -171,10 +148,10 @@ fn fire_through<A: Actor>(
 }
 
 impl<'a, A: Actor> Work<'a, A> {
-    ghost use Rattle.sdf_one.specs.Firings.{phase_at, IsActor, ActorCanFire, IsFired};
+    ghost use Rattle.sdf_one.specs.Firings.{phase_at, IsActor};
     ghost use Rattle.sdf_one.specs.AtOnce.{CanBatch, CanFireBatch, AreFired};
     ghost use Rattle.std.specs.List.{sum_by};
-    ghost use Rattle.sdf_one.specs.Many.{HasRows, CanBatchCycles, FitsCycles, CanFireMany, AreManyFired};
+    ghost use Rattle.sdf_one.specs.Many.{HasRows, CanBatchCycles, FitsCycles, CanFireInParts, AreFiredInParts};
 
     /// Returns the phase of the next firing.
     pub(crate) fn phase(&self) -> u32
@@ -183,33 +160,6 @@ impl<'a, A: Actor> Work<'a, A> {
         match self {
             Work::Inner { phase, .. } => *phase,
             _ => 0,
-        }
-    }
-
-    /// Fires an actor once: takes a block from the channels into it, and puts a block on the channels out of it.
-    pub(crate) fn fire(&mut self, ports: &NodePorts, queues: &mut [Queue<A::Token>])
-        requires { ActorCanFire A.steps ports.now.ins.channels.now ports.now.outs.channels.now ports.now.ins.sizes.now
-            ports.now.outs.sizes.now
-            self.old queues.old }
-        ensures { IsFired A.steps ports.now.ins.channels.now ports.now.outs.channels.now ports.now.ins.sizes.now
-            ports.now.outs.sizes.now
-            self.old self.new queues.old queues.new }
-    {
-        if let Work::Inner {
-            actor,
-            phase,
-            state,
-            taken,
-            put,
-            lengths,
-        } = self
-        {
-            taken.clear();
-            take_block(&ports.ins, queues, taken);
-            let many = lengths[*phase as usize];
-            fire_into(*actor, *phase, state, taken, put, many);
-            put_front(&ports.outs, put, many, queues);
-            *phase = next_phase(*phase, actor.cycle());
         }
     }
 
@@ -309,19 +259,20 @@ impl<'a, A: Actor> Work<'a, A> {
         }
     }
 
-    /// Fires an actor for `times` cycles in one batch: takes their blocks from the channels into it, and puts their
-    /// blocks on the channels out of it.
-    pub(crate) fn fire_many(
+    /// Fires an actor `firings` times in one batch through its blocks. They are `times` equal parts, each a firing or a
+    /// cycle: takes their blocks from the channels into it, and puts their blocks on the channels out of it.
+    pub(crate) fn fire_in_parts(
         &mut self,
         times: usize,
+        firings: usize,
         filler: A::Token,
         ports: &NodePorts,
         queues: &mut [Queue<A::Token>],
     )
-        requires { CanFireMany A.steps times ports.now.ins.channels.now ports.now.outs.channels.now
+        requires { CanFireInParts A.steps times firings ports.now.ins.channels.now ports.now.outs.channels.now
             ports.now.ins.sizes.now
             ports.now.outs.sizes.now self.old queues.old }
-        ensures { AreManyFired A.steps times ports.now.ins.channels.now ports.now.outs.channels.now
+        ensures { AreFiredInParts A.steps times firings ports.now.ins.channels.now ports.now.outs.channels.now
             ports.now.ins.sizes.now
             ports.now.outs.sizes.now self.old self.new queues.old queues.new }
     {
@@ -331,7 +282,6 @@ impl<'a, A: Actor> Work<'a, A> {
             state,
             taken,
             put,
-            ..
         } = self
         {
             let size = block_size(&ports.ins);
@@ -342,10 +292,20 @@ impl<'a, A: Actor> Work<'a, A> {
             let batch = Batch {
                 actor: *actor,
                 phase: *phase,
-                times: times * actor.cycle() as usize,
+                times: firings,
             };
             fire_many_into(batch, state, taken, all, put, times * more);
             put_fronts(&ports.outs, times, more, put, queues);
+            *phase = phase_after(*phase, firings, actor.cycle());
         }
     }
+}
+
+/// Returns the phase `firings` firings after `phase`, in a cycle of `cycle` phases.
+fn phase_after(phase: u32, firings: usize, cycle: u32) -> u32
+    requires below { phase < cycle }
+    requires few { firings < 2 ^ 63 }
+    ensures { result ≡ (phase + firings) % cycle }
+{
+    ((phase as usize + firings) % cycle as usize) as u32
 }

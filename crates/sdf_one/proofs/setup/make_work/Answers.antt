@@ -8,16 +8,16 @@ use Rattle.sdf_one.specs.Cycles.{AreRowsAt}
 use Rattle.sdf_one.proofs.Beginnings.{rows_in, rows_out, blocks, begun}
 use Rattle.sdf_one.proofs.setup.make_work.Goals as goal
 
-pub make_blocks-requires-clause-rows : goal.make_blocks-requires-clause-rows
-make_blocks-requires-clause-rows g c =
+pub make_block-requires-clause-rows : goal.make_block-requires-clause-rows
+make_block-requires-clause-rows g c =
     subst (λ cs. AreRowsAt cs c.args.sizes.now.takes c.cycle-cycle.result) (sym c.channels_in-ins.ensures)
     (subst (λ m. AreRowsAt ((wiring g.A.Actor.steps c.args.net.now).ins c.args.a) c.args.sizes.now.takes m)
     (sym c.cycle-cycle.ensures)
     (rows_in g.A.Actor.steps c.args.net.now c.requires.net c.args.sizes.now c.requires.sizes
     c.args.a c.requires.known c.in-Inner.actor (sym c.node.ensures.value ∙ c.in-Inner.is)))
 
-pub make_blocks-requires-in-Inner-clause-rows : goal.make_blocks-requires-in-Inner-clause-rows
-make_blocks-requires-in-Inner-clause-rows g c =
+pub make_block-requires-in-Inner-clause-rows : goal.make_block-requires-in-Inner-clause-rows
+make_block-requires-in-Inner-clause-rows g c =
     subst (λ cs. AreRowsAt cs c.args.sizes.now.puts c.cycle-cycle.result) (sym c.channels_out-outs.ensures)
     (subst (λ m. AreRowsAt ((wiring g.A.Actor.steps c.args.net.now).outs c.args.a) c.args.sizes.now.puts m)
     (sym c.cycle-cycle.ensures)
@@ -30,15 +30,11 @@ returns-in_ok-put-in-Inner g c =
     let x = c.in-Inner.actor in
     let is : node c.args.net.now c.args.a ≡ Inner c.in-Inner.actor = sym c.node.ensures.value ∙ c.in-Inner.is in
     begun s c.args.net.now c.requires.net c.args.sizes.now c.requires.sizes c.args.a c.requires.known x is
-    _ c.in_ok-state-in-Inner.state c.in_ok-taken-in-Inner.taken c.in_ok-put-in-Inner.put c.in_ok-put-in-Inner.lengths
+    _ c.in_ok-state-in-Inner.state c.in_ok-taken-in-Inner.taken c.in_ok-put-in-Inner.put
     refl c.in_ok-state-in-Inner.ensures
     (blocks s c.args.net.now c.requires.net c.args.sizes.now c.requires.sizes c.args.a c.requires.known x is
-    c.in_ok-taken-in-Inner.taken c.in_ok-put-in-Inner.put c.in_ok-put-in-Inner.lengths c.cycle-cycle.result
-    c.cycle-cycle.ensures c.in_ok-put-in-Inner.ensures.0
+    c.in_ok-taken-in-Inner.taken c.in_ok-put-in-Inner.put c.cycle-cycle.result c.cycle-cycle.ensures
     (subst (λ cs. sum_to (λ j. sum_by (λ e. get_or (at_phase c.args.sizes.now.takes j) e 0) cs) c.cycle-cycle.result ≤
-    vec_len c.in_ok-taken-in-Inner.taken) c.channels_in-ins.ensures c.in_ok-taken-in-Inner.ensures.2)
-    (λ j h. subst (λ cs. get_or c.in_ok-put-in-Inner.lengths.items j 0 ≡
-    sum_by (λ e. get_or (at_phase c.args.sizes.now.puts j) e 0) cs) c.channels_out-outs.ensures
-    (c.in_ok-put-in-Inner.ensures.1 j h))
+    vec_len c.in_ok-taken-in-Inner.taken) c.channels_in-ins.ensures c.in_ok-taken-in-Inner.ensures)
     (subst (λ cs. sum_to (λ j. sum_by (λ e. get_or (at_phase c.args.sizes.now.puts j) e 0) cs) c.cycle-cycle.result ≤
-    vec_len c.in_ok-put-in-Inner.put) c.channels_out-outs.ensures c.in_ok-put-in-Inner.ensures.2))
+    vec_len c.in_ok-put-in-Inner.put) c.channels_out-outs.ensures c.in_ok-put-in-Inner.ensures))

@@ -1,10 +1,10 @@
 use Rattle.std.proofs.Common.{ℕ, ◌*◌, ◌≤◌, ◌<◌, arith}
 use Rattle.std.proofs.Math.Nat.{mul-le-mul}
 use Rattle.sdf_actor.specs.Nets.{node, cycle_of}
-use Rattle.sdf_one.specs.Many.{firings_in}
-use Rattle.sdf_one.proofs.Sweeping.{swept_node, can_fire, swept, moved, goes_at, actor_at, can_fire_at_once}
-use Rattle.sdf_one.proofs.Sweeping.{swept_at_once, moved_at_once, can_fire_many_at, swept_many, moved_many}
-use Rattle.sdf_one.proofs.Sweeping.{further}
+use Rattle.sdf_one.specs.Many.{firings_in, takes_next, puts_next, takes_cycle, puts_cycle}
+use Rattle.sdf_one.proofs.Sweeping.{swept_node, goes_at, actor_at, can_fire_at_once, swept_at_once, moved_at_once}
+use Rattle.sdf_one.proofs.Sweeping.{can_fire_in_parts, swept_in_parts, moved_in_parts, next_in, one_part, one_fits}
+use Rattle.sdf_one.proofs.Sweeping.{cycles_part, its_blocks_at, further}
 use Rattle.sdf_one.proofs.run.Run.fire_some.Goals as goal
 
 -- some cycles are some firings
@@ -26,21 +26,27 @@ fire_batch-requires-after_bounds g c κs inside =
     (c.can_batch.ensures.goes c.if-can_batch.true))
     c.times-times.ensures.held
 
-pub fire_many-requires-after_bounds : goal.fire_many-requires-after_bounds
-fire_many-requires-after_bounds g c κs inside =
-    can_fire_many_at
-    (swept_node g.A.Actor.steps c.args.self.now c.requires.swept c.args.a c.requires.may.0)
-    (g.met.A.Actor g.world.𝓛 g.world.𝓜 g.world.𝓡 ((λ s x. x), (λ x. x), (λ x. x), (λ x. x))).puts_fit
-    c.cycles_in_blocks-cycles.result c.cycles_in_blocks-cycles.ensures.left
-    (c.cycles_in_blocks-cycles.ensures.go (omega (arith, c.if-cycles-eq0.false)))
+pub fire_cycles-requires-after_bounds : goal.fire_cycles-requires-after_bounds
+fire_cycles-requires-after_bounds g c κs inside =
+    let s = g.A.Actor.steps in
+    let r = c.args.self.now in
+    let sw = c.requires.swept in
+    let node = swept_node s r sw c.args.a c.requires.may.0 in
+    let many = c.cycles_in_blocks-cycles.result in
+    let go = c.cycles_in_blocks-cycles.ensures.go (omega (arith, c.if-cycles-eq0.false)) in
+    can_fire_in_parts node many (firings_in s r c.args.a many) c.cycles_in_blocks-cycles.ensures.left (takes_cycle r)
+    (puts_cycle r) (cycles_part node many go) go.fit (λ d. its_blocks_at node d)
 
 pub fire-requires-after_bounds : goal.fire-requires-after_bounds
 fire-requires-after_bounds g c κs inside =
     let r = c.args.self.now in
     let sw = c.requires.swept in
-    can_fire (swept_node g.A.Actor.steps r sw c.args.a c.requires.may.0) c.requires.may
-    (actor_at r.works.items c.args.a (omega (arith, sw.stands.nodes, c.requires.may.0)) c.index.result.now
-    c.index.ensures (c.can_batch.ensures.others c.if-can_batch.false))
+    let may = c.requires.may in
+    let node = swept_node g.A.Actor.steps r sw c.args.a may.0 in
+    let actor = actor_at r.works.items c.args.a (omega (arith, sw.stands.nodes, may.0)) c.index.result.now
+    c.index.ensures (c.can_batch.ensures.others c.if-can_batch.false) in
+    can_fire_in_parts node 1 1 (next_in node may actor) (takes_next r) (puts_next r) (one_part node may actor)
+    (one_fits node may actor) (one_fits node may actor)
 
 pub returns-then-can_batch : goal.returns-then-can_batch
 returns-then-can_batch g c =
@@ -72,32 +78,36 @@ returns-then-cycles-eq0 g c =
     let node = swept_node s r sw c.args.a may.0 in
     let actor = actor_at r.works.items c.args.a (omega (arith, sw.stands.nodes, may.0)) c.index.result.now
     c.index.ensures (c.can_batch.ensures.others c.if-can_batch.false) in
+    let grows = c.history_grows_by_firing.ensures in
     let r' = c.fire.new.self in
     record {
-      swept = swept node may actor c.history_grows_by_firing.ensures r' c.fire.ensures;
-      moved = moved node may actor c.history_grows_by_firing.ensures r' c.fire.ensures;
+      swept = swept_in_parts node 1 1 (next_in node may actor) (takes_next r) (puts_next r)
+          (one_part node may actor) grows r' c.fire.ensures;
+      moved = moved_in_parts node 1 1 (next_in node may actor) (takes_next r) (puts_next r)
+          (one_part node may actor) grows r' c.fire.ensures (omega arith);
       further = further s r r' c.args.a 1 sw may.0 c.fire.ensures.alone (omega arith);
     }
 
 pub returns-else-cycles-eq0 : goal.returns-else-cycles-eq0
 returns-else-cycles-eq0 g c =
     let s = g.A.Actor.steps in
-    let fits =
-    (g.met.A.Actor g.world.𝓛 g.world.𝓜 g.world.𝓡 ((λ s x. x), (λ x. x), (λ x. x), (λ x. x))).puts_fit in
     let r = c.args.self.now in
     let sw = c.requires.swept in
-    let known_a = c.requires.may.0 in
-    let at = swept_node s r sw c.args.a known_a in
+    let known = c.requires.may.0 in
+    let node_at = swept_node s r sw c.args.a known in
     let many = c.cycles_in_blocks-cycles.result in
     let left = c.cycles_in_blocks-cycles.ensures.left in
     let positive : 0 < many = omega (arith, c.if-cycles-eq0.false) in
     let go = c.cycles_in_blocks-cycles.ensures.go positive in
     let some : 0 < firings_in s r c.args.a many =
-    some_firings many (cycle_of s (node r.net.now c.args.a)) positive (sw.sizes.some c.args.a known_a) in
-    let r' = c.fire_many.new.self in
-    let fired = c.fire_many.ensures in
+    some_firings many (cycle_of s (node r.net.now c.args.a)) positive (sw.sizes.some c.args.a known) in
+    let grows = c.history_grows_by_firing.ensures in
+    let r' = c.fire_cycles.new.self in
+    let fired = c.fire_cycles.ensures in
     record {
-      swept = swept_many at fits many left go c.history_grows_by_firing.ensures r' fired;
-      moved = moved_many at fits many left go c.history_grows_by_firing.ensures r' fired some;
-      further = further s r r' c.args.a (firings_in s r c.args.a many) sw known_a fired.alone some;
+      swept = swept_in_parts node_at many (firings_in s r c.args.a many) left (takes_cycle r) (puts_cycle r)
+          (cycles_part node_at many go) grows r' fired;
+      moved = moved_in_parts node_at many (firings_in s r c.args.a many) left (takes_cycle r) (puts_cycle r)
+          (cycles_part node_at many go) grows r' fired some;
+      further = further s r r' c.args.a (firings_in s r c.args.a many) sw known fired.alone some;
     }
