@@ -270,8 +270,8 @@ fn place_of<S: Storage>(
     place_to_replace(alloc, storage, output, refused)
 }
 
-/// Runs a plan from `from`, which is open. Errs if OUT is one of the files that are read, or a file that is not a sound.
-/// A sound at OUT is replaced once the run has ended well. Otherwise creates OUT or empties it.
+/// Runs a plan from `from`, which is open. Errs if OUT is one of the files that are read, or a file that is not a
+/// sound. A sound at OUT is replaced once the run has ended well. Otherwise creates OUT or empties it.
 fn run_from<S: Storage, T: Threads + AllocGlobal + Clock + Sync, R: Read, O: Write, E: Write>(
     world: &World<S, T>,
     from: &mut R,
