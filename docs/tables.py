@@ -40,7 +40,7 @@ from sources import functions, misplaced, places
 
 PAGE = TOP / "docs" / "FORMATS.md"
 PROOFS = TOP / "docs" / "PROOFS.md"
-HEAD = "Each with its number, its name and how its line goes on:\n\n"
+HEAD = "Each entry has the number, the name, and the rest of the fault's line:\n\n"
 PAPERS = [*TOP.glob("*.md"), *TOP.glob("docs/*.md"), *TOP.glob("examples/*.md"), *TOP.glob("hostile/*.md")]
 WIDTH = 120
 

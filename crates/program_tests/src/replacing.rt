@@ -63,7 +63,7 @@ const FAILING: &[Row] = &[
     ),
 ];
 
-/// Runs whose OUT has content and is no sound. Refuses a program that takes the place of any file.
+/// Runs whose OUT has content and is not a sound. Refuses a program that takes the place of any file.
 const NO_SOUNDS: &[Row] = &[
     (
         "a design in place of OUT",
@@ -187,7 +187,7 @@ fn old_sounds_on_a_full_disk(rt: HostRuntime) -> Result<(), Fail> {
     are_kept_on_full(&rt, &rt, &folder)
 }
 
-/// Runs that fail over no file or an empty one, which keep what was written.
+/// Runs that fail, and an OUT that is empty or not there. It keeps what was written.
 const WRITTEN: &[(&str, &str)] = &[
     ("run @/graph.toml @/cut.wav @/empty.wav", "empty.wav"),
     ("run @/graph.toml @/cut.wav @/made.wav", "made.wav"),

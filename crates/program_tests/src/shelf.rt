@@ -211,13 +211,13 @@ to = \"out\"
 /// A coefficient file with a key that no coefficient file has.
 const ODD: &str = "format = 1\nvalues = [1]\ntap = 1\n";
 
-/// A coefficient file with the values of `TAPS` that is longer than the graph file.
 /// The design of `PLAIN`, made for 48,000 Hz.
 const RATED: &str = r#"format = 1
 rate = 48000
 actor = [{ name = "in", kind = "input", channel = 0 }, { name = "out", kind = "output", channel = 0 }]
 link = [{ from = "in", to = "out" }]"#;
 
+/// A coefficient file with the values of `TAPS` that is longer than the graph file.
 pub(crate) const PADDED: &str = "format = 1
 # The taps of a filter that hands on what it takes: it has one tap, which is 1, and divides by nothing. What is said
 # here makes the file longer than the graph file that names it, so that a limit can stand between the two: no graph file

@@ -1,6 +1,6 @@
-//! Guards against overwriting a file. OUT is emptied before IN is read, so it must not be a file that the run reads.
-//! The FILE of a profile must not be one either. A design is not written into a folder that already has one of its
-//! files.
+//! Guards against overwriting a file. A run may write OUT while it reads IN, so OUT must not be a file that the run
+//! reads. The FILE of a profile must not be one either. A design is not written into a folder that already has one of
+//! its files.
 
 use crate::storage::Storage;
 use crate::world::STANDARD;

@@ -16,9 +16,9 @@ pub struct World<'a, S, T> {
     pub most: u32,
     /// Whether standard error is a terminal.
     pub terminal: bool,
-    /// Whether that terminal knows no escape sequences.
+    /// Whether that terminal does not know escape sequences.
     pub dumb: bool,
-    /// Whether diagnostics and reports are printed even if standard error is no terminal.
+    /// Whether diagnostics and reports are printed even if standard error is not a terminal.
     pub why: bool,
 }
 

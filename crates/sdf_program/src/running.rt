@@ -44,7 +44,7 @@ pub(crate) struct Running<'a> {
     pub(crate) is_verbose: bool,
     /// Whether the progress of the run is shown.
     pub(crate) is_shown: bool,
-    /// Whether OUT is written beside its place, even if there is no file yet.
+    /// Whether OUT is written beside its place, even if no file is there yet.
     pub(crate) is_beside: bool,
 }
 
@@ -185,8 +185,8 @@ impl RunReport {
     }
 }
 
-/// Runs a plan from `from` to `to`, and shows its progress. Returns a report if the run ends well. Notes in `refused` how
-/// the system refused the output.
+/// Runs a plan from `from` to `to`, and shows its progress. Returns a report if the run ends well. Notes in `refused`
+/// how the system refused the output.
 fn run_shown<T: Threads + AllocGlobal + Clock + Sync, R: Read, W: Write, E: Write>(
     threads: &T,
     from: &mut R,
@@ -220,8 +220,8 @@ fn run_shown<T: Threads + AllocGlobal + Clock + Sync, R: Read, W: Write, E: Writ
     Ok(RunReport::of(alloc, planned, output.levels)?)
 }
 
-/// Runs a plan from `from` into a new file beside `place`, and moves it there if the run ends well. Otherwise what is at
-/// `place` stays as it was.
+/// Runs a plan from `from` into a new file beside `place`, and moves it there if the run ends well. Otherwise what is
+/// at `place` stays as it was.
 fn run_beside<S: Storage, T: Threads + AllocGlobal + Clock + Sync, R: Read, E: Write>(
     world: &World<S, T>,
     from: &mut R,
@@ -270,8 +270,8 @@ fn place_of<S: Storage>(
     place_to_replace(alloc, storage, output, refused)
 }
 
-/// Runs a plan from `from`, which is open. Errs if OUT is one of the files that are read, or a file that is no sound. A
-/// sound at OUT is replaced once the run has ended well. Otherwise creates OUT or empties it.
+/// Runs a plan from `from`, which is open. Errs if OUT is one of the files that are read, or a file that is not a
+/// sound. A sound at OUT is replaced once the run has ended well. Otherwise creates OUT or empties it.
 fn run_from<S: Storage, T: Threads + AllocGlobal + Clock + Sync, R: Read, O: Write, E: Write>(
     world: &World<S, T>,
     from: &mut R,
@@ -345,7 +345,7 @@ fn run_traced<S: Storage, T: Threads + AllocGlobal + Clock + Sync, R: Read, O: W
 }
 
 /// Runs a design by its plan on a WAV file. Once IN is open, errs if OUT is one of the files that are read, or a file
-/// that is no sound. A sound at OUT is replaced once the run has ended well.
+/// that is not a sound. A sound at OUT is replaced once the run has ended well.
 pub(crate) fn run_planned<
     S: Storage,
     T: Threads + AllocGlobal + Clock + Sync,
