@@ -309,9 +309,16 @@ def paths():
 
 
 def named_edits():
-    """The names of the wrong bodies that the gate tries."""
-    listed = re.findall(r"^\w+/(\w+)$", (TOP / "scripts/named.txt").read_text(), re.M)
-    return {*listed, *(path.stem for path in TOP.glob("crates/*/must-fail/*.edit"))}
+    """What is wrong with the list of the wrong bodies that the gate tries. Each item of the page is a crate and its
+    edits."""
+    tried = set(re.findall(r"^(\w+)/(\w+)$", (TOP / "scripts/named.txt").read_text(), re.M))
+    tried |= {(path.parent.parent.name, path.stem) for path in TOP.glob("crates/*/must-fail/*.edit")}
+    page = (TOP / "docs/PROOFS.md").read_text().partition("\n## Named wrong bodies\n")[2].partition("\n## ")[0]
+    items = re.findall(r"^- `(\w+)`: (.*(?:\n  .*)*)", page, re.M)
+    listed = {(crate, name) for crate, text in items for name in re.findall(r"`(\w+)`", text)}
+    wrong = [f"it does not list {name} of {crate}, which the gate tries" for crate, name in tried - listed]
+    wrong += [f"the gate does not try {name} of {crate}" for crate, name in listed - tried]
+    return [f"docs/PROOFS.md: {mistake}" for mistake in sorted(wrong)]
 
 
 def named():
@@ -321,7 +328,6 @@ def named():
         "examples/README.md": [f"{path.name}/" for path in TOP.glob("examples/*") if path.is_dir()],
         "hostile/README.md": [path.name for path in [*TOP.glob("hostile/*.py"), *TOP.glob("hostile/*.c")]],
         "CONTRIBUTING.md": [path.name for path in TOP.glob("crates/*") if re.search("_tests$|^test_", path.name)],
-        "docs/PROOFS.md": [f"`{name}`" for name in named_edits()],
     }
     return [
         f"{paper}: it does not name {name}"
@@ -356,7 +362,8 @@ def main():
     os.chdir(TOP)
     write = "--write" in sys.argv
     wrong = faults(program, write) + repairs(program) + kinds(program) + unedited() + edits() + heads() + stands_on()
-    wrong += schemas.differences(program, write) + sessions(program, write) + paths() + named() + kits() + widths()
+    wrong += schemas.differences(program, write) + sessions(program, write) + paths() + named() + named_edits()
+    wrong += kits() + widths()
     print("\n".join(wrong) or "the documents say what the program and the sources say")
     sys.exit(1 if wrong else 0)
 

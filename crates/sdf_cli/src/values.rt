@@ -1,22 +1,22 @@
 //! The values of arguments.
 
-ghost use Rattle.std.specs.Prelude.{◌≡◌, ◌≤◌, IfSome, codes, is_some, option_and_then, position, slice_get};
-ghost use Rattle.clap.specs.Words.{found_of, matched_of};
-ghost use Rattle.std.specs.Str.{bytes_eq};
+ghost use Rattle.std.specs.Prelude.{◌≡◌, ◌≤◌, ℕ, List, IfSome, Some};
+ghost use Rattle.clap.specs.Words.{found_of};
 ghost use Rattle.sdf_options.specs.Limits.{AreWithinLimits};
+ghost use Rattle.sdf_cli.specs.Batches.{AreOptionsOf, ArePlanOptionsOf, IsNumberOf, IsParallelOf, IsWhyOf};
 ghost use Rattle.sdf_cli.specs.Limits.{IsParallelWorkers};
 
 use crate::requests::{Format, ParallelWorkers, Picture, Why};
 use clap::ArgMatches;
 use sdf_filters::Band;
 use sdf_limits::{MAX_BLOCKING, MAX_PATIENCE, MAX_WORKERS};
-use sdf_options::{
-    Options, PLACEMENT_WORDS, PLACEMENTS, POLICIES, POLICY_WORDS, RUNNER_WORDS, RUNNERS,
-};
+use sdf_options::{Options, PLACEMENTS, POLICIES, Placement, Policy, RUNNERS, Runner};
 
 /// Returns the number of the argument `id`. The parser of the option already enforces the limits, so none is lost here.
 pub(crate) fn number_of(matches: &ArgMatches<'_>, id: &str, least: u32, most: u32) -> Option<u32>
-    ensures { IfSome result (λ n. (least ≤ n) × (n ≤ most)) }
+    ensures within { IfSome result (λ n. (least ≤ n) × (n ≤ most)) }
+    ensures number { IfSome result (IsNumberOf (found_of matches.now) id.now) }
+    ensures each { (n : ℕ) → least ≤ n → n ≤ most → IsNumberOf (found_of matches.now) id.now n → result ≡ Some n }
 {
     match matches.get_one::<u32>(id) {
         Some(number) if least <= number && number <= most => Some(number),
@@ -24,47 +24,87 @@ pub(crate) fn number_of(matches: &ArgMatches<'_>, id: &str, least: u32, most: u3
     }
 }
 
-/// Returns the index of `word` in `words`.
-fn place_of(words: &[&str], word: &str) -> Option<usize>
-    ensures { result ≡ position (λ known. bytes_eq known.now word.now) words.now }
-{
-    words.iter().position(|known| *known == word)
+/// A value of an option, which a word names.
+trait Named: Copy {
+    ghost bytes: { Self → List ℕ };
+
+    /// Returns the word for this value.
+    fn word(self) -> &'static str
+        ensures { result.now ≡ bytes self };
 }
 
-/// Returns the value at the index in `values` that `word` has in `words`.
-fn value_of<T: Copy>(words: &[&str], values: &[T], word: &str) -> Option<T>
-    ensures { result ≡ option_and_then (slice_get values.now)
-        (position (λ known. bytes_eq known.now word.now) words.now) }
+impl Named for Policy {
+    ghost use Rattle.sdf_options.specs.Words.{policy_word};
+
+    ghost bytes = { policy_word };
+
+    fn word(self) -> &'static str {
+        Policy::word(self)
+    }
+}
+
+impl Named for Placement {
+    ghost use Rattle.sdf_options.specs.Words.{placement_word};
+
+    ghost bytes = { placement_word };
+
+    fn word(self) -> &'static str {
+        Placement::word(self)
+    }
+}
+
+impl Named for Runner {
+    ghost use Rattle.sdf_options.specs.Words.{runner_word};
+
+    ghost bytes = { runner_word };
+
+    fn word(self) -> &'static str {
+        Runner::word(self)
+    }
+}
+
+/// Returns the first of `values` that `word` names.
+fn value_of<T: Named>(values: &[T], word: &str) -> Option<T>
+    ensures { IfSome result (λ value. T.bytes value ≡ word.now) }
 {
-    values.get(place_of(words, word)?).copied()
+    for value in values {
+        if value.word() == word {
+            return Some(*value);
+        }
+    }
+    None
 }
 
 /// Reads the options of a schedule; the others have their defaults.
 pub(crate) fn plan_options_of(matches: &ArgMatches<'_>) -> Option<Options>
-    ensures { IfSome result AreWithinLimits }
+    ensures within { IfSome result AreWithinLimits }
+    ensures options { IfSome result (ArePlanOptionsOf (found_of matches.now)) }
 {
     Some(Options {
         blocking: number_of(matches, "blocking", 1, MAX_BLOCKING)?,
         workers: number_of(matches, "workers", 1, MAX_WORKERS as u32)? as usize,
-        policy: value_of(POLICY_WORDS, &POLICIES, matches.get_str("policy")?)?,
-        placement: value_of(PLACEMENT_WORDS, &PLACEMENTS, matches.get_str("placement")?)?,
+        policy: value_of(&POLICIES, matches.get_str("policy")?)?,
+        placement: value_of(&PLACEMENTS, matches.get_str("placement")?)?,
         ..Options::DEFAULT
     })
 }
 
 /// Reads the options of a run.
 pub(crate) fn options_of(matches: &ArgMatches<'_>) -> Option<Options>
-    ensures { IfSome result AreWithinLimits }
+    ensures within { IfSome result AreWithinLimits }
+    ensures options { IfSome result (AreOptionsOf (found_of matches.now)) }
 {
     Some(Options {
-        runner: value_of(RUNNER_WORDS, &RUNNERS, matches.get_str("runner")?)?,
+        runner: value_of(&RUNNERS, matches.get_str("runner")?)?,
         patience: number_of(matches, "patience", 0, MAX_PATIENCE)?,
         ..plan_options_of(matches)?
     })
 }
 
 /// Reads when a diagnostic is printed.
-pub(crate) fn why_of(matches: &ArgMatches<'_>) -> Why {
+pub(crate) fn why_of(matches: &ArgMatches<'_>) -> Why
+    ensures { IsWhyOf (found_of matches.now) result }
+{
     if matches.get_flag("why") {
         Why::Always
     } else if matches.get_flag("no-why") {
@@ -95,7 +135,7 @@ pub(crate) fn picture_of(matches: &ArgMatches<'_>) -> Picture {
 /// Reads `--parallel`: its number of workers, or one per processor if it has no value.
 pub(crate) fn parallel_of(matches: &ArgMatches<'_>) -> Option<ParallelWorkers>
     ensures within { IfSome result IsParallelWorkers }
-    ensures given { is_some result ≡ is_some (matched_of (found_of matches.now) (codes "parallel")) }
+    ensures parallel { IsParallelOf (found_of matches.now) result }
 {
     if !matches.contains_id("parallel") {
         return None;

@@ -3,6 +3,7 @@
 ghost use Rattle.std.specs.Prelude.{◌≤◌, IfSome};
 
 use byteorder::{ByteOrder, LittleEndian};
+use sdf_wav::MAX_CHANNELS;
 
 /// The bytes before the first chunk: `RIFF`, a size and `WAVE`.
 const START: u64 = 12;
@@ -57,15 +58,16 @@ impl Opening {
             .saturating_add(left)
     }
 
-    /// Returns the bytes of a frame once the samples begin: 2 for each channel, or 1 for an unknown number of channels.
+    /// Returns the bytes of a frame once the samples begin: 2 for each channel. With none or too many channels it is 1,
+    /// and readers refuse the header.
     pub(crate) fn frame(&self) -> Option<usize>
         ensures { IfSome result (λ size. 1 ≤ size) }
     {
         if !self.is_over {
             return None;
         }
-        match self.format {
-            [_, _, channels, 0] if channels > 0 => Some(2 * usize::from(channels)),
+        match LittleEndian::read_u16(&self.format[2..]) {
+            channels @ 1..=MAX_CHANNELS => Some(2 * usize::from(channels)),
             _ => Some(1),
         }
     }

@@ -1,7 +1,7 @@
 //! The options of a schedule or a run, and the words for them.
 
 ghost use Rattle.std.specs.Prelude.{◌≡◌};
-ghost use Rattle.sdf_options.specs.Words.{policy_word, placement_word};
+ghost use Rattle.sdf_options.specs.Words.{placement_word, policy_word, runner_word};
 
 /// A rule for which runnable actor fires next.
 #[derive(Clone, Copy, Debug, PartialEq, Eq)]
@@ -75,6 +75,15 @@ pub enum Runner {
 pub const RUNNER_WORDS: &[&str] = &["one", "rows", "rings"];
 
 pub static RUNNERS: [Runner; 3] = [Runner::One, Runner::Rows, Runner::Rings];
+
+impl Runner {
+    /// Returns the word for this runner on the command line.
+    pub fn word(self) -> &'static str
+        ensures { result.now ≡ runner_word self }
+    {
+        RUNNER_WORDS[self as usize]
+    }
+}
 
 /// The options of a schedule or a run. The type does not enforce the limits below: `plan` and `design_schedule` test
 /// them.
