@@ -5,14 +5,23 @@
 #![tactic(auto)]
 
 pub mod bounds;
+pub mod certificate;
+mod columns;
 pub mod laws;
+mod links;
 mod loads;
 mod needs;
+mod round;
+pub mod rows;
 pub mod samples;
+mod schedules;
+pub mod search;
 mod starts;
+pub mod step;
 pub mod times;
 mod walk;
 
 pub use bounds::{bound, span, work};
+pub use rows::by_rows;
 pub use samples::held;
 pub use times::Times;
