@@ -1,12 +1,12 @@
 -- A chain that comes round leads from a firing to itself some blocks later.
-use Rattle.std.proofs.Common.{◌≡◌, ℕ, zero, suc, ◌+◌, ◌-◌, ◌*◌, ◌≤◌, ◌<◌, List, length, sym, ap, ◌∙◌, subst, arith, refl}
+use Rattle.std.proofs.Common.{◌≡◌, ℕ, zero, suc, ◌+◌, ◌-◌, ◌≤◌, List, length, sym, ap, ◌∙◌, subst, arith, refl}
 use Rattle.std.proofs.Common.{inl, inr}
 use Rattle.sdf_prec.specs.declared.firing.Firing.{Firing}
 use Rattle.sdf_times.specs.declared.step.Hold.{Hold}
 use Rattle.sdf_times.specs.declared.step.Hold.TheVariants.{Worker, Samples, Room}
 use Rattle.sdf_times.specs.declared.step.Step.{Step}
 use Rattle.sdf_times.specs.SelfTimed.{Plan, later, HoldsBack, IsPlan, Leads, here, on, Attains}
-use Rattle.sdf_times.specs.Rounds.{IsHeld, IsStep, IsRound, wait_of, step_at, before_step, blocks_to, time_to}
+use Rattle.sdf_times.specs.Rounds.{IsHeld, IsRound, wait_of, step_at, before_step, blocks_to, time_to}
 use Rattle.sdf_times.proofs.Laters.{later_none, later_more, holds_later}
 
 -- a step as what holds its firing back
@@ -40,7 +40,8 @@ module _ (p : Plan) (ok : IsPlan p) (steps : List Step) (t q : ℕ) (round : IsR
       subst (λ f. Leads p first f (time_to p.cost steps (suc i))) is
       (on (later p (blocks_to steps i) (before_step steps i))
       (later p (blocks_to steps i) (later p (step_at steps i).blocks (step_at steps i).firing))
-      (time_to p.cost steps i) (wait_of p.cost (before_step steps i) (step_at steps i).hold) ih step.from step.known on_to)
+      (time_to p.cost steps i) (wait_of p.cost (before_step steps i) (step_at steps i).hold) ih step.from
+      step.known on_to)
 
   pub attains : Attains p t q
   attains =

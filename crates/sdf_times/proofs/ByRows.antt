@@ -1,12 +1,12 @@
 -- No table ends later than it would row by row.
-use Rattle.std.proofs.Common.{◌≡◌, ℕ, zero, suc, ◌+◌, ◌≤◌, ◌<◌, ◌⊎◌, List, length, inl, inr, sym, ap, arith, refl}
+use Rattle.std.proofs.Common.{◌≡◌, ℕ, zero, suc, ◌+◌, ◌≤◌, ◌<◌, ◌⊎◌, List, length, inl, inr, ap, arith}
 use Rattle.std.proofs.Common.{Option, Some}
 use Rattle.std.proofs.lemmas.Bool.{cases_eq}
 use Rattle.sdf_graph.specs.Rates.{Rates, sum_to}
 use Rattle.sdf_graph.proofs.Theorems.{sums_rise}
 use Rattle.sdf_prec.specs.declared.firing.Firing.{Firing}
 use Rattle.sdf_prec.specs.Tables.{row, cell}
-use Rattle.sdf_times.specs.Times.{IsInTable, ComesBefore, end_of, AreStarts, IsMakespan, cost_in}
+use Rattle.sdf_times.specs.Times.{IsInTable, ComesBefore, end_of, AreStarts, cost_in}
 use Rattle.sdf_times.specs.ByRows.{greatest_to, row_time, time_by_rows, RowsTakeLonger}
 use Rattle.sdf_times.proofs.Greatest.{greatest_least}
 use Rattle.sdf_times.proofs.Cells.{AreCells, are_cells, column_in, row_in}

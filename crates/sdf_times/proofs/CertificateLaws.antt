@@ -1,5 +1,4 @@
 -- What a certificate says is the period.
-use Rattle.sdf_times.specs.SelfTimed.{IsPlan}
 use Rattle.sdf_prec.specs.Blocks.{block}
 use Rattle.sdf_times.specs.Checks.{plan_of, schedule_of}
 use Rattle.sdf_times.specs.Certificates.{CertificatesHold}

@@ -1,6 +1,7 @@
--- A certificate for t/q leads to the period: its schedule is never before the self-timed one, and its chain never after.
-use Rattle.std.proofs.Common.{◌≡◌, ℕ, zero, suc, ◌+◌, ◌-◌, ◌*◌, ◌/◌, ◌%◌, ◌≤◌, ◌<◌, ◌⊎◌, List, length, inl, inr, sym, ap}
-use Rattle.std.proofs.Common.{◌∙◌, subst, arith, refl}
+-- A certificate for t/q leads to the period: its schedule is never before the self-timed one, and its chain never
+-- after.
+use Rattle.std.proofs.Common.{◌≡◌, ℕ, zero, suc, ◌+◌, ◌-◌, ◌*◌, ◌/◌, ◌%◌, ◌≤◌, ◌<◌, ◌⊎◌, length, inl, inr, sym, ap}
+use Rattle.std.proofs.Common.{◌∙◌, arith, refl}
 use Rattle.std.proofs.Math.Nat.{mul-le-mul_left}
 use Rattle.std.proofs.lemmas.Nat.{div-add-mod', mod_below}
 use Rattle.std.proofs.lemmas.Bool.{cases_lt}
@@ -8,11 +9,10 @@ use Rattle.sdf_graph.specs.Rates.{sum_to}
 use Rattle.sdf_graph.proofs.Theorems.{sums_rise}
 use Rattle.sdf_prec.specs.declared.firing.Firing.{Firing}
 use Rattle.sdf_prec.specs.Tables.{firing, order, IsOfBlock}
-use Rattle.sdf_times.specs.Times.{IsGreatest, end_of}
+use Rattle.sdf_times.specs.Times.{end_of}
 use Rattle.sdf_times.specs.SelfTimed.{Plan, later, HoldsBack, AreSelfTimed, IsBlockEnd, IsIterationPeriod, IsPlan}
 use Rattle.sdf_times.specs.SelfTimed.{IsPeriodic, Leads, here, on, Attains}
 use Rattle.sdf_times.specs.Periods.{SelfTimedAreLeast, SelfTimedAreOne, PeriodsAreCertified}
-use Rattle.sdf_times.proofs.Greatest.{greatest_least}
 use Rattle.sdf_times.proofs.Laters.{later_none, later_more, later_same, split, leads_later}
 use Rattle.sdf_times.proofs.Ranks.{IsRank, cells, rank_of, earlier}
 
@@ -131,7 +131,8 @@ module _ (p : Plan) (ok : IsPlan p) (start : Firing → ℕ) (run : AreSelfTimed
         (b : ℕ) → q * end b ≤ t * b + bound
     end_late bound above b = go (ends b).reached
       where
-        go : (end b ≡ 0) ⊎ ((f : Firing) × IsOfBlock p.rates p.firings f × (end_of p.cost start (later p b f) ≡ end b)) →
+        go : (end b ≡ 0) ⊎ ((f : Firing) × IsOfBlock p.rates p.firings f
+            × (end_of p.cost start (later p b f) ≡ end b)) →
             q * end b ≤ t * b + bound
         go (inl z) = let none : q * end b ≡ q * 0 = ap (λ e. q * e) z in omega (arith, none)
         go (inr (f, of, is)) =

@@ -1,14 +1,13 @@
 -- Where a firing stands in the row order of a table, as many firings of its actor stand before it as its number says.
-use Rattle.std.proofs.Common.{◌≡◌, ℕ, zero, suc, ◌+◌, ◌-◌, ◌≤◌, ◌<◌, ◌⊎◌, List, [], ◌∷◌, ◌++◌, length, get_or, take}
-use Rattle.std.proofs.Common.{map, cond, eqb, ne_eqb, inl, inr, sym, ap, ◌∙◌, subst, arith, refl, Option, Some, None}
+use Rattle.std.proofs.Common.{◌≡◌, ℕ, zero, suc, ◌+◌, ◌≤◌, ◌<◌, List, [], ◌∷◌, ◌++◌, length, get_or, take}
+use Rattle.std.proofs.Common.{map, cond, eqb, ne_eqb, sym, ap, ◌∙◌, subst, arith, refl, Option, Some}
 use Rattle.std.proofs.Common.{append_assoc}
 use Rattle.std.proofs.Math.Seq.{take-append-add}
 use Rattle.std.proofs.lemmas.List.{take-append-le, take-map, map-append, take-take, get_or-map, length-map}
 use Rattle.std.proofs.lemmas.List.Sums.{sum_by-append, sum_by-cons}
 use Rattle.std.proofs.lemmas.Option.{none-some}
-use Rattle.std.proofs.lemmas.Bool.{cases_lt, cases_eq}
 use Rattle.sdf_graph.specs.Rates.{Rates, IsSound}
-use Rattle.sdf_graph.specs.Sequences.{times, tokens}
+use Rattle.sdf_graph.specs.Sequences.{times}
 use Rattle.sdf_graph.proofs.Theorems.{last_counts_more, fronts_count_within}
 use Rattle.sdf_prec.specs.declared.firing.Firing.{Firing}
 use Rattle.sdf_prec.specs.Tables.{firing, firings, no_firing, row, cell, order, sequence, IsValid, IsGreatestHeld}

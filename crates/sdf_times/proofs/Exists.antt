@@ -30,7 +30,8 @@ find P test zero = inr (λ i l p. omega arith)
 find P test (suc m) = find_step P m (test m) (find P test m)
 
 -- sets of numbers with a greatest: several of them together
-pub both_greatest : (P Q R : ℕ → Type 0) → ((t : ℕ) × IsGreatest P t) → ((t : ℕ) × IsGreatest Q t) → ((u : ℕ) → P u → R u) →
+pub both_greatest : (P Q R : ℕ → Type 0) → ((t : ℕ) × IsGreatest P t) → ((t : ℕ) × IsGreatest Q t) →
+    ((u : ℕ) → P u → R u) →
     ((u : ℕ) → Q u → R u) → ((u : ℕ) → R u → P u ⊎ Q u) → (t : ℕ) × IsGreatest R t
 both_greatest P Q R (t, g) (x, h) left right split =
     (max t x, greatest_more P R t x g left (new h.reached) (λ u r. back u (split u r)))

@@ -1,15 +1,14 @@
 -- What the first block of a run says of the makespan and of the period; and more room.
-use Rattle.std.proofs.Common.{◌≡◌, ℕ, zero, suc, ◌+◌, ◌*◌, ◌≤◌, ◌<◌, ◌⊎◌, List, length, inl, inr, sym, ap, ◌∙◌, subst}
-use Rattle.std.proofs.Common.{arith, refl, Option, Some}
+use Rattle.std.proofs.Common.{◌≡◌, ℕ, suc, ◌+◌, ◌*◌, ◌≤◌, ◌<◌, ◌⊎◌, inl, inr, sym, ap, ◌∙◌, subst}
+use Rattle.std.proofs.Common.{arith, refl, Some}
 use Rattle.std.proofs.Math.Nat.{mul-le-mul_left, mul-le-mul_right}
 use Rattle.sdf_prec.specs.declared.firing.Firing.{Firing}
 use Rattle.sdf_prec.specs.Precedence.{WaitsFor}
 use Rattle.sdf_prec.specs.Tables.{cell, IsOfBlock}
-use Rattle.sdf_times.specs.Times.{IsGreatest, IsInTable, ComesBefore, end_of, AreStarts, IsMakespan}
-use Rattle.sdf_times.specs.ByRows.{time_by_rows}
-use Rattle.sdf_times.specs.SelfTimed.{Plan, later, IsAt, IsSooner, IsAheadOf, WaitsForRoom, HoldsBack, AreSelfTimed}
-use Rattle.sdf_times.specs.SelfTimed.{IsBlockEnd, IsIterationPeriod, IsPlan}
-use Rattle.sdf_times.specs.Periods.{AreEnds, with_caps, MakespanIsWithinFirst, PeriodIsWithinFirst, FirstIsWithinRows}
+use Rattle.sdf_times.specs.Times.{IsInTable, ComesBefore, end_of}
+use Rattle.sdf_times.specs.SelfTimed.{Plan, later, IsAt, IsSooner, WaitsForRoom, HoldsBack, AreSelfTimed}
+use Rattle.sdf_times.specs.SelfTimed.{IsBlockEnd, IsPlan}
+use Rattle.sdf_times.specs.Periods.{with_caps, MakespanIsWithinFirst, PeriodIsWithinFirst, FirstIsWithinRows}
 use Rattle.sdf_times.specs.Periods.{MoreRoomIsNoLonger}
 use Rattle.sdf_times.proofs.Cells.{place}
 use Rattle.sdf_times.proofs.Greatest.{greatest_least}

@@ -1,7 +1,7 @@
 -- What a firing of a later block takes or puts with all before it.
-use Rattle.std.proofs.Common.{◌≡◌, ℕ, ◌+◌, ◌*◌, ◌^◌, ◌≤◌, ◌<◌, List, length, get_or, sum, sym, ap, ◌∙◌, arith, ◌↔◌, IsTrue, ltb, ltb-true, lt-ltb}
-use Rattle.sdf_limits.specs.declared.TheConstants.{MAX_BLOCK}
-use Rattle.sdf_graph.specs.Rates.{GraphValue, IsShape, rates, rate_at, channel, sum_to}
+use Rattle.std.proofs.Common.{◌≡◌, ℕ, ◌+◌, ◌*◌, ◌^◌, ◌<◌, List, length, get_or, ap, ◌∙◌, arith, ◌↔◌, IsTrue, ltb}
+use Rattle.std.proofs.Common.{ltb-true, lt-ltb}
+use Rattle.sdf_graph.specs.Rates.{GraphValue, IsShape, rate_at, channel, sum_to}
 use Rattle.sdf_prec.specs.Blocks.{block}
 use Rattle.sdf_prec.specs.Tables.{TableValue}
 use Rattle.sdf_prec.specs.declared.firing.Firing.{Firing}
@@ -46,7 +46,8 @@ module _ (g : GraphValue) (shape : IsShape g) (reps : List ℕ) (j width : ℕ) 
   pub room_exactly : (before firing : Firing) (blocks x y : ℕ) → (channel g c).from ≡ firing.actor →
       (channel g c).to ≡ before.actor → ((channel g c).from ≡ (channel g c).to → ⊥) →
       x ≡ get_or t.caps c 0 + sum_to (rate_at (channel g c).take) before.number →
-      y ≡ (channel g c).initial + (blocks * sum_to (rate_at (channel g c).put) (get_or (block j reps) (channel g c).from 0)
+      y ≡ (channel g c).initial + (blocks * sum_to (rate_at (channel g c).put)
+      (get_or (block j reps) (channel g c).from 0)
       + sum_to (rate_at (channel g c).put) (firing.number + 1)) →
       IsTrue (ltb x y) ↔ IsHeld (plan_of g (block j reps) t costs) before firing blocks (Room c)
   room_exactly before firing blocks x y from into apart xs ys =

@@ -1,22 +1,22 @@
 -- A schedule is in time where it is tested exactly if it is everywhere.
-use Rattle.std.proofs.Common.{◌≡◌, ℕ, zero, suc, ◌+◌, ◌-◌, ◌*◌, ◌/◌, ◌%◌, ◌≤◌, ◌<◌, ◌⊎◌, List, [], length, get_or, inl, inr}
-use Rattle.std.proofs.Common.{sym, ap, ◌∙◌, subst, arith, refl, Option, Some, ◌↔◌}
+use Rattle.std.proofs.Common.{◌≡◌, ℕ, suc, ◌+◌, ◌-◌, ◌*◌, ◌≤◌, ◌<◌, List, length, get_or, inl, inr}
+use Rattle.std.proofs.Common.{sym, ap, ◌∙◌, arith, refl, ◌↔◌}
 use Rattle.std.proofs.Math.Nat.{mul-le-mul_left}
 use Rattle.sdf_graph.specs.Rates.{GraphValue, ChannelValue, IsShape, rates, channel, sum_to}
 use Rattle.sdf_graph.specs.Moved.{moves}
 use Rattle.sdf_graph.specs.declared.channel.End.TheVariants.{Source, Target}
 use Rattle.sdf_prec.specs.declared.firing.Firing.{Firing}
 use Rattle.sdf_prec.specs.Blocks.{block}
-use Rattle.sdf_prec.specs.Tables.{TableValue, cell, IsOfBlock}
+use Rattle.sdf_prec.specs.Tables.{TableValue, IsOfBlock}
 use Rattle.sdf_times.specs.Times.{start_in}
-use Rattle.sdf_times.specs.SelfTimed.{Plan, later, IsAt, IsSooner, IsAheadOf, WaitsForRoom, HoldsBack, IsPlan, IsPeriodic}
+use Rattle.sdf_times.specs.SelfTimed.{Plan, later, IsSooner, IsAheadOf, WaitsForRoom, HoldsBack, IsPlan, IsPeriodic}
 use Rattle.sdf_times.specs.Checks.{plan_of, schedule_of, repeating, line, IsTried, IsInTime, whole_of, AreInTurn}
 use Rattle.sdf_times.proofs.Cells.{AreCells}
 use Rattle.sdf_times.proofs.Laters.{later_none, put_later, taken_later}
 use Rattle.sdf_times.proofs.Ranks.{cells}
 use Rattle.sdf_times.proofs.Spans.{block_length}
 use Rattle.sdf_times.proofs.Settings.{is_plan, whole_is, from_is, to_is, some, initial_low}
-use Rattle.sdf_times.proofs.Repeating.{at_block, at_first, later_at, one_by_one, in_turn_if, link_if, if_link}
+use Rattle.sdf_times.proofs.Repeating.{at_block, later_at, one_by_one, in_turn_if, link_if, if_link}
 
 module _ (g : GraphValue) (shape : IsShape g) (tb : TableValue) (costs : List ℕ) (starts : List (List ℕ))
     (tried : IsTried g tb costs starts) (t q : ℕ) where
@@ -206,14 +206,26 @@ module _ (g : GraphValue) (shape : IsShape g) (tb : TableValue) (costs : List �
             (λ k i waits. periodic.allowed (record { actor = (channel g c).from; number = i })
             (record { actor = (channel g c).to; number = k }) (get_or costs (channel g c).from 0) (shape.from_in c l)
             (shape.to_in c l) (inl (refl, inl (inr (c, l, refl, refl, waits)))));
-        room = λ apart. link_if (moves Source (channel g c)) (moves Target (channel g c)) (whole_of (channel g c) starts)
+        room = λ apart. link_if (moves Source (channel g c)) (moves Target (channel g c))
+            (whole_of (channel g c) starts)
             t (line starts (channel g c).from) (line starts (channel g c).to) (some g shape tb costs starts tried c l)
             (fires (channel g c).from (shape.from_in c l)) (fires (channel g c).to (shape.to_in c l)) (put_laters c l)
             (taken_laters c l) (get_or tb.caps c 0 - (channel g c).initial) 0
             (λ k i waits.
             let low = periodic.allowed (record { actor = (channel g c).to; number = i })
             (record { actor = (channel g c).from; number = k }) 0 (shape.to_in c l) (shape.from_in c l)
-            (inr (refl, (c, l, refl, refl, apart, omega (arith, waits, initial_low g shape tb costs starts tried c l)))) in
+            (inr (
+              refl,
+              (
+                c,
+                l,
+                refl,
+                refl,
+                apart,
+                omega
+                    (arith, waits, initial_low g shape tb costs starts tried c l),
+              ),
+            )) in
             omega (arith, low));
       };
     }

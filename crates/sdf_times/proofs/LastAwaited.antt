@@ -3,7 +3,7 @@ use Rattle.std.proofs.Common.{◌≡◌, ℕ, ◌+◌, ◌-◌, ◌*◌, ◌≤�
 use Rattle.std.proofs.lemmas.Bool.{cases_lt, cases_eq}
 use Rattle.sdf_graph.specs.Rates.{sum_to}
 use Rattle.sdf_graph.proofs.Theorems.{sums_rise}
-use Rattle.sdf_times.specs.Checks.{IsLeastWith, IsLastAwaited, IsLinkInTime, repeating}
+use Rattle.sdf_times.specs.Checks.{IsLeastWith, IsLastAwaited, repeating}
 
 -- it is the one before the first that is not awaited
 pub last_one : (a b : ℕ → ℕ) (lead whole k j i : ℕ) → lead < whole →
@@ -37,6 +37,7 @@ in_time_more a b lead whole back xs ys pause t number i some least here before k
     go : (k ≡ number) ⊎ (k ≡ number → ⊥) → repeating t ys j + pause ≤ get_or xs k 0 + t * (1 + back)
     go (inr ne) = before k j (omega arith) last
     go (inl is) =
-        let same = last_one a b lead whole number j i some least (subst (λ k. IsLastAwaited a b lead whole k j) is last) in
+        let same = last_one a b lead whole number j i some least
+        (subst (λ k. IsLastAwaited a b lead whole k j) is last) in
         let its : repeating t ys j ≡ repeating t ys (i - 1) = ap (repeating t ys) same in
         omega (arith, here, ap (λ k. get_or xs k 0) is)

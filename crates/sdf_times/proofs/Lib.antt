@@ -31,3 +31,4 @@ mod Attaining
 mod CertificateLaws
 mod FirstBlock
 mod LastAwaited
+mod Searching

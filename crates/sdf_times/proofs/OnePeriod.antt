@@ -1,8 +1,7 @@
 -- There is at most one period: lines that both stay within a bound of the same ends rise alike.
-use Rattle.std.proofs.Common.{◌≡◌, ℕ, suc, ◌+◌, ◌*◌, ◌≤◌, ◌<◌, ◌⊎◌, inl, inr, arith}
+use Rattle.std.proofs.Common.{ℕ, suc, ◌+◌, ◌*◌, ◌≤◌, ◌<◌, ◌⊎◌, inl, inr, arith}
 use Rattle.std.proofs.Math.Nat.{mul-le-mul_left, mul-le-mul_right}
 use Rattle.std.proofs.lemmas.Bool.{cases_lt}
-use Rattle.sdf_times.specs.SelfTimed.{IsIterationPeriod}
 use Rattle.sdf_times.specs.Periods.{OnePeriod}
 
 -- a line that never gets further above another than a bound rises no faster

@@ -8,7 +8,7 @@ use Rattle.std.proofs.lemmas.Option.{none-some, same_Some}
 use Rattle.std.proofs.lemmas.Bool.{cases_lt, cases_eq}
 use Rattle.sdf_prec.specs.declared.firing.Firing.{Firing}
 use Rattle.sdf_prec.specs.Precedence.{WaitsFor}
-use Rattle.sdf_prec.specs.Tables.{cell, firings, order, IsOfBlock}
+use Rattle.sdf_prec.specs.Tables.{cell, order}
 use Rattle.sdf_times.specs.SelfTimed.{Plan, later, IsAt, IsSooner, IsAheadOf, WaitsForRoom, HoldsBack, IsPlan}
 use Rattle.sdf_times.proofs.Cells.{AreCells, are_cells, place, at_place, at_place_in, once_at}
 use Rattle.sdf_times.proofs.Laters.{split, later_more, later_same, waits_sooner, room_sooner}

@@ -1,12 +1,11 @@
 -- A schedule that repeats itself each block is in time everywhere if it is where it is tested.
-use Rattle.std.proofs.Common.{◌≡◌, ℕ, zero, suc, ◌+◌, ◌-◌, ◌*◌, ◌/◌, ◌%◌, ◌≤◌, ◌<◌, ◌⊎◌, List, [], length, get_or, inl, inr}
-use Rattle.std.proofs.Common.{sym, ap, ◌∙◌, subst, arith, refl}
-use Rattle.std.proofs.Math.Nat.{mul-le-mul_left, mul-le-mul_right}
+use Rattle.std.proofs.Common.{◌≡◌, ℕ, zero, suc, ◌+◌, ◌-◌, ◌*◌, ◌/◌, ◌%◌, ◌≤◌, ◌<◌, ◌⊎◌, List, length, get_or, inl, inr}
+use Rattle.std.proofs.Common.{sym, ap, ◌∙◌, arith}
 use Rattle.std.proofs.lemmas.Nat.{div-add-mod', mod_below, div-mul-add, mod-mul-add}
 use Rattle.std.proofs.lemmas.Bool.{cases_lt}
 use Rattle.sdf_graph.specs.Rates.{sum_to}
 use Rattle.sdf_graph.proofs.Theorems.{sums_rise}
-use Rattle.sdf_times.specs.Checks.{repeating, AreInTurn, IsLastAwaited, IsLinkInTime}
+use Rattle.sdf_times.specs.Checks.{repeating, AreInTurn, IsLinkInTime}
 
 -- the starts of one actor
 module _ (t : ℕ) (xs : List ℕ) where
@@ -27,7 +26,8 @@ module _ (t : ℕ) (xs : List ℕ) where
         let all : m * length xs + k ≡ (m + s.0) * length xs + s.1 = omega (arith, s.3) in
         let there : repeating t xs (m * length xs + k) ≡ get_or xs s.1 0 + t * (m + s.0) =
         ap (repeating t xs) all ∙ at_block (m + s.0) s.1 s.2 in
-        let here : repeating t xs k ≡ get_or xs s.1 0 + t * s.0 = ap (repeating t xs) (sym s.3) ∙ at_block s.0 s.1 s.2 in
+        let here : repeating t xs k ≡ get_or xs s.1 0 + t * s.0 =
+        ap (repeating t xs) (sym s.3) ∙ at_block s.0 s.1 s.2 in
         omega (arith, there, here)
 
     module _ (pause : ℕ) (turn : AreInTurn xs pause t) where

@@ -1,6 +1,6 @@
 -- What can be run has self-timed starts: firing by firing in the order of ranks, of each the latest that holds it back.
-use Rattle.std.proofs.Common.{◌≡◌, ℕ, zero, suc, ◌+◌, ◌*◌, ◌/◌, ◌%◌, ◌≤◌, ◌<◌, ◌⊎◌, ◌-◌, List, length, inl, inr, sym, ap, ◌∙◌}
-use Rattle.std.proofs.Common.{subst, arith, refl, Option, Some}
+use Rattle.std.proofs.Common.{◌≡◌, ℕ, zero, suc, ◌+◌, ◌/◌, ◌%◌, ◌≤◌, ◌<◌, ◌⊎◌, ◌-◌, length, inl, inr, sym, ap, ◌∙◌}
+use Rattle.std.proofs.Common.{subst, arith, refl}
 use Rattle.std.proofs.lemmas.Nat.{div-mul-add, mod-mul-add, mod_below}
 use Rattle.std.proofs.lemmas.Bool.{cases_lt, cases_eq}
 use Rattle.sdf_prec.specs.declared.firing.Firing.{Firing}
@@ -8,7 +8,7 @@ use Rattle.sdf_prec.specs.Precedence.{WaitsFor}
 use Rattle.sdf_prec.specs.Tables.{firing, order, IsOfBlock}
 use Rattle.sdf_times.specs.Times.{IsGreatest, end_of}
 use Rattle.sdf_times.specs.SelfTimed.{Plan, later, IsAt, IsSooner, IsAheadOf, WaitsForRoom, HoldsBack, AreSelfTimed}
-use Rattle.sdf_times.specs.SelfTimed.{IsBlockEnd, IsPlan}
+use Rattle.sdf_times.specs.SelfTimed.{IsPlan}
 use Rattle.sdf_times.specs.Periods.{SelfTimedExist, BlocksEnd}
 use Rattle.sdf_times.proofs.Cells.{place, at_place}
 use Rattle.sdf_times.proofs.Greatest.{greatest_same, greatest_none}
@@ -74,7 +74,8 @@ module _ (p : Plan) (ok : IsPlan p) where
   nth_is : (m : ℕ) (f : Firing) → IsRank p ok m f → nth m ≡ f
   nth_is m f (b, i, j, (g, e, is), rank) =
       let a = at_place p.rows i j g e in
-      let block_is : m / size p ok ≡ b = ap (λ m. m / size p ok) rank ∙ div-mul-add b (size p ok) (place p.rows i j) a.0 in
+      let block_is : m / size p ok ≡ b = ap (λ m. m / size p ok) rank
+      ∙ div-mul-add b (size p ok) (place p.rows i j) a.0 in
       let place_is : m % size p ok ≡ place p.rows i j =
       ap (λ m. m % size p ok) rank ∙ mod-mul-add b (size p ok) (place p.rows i j) a.0 in
       let here : firing (order p.rows) (m % size p ok) ≡ g = ap (firing (order p.rows)) place_is ∙ a.1 in
@@ -272,7 +273,8 @@ module _ (p : Plan) (ok : IsPlan p) where
   exist = (
     starts,
     λ f known. again (starts_to (suc (rank f))) starts f known
-        (λ g low. sym (settled (suc (rank f)) g (omega arith))) (starts f) (are_to (suc (rank f)) f known (omega arith)),
+        (λ g low. sym (settled (suc (rank f)) g (omega arith))) (starts f)
+        (are_to (suc (rank f)) f known (omega arith)),
   )
 
 pub self_timed_exist : SelfTimedExist

@@ -1,10 +1,11 @@
 -- A table for whole periods can be run; and how large its numbers are.
-use Rattle.std.proofs.Common.{◌≡◌, ℕ, zero, suc, ◌+◌, ◌*◌, ◌%◌, ◌^◌, ◌≤◌, ◌<◌, ◌⊎◌, List, length, get_or, sum, inl, inr, sym, ap}
+use Rattle.std.proofs.Common.{◌≡◌, ℕ, zero, suc, ◌+◌, ◌*◌, ◌%◌, ◌^◌, ◌≤◌, ◌<◌, ◌⊎◌, List, length, get_or, sum, inl, inr}
+use Rattle.std.proofs.Common.{sym, ap}
 use Rattle.std.proofs.Common.{◌∙◌, ◌/◌, ◌↔◌, IsTrue, Bool, subst, arith, refl}
-use Rattle.std.proofs.Math.Nat.{mul-le-mul_left, mul-le-mul_right}
-use Rattle.std.proofs.lemmas.Bool.{cases_lt, cases_eq}
+use Rattle.std.proofs.Math.Nat.{mul-le-mul_right}
+use Rattle.std.proofs.lemmas.Bool.{cases_eq}
 use Rattle.sdf_limits.specs.declared.TheConstants.{MAX_INITIAL, MAX_RATE, MAX_BLOCK}
-use Rattle.sdf_graph.specs.Rates.{Rates, GraphValue, ChannelValue, IsShape, IsCycle, IsSound, rates, rate_at, channel, sum_to}
+use Rattle.sdf_graph.specs.Rates.{GraphValue, ChannelValue, IsShape, IsSound, rates, rate_at, channel, sum_to}
 use Rattle.sdf_graph.specs.Moved.{moves}
 use Rattle.sdf_graph.specs.declared.channel.End.{End}
 use Rattle.sdf_graph.specs.declared.channel.End.TheVariants.{Source, Target}
@@ -12,9 +13,9 @@ use Rattle.sdf_graph.specs.Periods.{IsPeriodVector, Divides}
 use Rattle.sdf_graph.specs.Sequences.{IsPeriod}
 use Rattle.sdf_graph.proofs.Theorems.{graphs_are_sound, graphs_have_periods, whole_cycles_move, sums_are_small}
 use Rattle.sdf_prec.specs.Blocks.{block}
-use Rattle.sdf_prec.specs.Tables.{TableValue, IsGreatestHeld, sequence}
+use Rattle.sdf_prec.specs.Tables.{TableValue, IsGreatestHeld}
 use Rattle.sdf_times.specs.Times.{IsBlockTable}
-use Rattle.sdf_times.specs.SelfTimed.{Plan, IsPlan}
+use Rattle.sdf_times.specs.SelfTimed.{IsPlan}
 use Rattle.sdf_times.specs.Checks.{plan_of, IsBlockRun, IsTried, IsLink, IsLinkInTime, line, whole_of}
 use Rattle.sdf_times.proofs.Spans.{block_at, block_length, firings_few}
 use Rattle.sdf_times.proofs.Caps.{cap_small}

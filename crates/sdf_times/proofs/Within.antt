@@ -1,26 +1,25 @@
 -- No period is longer than what a block takes row by row, nor than its work.
-use Rattle.std.proofs.Common.{◌≡◌, ℕ, zero, suc, ◌+◌, ◌*◌, ◌≤◌, ◌<◌, ◌⊎◌, List, length, inl, inr, sym, ap, ◌∙◌, arith}
-use Rattle.std.proofs.Common.{refl, Option, Some}
+use Rattle.std.proofs.Common.{◌≡◌, ℕ, zero, suc, ◌+◌, ◌*◌, ◌≤◌, ◌<◌, ◌⊎◌, length, inl, inr, ap, ◌∙◌, arith}
+use Rattle.std.proofs.Common.{refl}
 use Rattle.std.proofs.Math.Nat.{mul-le-mul_left, mul-le-mul_right}
-use Rattle.std.proofs.lemmas.Bool.{cases_lt, cases_eq}
+use Rattle.std.proofs.lemmas.Bool.{cases_lt}
 use Rattle.sdf_graph.specs.Rates.{sum_to}
 use Rattle.sdf_graph.proofs.Theorems.{sums_rise}
 use Rattle.sdf_prec.specs.declared.firing.Firing.{Firing}
-use Rattle.sdf_prec.specs.Tables.{firing, cell, row, order, IsOfBlock}
-use Rattle.sdf_prec.specs.Precedence.{WaitsFor}
-use Rattle.sdf_times.specs.Times.{IsGreatest, end_of, load_of, work_of}
+use Rattle.sdf_prec.specs.Tables.{firing, order, IsOfBlock}
+use Rattle.sdf_times.specs.Times.{end_of, load_of, work_of}
 use Rattle.sdf_times.specs.ByRows.{row_time, time_by_rows}
-use Rattle.sdf_times.specs.SelfTimed.{Plan, later, IsAt, IsSooner, IsAheadOf, WaitsForRoom, HoldsBack, AreSelfTimed}
+use Rattle.sdf_times.specs.SelfTimed.{Plan, later, IsAt, IsSooner, HoldsBack, AreSelfTimed}
 use Rattle.sdf_times.specs.SelfTimed.{IsBlockEnd, IsIterationPeriod, IsPlan}
-use Rattle.sdf_times.specs.Periods.{PeriodIsWithinRows, PeriodIsWithinWork, OneColumnWorks}
+use Rattle.sdf_times.specs.Periods.{PeriodIsWithinRows, PeriodIsWithinWork, OneColumnWorks, WorkIsShared}
 use Rattle.sdf_times.proofs.ByRows.{cost_within, until_rises}
-use Rattle.sdf_times.proofs.Cells.{place, at_place, row_in, column_in}
+use Rattle.sdf_times.proofs.Cells.{place, at_place, row_in}
 use Rattle.sdf_times.proofs.Sums.{work_is, places_worth, columns_do_work}
-use Rattle.sdf_times.proofs.Ranks.{IsRank, cells, size, at, rank_of, place_in_block, earlier, row_earlier, rank_parts}
+use Rattle.sdf_times.proofs.Ranks.{cells, size, place_in_block, earlier, row_earlier, rank_parts}
 use Rattle.sdf_times.proofs.Ranks.{at_once, place_less}
 use Rattle.sdf_times.proofs.Certified.{of_graph}
 use Rattle.sdf_times.proofs.OnePeriod.{rises_within}
-use Rattle.sdf_times.proofs.ColumnLoads.{load_in}
+use Rattle.sdf_times.proofs.ColumnLoads.{load_in, loads_are_within}
 
 -- ends that rise by no more than `most` a block are no bound for a longer period
 pub period_within : (end : ℕ → ℕ) (t q most : ℕ) → IsIterationPeriod end t q → ((b : ℕ) → end b ≤ suc b * most) →
@@ -28,7 +27,8 @@ pub period_within : (end : ℕ → ℕ) (t q most : ℕ) → IsIterationPeriod e
 period_within end t q most period within = rises_within t (q * most) (q * most + period.bound) (λ n. go n)
   where
     go : (n : ℕ) → t * n ≤ (q * most) * n + (q * most + period.bound)
-    go n = let much : q * end n ≤ q * (suc n * most) = mul-le-mul_left q (within n) in omega (arith, much, period.soon n)
+    go n = let much : q * end n ≤ q * (suc n * most) = mul-le-mul_left q (within n) in
+        omega (arith, much, period.soon n)
 
 module _ (p : Plan) (ok : IsPlan p) (start : Firing → ℕ) (run : AreSelfTimed p start) where
   -- by induction over ranks: what holds of all firings that hold one back, and so of this one, holds of all
@@ -50,7 +50,12 @@ module _ (p : Plan) (ok : IsPlan p) (start : Firing → ℕ) (run : AreSelfTimed
             let y = low.1 in
             let less : y.0 * size p ok + place p.rows y.1 y.2 < b * size p ok + place p.rows i j =
             omega (arith, low.2, y.4) in
-            omega (arith, is, before g y.0 y.1 y.2 less in_graph y.3, step g f w in_graph holds y.0 y.1 y.2 b i j y.3 z less)
+            omega (
+              arith,
+              is,
+              before g y.0 y.1 y.2 less in_graph y.3,
+              step g f w in_graph holds y.0 y.1 y.2 b i j y.3 z less,
+            )
 
     within_to : (n : ℕ) (f : Firing) (b i j : ℕ) → b * size p ok + place p.rows i j < n → f.actor < p.rates.actors →
         (z : IsAt p b i j f) → start f ≤ x b i j f z
@@ -157,7 +162,13 @@ module _ (p : Plan) (ok : IsPlan p) (start : Firing → ℕ) (run : AreSelfTimed
           d * work + upto (place p.rows k m) + p.cost g.actor ≤ b * work + upto (place p.rows i j)
       go (inl low) =
           let up : suc d * work ≤ b * work = mul-le-mul_right work low in
-          omega (arith, cost_is, up, upto_rises (suc (place p.rows k m)) (length (order p.rows)) (at_place p.rows k m h e).0)
+          omega (
+            arith,
+            cost_is,
+            up,
+            upto_rises (suc (place p.rows k m)) (length (order p.rows))
+                (at_place p.rows k m h e).0,
+          )
       go (inr (same, low)) =
           let block_is : d * work ≡ b * work = ap (λ b. b * work) same in
           omega (arith, cost_is, block_is, upto_rises (suc (place p.rows k m)) (place p.rows i j) low)
@@ -169,7 +180,8 @@ module _ (p : Plan) (ok : IsPlan p) (start : Firing → ℕ) (run : AreSelfTimed
   work_step g f w known (inl (is, _)) d k m b i j y z less = omega (arith, is, ends_before d k m b i j g f y z less)
   work_step g f w known (inr (is, _)) d k m b i j y z less = omega (arith, is, ends_before d k m b i j g f y z less)
 
-  pub ends_by_work : (end : ℕ) (b : ℕ) → IsBlockEnd p start b end → end ≤ suc b * work_of p.rates.actors p.firings p.cost
+  pub ends_by_work : (end : ℕ) (b : ℕ) → IsBlockEnd p start b end →
+      end ≤ suc b * work_of p.rates.actors p.firings p.cost
   ends_by_work end b ends = go ends.reached
     where
       total : work ≡ work_of p.rates.actors p.firings p.cost
@@ -198,6 +210,17 @@ pub period_is_within_work : PeriodIsWithinWork
 period_is_within_work p end t q ok ends period =
     period_within end t q (work_of p.rates.actors p.firings p.cost) period
     (λ b. ends_by_work p ok ends.start ends.run (end b) b (ends.ends b))
+
+sum_within : (f : ℕ → ℕ) (q t m : ℕ) → ((j : ℕ) → q * f j ≤ t) → q * sum_to f m ≤ t * m
+sum_within f q t zero low = omega arith
+sum_within f q t (suc m) low = let ih = sum_within f q t m low in omega (arith, ih, low m)
+
+pub work_is_shared : WorkIsShared
+work_is_shared p end t q m ok wide ends period =
+    let all : sum_to (load_of p.cost p.rows) m ≡ work_of p.rates.actors p.firings p.cost =
+    columns_do_work p.cost p.rates p.firings p.rows m ok.valid wide in
+    let low = sum_within (load_of p.cost p.rows) q t m (λ j. loads_are_within p end t q j ok ends period) in
+    omega (arith, low, ap (λ k. q * k) all)
 
 pub one_column_works : OneColumnWorks
 one_column_works p end ok narrow ends =

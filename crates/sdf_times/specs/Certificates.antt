@@ -11,7 +11,7 @@ use Rattle.sdf_times.specs.declared.step.Step.{Step}
 
 -- a period of time / blocks; the starts of a block's firings in a schedule, in units of 1 / blocks; and a chain of
 -- firings that comes round
-pub record Certified : Type 0 where
+pub record CertificateValue : Type 0 where
   pub time : ℕ
   pub blocks : ℕ
   pub starts : List (List ℕ)
@@ -19,7 +19,7 @@ pub record Certified : Type 0 where
 
 -- the schedule has a start for each firing, repeats itself every `time`, and no firing is too soon; the chain takes
 -- time / blocks for each block
-pub record IsCertificate (p : Plan) (firings : List ℕ) (c : Certified) : Type 0 where
+pub record IsCertificate (p : Plan) (firings : List ℕ) (c : CertificateValue) : Type 0 where
   pub some : 0 < c.blocks
   pub full : IsFull firings c.starts
   pub periodic : IsPeriodic p c.time c.blocks (schedule_of c.time c.starts)
@@ -32,6 +32,6 @@ IsPeriodFor p t q = (end : ℕ → ℕ) → AreEnds p end → IsIterationPeriod 
 -- what a certificate says is the period
 abbrev pub CertificatesHold : Type 0
 CertificatesHold =
-    (g : GraphValue) (reps : List ℕ) (j width : ℕ) (t : TableValue) (costs : List ℕ) (c : Certified) → IsShape g →
+    (g : GraphValue) (reps : List ℕ) (j width : ℕ) (t : TableValue) (costs : List ℕ) (c : CertificateValue) → IsShape g →
     IsBlockRun g reps j width t costs → IsCertificate (plan_of g (block j reps) t costs) (block j reps) c →
     IsPeriodFor (plan_of g (block j reps) t costs) c.time c.blocks

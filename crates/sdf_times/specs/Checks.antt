@@ -1,5 +1,6 @@
 -- The tests of a schedule that repeats itself each block: what they test.
-use Rattle.std.specs.Prelude.{◌≡◌, ℕ, ◌+◌, ◌-◌, ◌*◌, ◌/◌, ◌%◌, ◌^◌, ◌≤◌, ◌<◌, ◌⊎◌, List, [], length, slice_index, slice_index_or}
+use Rattle.std.specs.Prelude.{◌≡◌, ℕ, ◌+◌, ◌-◌, ◌*◌, ◌/◌, ◌%◌, ◌^◌, ◌≤◌, ◌<◌, ◌⊎◌, List, [], length, slice_index}
+use Rattle.std.specs.Prelude.{slice_index_or}
 use Rattle.std.specs.Prelude.{Option, Some}
 use Rattle.sdf_limits.specs.declared.TheConstants.{MAX_RATE}
 use Rattle.sdf_graph.specs.Rates.{GraphValue, ChannelValue, rates, channel, sum_to}
@@ -37,7 +38,7 @@ pub record IsFull (firings : List ℕ) (starts : List (List ℕ)) : Type 0 where
   pub actors : length starts ≡ length firings
   pub each : (a : ℕ) → a < length firings → length (slice_index_or starts a []) ≡ slice_index firings a
 
--- an actor's firings end before the next one starts, also that of the next block
+-- an actor's firings end before the next one starts, and the last before the first of the next block
 pub record AreInTurn (xs : List ℕ) (pause t : ℕ) : Type 0 where
   pub next : (k : ℕ) → k + 1 < length xs → slice_index xs k + pause ≤ slice_index xs (k + 1)
   pub round : 0 < length xs → slice_index xs (length xs - 1) + pause ≤ slice_index xs 0 + t
@@ -77,21 +78,21 @@ pub record IsLeastWith (f : ℕ → ℕ) (lead wanted i : ℕ) : Type 0 where
   pub reaches : wanted ≤ lead + sum_to f i
   pub below : 0 < i → lead + sum_to f (i - 1) < wanted
 
--- one end of a channel waits for the other: firing k of it, in the block after the first, for the first j + 1 firings at
--- the other end, and no more. Its firings move a k samples, the others b j, and each block `whole`; with `lead` samples
--- more it could do
+-- one end of a channel waits for the other: firing k of it, in the block after the first, for the first j + 1 firings
+-- at the other end, and no more. Its firings move a k samples, the others b j, and each block `whole`; with `lead`
+-- samples more it could do
 abbrev pub IsLastAwaited : (ℕ → ℕ) → (ℕ → ℕ) → ℕ → ℕ → ℕ → ℕ → Type 0
 IsLastAwaited a b lead whole k j = (lead + sum_to b j < whole + sum_to a (k + 1))
     × (whole + sum_to a (k + 1) ≤ lead + sum_to b (j + 1))
 
--- none of them starts before the last firing for which it waits allows: that is of so many blocks before as `back` says
+-- none of them starts before the last firing for which it waits allows, which is `back` blocks before
 abbrev pub IsLinkInTime : (ℕ → ℕ) → (ℕ → ℕ) → ℕ → ℕ → ℕ → List ℕ → List ℕ → ℕ → ℕ → Type 0
 IsLinkInTime a b lead whole back xs ys pause t =
     (k j : ℕ) → k < length xs → IsLastAwaited a b lead whole k j →
     repeating t ys j + pause ≤ slice_index xs k + t * (1 + back)
 
--- what is known of the numbers at the two ends of a channel: the firings at `waits` have the starts xs in the first block,
--- those at `other` ys, and each block moves `whole`
+-- what is known of the numbers at the two ends of a channel: the firings at `waits` have the starts xs in the first
+-- block, those at `other` ys, and each block moves `whole`
 pub record IsLink (e : ChannelValue) (waits other : End) (whole : ℕ) (xs ys : List ℕ) : Type 0 where
   pub put : 0 < length e.put
   pub take : 0 < length e.take
@@ -145,7 +146,8 @@ pub record IsChannelInTime (e : ChannelValue) (cap : ℕ) (cost : ℕ → ℕ) (
   pub room : (e.from ≡ e.to → ⊥) → IsRoomInTime e cap starts t
 
 -- what is tested of a schedule: each actor's firings, each column's, and both ends of each channel
-pub record IsInTime (g : GraphValue) (table : TableValue) (cost : ℕ → ℕ) (starts : List (List ℕ)) (t q : ℕ) : Type 0 where
+pub record IsInTime (g : GraphValue) (table : TableValue) (cost : ℕ → ℕ) (starts : List (List ℕ))
+    (t q : ℕ) : Type 0 where
   pub own : (a : ℕ) → a < length starts → AreInTurn (line starts a) (q * cost a) t
   pub columns : (j : ℕ) → IsColumnInTurn table.rows cost starts t q j
   pub channels : (c : ℕ) → c < length g.channels →

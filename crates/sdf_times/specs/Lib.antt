@@ -4,6 +4,7 @@ pub mod SelfTimed
 pub mod Periods
 pub mod Checks
 pub mod Rounds
+pub mod Searches
 pub mod Certificates
 pub mod Walks
 pub mod Laws

@@ -59,6 +59,12 @@ abbrev pub PeriodIsWithinWork : Type 0
 PeriodIsWithinWork = (p : Plan) (end : ℕ → ℕ) (t q : ℕ) → IsPlan p → AreEnds p end → IsIterationPeriod end t q →
     t ≤ q * work_of p.rates.actors p.firings p.cost
 
+-- the columns share the work: no period is below the work over their number
+abbrev pub WorkIsShared : Type 0
+WorkIsShared = (p : Plan) (end : ℕ → ℕ) (t q m : ℕ) → IsPlan p →
+    ((i : ℕ) → i < length p.rows → length (row p.rows i) ≤ m) → AreEnds p end → IsIterationPeriod end t q →
+    q * work_of p.rates.actors p.firings p.cost ≤ t * m
+
 -- a single column does the work of a block in each period
 abbrev pub OneColumnWorks : Type 0
 OneColumnWorks = (p : Plan) (end : ℕ → ℕ) → IsPlan p → ((i : ℕ) → i < length p.rows → length (row p.rows i) ≤ 1) →

@@ -32,7 +32,7 @@ no_step = record { firing = no_firing; blocks = 0; hold = Worker 0 0 0 }
 abbrev pub step_at : List Step → ℕ → Step
 step_at steps i = slice_index_or steps i no_step
 
--- the firing before step i; before the first one it is that of the last
+-- the firing before step i; before the first step it is the last step's
 abbrev pub before_step : List Step → ℕ → Firing
 before_step steps zero = (step_at steps (length steps - 1)).firing
 before_step steps (suc i) = (step_at steps i).firing

@@ -1,6 +1,6 @@
 -- Self-timed runs of a table: its blocks one after another, each firing as soon as its column, its samples and its room
 -- allow, and the time that a block then takes in the long run.
-use Rattle.std.specs.Prelude.{◌≡◌, ℕ, ◌+◌, ◌*◌, ◌≤◌, ◌<◌, ◌⊎◌, List, length, Option, Some}
+use Rattle.std.specs.Prelude.{◌≡◌, ℕ, ◌+◌, ◌*◌, ◌≤◌, ◌<◌, ◌⊎◌, List, Option, Some}
 use Rattle.sdf_graph.specs.Rates.{Rates, IsSound}
 use Rattle.sdf_graph.specs.Sequences.{IsPeriod}
 use Rattle.sdf_prec.specs.declared.firing.Firing.{Firing}

@@ -14,8 +14,8 @@ use sdf_prec::{Costs, Table};
 use std::marker::Model;
 
 /// A period, and what shows it: a schedule in which each block starts exactly a period after the one before, and a
-/// chain of firings that comes round and takes a period for each block. No self-timed run is later than the schedule, and
-/// none is sooner than the chain.
+/// chain of firings that comes round and takes a period for each block. No self-timed run is later than the schedule,
+/// and none is sooner than the chain.
 #[derive(Drop)]
 pub struct Certificate {
     pub(crate) time: u64,
@@ -25,9 +25,9 @@ pub struct Certificate {
 }
 
 impl Model for Certificate {
-    ghost use Rattle.sdf_times.specs.Certificates.{Certified};
+    ghost use Rattle.sdf_times.specs.Certificates.{CertificateValue};
 
-    ghost Value = { Certified };
+    ghost Value = { CertificateValue };
 
     ghost view = { λ c. record {
       time = c.time;
@@ -62,7 +62,7 @@ impl Certificate {
 
 /// Checks a certificate for the table of blocks of `j` periods in which the actors fire `reps` times each. It knows
 /// nothing of how the certificate was found. It takes time linear in the cells, the links at the firings and the steps.
-pub fn certified(
+pub fn is_certificate(
     graph: &Graph,
     table: &Table,
     costs: &Costs,

@@ -11,7 +11,7 @@ use crate::starts::Starts;
 use sdf_prec::{Costs, Firing, Table};
 
 /// Returns the firing in column `column` of row `i`, if there is one.
-fn cell_of(table: &Table, i: usize, column: usize) -> Option<Firing>
+pub(crate) fn cell_of(table: &Table, i: usize, column: usize) -> Option<Firing>
     requires row { i < length table.now.rows }
     requires column { column < length (row table.now.rows i) }
     ensures { result ≡ cell table.now.rows i column }
@@ -38,7 +38,7 @@ pub(crate) fn pause_of(costs: &Costs, actor: usize, q: u64) -> u128
 
 /// Goes over the firings of a column, which is free from `from` on, and returns when it is free again. It returns
 /// nothing if a firing starts before the column is free. The starts are put off by `add`.
-fn passed(
+fn scan_column(
     table: &Table,
     starts: &[Starts],
     costs: &Costs,
@@ -69,8 +69,8 @@ fn passed(
     Some(until)
 }
 
-/// Checks whether the firings of the second block, each `t` after that of the first, find a column free that the first
-/// block leaves at `until`.
+/// Checks whether the firings of the second block find a column free that the first block leaves at `until`. They start
+/// `t` after the firings of the first.
 fn goes_round(
     table: &Table,
     starts: &[Starts],
@@ -88,14 +88,14 @@ fn goes_round(
         (length table.now.rows) until }
     ensures { IsTrue result ↔ IsColumnInTurn table.now.rows (slice_index costs.now) starts.now t q column }
 {
-    match passed(table, starts, costs, q, column, t, until) {
+    match scan_column(table, starts, costs, q, column, t, until) {
         Some(_) => true,
         None => false,
     }
 }
 
-/// Checks whether the firings of a column end before the next one starts, also that of the next block, which starts `t`
-/// later. Times are in units of `1/q`.
+/// Checks whether the firings of a column end before the next one starts. The next block's firings start `t` later.
+/// Times are in units of `1/q`.
 pub(crate) fn column_in_turn(
     table: &Table,
     starts: &[Starts],
@@ -109,7 +109,7 @@ pub(crate) fn column_in_turn(
     requires known { (i j : ℕ) (f : Firing) → cell table.now.rows i j ≡ Some f → f.actor < length costs.now }
     ensures { IsTrue result ↔ IsColumnInTurn table.now.rows (slice_index costs.now) starts.now t q column }
 {
-    match passed(table, starts, costs, q, column, 0, 0) {
+    match scan_column(table, starts, costs, q, column, 0, 0) {
         Some(until) => goes_round(table, starts, costs, t, q, column, until),
         None => false,
     }

@@ -5,7 +5,7 @@ ghost use Rattle.sdf_times.specs.Laws.{RowsAreOnTime};
 ghost use Rattle.sdf_times.specs.ByRows.{RowsTakeLonger};
 ghost use Rattle.sdf_times.specs.Periods.{SelfTimedExist, SelfTimedAreLeast, SelfTimedAreOne, BlocksEnd};
 ghost use Rattle.sdf_times.specs.Periods.{PeriodsAreCertified, OnePeriod, LoadsAreWithin, PeriodIsWithinRows};
-ghost use Rattle.sdf_times.specs.Periods.{PeriodIsWithinWork, OneColumnWorks, MakespanIsWithinFirst};
+ghost use Rattle.sdf_times.specs.Periods.{PeriodIsWithinWork, WorkIsShared, OneColumnWorks, MakespanIsWithinFirst};
 ghost use Rattle.sdf_times.specs.Periods.{PeriodIsWithinFirst, FirstIsWithinRows, MoreRoomIsNoLonger};
 ghost use Rattle.sdf_times.specs.Certificates.{CertificatesHold};
 
@@ -38,8 +38,8 @@ pub fn rows_take_longer()
     ensures { RowsTakeLonger }
 {}
 
-/// States that what can be run has exactly one set of self-timed starts: the least at which no firing starts sooner than
-/// the firings that hold it back allow. Each block has an end.
+/// States that what can be run has exactly one set of self-timed starts: the least at which no firing starts sooner
+/// than the firings that hold it back allow. Each block has an end.
 pub fn self_timed_starts_are_decided()
     ensures exist { SelfTimedExist }
     ensures least { SelfTimedAreLeast }
@@ -53,12 +53,13 @@ pub fn periods_are_certified()
     ensures one { OnePeriod }
 {}
 
-/// States that no load is above the period, that the period is no longer than what a block takes row by row, and no
-/// longer than its work, and that it is the work if there is one column.
+/// States that no load is above the period, and that the period is at most what a block takes row by row, and at most
+/// its work. It is at least the work over the number of columns, and on one column it is the work.
 pub fn periods_are_bounded()
     ensures loads { LoadsAreWithin }
     ensures rows { PeriodIsWithinRows }
     ensures work { PeriodIsWithinWork }
+    ensures shares { WorkIsShared }
     ensures one { OneColumnWorks }
 {}
 

@@ -24,7 +24,7 @@ pub(crate) struct Moved {
 
 /// Goes on from `from` to the least number of firings at `end` with which there are `wanted` samples, which is at most
 /// `most`. There are `lead` samples before the first.
-fn moved_on(channel: &Channel, end: End, lead: u64, from: Moved, wanted: u64, most: u32) -> Moved
+fn advance(channel: &Channel, end: End, lead: u64, from: Moved, wanted: u64, most: u32) -> Moved
     requires put { 0 < length channel.now.put }
     requires take { 0 < length channel.now.take }
     requires small { (i : ℕ) → moves end channel.now i ≤ MAX_RATE }
@@ -79,7 +79,7 @@ fn link_in_time(
     let mut wanted = whole;
     for number in 0..waiting.len() {
         wanted += u64::from(channel.moves(waits, number as u32));
-        moved = moved_on(channel, other, lead, moved, wanted, most);
+        moved = advance(channel, other, lead, moved, wanted, most);
         let start = u128::from(waiting.of(number)) + u128::from(t) * u128::from(1 + back);
         if there.repeating(moved.firings - 1, t) + pause > start {
             return false;

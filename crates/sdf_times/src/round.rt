@@ -34,8 +34,9 @@ fn stands(table: &Table, i: usize, column: usize, firing: Firing) -> bool
     }
 }
 
-/// Returns what the first `number + 1` firings at the end with these rates move, `blocks` blocks of `many` firings later.
-fn moved_later(rates: &[u32], many: u64, number: u32, blocks: u32) -> u128
+/// Returns what the first `number + 1` firings at the end with these rates move, `blocks` blocks of `many` firings
+/// later.
+fn samples_to(rates: &[u32], many: u64, number: u32, blocks: u32) -> u128
     requires some { 0 < length rates.now }
     requires rates { (i : ℕ) → slice_index rates.now i ≤ MAX_RATE }
     requires many { many < 2 ^ 20 }
@@ -80,7 +81,7 @@ fn lacks_samples(
     let many = firings_of(reps, j, channel.to);
     let there = channel.initial as u128
         + u128::from(moved_by(&channel.put, u64::from(before.number)));
-    there < moved_later(&channel.take, many, firing.number, blocks)
+    there < samples_to(&channel.take, many, firing.number, blocks)
 }
 
 /// Checks whether `firing`, `blocks` blocks later, needs the room of what `before` takes from channel `number`.
@@ -109,7 +110,7 @@ fn lacks_room(
     let many = firings_of(reps, j, channel.from);
     let room = u128::from(table.cap(number))
         + u128::from(moved_by(&channel.take, u64::from(before.number)));
-    room < channel.initial as u128 + moved_later(&channel.put, many, firing.number, blocks)
+    room < channel.initial as u128 + samples_to(&channel.put, many, firing.number, blocks)
 }
 
 /// Checks whether both firings stand in `column`, `before` in row `from` and `firing` in row `to`, and `before` ahead.
@@ -191,7 +192,7 @@ fn is_step(
         )
 }
 
-/// Returns what passes between the start of `before` and that of a firing that waits for it.
+/// Returns the time from the start of `before` to the start of a firing that waits for it.
 fn wait_of(costs: &Costs, before: Firing, hold: Hold) -> u64
     requires { before.actor < length costs.now }
     ensures is { result ≡ wait_of (slice_index costs.now) before hold }
@@ -204,7 +205,7 @@ fn wait_of(costs: &Costs, before: Firing, hold: Hold) -> u64
 }
 
 /// Returns a number of blocks as a wider number.
-fn widened(blocks: u32) -> u64
+fn widen(blocks: u32) -> u64
     ensures is { result ≡ blocks }
     ensures small { result < 2 ^ 32 }
 {
@@ -238,7 +239,7 @@ pub(crate) fn is_round(
             return false;
         }
         time += wait_of(costs, before, step.hold);
-        blocks += widened(step.blocks);
+        blocks += widen(step.blocks);
         before = step.firing;
     }
     blocks > 0 && u128::from(q) * u128::from(time) == u128::from(t) * u128::from(blocks)

@@ -1,6 +1,7 @@
 //! The start times of an actor's firings.
 
-ghost use Rattle.std.specs.Prelude.{◌≡◌, ℕ, ◌^◌, ◌<◌, ◌++◌, ◌∷◌, ◌↔◌, [], length, slice_index, slice_index_or, IfOk, IsTrue};
+ghost use Rattle.std.specs.Prelude.{◌≡◌, ℕ, ◌^◌, ◌<◌, ◌++◌, ◌∷◌, ◌↔◌, [], length, slice_index, slice_index_or, IfOk};
+ghost use Rattle.std.specs.Prelude.{IsTrue};
 ghost use Rattle.sdf_times.specs.Checks.{repeating, AreInTurn};
 
 use std::alloc::{AllocError, Global};
@@ -58,8 +59,8 @@ impl Starts {
             + u128::from(period) * u128::from(number / whole)
     }
 
-    /// Checks whether each firing ends, `pause` after its start, before the next one starts, also that of the next
-    /// block, which starts `period` later.
+    /// Checks whether each firing ends, `pause` after its start, before the next one starts. The next block's firings
+    /// start `period` later.
     pub(crate) fn are_in_turn(&self, pause: u128, period: u64) -> bool
         requires { pause < 2 ^ 96 }
         ensures { IsTrue result ↔ AreInTurn self.now pause period }

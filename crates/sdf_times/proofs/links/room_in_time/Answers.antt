@@ -1,4 +1,4 @@
-use Rattle.std.proofs.Common.{◌≡◌, ℕ, ◌+◌, ◌-◌, refl, ◌*◌, ◌/◌, ◌%◌, length, get_or, ap, sym, ◌∙◌, arith}
+use Rattle.std.proofs.Common.{◌≡◌, ◌-◌, refl, length, get_or, ap, ◌∙◌, arith}
 use Rattle.sdf_graph.specs.Rates.{ChannelValue, channel}
 use Rattle.sdf_graph.specs.declared.channel.End.TheVariants.{Source, Target}
 use Rattle.sdf_graph.specs.Moved.{moves}

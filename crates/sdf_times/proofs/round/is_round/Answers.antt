@@ -1,4 +1,4 @@
-use Rattle.std.proofs.Common.{◌≡◌, ℕ, suc, ◌+◌, get_or, below_more, subst, ap, sym, ◌∙◌, refl, arith}
+use Rattle.std.proofs.Common.{◌≡◌, suc, ◌+◌, get_or, below_more, subst, ap, ◌∙◌, arith}
 use Rattle.sdf_graph.proofs.Theorems.{sums_grow}
 use Rattle.sdf_prec.specs.declared.firing.Firing.{Firing}
 use Rattle.sdf_prec.specs.Blocks.{block}
@@ -8,7 +8,7 @@ use Rattle.sdf_times.proofs.round.is_round.Goals as goal
 
 pub overflow_add-blocks : goal.overflow_add-blocks
 overflow_add-blocks c =
-    omega (arith, c.loop-i.invariant.blocks_small, c.widened-blocks.ensures.small, c.if-steps.false, c.loop-i-test.true)
+    omega (arith, c.loop-i.invariant.blocks_small, c.widen-blocks.ensures.small, c.if-steps.false, c.loop-i-test.true)
 
 pub loop-i-preserved : goal.loop-i-preserved
 loop-i-preserved c =
@@ -30,11 +30,11 @@ loop-i-preserved c =
       blocks = omega (
         arith,
         c.loop-i.invariant.blocks,
-        c.widened-blocks.ensures.is,
+        c.widen-blocks.ensures.is,
         sums_grow (λ i. (step_at c.args.steps.now i).blocks) c.loop-i.i,
       );
       time_small = omega (arith, c.loop-i.invariant.time_small, c.wait_of-time.ensures.small);
-      blocks_small = omega (arith, c.loop-i.invariant.blocks_small, c.widened-blocks.ensures.small);
+      blocks_small = omega (arith, c.loop-i.invariant.blocks_small, c.widen-blocks.ensures.small);
       each = below_more (λ k. IsStep (plan_of c.args.graph.now (block c.args.j c.args.reps.now) c.args.table.now
           c.args.costs.now) (before_step c.args.steps.now k) (step_at c.args.steps.now k)) c.loop-i.i
           c.loop-i.invariant.each

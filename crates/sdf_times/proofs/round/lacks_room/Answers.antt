@@ -1,11 +1,11 @@
-use Rattle.std.proofs.Common.{◌≡◌, ℕ, ◌+◌, ◌*◌, ◌<◌, List, length, get_or, ap, sym, ◌∙◌, arith}
+use Rattle.std.proofs.Common.{◌≡◌, ◌+◌, ◌*◌, ◌<◌, length, get_or, ap, ◌∙◌, arith}
 use Rattle.sdf_graph.specs.Rates.{ChannelValue, channel, sum_to, rate_at}
 use Rattle.sdf_prec.specs.Blocks.{block}
 use Rattle.sdf_times.proofs.HeldSums.{room_exactly, few_at}
 use Rattle.sdf_times.proofs.round.lacks_room.Goals as goal
 
-pub moved_later-requires-clause-many : goal.moved_later-requires-clause-many
-moved_later-requires-clause-many c =
+pub samples_to-requires-clause-many : goal.samples_to-requires-clause-many
+samples_to-requires-clause-many c =
     let known : c.args.number < length c.args.graph.now.channels =
     omega (arith, c.if-number-channels.false, ap length c.channels.ensures.list) in
     few_at c.args.graph.now c.channels.ensures.shape c.args.reps.now c.args.j c.requires.run.0 c.args.table.now
@@ -45,6 +45,6 @@ returns c =
     + sum_to (rate_at (put_same i)) (c.args.firing.number + 1) in
     room_exactly c.args.graph.now c.channels.ensures.shape c.args.reps.now c.args.j c.requires.run.0
     c.args.table.now c.args.costs.now c.requires.run.1 c.args.number known c.args.before c.args.firing c.args.blocks
-    (c.from.result + c.from-3.result) (c.channel.inside.initial + c.moved_later.result) from into apart
+    (c.from.result + c.from-3.result) (c.channel.inside.initial + c.samples_to.result) from into apart
     (omega (arith, c.from.ensures, c.cap.ensures, c.from-3.ensures, c.moved_by.ensures.value, take_is))
-    (omega (arith, initial_same, c.moved_later.ensures.is, later_is))
+    (omega (arith, initial_same, c.samples_to.ensures.is, later_is))

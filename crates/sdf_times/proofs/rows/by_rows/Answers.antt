@@ -1,8 +1,6 @@
-use Rattle.std.proofs.Common.{◌≡◌, ℕ, ◌<◌, List, get_or, ap, arith, Option, Some}
+use Rattle.std.proofs.Common.{get_or, arith}
 use Rattle.sdf_graph.specs.Rates.{rates}
 use Rattle.sdf_prec.specs.Blocks.{block}
-use Rattle.sdf_prec.specs.Tables.{cell_of}
-use Rattle.sdf_prec.specs.declared.firing.Firing.{Firing}
 use Rattle.sdf_times.proofs.Caps.{rows_small}
 use Rattle.sdf_times.proofs.Cells.{are_cells, cell_is}
 use Rattle.sdf_times.proofs.rows.by_rows.Goals as goal

@@ -1,4 +1,4 @@
-use Rattle.std.proofs.Common.{ℕ, refl}
+use Rattle.std.proofs.Common.{refl}
 use Rattle.sdf_times.specs.Checks.{IsTried}
 use Rattle.sdf_times.proofs.InTime.{in_time_exactly}
 use Rattle.sdf_times.proofs.schedules.is_periodic.Goals as goal

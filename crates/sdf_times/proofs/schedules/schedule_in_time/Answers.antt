@@ -1,4 +1,4 @@
-use Rattle.std.proofs.Common.{◌≡◌, ℕ, get_or, ap, arith}
+use Rattle.std.proofs.Common.{get_or, arith}
 use Rattle.sdf_graph.specs.Rates.{rates}
 use Rattle.sdf_prec.specs.Blocks.{block}
 use Rattle.sdf_times.proofs.Cells.{are_cells}

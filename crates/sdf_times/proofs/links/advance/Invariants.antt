@@ -1,7 +1,7 @@
 use Rattle.std.proofs.Common.{◌≡◌, ◌+◌, ◌-◌, ◌^◌, ◌<◌, ◌≤◌}
 use Rattle.sdf_graph.specs.Rates.{sum_to}
 use Rattle.sdf_graph.specs.Moved.{moves}
-use Rattle.sdf_times.proofs.links.moved_on.Given as goal
+use Rattle.sdf_times.proofs.links.advance.Given as goal
 
 abbrev pub invariant-loop-samples : goal.invariant-loop-samples
 invariant-loop-samples l = record {

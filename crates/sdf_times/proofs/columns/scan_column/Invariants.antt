@@ -1,7 +1,7 @@
 use Rattle.std.proofs.Common.{◌^◌, ◌<◌}
 use Rattle.std.specs.Prelude.{slice_index}
 use Rattle.sdf_times.specs.Checks.{IsPassed}
-use Rattle.sdf_times.proofs.columns.passed.Given as goal
+use Rattle.sdf_times.proofs.columns.scan_column.Given as goal
 
 abbrev pub invariant-loop-i : goal.invariant-loop-i
 invariant-loop-i l = record {
