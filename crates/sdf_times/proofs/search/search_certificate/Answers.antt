@@ -21,3 +21,8 @@ certificate-requires-clause-cells c =
     subst (λ (n : List ℕ). (i j : ℕ) (f : Firing) → cell c.args.table.now.rows i j ≡ Some f → InBlock n f)
     (sym c.in_ok-sweep.ensures.firings)
     (cells_known c.args.graph.now c.args.reps.now c.args.blocking r.0 c.args.table.now c.args.costs.now r.1)
+
+pub of_column-requires-clause-known : goal.of_column-requires-clause-known
+of_column-requires-clause-known c =
+    let r = c.requires.run in
+    costs_known c.args.graph.now c.args.reps.now c.args.blocking r.0 c.args.table.now c.args.costs.now r.1

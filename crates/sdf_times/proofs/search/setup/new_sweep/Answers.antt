@@ -20,7 +20,7 @@ pub new-requires-clause-fires : goal.new-requires-clause-fires
 new-requires-clause-fires c =
     let r = c.requires.run in
     subst (λ (n : List ℕ). (a : ℕ) → a < length n → 0 < get_or n a 0) (sym c.in_ok-firings_of.ensures)
-    (all_fire c.args.graph.now c.args.reps.now c.args.blocking r.0 c.args.table.now r.1 r.2 c.actors.ensures.shape)
+    (all_fire c.args.graph.now c.args.reps.now c.args.blocking r.0 c.args.table.now r.1 r.2 c.actors-actors.ensures.shape)
 
 pub invariant_of-sweep : goal.invariant_of-sweep
 invariant_of-sweep c =
@@ -30,7 +30,7 @@ invariant_of-sweep c =
     c.in_ok-events.ensures ∙ c.in_ok-firings_of.ensures in
     let all : length v.firings ≡ c.args.graph.now.actors = ap length firings
     ∙ actors_are c.args.graph.now c.args.reps.now c.args.blocking r.0 c.args.table.now r.1 r.2 in
-    let known : 0 < length v.firings = omega (arith, all, c.actors.ensures.shape.some) in
+    let known : 0 < length v.firings = omega (arith, all, c.actors-actors.ensures.shape.some) in
     let here : 0 < length c.events.inside.firings.items =
     omega (arith, known, ap (λ (k : EventsValue). length k.firings) c.events.view_is) in
     let total : 0 < v.total = omega (
@@ -42,7 +42,7 @@ invariant_of-sweep c =
     let lasts = c.in_ok-lasts.ensures.items_if_clones_equal (λ y e. e) in
     record {
       actors = ap length (c.in_ok-waits.ensures.items_if_clones_equal (λ y e. e))
-          ∙ (length-replicate c.actors.result 0 ∙ (c.actors.ensures.count ∙ sym all));
+          ∙ (length-replicate c.actors-actors.result 0 ∙ (c.actors-actors.ensures.count ∙ sym all));
       channels = c.in_ok-room.ensures ∙ sym c.in_ok-samples.ensures;
       each = subst (All (IsLast v)) (sym lasts)
           (All-replicate (IsLast v) c.columns.result _ (record { known = known; index = total }));
