@@ -10,7 +10,7 @@ use Rattle.sdf_prec.specs.Precedence.{WaitsFor}
 use Rattle.sdf_prec.specs.Tables.{firing, firings, no_firing, row, cell, order, Stands, IsOfBlock, IsValid}
 
 -- how many firings stand before column j of a row
-abbrev place_in : List (Option Firing) → ℕ → ℕ
+abbrev pub place_in : List (Option Firing) → ℕ → ℕ
 place_in [] j = 0
 place_in (None ∷ cells) zero = 0
 place_in (Some f ∷ cells) zero = 0
@@ -18,12 +18,12 @@ place_in (None ∷ cells) (suc j) = place_in cells j
 place_in (Some f ∷ cells) (suc j) = suc (place_in cells j)
 
 -- and before column j of row i
-abbrev place : List (List (Option Firing)) → ℕ → ℕ → ℕ
+abbrev pub place : List (List (Option Firing)) → ℕ → ℕ → ℕ
 place [] i j = 0
 place (cells ∷ rows) zero j = place_in cells j
 place (cells ∷ rows) (suc i) j = length (firings cells) + place rows i j
 
-at_place_in : (cells : List (Option Firing)) (j : ℕ) (f : Firing) → get_or cells j None ≡ Some f →
+pub at_place_in : (cells : List (Option Firing)) (j : ℕ) (f : Firing) → get_or cells j None ≡ Some f →
     (place_in cells j < length (firings cells)) × (firing (firings cells) (place_in cells j) ≡ f)
 at_place_in [] j f e = absurd (none-some f e)
 at_place_in (None ∷ cells) zero f e = absurd (none-some f e)
@@ -31,7 +31,7 @@ at_place_in (Some g ∷ cells) zero f e = (omega arith, same_Some g f e)
 at_place_in (None ∷ cells) (suc j) f e = at_place_in cells j f e
 at_place_in (Some g ∷ cells) (suc j) f e = let at = at_place_in cells j f e in (omega (arith, at.0), at.1)
 
-once_in : (cells : List (Option Firing)) (j m : ℕ) (f g : Firing) → get_or cells j None ≡ Some f →
+pub once_in : (cells : List (Option Firing)) (j m : ℕ) (f g : Firing) → get_or cells j None ≡ Some f →
     get_or cells m None ≡ Some g → place_in cells j ≡ place_in cells m → j ≡ m
 once_in [] j m f g e d h = absurd (none-some f e)
 once_in (None ∷ cells) zero m f g e d h = absurd (none-some f e)
@@ -42,7 +42,7 @@ once_in (Some x ∷ cells) zero (suc m) f g e d h = absurd (omega arith)
 once_in (Some x ∷ cells) (suc j) zero f g e d h = absurd (omega arith)
 once_in (Some x ∷ cells) (suc j) (suc m) f g e d h = ap suc (once_in cells j m f g e d (omega arith))
 
-at_place : (rows : List (List (Option Firing))) (i j : ℕ) (f : Firing) → cell rows i j ≡ Some f →
+pub at_place : (rows : List (List (Option Firing))) (i j : ℕ) (f : Firing) → cell rows i j ≡ Some f →
     (place rows i j < length (order rows)) × (firing (order rows) (place rows i j) ≡ f)
 at_place [] i j f e = absurd (none-some f e)
 at_place (cells ∷ rows) zero j f e =
@@ -56,7 +56,7 @@ at_place (cells ∷ rows) (suc i) j f e =
       get_or-append-add (firings cells) (order rows) (place rows i j) no_firing ∙ at.1,
     )
 
-once_at : (rows : List (List (Option Firing))) (i j k m : ℕ) (f g : Firing) → cell rows i j ≡ Some f →
+pub once_at : (rows : List (List (Option Firing))) (i j k m : ℕ) (f g : Firing) → cell rows i j ≡ Some f →
     cell rows k m ≡ Some g → place rows i j ≡ place rows k m → (i ≡ k) × (j ≡ m)
 once_at [] i j k m f g e d h = absurd (none-some f e)
 once_at (cells ∷ rows) zero j zero m f g e d h = (refl, once_in cells j m f g e d h)

@@ -24,13 +24,14 @@ find_step P m (inr not) (inr none) = inr (λ i l p. at i l p (cases_eq i m))
     at i l p (inl e) = not (subst P e p)
     at i l p (inr ne) = none i (omega arith) p
 
-find : (P : ℕ → Type 0) → ((i : ℕ) → P i ⊎ (P i → ⊥)) → (m : ℕ) →
+pub find : (P : ℕ → Type 0) → ((i : ℕ) → P i ⊎ (P i → ⊥)) → (m : ℕ) →
     ((i : ℕ) × (i < m) × P i) ⊎ ((i : ℕ) → i < m → P i → ⊥)
 find P test zero = inr (λ i l p. omega arith)
 find P test (suc m) = find_step P m (test m) (find P test m)
 
 -- sets of numbers with a greatest: several of them together
-both_greatest : (P Q R : ℕ → Type 0) → ((t : ℕ) × IsGreatest P t) → ((t : ℕ) × IsGreatest Q t) → ((u : ℕ) → P u → R u) →
+pub both_greatest : (P Q R : ℕ → Type 0) → ((t : ℕ) × IsGreatest P t) → ((t : ℕ) × IsGreatest Q t) →
+    ((u : ℕ) → P u → R u) →
     ((u : ℕ) → Q u → R u) → ((u : ℕ) → R u → P u ⊎ Q u) → (t : ℕ) × IsGreatest R t
 both_greatest P Q R (t, g) (x, h) left right split =
     (max t x, greatest_more P R t x g left (new h.reached) (λ u r. back u (split u r)))
@@ -43,7 +44,7 @@ both_greatest P Q R (t, g) (x, h) left right split =
     back u (inl p) = inl p
     back u (inr q) = inr (h.above u q)
 
-below_greatest : (P : ℕ → ℕ → Type 0) → ((i : ℕ) → (t : ℕ) × IsGreatest (P i) t) → (m : ℕ) →
+pub below_greatest : (P : ℕ → ℕ → Type 0) → ((i : ℕ) → (t : ℕ) × IsGreatest (P i) t) → (m : ℕ) →
     (t : ℕ) × IsGreatest (λ u. (i : ℕ) × (i < m) × P i u) t
 below_greatest P each zero = (0, greatest_none (λ u. (i : ℕ) × (i < 0) × P i u) 0 refl (λ u x. omega (arith, x.1)))
 below_greatest P each (suc m) =
@@ -88,7 +89,7 @@ waits_pick r f g (inr not_own) (inr none) = inr out
     out (inl own) = not_own own
     out (inr (d, known, into, src, lacks)) = none d known (into, src, lacks)
 
-waits_test : (r : Rates) (f g : Firing) → WaitsFor r f g ⊎ (WaitsFor r f g → ⊥)
+pub waits_test : (r : Rates) (f g : Firing) → WaitsFor r f g ⊎ (WaitsFor r f g → ⊥)
 waits_test r f g =
     waits_pick r f g (own_pick f g (cases_eq g.actor f.actor) (cases_eq (g.number + 1) f.number))
     (find (Lacks r f g) (λ d. lacks_pick r f g d (cases_eq (r.target d) f.actor) (cases_eq (r.source d) g.actor)

@@ -49,7 +49,7 @@ sum_only b x (suc m) l = sum_only_step b x m l (λ h. sum_only b x m h) (cases_e
 
 module _ (cost : ℕ → ℕ) where
   -- what some firings cost together
-  abbrev worth : List Firing → ℕ
+  abbrev pub worth : List Firing → ℕ
   worth [] = 0
   worth (f ∷ fs) = cost f.actor + worth fs
 
@@ -122,3 +122,19 @@ module _ (cost : ℕ → ℕ) where
       let same = sum_same (λ a. times (sequence rows) a * cost a) (λ a. n a * cost a) r.actors
       (λ a h. ap (λ t. t * cost a) (pass.1 a h)) in
       rows_worth rows width wide ∙ (sym by_actor ∙ same)
+
+  pub work_is : (r : Rates) (n : ℕ → ℕ) (rows : List (List (Option Firing))) → IsValid r n rows →
+      worth (order rows) ≡ work_of r.actors n cost
+  work_is r n rows v =
+      let pass = orders_are_admissible r n rows v in
+      let by_actor = actors_worth (order rows) r.actors (λ p h. (v.known p h).0) in
+      let same = sum_same (λ a. times (sequence rows) a * cost a) (λ a. n a * cost a) r.actors
+      (λ a h. ap (λ t. t * cost a) (pass.1 a h)) in
+      sym by_actor ∙ same
+
+  -- place by place
+  pub places_worth : (fs : List Firing) → sum_to (λ m. cost (firing fs m).actor) (length fs) ≡ worth fs
+  places_worth [] = refl
+  places_worth (f ∷ fs) =
+      let ih = places_worth fs in
+      omega (arith, ih, sum_front (λ m. cost (firing (f ∷ fs) m).actor) (length fs))

@@ -1,3 +1,10 @@
 pub mod Times
+pub mod ByRows
+pub mod SelfTimed
+pub mod Periods
+pub mod Checks
+pub mod Rounds
+pub mod Searches
+pub mod Certificates
 pub mod Walks
 pub mod Laws

@@ -10,7 +10,7 @@ use sdf_prec::{Costs, Firing, Table};
 use std::alloc::{AllocError, Global};
 
 /// Returns the cost of the firing in `cell`, or 0 if it is empty.
-fn cost_at(costs: &Costs, cell: Option<Firing>) -> u64
+pub(crate) fn cost_at(costs: &Costs, cell: Option<Firing>) -> u64
     requires { (f : Firing) → cell ≡ Some f → f.actor < length costs.now }
     ensures is { result ≡ cost_in (slice_index costs.now) cell }
     ensures small { result ≤ MAX_COST }

@@ -19,4 +19,6 @@ mod slow_times;
 #[cfg(test)]
 mod tables;
 #[cfg(test)]
+mod worked_periods;
+#[cfg(test)]
 mod worked_times;

@@ -1,0 +1,11 @@
+use Rattle.std.proofs.Common.{◌≡◌, ◌∙◌, ℕ, subst, sym, Some}
+use Rattle.sdf_prec.specs.Numbers.{InBlock}
+use Rattle.sdf_prec.specs.Tables.{cell}
+use Rattle.sdf_prec.specs.declared.firing.Firing.{Firing}
+use Rattle.sdf_times.specs.Searches.{SweepValue}
+use Rattle.sdf_times.proofs.search.sweep.Sweep.place_row.Goals as goal
+
+pub place_firing-requires-clause-firing : goal.place_firing-requires-clause-firing
+place_firing-requires-clause-firing c =
+    subst (λ (v : SweepValue). InBlock v.events.firings c.in-Some.firing) (sym c.loop-column.invariant)
+    (c.requires.cells c.args.i c.loop-column.column c.in-Some.firing (sym c.cell_of.ensures ∙ c.in-Some.is))
