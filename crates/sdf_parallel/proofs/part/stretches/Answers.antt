@@ -10,12 +10,12 @@ loop-at-init g c =
     c.push_reserved.ensures.items ∙ ap (λ xs. xs ++ m ∷ []) c.in_ok-all.ensures.items in
     record {
       order = omega arith;
-      within = omega (arith, c.min.ensures, c.min-2.ensures);
+      within = omega (arith, c.min.ensures);
       left = c.in_ok-made.ensures.1;
       run = subst (λ xs. AreStretches g.A.Actor.steps w.net.now w.period.now.repetitions
-          (g.E.PartIo.inputs c.args.io.now) (g.E.PartIo.makes c.args.io.now) c.args.begin.now c.args.from
-          (c.args.from + c.min-2.result) xs c.in_ok-made.rest) (sym one)
-          (first (c.args.from + c.min-2.result) m c.in_ok-made.rest (omega arith) c.in_ok-made.ensures.0);
+          (g.E.PartIo.inputs c.args.io.now) (g.E.PartIo.makes c.args.io.now) c.args.begin.now c.args.part.from
+          (c.args.part.from + c.min.result) xs c.in_ok-made.rest) (sym one)
+          (first (c.args.part.from + c.min.result) m c.in_ok-made.rest (omega arith) c.in_ok-made.ensures.0);
     }
 
 pub loop-at-preserved : goal.loop-at-preserved
@@ -30,7 +30,7 @@ loop-at-preserved g c =
       within = omega (arith, c.min-in-loop-at.ensures, c.loop-at.invariant.within);
       left = c.in_ok-made-2.ensures.1;
       run = subst (λ xs. AreStretches g.A.Actor.steps w.net.now w.period.now.repetitions
-          (g.E.PartIo.inputs c.args.io.now) (g.E.PartIo.makes c.args.io.now) c.args.begin.now c.args.from to xs
+          (g.E.PartIo.inputs c.args.io.now) (g.E.PartIo.makes c.args.io.now) c.args.begin.now c.args.part.from to xs
           c.in_ok-made-2.last) (sym longer)
           (next c.loop-at.at to c.loop-at.all.items m c.loop-at.rest c.in_ok-made-2.last c.loop-at.invariant.run
           (omega arith) c.in_ok-made-2.ensures.0);

@@ -3,7 +3,7 @@ use Rattle.sdf_queues.specs.RunResults.{HasInputs}
 use Rattle.sdf_queues.specs.Feeds.{AreFull}
 use Rattle.sdf_parallel.specs.Parts.{read_by}
 use Rattle.sdf_parallel.proofs.Cutting.{are_full, are_given, matched}
-use Rattle.sdf_parallel.proofs.part.part.Goals as goal
+use Rattle.sdf_parallel.proofs.part.run_part.Goals as goal
 
 pub stretches-requires-2-clause-begin : goal.stretches-requires-2-clause-begin
 stretches-requires-2-clause-begin g c κs within =
@@ -11,7 +11,7 @@ stretches-requires-2-clause-begin g c κs within =
     let n = w.net.now in
     let q = w.period.now.repetitions in
     let inputs = g.E.PartIo.inputs c.args.io.now in
-    let at = c.args.from in
+    let at = c.args.part.from in
     let start = at - w.warm in
     let tail = read_by n q inputs start at in
     let some : 0 < at = omega (arith, c.if-from-eq0.false) in
