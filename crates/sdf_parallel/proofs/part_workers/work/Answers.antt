@@ -22,7 +22,7 @@ run_part-made-requires-clause-within g c = omega (
 )
 
 pub run_part-made-requires-clause-warm : goal.run_part-made-requires-clause-warm
-run_part-made-requires-clause-warm g c = λ some. omega (
+run_part-made-requires-clause-warm g c κs inside some = omega (
   arith,
   c.requires.split.long,
   c.part-part.ensures.from,
