@@ -4,8 +4,8 @@ use Rattle.std.specs.Int.{div_ceil}
 use Rattle.sdf_parallel.specs.declared.part.Split.{Split}
 
 -- The periods of the part that begins at one: half of an equal share of those that are left for each worker, in whole
--- stretches, but at least the fewest of a part, or all that are left if these are fewer. So the last parts are short, and
--- the workers end together. (Guided self-scheduling, with half a share: Polychronopoulos and Kuck, 1987.)
+-- stretches, but at least the fewest of a part, or all that are left if these are fewer. So the last parts are short,
+-- and the workers end together. (Guided self-scheduling, with half a share: Polychronopoulos and Kuck, 1987.)
 abbrev pub part_length : {A S T : Type 0} → Split A T S → ℕ → ℕ
 part_length w from =
     let half = div_ceil (w.periods - from) (max 1 w.workers) / 2 in

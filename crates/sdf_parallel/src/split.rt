@@ -180,8 +180,8 @@ fn run_parts<R: Threads + Sync, A: Actor, E: PartIo<A::Token>, G: FnMut() -> B, 
     (gather(alloc, io, split, rest, queue, workers), done)
 }
 
-/// Runs the parts in `queue` on up to `split.workers` workers, which are made if they are missing, and `meanwhile` beside
-/// them. Returns the results of both.
+/// Runs the parts in `queue` on up to `split.workers` workers, which are made if they are missing, and `meanwhile`
+/// beside them. Returns the results of both.
 fn run_queue<R: Threads + Sync, A: Actor, E: PartIo<A::Token>, G: FnMut() -> B, B>(
     rt: &R,
     io: &E,

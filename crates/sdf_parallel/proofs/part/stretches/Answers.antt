@@ -9,8 +9,8 @@ use Rattle.sdf_parallel.proofs.part.stretches.Goals as goal
 some : (all many : ℕ) → 0 < many → 0 < all → 0 < div_ceil all many
 some all many parts more =
     ⊎_elim (λ none. let zero : div_ceil all many ≡ 0 = omega (arith, none) in
-        let most : all ≤ 0 * many = subst (λ k. all ≤ k * many) zero (div_ceil_times all many parts).0 in
-        absurd (omega (arith, more, most)))
+    let most : all ≤ 0 * many = subst (λ k. all ≤ k * many) zero (div_ceil_times all many parts).0 in
+    absurd (omega (arith, more, most)))
     (λ l. omega (arith, l)) (cases_lt (div_ceil all many) 1)
 
 pub loop-at-init : goal.loop-at-init
