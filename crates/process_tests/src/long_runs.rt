@@ -100,14 +100,14 @@ const IN_PARTS: Long = Long {
     ..ON_ONE_THREAD
 };
 
-/// A period for each frame: a second whole piece, of 24 parts and 393,216 periods.
+/// A period for each frame: a second whole piece, of 21 parts and 393,216 periods.
 const BY_FRAMES: Long = Long {
     graph: PLAIN,
     frames: 1_200_000,
     ..IN_PARTS
 };
 
-/// A warm-up of 65,536 periods. Parts have eight times as many, and are run in stretches of 32,768.
+/// A warm-up of 65,536 periods. Parts have eight times as many, and are run in stretches of 16,384.
 const WARMED_UP: Long = Long {
     graph: FAR_BACK,
     silent: 65_536,

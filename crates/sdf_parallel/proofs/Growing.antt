@@ -1,7 +1,6 @@
 -- What the outputs of the first parts became grows by a part, stretch by stretch.
-use Rattle.std.proofs.Common.{◌≡◌, ℕ, ◌+◌, ◌-◌, ◌*◌, ◌≤◌, ◌<◌, List, [], ◌∷◌, ◌++◌, length, get_or, Option}
-use Rattle.std.proofs.Common.{Some, sym, ap, ◌∙◌, arith, subst, ⊎_elim, refl, zero-mul, mul-le-mul_right, append_assoc}
-use Rattle.std.specs.Prelude.{min}
+use Rattle.std.proofs.Common.{◌≡◌, ℕ, ◌+◌, ◌-◌, ◌≤◌, ◌<◌, List, [], ◌∷◌, ◌++◌, length, get_or, Option}
+use Rattle.std.proofs.Common.{Some, sym, ap, ◌∙◌, arith, subst, ⊎_elim, refl, append_assoc}
 use Rattle.std.proofs.lemmas.Bool.{cases_lt}
 use Rattle.std.proofs.lemmas.List.{length-replicate}
 use Rattle.sdf_actor.specs.declared.net_state.NetState.{NetState}
@@ -13,15 +12,12 @@ use Rattle.sdf_queues.specs.Periods.{HasPeriod}
 use Rattle.sdf_parallel.specs.Cuts.{join}
 use Rattle.sdf_parallel.specs.declared.part.Split.{Split}
 use Rattle.sdf_parallel.specs.Parts.{AreStretches, IsStretch, IsSplit, IsPart, IsWarmedUp, HasParts, GoesOnInParts}
-use Rattle.sdf_parallel.specs.Parts.{read_by, end_of, part_count, none as no_part, more as one_part}
+use Rattle.sdf_parallel.specs.Parts.{read_by, none as no_part, more as one_part}
 use Rattle.sdf_parallel.specs.Parts.{first as first_stretch, next as next_stretch}
-use Rattle.sdf_parallel.proofs.Joining.{one_more, stretch_more, all_read, begins, ends, ends_last}
+use Rattle.sdf_parallel.proofs.Bounding.{AreMarks}
+use Rattle.sdf_parallel.proofs.Joining.{one_more, stretch_more, all_read}
 use Rattle.sdf_parallel.proofs.Joined.{joined_is, joined_long, same_lists}
 use Rattle.sdf_parallel.proofs.Warmed.{blank, blank_at}
-
--- the periods of the first parts
-abbrev pub upto : {A S T : Type 0} → Split A T S → ℕ → ℕ
-upto w j = min (j * w.size) w.periods
 
 -- a run came as far as this: what was made, and what it leaves
 pub record Reached {A S T M : Type 0} (s : Steps A S T) (inputs : List (List T))
@@ -34,9 +30,10 @@ pub record Reached {A S T M : Type 0} (s : Steps A S T) (inputs : List (List T))
 
 -- what is known once the first parts are taken out
 pub record Grown {A S T M : Type 0} (s : Steps A S T) (inputs : List (List T)) (makes : ℕ → List (List T) → M → Type 0)
-    (w : Split A T S) (rest : NetState T S) (j : ℕ) (made : List M) (last : Option (NetState T S)) : Type 0 where
+    (w : Split A T S) (bounds : List ℕ) (rest : NetState T S) (j : ℕ) (made : List M)
+    (last : Option (NetState T S)) : Type 0 where
   pub none : j ≡ 0 → made ≡ []
-  pub some : 0 < j → (r : NetState T S) × (last ≡ Some r) × Reached s inputs makes w rest (upto w j) made r
+  pub some : 0 < j → (r : NetState T S) × (last ≡ Some r) × Reached s inputs makes w rest (get_or bounds j 0) made r
 
 module _ {A S T M : Type 0} (s : Steps A S T) (inputs : List (List T))
     (makes : ℕ → List (List T) → M → Type 0) (w : Split A T S) (is : IsSplit s inputs w)
@@ -124,67 +121,63 @@ module _ {A S T M : Type 0} (s : Steps A S T) (inputs : List (List T))
         (all_stretches at ms mid (omega (arith, order, within)) before) mid m
         last fin refl)
 
-  module _ (j : ℕ) (l : j < part_count w) (made : List M) (last : Option (NetState T S))
-      (before : Grown s inputs makes w rest j made last) (ms : List M) (r : NetState T S)
-      (part : IsPart s w.net.now q inputs makes rest w.warm (j * w.size) (end_of w.size w.periods (j * w.size)) ms r)
-    where
+  module _ (bounds : List ℕ) (are : AreMarks w bounds) where
+    module _ (j : ℕ) (l : j + 1 < length bounds) (made : List M) (last : Option (NetState T S))
+        (before : Grown s inputs makes w bounds rest j made last) (ms : List M) (r : NetState T S)
+        (part : IsPart s w.net.now q inputs makes rest w.warm (get_or bounds j 0) (get_or bounds (j + 1) 0) ms r) where
       abbrev at : ℕ
-      at = j * w.size
+      at = get_or bounds j 0
 
       abbrev to : ℕ
-      to = end_of w.size w.periods at
+      to = get_or bounds (j + 1) 0
 
-      within : at ≤ w.periods
-      within = begins w.periods w.size is.some j l
-
-      there : to ≡ upto w (j + 1)
-      there = ends w.periods w.size is.some j l
+      short : to ≤ w.periods
+      short = are.within (j + 1) l
 
       first_part : j ≡ 0 → Comes to (made ++ ms) r
       first_part z =
-          let start : at ≡ 0 = ap (λ k. k * w.size) z ∙ zero-mul w.size in
+          let start : at ≡ 0 = ap (λ k. get_or bounds k 0) z ∙ are.first in
           let none : [] ≡ made = sym (before.none z) in
           all_stretches at part.begin made
           (λ to m last order short fin. subst (λ xs. Comes to (xs ++ m ∷ []) last) none
           (begun to m last (subst (λ b. Finishes b 0 to m last) (part.first start)
           (subst (λ k. Finishes part.begin k to m last) start fin))))
-          to ms r (omega arith) part.stretches
+          to ms r short part.stretches
 
       later_part : 0 < j → Comes to (made ++ ms) r
       later_part some =
-          let e : 1 * w.size ≤ j * w.size = mul-le-mul_right w.size some in
-          let here : upto w j ≡ at = (let h : at ≤ w.periods = within in omega arith) in
+          let e : w.least ≤ at = are.late j some l in
           let known = before.some some in
           all_stretches at part.begin made
-          (λ to m last order short fin. late at to order short made known.0
-          (subst (λ k. Comes k made known.0) here known.2) part.begin m last fin
+          (λ to m last order short fin. late at to order short made known.0 known.2 part.begin m last fin
           (omega (arith, is.long, e)) (part.late (omega (arith, is.some, e))))
-          to ms r (omega arith) part.stretches
+          to ms r short part.stretches
 
-      pub grown : Grown s inputs makes w rest (j + 1) (made ++ ms) (Some r)
+      pub grown : Grown s inputs makes w bounds rest (j + 1) (made ++ ms) (Some r)
       grown = record {
         none = λ z. absurd (omega arith);
         some = λ some. (
           r,
           refl,
-          subst (λ k. Comes k (made ++ ms) r) there (⊎_elim (λ z. first_part (omega arith)) later_part (cases_lt j 1)),
+          ⊎_elim (λ z. first_part (omega arith)) later_part (cases_lt j 1),
         );
       }
 
-  -- after all of them
-  pub all_parts : (j : ℕ) → j ≡ part_count w → (made : List M) (last : Option (NetState T S)) (r : NetState T S) →
-      last ≡ Some r → Grown s inputs makes w rest j made last →
-      GoesOnInParts s w.net.now q inputs makes rest w.periods made r
-  all_parts j all made last r is_last g =
-      let known = g.some (omega (arith, all)) in
-      let b : NetState T S = known.0 in
-      let end : upto w j ≡ w.periods = ap (λ k. upto w k) all ∙ ends_last w.periods w.size is.some in
-      let same : b ≡ r = (let z : Some b ≡ Some r = sym known.1 ∙ is_last in cc) in
-      let came : Comes w.periods made r =
-      subst (λ x. Comes w.periods made x) same (subst (λ k. Comes k made b) end known.2) in
-      record {
-        outputs = came.outputs;
-        goes = subst (λ xs. GoesOnBy s w.net.now q rest w.periods xs came.outputs r)
-            (all_read s w.net.now w.period.now inputs w.periods w.warm rest has is.warm_up is.given is.full) came.goes;
-        parts = came.parts;
-      }
+    -- after all of them
+    pub all_parts : (j : ℕ) → j ≡ length bounds - 1 → (made : List M) (last : Option (NetState T S))
+        (r : NetState T S) → last ≡ Some r → Grown s inputs makes w bounds rest j made last →
+        GoesOnInParts s w.net.now q inputs makes rest w.periods made r
+    all_parts j all made last r is_last g =
+        let known = g.some (omega (arith, all, are.some)) in
+        let b : NetState T S = known.0 in
+        let end : get_or bounds j 0 ≡ w.periods = ap (λ k. get_or bounds k 0) all ∙ are.last in
+        let same : b ≡ r = (let z : Some b ≡ Some r = sym known.1 ∙ is_last in cc) in
+        let came : Comes w.periods made r =
+        subst (λ x. Comes w.periods made x) same (subst (λ k. Comes k made b) end known.2) in
+        record {
+          outputs = came.outputs;
+          goes = subst (λ xs. GoesOnBy s w.net.now q rest w.periods xs came.outputs r)
+              (all_read s w.net.now w.period.now inputs w.periods w.warm rest has is.warm_up is.given is.full)
+              came.goes;
+          parts = came.parts;
+        }

@@ -1,12 +1,8 @@
 -- Parts are joined, one after another.
-use Rattle.std.proofs.Common.{◌≡◌, ℕ, ◌+◌, ◌-◌, ◌*◌, ◌≤◌, ◌<◌, List, [], length, get_or, sym, ap}
+use Rattle.std.proofs.Common.{◌≡◌, ℕ, ◌+◌, ◌-◌, ◌*◌, ◌≤◌, List, [], length, get_or, sym, ap}
 use Rattle.std.proofs.Common.{◌∙◌, arith, subst, take_all, ⊎_elim}
-use Rattle.std.specs.Prelude.{max, min}
-use Rattle.std.specs.Int.{div_ceil}
 use Rattle.std.specs.List.{between}
-use Rattle.std.proofs.Math.Nat.{mul-le-mul_right}
 use Rattle.std.proofs.lemmas.Bool.{cases_lt}
-use Rattle.std.proofs.lemmas.Grind.{div_ceil_times}
 use Rattle.std.proofs.lemmas.List.{get_or_past}
 use Rattle.std.proofs.lemmas.Slice.{between_from_start}
 use Rattle.sdf_sched.specs.Period.{Schedule}
@@ -22,34 +18,13 @@ use Rattle.sdf_queues.specs.Periods.{HasPeriod}
 use Rattle.sdf_warm_up.specs.Laws.{ArePartsOf}
 use Rattle.sdf_warm_up.specs.WarmUps.{WarmsIn}
 use Rattle.sdf_warm_up.proofs.Theorems.{parts_go_on, runs_go_on_twice}
-use Rattle.sdf_parallel.specs.Parts.{read_by, end_of, IsWarmedUp}
+use Rattle.sdf_parallel.specs.Parts.{read_by, IsWarmedUp}
 use Rattle.sdf_parallel.proofs.Cutting.{reads_join, reads_many, are_given, are_full, cut_at}
 use Rattle.sdf_parallel.proofs.Joined.{same_lists}
 
 -- a part that is all
 whole : {T : Type 0} (xs : List T) (i j : ℕ) → i ≡ 0 → length xs ≤ j → between i j xs ≡ xs
 whole xs i j none long = (λ κ. between (none κ) j xs) ∙ (between_from_start xs j ∙ take_all j xs long)
-
--- where parts begin and end
-module _ (periods size : ℕ) (some : 0 < size) where
-  abbrev count : ℕ
-  count = max (div_ceil periods size) 1
-
-  pub begins : (i : ℕ) → i < count → i * size ≤ periods
-  begins i l = ⊎_elim
-      (λ none. let e : i * size ≤ 0 * size = mul-le-mul_right size (omega arith) in omega arith)
-      (λ more.
-      let most : (i + 1) * size ≤ div_ceil periods size * size = mul-le-mul_right size (omega arith) in
-      omega (arith, (div_ceil_times periods size some).1))
-      (cases_lt i 1)
-
-  pub ends : (i : ℕ) → i < count → end_of size periods (i * size) ≡ min ((i + 1) * size) periods
-  ends i l = let below : i * size ≤ periods = begins i l in omega arith
-
-  pub ends_last : min (count * size) periods ≡ periods
-  ends_last =
-      let most : div_ceil periods size * size ≤ count * size = mul-le-mul_right size (omega arith) in
-      omega (arith, (div_ceil_times periods size some).0)
 
 module _ {A S T : Type 0} (s : Steps A S T) (n : Netlist A T) (p : Schedule)
     (inputs : List (List T)) (periods warm : ℕ) (rest : NetState T S) (has : HasPeriod s n p)

@@ -1,7 +1,6 @@
 -- The parts of a run that is split in time.
-use Rattle.std.specs.Prelude.{◌≡◌, ℕ, ◌+◌, ◌-◌, ◌*◌, ◌^◌, ◌≤◌, ◌<◌, min, max, List, [], ◌∷◌, ◌++◌, length}
-use Rattle.std.specs.Prelude.{slice_index_or, Result, MatchResult}
-use Rattle.std.specs.Int.{div_ceil}
+use Rattle.std.specs.Prelude.{◌≡◌, ℕ, ◌+◌, ◌-◌, ◌*◌, ◌^◌, ◌≤◌, ◌<◌, List, [], ◌∷◌, ◌++◌, length}
+use Rattle.std.specs.Prelude.{slice_index, slice_index_or, Result, MatchResult}
 use Rattle.std.specs.List.{All}
 use Rattle.sdf_graph.specs.Rates.{rates}
 use Rattle.sdf_sched.specs.Period.{IsPeriodOf}
@@ -23,15 +22,15 @@ use Rattle.sdf_parallel.specs.declared.part_workers.FinishedPart.{FinishedPart}
 use Rattle.sdf_parallel.specs.declared.part_workers.Worker.{Worker}
 
 -- a schedule of the net, inputs that hold exactly the periods of the run, a warm-up, and parts that are no shorter than
--- it
+-- it unless they are the last
 pub record IsSplit {A S T : Type 0} (s : Steps A S T) (inputs : List (List T)) (w : Split A T S) : Type 0 where
   pub period : IsPeriodOf (rates (graph_of s w.net.now)) w.period.now
   pub given : HasInputs w.net.now w.period.now.repetitions w.periods inputs
   pub full : AreFull w.net.now w.period.now.repetitions w.periods inputs
   pub warm_up : WarmsIn s w.net.now w.period.now.repetitions w.warm
   pub short : w.periods < 2 ^ 32
-  pub some : 0 < w.size
-  pub long : w.warm ≤ w.size
+  pub some : 0 < w.least
+  pub long : w.warm ≤ w.least
   pub stretch : 0 < w.stretch
 
 -- the samples of the periods from one number to another, of each list
@@ -73,46 +72,44 @@ pub record IsPart {A S T M : Type 0} (s : Steps A S T) (n : Netlist A T) (q : Li
   pub late : 0 < from → IsWarmedUp s n q inputs warm from begin
   pub stretches : AreStretches s n q inputs makes begin from to made last
 
--- the end of a part that begins at a period
-abbrev pub end_of : ℕ → ℕ → ℕ → ℕ
-end_of size periods from = from + min size (periods - from)
-
--- the number of parts
-abbrev pub part_count : {A S T : Type 0} → Split A T S → ℕ
-part_count w = max (div_ceil w.periods w.size) 1
-
--- the result of part i, or the fault
-abbrev pub IsResult : {A S T M : Type 0} → Steps A S T → List (List T) → (ℕ → List (List T) → M → Type 0) →
-    Split A T S → NetState T S → ℕ → Result (PartResult M T S) RunFault → Type 0
-IsResult s inputs makes w rest i r =
+-- the result of the part between two periods, or the fault
+abbrev pub IsPartResult : {A S T M : Type 0} → Steps A S T → List (List T) → (ℕ → List (List T) → M → Type 0) →
+    Split A T S → NetState T S → ℕ → ℕ → Result (PartResult M T S) RunFault → Type 0
+IsPartResult s inputs makes w rest from to r =
     MatchResult r
-    (λ m. IsPart s w.net.now w.period.now.repetitions inputs makes rest w.warm (i * w.size)
-    (end_of w.size w.periods (i * w.size)) m.made.items m.rest)
+    (λ m. IsPart s w.net.now w.period.now.repetitions inputs makes rest w.warm from to m.made.items m.rest)
     (λ fault. fault ≡ OutOfMemory)
+
+-- the result of the part between bounds i and i + 1
+abbrev pub IsResult : {A S T M : Type 0} → Steps A S T → List (List T) → (ℕ → List (List T) → M → Type 0) →
+    Split A T S → List ℕ → NetState T S → ℕ → Result (PartResult M T S) RunFault → Type 0
+IsResult s inputs makes w bounds rest i r =
+    IsPartResult s inputs makes w rest (slice_index bounds i) (slice_index bounds (i + 1)) r
 
 -- the results of the first parts, or their faults
 abbrev pub AreResults : {A S T M : Type 0} → Steps A S T → List (List T) → (ℕ → List (List T) → M → Type 0) →
-    Split A T S → NetState T S → List (Result (PartResult M T S) RunFault) → Type 0
-AreResults {A} {S} {T} {M} s inputs makes w rest places =
+    Split A T S → List ℕ → NetState T S → List (Result (PartResult M T S) RunFault) → Type 0
+AreResults {A} {S} {T} {M} s inputs makes w bounds rest places =
     (i : ℕ) (d : Result (PartResult M T S) RunFault) → i < length places →
-    IsResult s inputs makes w rest i (slice_index_or places i d)
+    IsResult s inputs makes w bounds rest i (slice_index_or places i d)
 
 -- a part of the run, with its result
 abbrev pub IsFinishedPart : {A S T M : Type 0} → Steps A S T → List (List T) → (ℕ → List (List T) → M → Type 0) →
-    Split A T S → NetState T S → FinishedPart M T S → Type 0
-IsFinishedPart s inputs makes w rest d = (d.number < part_count w) × IsResult s inputs makes w rest d.number d.made
+    Split A T S → List ℕ → NetState T S → FinishedPart M T S → Type 0
+IsFinishedPart s inputs makes w bounds rest d =
+    (d.number + 1 < length bounds) × IsResult s inputs makes w bounds rest d.number d.made
 
 -- the parts that a worker ran, with their results
 abbrev pub AreFinished : {A S T M : Type 0} → Steps A S T → List (List T) → (ℕ → List (List T) → M → Type 0) →
-    Split A T S → NetState T S → List (FinishedPart M T S) → Type 0
-AreFinished s inputs makes w rest done = All (IsFinishedPart s inputs makes w rest) done
+    Split A T S → List ℕ → NetState T S → List (FinishedPart M T S) → Type 0
+AreFinished s inputs makes w bounds rest done = All (IsFinishedPart s inputs makes w bounds rest) done
 
 -- the parts that all workers ran, with their results
 abbrev pub AllAreFinished : {A S T M : Type 0} → Steps A S T → List (List T) → (ℕ → List (List T) → M → Type 0) →
-    Split A T S → NetState T S → List (Worker M T S) → Type 0
-AllAreFinished {A} {S} {T} {M} s inputs makes w rest workers =
+    Split A T S → List ℕ → NetState T S → List (Worker M T S) → Type 0
+AllAreFinished {A} {S} {T} {M} s inputs makes w bounds rest workers =
     (i : ℕ) (d : Worker M T S) → i < length workers →
-    AreFinished s inputs makes w rest (slice_index_or workers i d).done.items
+    AreFinished s inputs makes w bounds rest (slice_index_or workers i d).done.items
 
 -- What the outputs of stretches became, in order. A run goes on from `rest` by the periods up to the end of each
 -- stretch. Its outputs are the outputs of the stretches before, joined with the stretch's own.

@@ -7,8 +7,7 @@ ghost use Rattle.sdf_queues.specs.RunResults.{periods_of};
 ghost use Rattle.sdf_queues.specs.Feeds.{GoesOnBy};
 ghost use Rattle.sdf_queues.specs.declared.fault.RunFault.TheVariants.{OutOfMemory};
 ghost use Rattle.sdf_warm_up.specs.Laws.{WasLeft};
-ghost use Rattle.sdf_parallel.specs.Parts.{AreStretches, IsSplit, IsWarmedUp, IsStretch, IsPart, end_of, part_count};
-ghost use Rattle.sdf_parallel.specs.Parts.{read_by};
+ghost use Rattle.sdf_parallel.specs.Parts.{AreStretches, IsSplit, IsWarmedUp, IsStretch, IsPart, read_by};
 
 use crate::part_io::PartIo;
 use sdf_actor::{Actor, Net, NetState};
@@ -18,35 +17,25 @@ use sdf_sched::Period;
 use std::alloc::Global;
 use std::mem;
 
-/// A run of `periods` periods of a net, in parts of `size` periods on up to `workers` workers. Each part except the
-/// first is run after `warm` periods of warm-up. A part is run in stretches of up to `stretch` periods, which limits
-/// the length of its lists.
+/// A run of `periods` periods of a net, in parts on up to `workers` workers. A part has at least `least` periods,
+/// unless it is the last one. Each part except the first is run after `warm` periods of warm-up. A part is run in
+/// stretches of up to `stretch` periods, which limits the length of its lists.
 #[derive_where(Clone, Copy)]
 pub struct Split<'a, A: Actor> {
     pub net: &'a Net<A>,
     pub period: &'a Period,
     pub periods: u32,
     pub warm: u32,
-    pub size: u32,
+    pub least: u32,
     pub stretch: u32,
     pub workers: u32,
 }
 
-impl<'a, A: Actor> Split<'a, A> {
-    /// Returns the number of parts, which is 1 if `periods` is 0.
-    pub(crate) fn count(self) -> usize
-        requires { 0 < self.size }
-        ensures { result ≡ part_count self.entry }
-    {
-        self.periods.div_ceil(self.size).max(1) as usize
-    }
-}
-
 /// The periods from number `from` up to number `to`, which is not included.
 #[derive(Clone, Copy)]
-struct Stretch {
-    from: u32,
-    to: u32,
+pub(crate) struct Stretch {
+    pub(crate) from: u32,
+    pub(crate) to: u32,
 }
 
 /// What the outputs of a part's stretches became, and the state in which the part leaves the net.
@@ -183,34 +172,36 @@ fn finish_stretch<A: Actor, E: PartIo<A::Token>>(
     Ok((made, rest))
 }
 
-/// Runs the part at the period `from` from the state `begin`, one stretch after another.
+/// Runs the periods of `part` from the state `begin`, in stretches of one length and a last one that may be shorter.
 fn stretches<A: Actor, E: PartIo<A::Token>>(
     alloc: Global,
     io: &E,
     split: Split<'_, A>,
     begin: &NetState<A::Token, A::State>,
-    from: u32,
+    part: Stretch,
     memory: &mut Memory<E::StretchResult, A::Token>,
 ) -> Result<PartResult<E::StretchResult, A::Token, A::State>, RunFault>
     requires split { IsSplit A.steps (E.inputs io.now) split }
     requires begin { WasLeft A.steps split.net.now split.period.now.repetitions begin.now }
-    requires within { from ≤ split.periods }
+    requires order { part.from ≤ part.to }
+    requires within { part.to ≤ split.periods }
     ensures { let n = split.entry.net.now in let q = split.entry.period.now.repetitions in MatchResult result
-        (λ m. AreStretches A.steps n q (E.inputs io.now) (E.makes io.now) begin.now from
-        (end_of split.entry.size split.entry.periods from) m.made.items m.rest)
+        (λ m. AreStretches A.steps n q (E.inputs io.now) (E.makes io.now) begin.now part.from part.to m.made.items
+        m.rest)
         (λ fault. fault ≡ OutOfMemory) }
 {
-    let to = from + split.size.min(split.periods - from);
-    let mut at = from + split.stretch.min(to - from);
+    let Stretch { from, to } = part;
+    let many = (to - from).div_ceil(split.stretch).max(1);
+    let size = (to - from).div_ceil(many);
+    let mut at = from + size.min(to - from);
     let first = Stretch { from, to: at };
     let (made, mut rest) = finish_stretch(alloc, io, split, begin, first, memory)?;
-    let many = (to - from).div_ceil(split.stretch).max(1);
     let mut all = Vec::with_capacity(alloc, many as usize)?;
     all.push_reserved(made);
     while at < to {
         let next = Stretch {
             from: at,
-            to: at + split.stretch.min(to - at),
+            to: at + size.min(to - at),
         };
         let (made, last) = finish_stretch(alloc, io, split, &rest, next, memory)?;
         all.reserve(1)?;
@@ -221,27 +212,28 @@ fn stretches<A: Actor, E: PartIo<A::Token>>(
     Ok(PartResult { made: all, rest })
 }
 
-/// Runs the part that begins at the period `from`, after its warm-up unless it is the first part.
-pub(crate) fn part<A: Actor, E: PartIo<A::Token>>(
+/// Runs the periods of `part`, after its warm-up unless it is the first part.
+pub(crate) fn run_part<A: Actor, E: PartIo<A::Token>>(
     alloc: Global,
     io: &E,
     split: Split<'_, A>,
     rest: &NetState<A::Token, A::State>,
-    from: u32,
+    part: Stretch,
     memory: &mut Memory<E::StretchResult, A::Token>,
 ) -> Result<PartResult<E::StretchResult, A::Token, A::State>, RunFault>
     requires split { IsSplit A.steps (E.inputs io.now) split }
     requires rest { WasLeft A.steps split.net.now split.period.now.repetitions rest.now }
-    requires within { from ≤ split.periods }
-    requires warm { 0 < from → split.warm ≤ from }
+    requires order { part.from ≤ part.to }
+    requires within { part.to ≤ split.periods }
+    requires warm { 0 < part.from → split.warm ≤ part.from }
     ensures { let n = split.entry.net.now in let q = split.entry.period.now.repetitions in MatchResult result
-        (λ m. IsPart A.steps n q (E.inputs io.now) (E.makes io.now) rest.now split.entry.warm from
-        (end_of split.entry.size split.entry.periods from) m.made.items m.rest)
+        (λ m. IsPart A.steps n q (E.inputs io.now) (E.makes io.now) rest.now split.entry.warm part.from part.to
+        m.made.items m.rest)
         (λ fault. fault ≡ OutOfMemory) }
 {
-    if from == 0 {
-        return stretches(alloc, io, split, rest, from, memory);
+    if part.from == 0 {
+        return stretches(alloc, io, split, rest, part, memory);
     }
-    let begin = run_warm_up(alloc, io, split, from, &mut memory.warming)?;
-    stretches(alloc, io, split, &begin, from, memory)
+    let begin = run_warm_up(alloc, io, split, part.from, &mut memory.warming)?;
+    stretches(alloc, io, split, &begin, part, memory)
 }

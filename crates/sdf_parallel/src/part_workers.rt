@@ -1,10 +1,12 @@
 //! Workers that run the parts of a sound, and their memory.
 
-ghost use Rattle.std.specs.Prelude.{◌≤◌, ◌<◌, length, IfSome, OnOk};
+ghost use Rattle.std.specs.Prelude.{◌≡◌, ◌≤◌, ◌<◌, ◌+◌, ◌-◌, length, slice_index, IfOk, IfSome, OnOk};
 ghost use Rattle.sdf_warm_up.specs.Laws.{WasLeft};
+ghost use Rattle.sdf_parallel.specs.Bounds.{AreBounds};
 ghost use Rattle.sdf_parallel.specs.Parts.{AreFinished, IsSplit};
 
-use crate::part::{Memory, PartResult, Split, part};
+use crate::bounds::part_bounds;
+use crate::part::{Memory, PartResult, Split, Stretch, run_part};
 use crate::part_io::PartIo;
 use sdf_actor::{Actor, NetState};
 use sdf_queues::RunFault;
@@ -14,23 +16,57 @@ use std::sync::atomic::{AtomicUsize, Ordering};
 /// A queue of the parts of a split run, from which workers take one part after another.
 #[derive(Drop)]
 pub(crate) struct PartQueue {
+    /// The period at which each part begins, and the end of the last one.
+    pub(crate) bounds: Vec<u32>,
     taken: AtomicUsize,
 }
 
 impl PartQueue {
-    /// Begins before the first part.
-    pub(crate) fn new() -> PartQueue {
-        PartQueue {
+    /// Begins before the first part of `split`.
+    pub(crate) fn of_split<A: Actor>(
+        alloc: Global,
+        split: Split<'_, A>,
+    ) -> Result<PartQueue, AllocError>
+        requires least { 0 < split.least }
+        requires stretch { 0 < split.stretch }
+        ensures { IfOk result (λ queue. AreBounds split.entry queue.bounds.items) }
+    {
+        let bounds = part_bounds(alloc, split)?;
+        Ok(PartQueue {
+            bounds,
             taken: AtomicUsize::new(0),
+        })
+    }
+
+    /// Returns the number of parts.
+    pub(crate) fn count(&self) -> usize
+        ensures { result ≡ length self.now.bounds.items - 1 }
+    {
+        self.bounds.len().saturating_sub(1)
+    }
+
+    /// Takes the number of the next part, if one is left.
+    fn take(&self) -> Option<usize>
+        ensures { IfSome result (λ number. number + 1 < length self.now.bounds.items) }
+    {
+        let number = self.taken.fetch_add(1, Ordering::SeqCst);
+        if number < self.count() {
+            Some(number)
+        } else {
+            None
         }
     }
 
-    /// Takes the next of `count` parts, if one is left.
-    fn take(&self, count: usize) -> Option<usize>
-        ensures { IfSome result (λ i. i < count) }
+    /// Returns where the part `number` begins and ends.
+    fn part(&self, number: usize) -> Stretch
+        requires { number + 1 < length self.now.bounds.items }
+        ensures from { result.from ≡ slice_index self.now.bounds.items number }
+        ensures to { result.to ≡ slice_index self.now.bounds.items (number + 1) }
     {
-        let i = self.taken.fetch_add(1, Ordering::SeqCst);
-        if i < count { Some(i) } else { None }
+        Stretch {
+            from: self.bounds[number],
+            to: self.bounds[number + 1],
+        }
     }
 }
 
@@ -80,18 +116,20 @@ pub(crate) fn work<A: Actor, E: PartIo<A::Token>>(
 )
     requires split { IsSplit A.steps (E.inputs io.now) split }
     requires rest { WasLeft A.steps split.net.now split.period.now.repetitions rest.now }
-    ensures { AreFinished A.steps (E.inputs io.now) (E.makes io.now) split.entry rest.now worker.new.done.items }
+    requires queue { AreBounds split queue.now.bounds.items }
+    ensures { AreFinished A.steps (E.inputs io.now) (E.makes io.now) split.entry queue.now.bounds.items rest.now
+        worker.new.done.items }
 {
     worker.done.clear();
-    for _ in 0..split.count() {
+    for _ in 0..queue.count() {
         if worker.done.reserve(1).is_err() {
             return;
         }
-        let Some(number) = queue.take(split.count()) else {
+        let Some(number) = queue.take() else {
             return;
         };
-        let from = number as u32 * split.size;
-        let made = part(alloc, io, split, rest, from, &mut worker.memory);
+        let part = queue.part(number);
+        let made = run_part(alloc, io, split, rest, part, &mut worker.memory);
         worker.done.push_reserved(FinishedPart { number, made });
     }
 }
@@ -120,14 +158,14 @@ impl<M: Drop, T: Copy, S: Drop> PartWorkers<M, T, S> {
         self.spares = made;
     }
 
-    /// Adds workers until there are at least `count`. Hands them the memory that was given back, for up to `most`
-    /// stretches each.
-    pub(crate) fn add_workers(&mut self, count: usize, most: usize) -> Result<(), AllocError>
+    /// Adds workers until there are at least `count`. Hands each its share of the memory that was given back.
+    pub(crate) fn add_workers(&mut self, count: usize) -> Result<(), AllocError>
         ensures { OnOk result (count ≤ length self.new.all.items) }
     {
         for _ in self.all.len()..count {
             self.all.push(Worker::new(self.alloc))?;
         }
+        let most = self.spares.len().div_ceil(self.all.len().max(1));
         for i in 0..self.all.len() {
             self.all[i].top_up(&mut self.spares, most)?;
         }

@@ -1,11 +1,12 @@
 //! Runs that are split in time.
 
-ghost use Rattle.std.specs.Prelude.{◌≡◌, ◌<◌, ℕ, List, length, slice_index_or, MatchResult, IfOk};
+ghost use Rattle.std.specs.Prelude.{◌≡◌, ◌<◌, ◌-◌, ℕ, List, length, slice_index_or, MatchResult, IfOk};
 ghost use Rattle.sdf_actor.specs.NetStates.{IsNetState};
 ghost use Rattle.sdf_queues.specs.RunResults.{periods_of};
 ghost use Rattle.sdf_queues.specs.declared.fault.RunFault.TheVariants.{OutOfMemory};
 ghost use Rattle.sdf_warm_up.specs.Laws.{WasLeft};
-ghost use Rattle.sdf_parallel.specs.Parts.{AllAreFinished, AreFinished, AreResults, IsSplit, part_count, GoesOnInParts};
+ghost use Rattle.sdf_parallel.specs.Bounds.{AreBounds};
+ghost use Rattle.sdf_parallel.specs.Parts.{AllAreFinished, AreFinished, AreResults, IsSplit, GoesOnInParts};
 
 use crate::beside::for_each_beside;
 use crate::part::{PartResult, Split};
@@ -24,14 +25,15 @@ fn empty_places<A: Actor, E: PartIo<A::Token>>(
     io: &E,
     split: Split<'_, A>,
     rest: &NetState<A::Token, A::State>,
+    queue: &PartQueue,
 ) -> Result<Vec<Result<PartResult<E::StretchResult, A::Token, A::State>, RunFault>>, AllocError>
     requires { IsSplit A.steps (E.inputs io.now) split }
-    ensures made { IfOk result (λ v. AreResults A.steps (E.inputs io.now) (E.makes io.now) split.entry rest.now
-        v.items) }
-    ensures all { IfOk result (λ v. length v.items ≡ part_count split.entry) }
+    ensures made { IfOk result (λ v. AreResults A.steps (E.inputs io.now) (E.makes io.now) split.entry
+        queue.now.bounds.items rest.now v.items) }
+    ensures all { IfOk result (λ v. length v.items ≡ length queue.now.bounds.items - 1) }
 {
     let mut places = Vec::new(alloc);
-    for _ in 0..split.count() {
+    for _ in 0..queue.count() {
         places.push(Err(RunFault::OutOfMemory))?;
     }
     Ok(places)
@@ -42,13 +44,17 @@ fn place<A: Actor, E: PartIo<A::Token>>(
     io: &E,
     split: Split<'_, A>,
     rest: &NetState<A::Token, A::State>,
+    queue: &PartQueue,
     done: &mut Vec<FinishedPart<E::StretchResult, A::Token, A::State>>,
     places: &mut [Result<PartResult<E::StretchResult, A::Token, A::State>, RunFault>],
 )
-    requires done { AreFinished A.steps (E.inputs io.now) (E.makes io.now) split rest.now done.old.items }
-    requires made { AreResults A.steps (E.inputs io.now) (E.makes io.now) split rest.now places.old }
-    requires all { length places.old ≡ part_count split }
-    ensures made { AreResults A.steps (E.inputs io.now) (E.makes io.now) split.entry rest.now places.new }
+    requires done { AreFinished A.steps (E.inputs io.now) (E.makes io.now) split queue.now.bounds.items rest.now
+        done.old.items }
+    requires made { AreResults A.steps (E.inputs io.now) (E.makes io.now) split queue.now.bounds.items rest.now
+        places.old }
+    requires all { length places.old ≡ length queue.now.bounds.items - 1 }
+    ensures made { AreResults A.steps (E.inputs io.now) (E.makes io.now) split.entry queue.now.bounds.items rest.now
+        places.new }
     ensures count { length places.new ≡ length places.old }
 {
     for _ in 0..done.len() {
@@ -63,17 +69,21 @@ fn place_all<A: Actor, E: PartIo<A::Token>>(
     io: &E,
     split: Split<'_, A>,
     rest: &NetState<A::Token, A::State>,
+    queue: &PartQueue,
     workers: &mut [Worker<E::StretchResult, A::Token, A::State>],
     places: &mut [Result<PartResult<E::StretchResult, A::Token, A::State>, RunFault>],
 )
-    requires done { AllAreFinished A.steps (E.inputs io.now) (E.makes io.now) split rest.now workers.old }
-    requires made { AreResults A.steps (E.inputs io.now) (E.makes io.now) split rest.now places.old }
-    requires all { length places.old ≡ part_count split }
-    ensures made { AreResults A.steps (E.inputs io.now) (E.makes io.now) split.entry rest.now places.new }
+    requires done { AllAreFinished A.steps (E.inputs io.now) (E.makes io.now) split queue.now.bounds.items rest.now
+        workers.old }
+    requires made { AreResults A.steps (E.inputs io.now) (E.makes io.now) split queue.now.bounds.items rest.now
+        places.old }
+    requires all { length places.old ≡ length queue.now.bounds.items - 1 }
+    ensures made { AreResults A.steps (E.inputs io.now) (E.makes io.now) split.entry queue.now.bounds.items rest.now
+        places.new }
     ensures count { length places.new ≡ length places.old }
 {
     for i in 0..workers.len() {
-        place(io, split, rest, &mut workers[i].done, places);
+        place(io, split, rest, queue, &mut workers[i].done, places);
     }
 }
 
@@ -83,11 +93,14 @@ fn take_results<A: Actor, E: PartIo<A::Token>>(
     io: &E,
     split: Split<'_, A>,
     rest: &NetState<A::Token, A::State>,
+    queue: &PartQueue,
     places: &mut [Result<PartResult<E::StretchResult, A::Token, A::State>, RunFault>],
 ) -> Result<(Vec<E::StretchResult>, NetState<A::Token, A::State>), RunFault>
     requires split { IsSplit A.steps (E.inputs io.now) split }
-    requires made { AreResults A.steps (E.inputs io.now) (E.makes io.now) split rest.now places.old }
-    requires all { length places.old ≡ part_count split }
+    requires queue { AreBounds split queue.now.bounds.items }
+    requires made { AreResults A.steps (E.inputs io.now) (E.makes io.now) split queue.now.bounds.items rest.now
+        places.old }
+    requires all { length places.old ≡ length queue.now.bounds.items - 1 }
     ensures { MatchResult result
         (λ r. GoesOnInParts A.steps split.entry.net.now split.entry.period.now.repetitions (E.inputs io.now)
         (E.makes io.now) rest.now split.entry.periods r.0.items r.1)
@@ -111,18 +124,21 @@ fn gather<A: Actor, E: PartIo<A::Token>>(
     io: &E,
     split: Split<'_, A>,
     rest: &NetState<A::Token, A::State>,
+    queue: &PartQueue,
     workers: &mut [Worker<E::StretchResult, A::Token, A::State>],
 ) -> Result<(Vec<E::StretchResult>, NetState<A::Token, A::State>), RunFault>
     requires split { IsSplit A.steps (E.inputs io.now) split }
-    requires done { AllAreFinished A.steps (E.inputs io.now) (E.makes io.now) split rest.now workers.old }
+    requires queue { AreBounds split queue.now.bounds.items }
+    requires done { AllAreFinished A.steps (E.inputs io.now) (E.makes io.now) split queue.now.bounds.items rest.now
+        workers.old }
     ensures { MatchResult result
         (λ r. GoesOnInParts A.steps split.entry.net.now split.entry.period.now.repetitions (E.inputs io.now)
         (E.makes io.now) rest.now split.entry.periods r.0.items r.1)
         (λ fault. fault ≡ OutOfMemory) }
 {
-    let mut places = empty_places(alloc, io, split, rest)?;
-    place_all(io, split, rest, workers, &mut places);
-    take_results(alloc, io, split, rest, &mut places)
+    let mut places = empty_places(alloc, io, split, rest, queue)?;
+    place_all(io, split, rest, queue, workers, &mut places);
+    take_results(alloc, io, split, rest, queue, &mut places)
 }
 
 /// Runs all parts on `workers` in parallel, and `meanwhile` beside them. Returns the results of both.
@@ -132,6 +148,7 @@ fn run_parts<R: Threads + Sync, A: Actor, E: PartIo<A::Token>, G: FnMut() -> B, 
     io: &E,
     split: Split<'_, A>,
     rest: &NetState<A::Token, A::State>,
+    queue: &PartQueue,
     workers: &mut [Worker<E::StretchResult, A::Token, A::State>],
     meanwhile: &mut G,
 ) -> (
@@ -140,6 +157,7 @@ fn run_parts<R: Threads + Sync, A: Actor, E: PartIo<A::Token>, G: FnMut() -> B, 
 )
     requires split { IsSplit A.steps (E.inputs io.now) split }
     requires rest { WasLeft A.steps split.net.now split.period.now.repetitions rest.now }
+    requires queue { AreBounds split queue.now.bounds.items }
     requires meanwhile { G.pre meanwhile.old }
     ensures ran { MatchResult result.0
         (λ r. GoesOnInParts A.steps split.entry.net.now split.entry.period.now.repetitions (E.inputs io.now)
@@ -147,19 +165,54 @@ fn run_parts<R: Threads + Sync, A: Actor, E: PartIo<A::Token>, G: FnMut() -> B, 
         (λ fault. fault ≡ OutOfMemory) }
     ensures meanwhile { G.step meanwhile.old result.1 meanwhile.new }
 {
-    let queue = PartQueue::new();
     let done = for_each_beside(
         rt,
         workers,
         &|_: usize, worker: &mut Worker<E::StretchResult, A::Token, A::State>|
             requires { IsSplit A.steps (E.inputs io.now) split
-                × WasLeft A.steps split.net.now split.period.now.repetitions rest.now }
-            ensures { AreFinished A.steps (E.inputs io.entry.now) (E.makes io.entry.now) split.entry rest.entry.now
-                worker.exit.now.done.items }
-        { work(alloc, io, split, rest, &queue, worker) },
+                × WasLeft A.steps split.net.now split.period.now.repetitions rest.now
+                × AreBounds split queue.now.bounds.items }
+            ensures { AreFinished A.steps (E.inputs io.entry.now) (E.makes io.entry.now) split.entry
+                queue.entry.now.bounds.items rest.entry.now worker.exit.now.done.items }
+        { work(alloc, io, split, rest, queue, worker) },
         meanwhile,
     );
-    (gather(alloc, io, split, rest, workers), done)
+    (gather(alloc, io, split, rest, queue, workers), done)
+}
+
+/// Runs the parts in `queue` on up to `split.workers` workers, which are made if they are missing, and `meanwhile`
+/// beside them. Returns the results of both.
+fn run_queue<R: Threads + Sync, A: Actor, E: PartIo<A::Token>, G: FnMut() -> B, B>(
+    rt: &R,
+    io: &E,
+    split: Split<'_, A>,
+    rest: &NetState<A::Token, A::State>,
+    queue: &PartQueue,
+    workers: &mut PartWorkers<E::StretchResult, A::Token, A::State>,
+    meanwhile: &mut G,
+) -> (
+    Result<(Vec<E::StretchResult>, NetState<A::Token, A::State>), RunFault>,
+    B,
+)
+    requires split { IsSplit A.steps (E.inputs io.now) split }
+    requires rest { WasLeft A.steps split.net.now split.period.now.repetitions rest.now }
+    requires queue { AreBounds split queue.now.bounds.items }
+    requires meanwhile { G.pre meanwhile.old }
+    ensures ran { MatchResult result.0
+        (λ r. GoesOnInParts A.steps split.entry.net.now split.entry.period.now.repetitions (E.inputs io.now)
+        (E.makes io.now) rest.now split.entry.periods r.0.items r.1)
+        (λ fault. fault ≡ OutOfMemory) }
+    ensures meanwhile { G.step meanwhile.old result.1 meanwhile.new }
+{
+    let threads = queue.count().min(split.workers.max(1) as usize);
+    match workers.add_workers(threads) {
+        Ok(()) => {
+            let alloc = workers.alloc;
+            let all = &mut workers.all[..threads];
+            run_parts(rt, alloc, io, split, rest, queue, all, meanwhile)
+        }
+        Err(refused) => (Err(refused.into()), meanwhile()),
+    }
 }
 
 /// Resumes a net from its state `rest` as `resume_one` does, in parts that up to `split.workers` workers run in
@@ -191,15 +244,8 @@ pub fn resume_split<R: Threads + Sync, A: Actor, E: PartIo<A::Token>, G: FnMut()
     ensures meanwhile { G.step meanwhile.old result.1 meanwhile.new }
 {
     nets_have_periods(split.net);
-    let alloc = workers.alloc;
-    let parts = split.count();
-    let threads = parts.min(split.workers.max(1) as usize);
-    let stretches = split.size.div_ceil(split.stretch) as usize;
-    match workers.add_workers(threads, parts.div_ceil(threads).saturating_mul(stretches)) {
-        Ok(()) => {
-            let all = &mut workers.all[..threads];
-            run_parts(rt, alloc, io, split, rest, all, meanwhile)
-        }
+    match PartQueue::of_split(workers.alloc, split) {
+        Ok(queue) => run_queue(rt, io, split, rest, &queue, workers, meanwhile),
         Err(refused) => (Err(refused.into()), meanwhile()),
     }
 }

@@ -19,13 +19,11 @@ IsPieceSize share x (Some c) periods =
     (each : ℕ) × IsLeast (IsPartSize (periods_in share x) 1 c.warm) each ×
     (periods ≡ max 1 (min (each * c.parts) (2 ^ 32 - 1)))
 
--- The periods of a part if this many are run at once. An equal share of them for each worker is cut into the most parts
--- that each have the periods in PART frames, and 32 warm-ups; or it is one part, of at least eight warm-ups.
-abbrev pub IsPartOf : IoRates → Partition → ℕ → ℕ → Type 0
-IsPartOf x c periods size =
-    let share = div_ceil periods (max 1 c.parts) in
-    let least = max (periods_in PART x) (min (c.warm * 32) (2 ^ 32 - 1)) in
-    IsLeast (IsPartSize share (max 1 (share / least)) c.warm) size
+-- The fewest periods of a part if this many are run at once: an equal share of them for each worker, or the periods in
+-- PART frames if these are fewer, but at least eight warm-ups.
+abbrev pub IsLeastPart : IoRates → Partition → ℕ → ℕ → Type 0
+IsLeastPart x c periods size =
+    IsLeast (IsPartSize (min (div_ceil periods (max 1 c.parts)) (periods_in PART x)) 1 c.warm) size
 
 -- the periods that make this many frames (at most the greatest number of 32 bits)
 abbrev pub periods_making : ℕ → IoRates → ℕ
@@ -37,5 +35,5 @@ periods_making frames x = min (div_ceil frames x.made) (2 ^ 32 - 1)
 abbrev pub AreAtOnce : IoRates → Partition → ℕ → ℕ → Type 0
 AreAtOnce x c frames parts =
     (piece : ℕ) × IsPieceSize FIRST_SHARE x (Some c) piece × (size : ℕ) ×
-    IsPartOf x c (min piece (periods_making frames x)) size ×
+    IsLeastPart x c (min piece (periods_making frames x)) size ×
     (parts ≡ min (div_ceil (min piece (periods_making frames x)) size) (max 1 c.parts))

@@ -5,15 +5,18 @@ ghost use Rattle.sdf_graph.specs.Periods.{IsLeastPeriod};
 ghost use Rattle.sdf_graph.specs.Rates.{rates};
 ghost use Rattle.sdf_actor.specs.Graphs.{graph_of};
 ghost use Rattle.sdf_kit.specs.Kit.{kit_steps};
-ghost use Rattle.sdf_process.specs.Cuts.{AreAtOnce, IsPartOf, IsPieceSize, periods_in};
+ghost use Rattle.sdf_process.specs.Cuts.{AreAtOnce, IsLeastPart, IsPieceSize, periods_in};
 ghost use Rattle.sdf_process.specs.Output.{AreIoRates, io_rates_of};
 
 use crate::io_rates::IoRates;
 use sdf_file::Design;
 use sdf_parallel::part_size;
 
-/// The most frames that a piece on one thread, or a stretch of a part, reads or makes, unless a period has more.
+/// The most frames that a piece on one thread reads or makes, unless a period has more.
 pub(crate) const PIECE: usize = 32_768;
+
+/// The most frames that a stretch of a part reads or makes, unless a period has more. Its lists then stay in a cache.
+pub(crate) const STRETCH: usize = 16_384;
 
 /// The most frames that each worker reads or makes of a piece, unless a period or eight warm-ups have more. The longer
 /// a piece, the fewer threads are started.
@@ -23,13 +26,9 @@ pub(crate) const SHARE: usize = 131_072;
 /// part runs while it is read.
 pub(crate) const FIRST_SHARE: usize = 65_536;
 
-/// The least frames that a part reads or makes if a piece has several parts for each worker. A worker on a slow
-/// processor then runs fewer parts.
-const PART: usize = 16_384;
-
-/// The least length of a part, in warm-ups, if a piece has several parts for each worker. At most one in 32 of its
-/// periods is then run twice.
-const WARM_UPS: u32 = 32;
+/// The frames that the shortest parts of a piece read or make, unless a period or eight warm-ups have more, or an equal
+/// share of the piece has fewer.
+const PART: usize = 8_192;
 
 /// A partition of a piece: the most parts that are run in parallel, and the periods of warm-up before each.
 #[derive(Clone, Copy)]
@@ -48,15 +47,14 @@ pub(crate) fn periods_in(frames: usize, io: IoRates) -> u32
 }
 
 impl Partition {
-    /// Returns the number of periods of a part, if `periods` periods are run in parallel parts.
-    pub(crate) fn part_of(self, io: IoRates, periods: u32) -> u32
+    /// Returns the fewest periods of a part, if `periods` periods are run in parallel parts.
+    pub(crate) fn least_part(self, io: IoRates, periods: u32) -> u32
         requires { AreIoRates io }
-        ensures part { IsPartOf io self periods result }
+        ensures part { IsLeastPart io self periods result }
         ensures long { self.warm ≤ result }
     {
         let share = periods.div_ceil(self.parts.max(1));
-        let least = periods_in(PART, io).max(self.warm.saturating_mul(WARM_UPS));
-        part_size(share, (share / least).max(1), self.warm)
+        part_size(share.min(periods_in(PART, io)), 1, self.warm)
     }
 }
 
@@ -91,6 +89,6 @@ pub fn parts_at_once(design: &Design, workers: u32, warm: u32, frames: u64) -> u
     };
     let periods = frames.div_ceil(io.made as u64).min(u64::from(u32::MAX)) as u32;
     let piece = piece_periods(io, Some(partition), FIRST_SHARE).min(periods);
-    let part = partition.part_of(io, piece);
+    let part = partition.least_part(io, piece);
     piece.div_ceil(part).min(workers.max(1))
 }

@@ -19,7 +19,7 @@ ghost use Rattle.sdf_process.specs.Streams.{CanPlay, CanPlayNext, Plays, PlaysNe
 ghost use Rattle.sdf_process.specs.PlannedNets.{IsPartition, IsPlayer, IsPlayerPlan, partition_by};
 
 use crate::io_rates::IoRates;
-use crate::part_sizes::{PIECE, Partition, periods_in, piece_periods};
+use crate::part_sizes::{Partition, STRETCH, periods_in, piece_periods};
 use crate::portion::Portion;
 use crate::samples::make_frames;
 use sdf_actor::{Net, NetState};
@@ -220,8 +220,8 @@ impl<'a> Player<'a> {
             period: self.period,
             periods: portion.periods,
             warm: cut.warm,
-            size: cut.part_of(portion.io, portion.periods),
-            stretch: periods_in(PIECE, portion.io),
+            least: cut.least_part(portion.io, portion.periods),
+            stretch: periods_in(STRETCH, portion.io),
             workers: cut.parts,
         };
         let (ran, done) = resume_split(rt, &portion, split, &self.rest, workers, meanwhile);

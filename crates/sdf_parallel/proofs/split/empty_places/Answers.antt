@@ -11,8 +11,10 @@ loop-preserved g c =
     let inputs = g.E.PartIo.inputs c.args.io.now in
     let makes = g.E.PartIo.makes c.args.io.now in
     record {
-      made = subst (AreResults s inputs makes c.args.split c.args.rest.now) (sym c.in_ok-push.ensures.items)
-          (put_behind (IsResult s inputs makes c.args.split c.args.rest.now) c.loop.places.items (Err OutOfMemory)
+      made = subst (AreResults s inputs makes c.args.split c.args.queue.now.bounds.items c.args.rest.now)
+          (sym c.in_ok-push.ensures.items)
+          (put_behind (IsResult s inputs makes c.args.split c.args.queue.now.bounds.items c.args.rest.now)
+          c.loop.places.items (Err OutOfMemory)
           c.loop.invariant.made refl);
       count = omega (
         arith,

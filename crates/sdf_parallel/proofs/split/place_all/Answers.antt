@@ -14,7 +14,7 @@ loop-i-preserved g c =
     } in
     record {
       left = λ k d low l. subst (λ u. AreFinished g.A.Actor.steps (g.E.PartIo.inputs c.args.io.now)
-          (g.E.PartIo.makes c.args.io.now) c.args.split c.args.rest.now u.done.items)
+          (g.E.PartIo.makes c.args.io.now) c.args.split c.args.queue.now.bounds.items c.args.rest.now u.done.items)
           (sym (get_or-set_other was i k new d (λ same. omega (arith, same))))
           (c.loop-i.invariant.left k d (omega arith) (omega (arith, l, length-set was i new)));
       made = c.place.ensures.made;

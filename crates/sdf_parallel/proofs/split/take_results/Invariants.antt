@@ -9,8 +9,10 @@ use Rattle.sdf_parallel.proofs.split.take_results.Given as goal
 abbrev pub invariant-loop-i : goal.invariant-loop-i
 invariant-loop-i g l = record {
   left : (k : ℕ) (d : Result (PartResult _ _ _) RunFault) → l.i ≤ k → k < length l.places →
-      IsResult g.A.Actor.steps (g.E.PartIo.inputs l.io) (g.E.PartIo.makes l.io) l.split l.rest k
+      IsResult g.A.Actor.steps (g.E.PartIo.inputs l.io) (g.E.PartIo.makes l.io) l.split l.queue.bounds.items
+      l.rest k
       (get_or l.places k d);
-  grown : Grown g.A.Actor.steps (g.E.PartIo.inputs l.io) (g.E.PartIo.makes l.io) l.split l.rest l.i
+  grown : Grown g.A.Actor.steps (g.E.PartIo.inputs l.io) (g.E.PartIo.makes l.io) l.split l.queue.bounds.items
+      l.rest l.i
       l.all.items l.last;
 }

@@ -4,7 +4,7 @@ use Rattle.sdf_graph.specs.Periods.{IsLeastPeriod}
 use Rattle.sdf_graph.specs.Rates.{rates}
 use Rattle.sdf_actor.specs.Graphs.{graph_of}
 use Rattle.sdf_kit.specs.Kit.{kit_steps}
-use Rattle.sdf_process.specs.Cuts.{AreAtOnce, IsPartOf}
+use Rattle.sdf_process.specs.Cuts.{AreAtOnce, IsLeastPart}
 use Rattle.sdf_process.specs.Output.{io_rates_of}
 use Rattle.sdf_process.proofs.part_sizes.parts_at_once.Goals as goal
 
@@ -25,10 +25,10 @@ returns-clause-parts c = λ q period.
     same (
       c.piece_periods.result,
       c.piece_periods.ensures.piece,
-      c.part_of-part.result,
-      subst (λ k. IsPartOf c.of_net-io.result (record { parts = c.args.workers; warm = c.args.warm }) k
-          c.part_of-part.result) piece c.part_of-part.ensures.part,
+      c.least_part-part.result,
+      subst (λ k. IsLeastPart c.of_net-io.result (record { parts = c.args.workers; warm = c.args.warm }) k
+          c.least_part-part.result) piece c.least_part-part.ensures.part,
       c.min.ensures ∙ (ap (λ k. min k c.max.result)
-          (c.div_ceil-2.ensures ∙ ap (λ k. div_ceil k c.part_of-part.result) piece)
+          (c.div_ceil-2.ensures ∙ ap (λ k. div_ceil k c.least_part-part.result) piece)
           ∙ ap (min _) (let z : c.max.result ≡ max 1 c.args.workers = omega (arith, c.max.ensures) in z)),
     )

@@ -27,8 +27,8 @@ resume_split-ran-requires-clause-split g c κs within =
           (sym can.io) (piece_full n p.repetitions y.input.now 0 y.periods);
       warm_up = subst (IsPartition n p.repetitions) (ap partition_by c.in-Parts.is) c.requires.player.cut;
       short = omega (arith, y.fits);
-      some = c.part_of.ensures.part.is.some;
-      long = c.part_of.ensures.long;
+      some = c.least_part.ensures.part.is.some;
+      long = c.least_part.ensures.long;
       stretch = omega (arith, c.periods_in.ensures);
     }
 
