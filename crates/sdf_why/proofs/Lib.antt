@@ -6,4 +6,5 @@ mod Roots
 mod Edges
 mod Grown
 mod Forms
+mod Lists
 pub mod Theorems

@@ -9,6 +9,7 @@ pub mod Values
 pub mod Coefficients
 pub mod Places
 pub mod Types
+pub mod Synonyms
 pub mod Kinds
 pub mod Documents
 pub mod Spots

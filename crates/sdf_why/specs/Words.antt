@@ -10,6 +10,13 @@ use Rattle.sdf_why.specs.Marks.{has_mark}
 abbrev pub end : List ℕ
 end = 10 ∷ []
 
+-- words with commas between them, and `and` before the last
+abbrev pub listed : List (List ℕ) → List ℕ
+listed [] = []
+listed (w ∷ []) = w
+listed (w ∷ v ∷ []) = w ++ codes " and " ++ v
+listed (w ∷ v ∷ u ∷ ws) = w ++ codes ", " ++ listed (v ∷ u ∷ ws)
+
 -- a text from the user's file, in quotes
 abbrev pub quoted : List ℕ → List ℕ
 quoted s = codes "\"" ++ printable_text s ++ codes "\""

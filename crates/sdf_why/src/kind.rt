@@ -2,14 +2,16 @@
 
 ghost use Rattle.std.specs.Prelude.{◌≡◌, ◌++◌, IfOk, OnOk, map, option_map, string_bytes};
 ghost use Rattle.toml.specs.View.{view};
-ghost use Rattle.sdf_why.specs.Kinds.{kind_words, later_kinds, format_of, is_format_one, kind_format, format_for};
-ghost use Rattle.sdf_why.specs.Kinds.{meant_told, word_told, kind_told};
+ghost use Rattle.sdf_similar.specs.Similar.{nearest};
+ghost use Rattle.sdf_why.specs.Kinds.{kind_words, kinds_line, format_of, is_format_one, kind_format, format_for};
+ghost use Rattle.sdf_why.specs.Kinds.{meant_told, purpose_told, word_told, kind_told};
 
 use crate::near::push_other;
+use crate::synonyms::{Purpose, advice_of, kind_of, purpose_of};
 use crate::tables::{actor_text, value_at};
-use crate::words::push_key;
+use crate::words::{push_hint, push_key};
 use sdf_document::kind_named;
-use sdf_kinds::kinds;
+use sdf_kinds::{kinds, row_of};
 use sdf_similar::nearest;
 use std::alloc::{AllocError, Global};
 use toml::Value;
@@ -26,11 +28,11 @@ fn kind_words(alloc: Global) -> Result<Vec<&'static str>, AllocError>
     Ok(words)
 }
 
-/// Returns the kinds that need format 2.
-fn later_kinds() -> &'static str
-    ensures { result.now ≡ later_kinds }
+/// Returns the line with all kinds.
+fn kinds_line() -> &'static str
+    ensures { result.now ≡ kinds_line }
 {
-    "clip, deal, gather and offset"
+    "  kinds: input, output, fir, decimate, interpolate, add, fork, gain, delay, table, deal, gather, clip and offset\n"
 }
 
 /// Returns the whole number at the key `format` of `graph`.
@@ -49,42 +51,40 @@ fn is_format_one(graph: &Value) -> bool
     }
 }
 
-/// Adds the line of the key `format` with `words`, kinds that need format 2, if `graph` is of format 1.
+/// Adds the line of the key `format` with `kind`, which needs format 2, if `graph` is of format 1.
 #[tactic(auto, unfolding(crate::specs::Kinds::kind_format))]
 fn push_kind_format(
     alloc: Global,
     text: &mut String,
     graph: &Value,
-    words: &str,
+    kind: &str,
 ) -> Result<(), AllocError>
-    ensures { OnOk result (string_bytes text.new ≡ string_bytes text.old ++ kind_format words.now (view graph.now)) }
+    ensures { OnOk result (string_bytes text.new ≡ string_bytes text.old ++ kind_format kind.now (view graph.now)) }
 {
     if !is_format_one(graph) {
         return Ok(());
     }
-    let wanted = format!(in alloc; "2 for {words}")?;
+    let wanted = format!(in alloc; "2 for {kind}")?;
     let format = value_at(graph, "format");
     push_key(alloc, text, "format", format, Some(wanted.as_str()))
 }
 
-/// Adds the format that `meant` needs, unless format 1 has it. Without a kind, adds all kinds that need format 2.
+/// Adds the format that `kind` needs, unless format 1 has it.
 fn push_format_for(
     alloc: Global,
     text: &mut String,
     graph: &Value,
-    meant: Option<&str>,
+    kind: &str,
 ) -> Result<(), AllocError>
-    ensures { OnOk result (string_bytes text.new ≡ string_bytes text.old
-        ++ format_for (view graph.now) (option_map (λ s. s.now) meant.entry)) }
+    ensures { OnOk result (string_bytes text.new ≡ string_bytes text.old ++ format_for (view graph.now) kind.now) }
 {
-    match meant {
-        Some(word) if kind_named(1, word).is_some() => Ok(()),
-        Some(word) => push_kind_format(alloc, text, graph, word),
-        None => push_kind_format(alloc, text, graph, later_kinds()),
+    if kind_named(1, kind).is_some() {
+        return Ok(());
     }
+    push_kind_format(alloc, text, graph, kind)
 }
 
-/// Adds the kind `meant` by `word`, and the format that it needs.
+/// Adds the kind `meant` by `word`, and the format that it needs. Without a kind, adds all kinds.
 fn push_meant(
     alloc: Global,
     text: &mut String,
@@ -95,17 +95,53 @@ fn push_meant(
     ensures { OnOk result (string_bytes text.new ≡ string_bytes text.old
         ++ meant_told (view graph.now) word.now (option_map (λ s. s.now) meant.entry)) }
 {
-    push_other(alloc, text, word, meant)?;
-    push_format_for(alloc, text, graph, meant)
+    let Some(kind) = meant else {
+        return Ok(text.push_str(kinds_line())?);
+    };
+    push_other(alloc, text, word, Some(kind))?;
+    push_format_for(alloc, text, graph, kind)
+}
+
+/// Adds the kind that serves `purpose`, how it does so, the format that it needs, and all kinds.
+#[tactic(auto, unfolding(crate::specs::Kinds::purpose_told))]
+fn push_purpose(
+    alloc: Global,
+    text: &mut String,
+    graph: &Value,
+    purpose: Purpose,
+) -> Result<(), AllocError>
+    ensures { OnOk result (string_bytes text.new ≡ string_bytes text.old ++ purpose_told (view graph.now) purpose) }
+{
+    let kind = row_of(kind_of(purpose)).word;
+    push_hint(alloc, text, kind)?;
+    text.push_str(advice_of(purpose))?;
+    push_format_for(alloc, text, graph, kind)?;
+    Ok(text.push_str(kinds_line())?)
+}
+
+/// Adds the kind that is most like `word`, and the format that it needs. Without one, adds all kinds.
+fn push_nearest(
+    alloc: Global,
+    text: &mut String,
+    graph: &Value,
+    word: &str,
+) -> Result<(), AllocError>
+    ensures { OnOk result (string_bytes text.new ≡ string_bytes text.old
+        ++ meant_told (view graph.now) word.now (nearest word.now kind_words)) }
+{
+    let words = kind_words(alloc)?;
+    let meant = nearest(alloc, &words, word)?;
+    push_meant(alloc, text, graph, word, meant)
 }
 
 #[tactic(auto, unfolding(crate::specs::Kinds::word_told))]
 fn push_word(alloc: Global, text: &mut String, graph: &Value, word: &str) -> Result<(), AllocError>
     ensures { OnOk result (string_bytes text.new ≡ string_bytes text.old ++ word_told (view graph.now) word.now) }
 {
-    let words = kind_words(alloc)?;
-    let meant = nearest(alloc, &words, word)?;
-    push_meant(alloc, text, graph, word, meant)
+    match purpose_of(word) {
+        Some(purpose) => push_purpose(alloc, text, graph, purpose),
+        None => push_nearest(alloc, text, graph, word),
+    }
 }
 
 /// Adds the kind that may have been meant for `actor`, and the format that it needs.

@@ -6,10 +6,10 @@
 //! `sound` have the lines of each fault, `loops` a loop that may keep samples. `limits` has the limits of a key,
 //! `places` its line at a place, `types` its type, `values` the first value of a list that does not fit, and
 //! `coefficients` the lines of a coefficient file. `facts` has what a fault is about as values, and `spots` its line.
-//! `near` has what may have been meant, and `kind` also the format that it needs. `more` has what the tables of a net
-//! do not show. It needs the graph that `channels` makes, and `ports` for the ports of its actors. `notes` has what of
-//! a sound a run did not read. The definitions are in `specs/`, a file for each module; begin at
-//! `specs/Diagnostics.antt`.
+//! `near` has what may have been meant, `synonyms` the words that users try for kinds, and `kind` also the format that
+//! a kind needs. `more` has what the tables of a net do not show. It needs the graph that `channels` makes, and `ports`
+//! for the ports of its actors. `notes` has what of a sound a run did not read. The definitions are in `specs/`, a file
+//! for each module; begin at `specs/Diagnostics.antt`.
 #![tactic(auto)]
 
 mod actors;
@@ -34,6 +34,7 @@ mod places;
 mod ports;
 mod sound;
 mod spots;
+mod synonyms;
 mod tables;
 mod types;
 mod values;

@@ -12,7 +12,7 @@ struct Row {
     told: &'static str,
 }
 
-static ROWS: [Row; 24] = [
+static ROWS: [Row; 26] = [
     Row {
         graph: "format = 1\nlink = []\n[[actor]]\nname = \"half\"\nkind = \"fir\"\nup = 147\nshift = 0\ntaps = [1]\n",
         told: "28 KitValue actor 0 key up\n  \
@@ -106,7 +106,23 @@ static ROWS: [Row; 24] = [
     Row {
         graph: "format = 1\nlink = []\n[[actor]]\nname = \"d\"\nkind = \"resampler\"\n",
         told: "56 UnknownKind actor 0\n  \
-            actor 0 is \"d\", a resampler\n  format = 1, needs 2 for clip, deal, gather and offset\n",
+            actor 0 is \"d\", a resampler\n  did you mean \"fir\"?\n  `sdfw resample` writes a whole \
+            converter\n  kinds: input, output, fir, decimate, interpolate, add, fork, gain, delay, \
+            table, deal, gather, clip and offset\n",
+    },
+    Row {
+        graph: "format = 1\nlink = []\n[[actor]]\nname = \"d\"\nkind = \"lowpass\"\n",
+        told: "56 UnknownKind actor 0\n  \
+            actor 0 is \"d\", a lowpass\n  did you mean \"fir\"?\n  `sdfw fir` prints the taps of a low-pass, \
+            high-pass or band-pass\n  kinds: input, output, fir, decimate, interpolate, add, fork, gain, delay, \
+            table, deal, gather, clip and offset\n",
+    },
+    Row {
+        graph: "format = 1\nlink = []\n[[actor]]\nname = \"d\"\nkind = \"limiter\"\n",
+        told: "56 UnknownKind actor 0\n  \
+            actor 0 is \"d\", a limiter\n  did you mean \"clip\"?\n  format = 1, needs 2 for clip\n  \
+            kinds: input, output, fir, decimate, interpolate, add, fork, gain, delay, \
+            table, deal, gather, clip and offset\n",
     },
     Row {
         graph: "format = 1\nlink = []\n[[actor]]\nname = \"d\"\nkind = \"gain\"\nshfit = 1\n",
@@ -279,9 +295,10 @@ static OTHERS: [Row; 24] = [
             actor 0 is \"d\", a gahter\n  did you mean \"gather\"?\n",
     },
     Row {
-        graph: "format = 2\nlink = []\n[[actor]]\nname = \"d\"\nkind = \"resampler\"\n",
+        graph: "format = 1\nlink = []\n[[actor]]\nname = \"d\"\nkind = \"compressor\"\n",
         told: "56 UnknownKind actor 0\n  \
-            actor 0 is \"d\", a resampler\n",
+            actor 0 is \"d\", a compressor\n  kinds: input, output, fir, decimate, interpolate, add, fork, gain, \
+            delay, table, deal, gather, clip and offset\n",
     },
 ];
 
