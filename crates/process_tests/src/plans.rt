@@ -77,9 +77,9 @@ fn short_chain(alloc: Global) -> Result<String, Fail> {
     short_run(alloc, &design)
 }
 
-/// A design of the most actors, 64 in a line: the input `a0`, the actors `a1` to `a62`, and the output `a63`. Each feeds
-/// the next from its port 0 into port 0. `first`, `middle` and `last` are what `a1`, the actors behind it, and `a62` are.
-/// `more` is one more link, or none.
+/// A design of the most actors, 64 in a line: the input `a0`, the actors `a1` to `a62`, and the output `a63`. Each
+/// feeds the next from its port 0 into port 0. `first`, `middle` and `last` are what `a1`, the actors behind it, and
+/// `a62` are. `more` is one more link, or none.
 #[derive(Clone, Copy)]
 struct Line {
     name: &'static str,

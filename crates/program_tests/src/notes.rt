@@ -40,8 +40,8 @@ const UNREAD: &[Heard] = &[
     ),
 ];
 
-/// Sounds of another rate than the design's. Refuses a program that notes nothing, that notes equal rates, or that turns
-/// the quotient round.
+/// Sounds of another rate than the design's. Refuses a program that notes nothing, that notes equal rates, or that
+/// turns the quotient round.
 const RATES: &[Heard] = &[
     (
         b"",

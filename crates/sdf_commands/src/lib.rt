@@ -5,8 +5,8 @@
 //! and `sdf_filters` makes filters and converters. `sdf_faults` has the faults. `sdf_why` has their diagnostics, also
 //! for faults of `sdf_document` and `sdf_prec`. Begin at `printing`, `comparing` and `making`, which have the commands.
 //! `diagnostics` chooses the diagnostic of a fault, and `sounds` has those for faults of `sdf_wav`. `details` has the
-//! same for JSON, and `remedies` the command that helps against a fault. `notes` has what of a sound a run did not read.
-//! `specs/Refusals.antt` defines the lines behind a comparison.
+//! same for JSON, and `remedies` the command that helps against a fault. `notes` has what of a sound a run did not
+//! read. `specs/Refusals.antt` defines the lines behind a comparison.
 #![tactic(auto)]
 
 pub mod comparing;

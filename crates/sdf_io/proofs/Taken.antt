@@ -19,7 +19,8 @@ handed_on first a b all held rest n kept taken is =
 
 -- the device took none of them
 pub refused : (first a b : Option (List ℕ)) (all held : List ℕ) →
-    Keeps (append_known first all) (append_known a held) → Keeps a b → Keeps (append_known first all) (append_known b held)
+    Keeps (append_known first all) (append_known a held) → Keeps a b →
+    Keeps (append_known first all) (append_known b held)
 refused first a b all held kept same = Keeps-trans _ _ _ kept (append_known-kept a b held same)
 
 -- more bytes are held

@@ -4,7 +4,8 @@ ghost use Rattle.std.specs.Prelude.{◌≡◌, IfOk, OnOk, None, [], map, option
 ghost use Rattle.serde_json.specs.Data.{string, object};
 ghost use Rattle.serde_json.specs.View.{view, members_view};
 ghost use Rattle.serde_json.specs.Find.{get};
-ghost use Rattle.sdf_json.specs.Details.{perhaps_number, perhaps_text, held_in, perhaps_hint, with_subject, with_details};
+ghost use Rattle.sdf_json.specs.Details.{perhaps_number, perhaps_text, held_in, perhaps_hint, with_subject};
+ghost use Rattle.sdf_json.specs.Details.{with_details};
 ghost use Rattle.sdf_json.specs.Details.{detailed};
 
 use crate::values::{Members, put_number, put_text};

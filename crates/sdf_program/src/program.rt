@@ -49,8 +49,8 @@ struct Job<'a> {
 }
 
 impl<'a> Job<'a> {
-    /// Returns the run that `request` asks for. Its progress is shown if reports are printed and `can_show` is true. JSON
-    /// takes the place of the other reports.
+    /// Returns the run that `request` asks for. Its progress is shown if reports are printed and `can_show` is true.
+    /// JSON takes the place of the other reports.
     fn running(self, request: RunRequest<'a>, can_show: bool) -> Running<'a>
         ensures loaded { result.loaded ≡ self.entry.loaded }
         ensures request { result.request ≡ request.entry }

@@ -185,8 +185,8 @@ impl RunReport {
     }
 }
 
-/// Runs a plan from `from` to `to`, and shows its progress. Returns a report if the run ends well. Notes in `refused` how
-/// the system refused the output.
+/// Runs a plan from `from` to `to`, and shows its progress. Returns a report if the run ends well. Notes in `refused`
+/// how the system refused the output.
 fn run_shown<T: Threads + AllocGlobal + Clock + Sync, R: Read, W: Write, E: Write>(
     threads: &T,
     from: &mut R,
@@ -220,8 +220,8 @@ fn run_shown<T: Threads + AllocGlobal + Clock + Sync, R: Read, W: Write, E: Writ
     Ok(RunReport::of(alloc, planned, output.levels)?)
 }
 
-/// Runs a plan from `from` into a new file beside `place`, and moves it there if the run ends well. Otherwise what is at
-/// `place` stays as it was.
+/// Runs a plan from `from` into a new file beside `place`, and moves it there if the run ends well. Otherwise what is
+/// at `place` stays as it was.
 fn run_beside<S: Storage, T: Threads + AllocGlobal + Clock + Sync, R: Read, E: Write>(
     world: &World<S, T>,
     from: &mut R,

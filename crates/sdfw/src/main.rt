@@ -1,8 +1,8 @@
 //! The program `sdfw`: synchronous dataflow graphs over 16-bit PCM WAV files.
 //!
-//! `main` provides the streams, the arguments, the environment, the threads and the files of the system. It depends on `sdf_cli`,
-//! which reads the arguments, on `sdf_io` for the system's files, and on `sdf_program`, which does the rest. Begin
-//! there, at `program::serve`.
+//! `main` provides the streams, the arguments, the environment, the threads and the files of the system. It depends on
+//! `sdf_cli`, which reads the arguments, on `sdf_io` for the system's files, and on `sdf_program`, which does the rest.
+//! Begin there, at `program::serve`.
 #![tactic(auto)]
 
 use sdf_cli::arguments::read_arguments;

@@ -84,8 +84,8 @@ impl ThreadCount {
     }
 }
 
-/// The threads, memory and clock of `rt`. Each call for memory or for the time counts the threads of this program. Until
-/// the wanted number was seen, such a call waits a while for it, so threads that work at once are seen at once.
+/// The threads, memory and clock of `rt`. Each call for memory or for the time counts the threads of this program.
+/// Until the wanted number was seen, such a call waits a while for it, so threads that work at once are seen at once.
 #[derive_where(Clone, Copy)]
 pub struct CountedThreads<'a, R> {
     pub rt: &'a R,
