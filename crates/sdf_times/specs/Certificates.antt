@@ -32,6 +32,7 @@ IsPeriodFor p t q = (end : ℕ → ℕ) → AreEnds p end → IsIterationPeriod 
 -- what a certificate says is the period
 abbrev pub CertificatesHold : Type 0
 CertificatesHold =
-    (g : GraphValue) (reps : List ℕ) (j width : ℕ) (t : TableValue) (costs : List ℕ) (c : CertificateValue) → IsShape g →
+    (g : GraphValue) (reps : List ℕ) (j width : ℕ) (t : TableValue) (costs : List ℕ) (c : CertificateValue) →
+    IsShape g →
     IsBlockRun g reps j width t costs → IsCertificate (plan_of g (block j reps) t costs) (block j reps) c →
     IsPeriodFor (plan_of g (block j reps) t costs) c.time c.blocks

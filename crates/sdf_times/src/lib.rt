@@ -3,8 +3,8 @@
 //! It depends on `sdf_graph`, `sdf_sched`, `sdf_prec` and `sdf_limits`. Begin at `times`, then `bounds`. `laws` has
 //! what is true of all tables. The definitions are in `specs/Times.antt`, the statements in `specs/Laws.antt`.
 //!
-//! `rows` has the time of a block row by row. `search` finds the period of self-timed runs, and `certificate` checks what
-//! it finds. The definitions are in `specs/ByRows.antt`, `specs/SelfTimed.antt` and `specs/Certificates.antt`, the
+//! `rows` has the time of a block row by row. `search` finds the period of self-timed runs, and `certificate` checks
+//! what it finds. The definitions are in `specs/ByRows.antt`, `specs/SelfTimed.antt` and `specs/Certificates.antt`, the
 //! statements in `specs/Periods.antt`.
 #![tactic(auto)]
 

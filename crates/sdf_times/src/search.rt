@@ -1,5 +1,5 @@
-//! A search for a certificate of the period. Nothing is proved of what it finds, only that it ends: `is_certificate` decides
-//! whether it is believed.
+//! A search for a certificate of the period. Nothing is proved of what it finds, only that it ends: `is_certificate`
+//! decides whether it is believed.
 //!
 //! It begins with the greatest load, which the firings of its column take in each block. Sweeps over the rows then find
 //! longest paths among the firings of the blocks: the earliest starts at this period (Reiter 1968). If a sweep delays

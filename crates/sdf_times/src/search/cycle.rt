@@ -19,8 +19,8 @@ fn clear(marks: &mut Vec<usize>)
 }
 
 impl Events {
-    /// Goes from cause to cause from the event at `root` on, and marks the events until one that has a mark or no cause.
-    /// Returns that event if it is one of this walk.
+    /// Goes from cause to cause from the event at `root` on, and marks the events until one that has a mark or no
+    /// cause. Returns that event if it is one of this walk.
     fn walk(&self, marks: &mut Vec<usize>, root: usize) -> Option<usize>
         requires all { length marks.old.items ≡ self.now.total }
         requires root { root < self.now.total }

@@ -1,4 +1,4 @@
-use Rattle.std.proofs.Common.{◌≡◌, ◌∙◌, ℕ, subst, sym, Some}
+use Rattle.std.proofs.Common.{◌≡◌, ℕ, subst, sym, Some}
 use Rattle.sdf_prec.specs.Numbers.{InBlock}
 use Rattle.sdf_prec.specs.Tables.{cell}
 use Rattle.sdf_prec.specs.declared.firing.Firing.{Firing}

@@ -1,7 +1,5 @@
-use Rattle.std.proofs.Common.{◌≡◌, ◌∙◌, ℕ, subst, sym, Some}
+use Rattle.std.proofs.Common.{◌∙◌, subst, sym}
 use Rattle.sdf_prec.specs.Numbers.{InBlock}
-use Rattle.sdf_prec.specs.Tables.{cell}
-use Rattle.sdf_prec.specs.declared.firing.Firing.{Firing}
 use Rattle.sdf_times.specs.Searches.{SweepValue}
 use Rattle.sdf_times.proofs.search.sweep.Sweep.relax_row.Goals as goal
 
