@@ -82,6 +82,7 @@ examples: build
 	scripts/pipes
 	scripts/kept
 	scripts/terminal
+	scripts/sound --limits
 
 # The gate: each proof that did not pass on this machine before, from nothing, the tests, each program as two compilers
 # build it, and the wrong bodies that have names. What `make build` proved is taken from there.

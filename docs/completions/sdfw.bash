@@ -17,6 +17,7 @@ _sdfw() {
     run:--runner) mapfile -t COMPREPLY < <(compgen -W "one rows rings" -- "$word"); return ;;
     run:--patience) :; return ;;
     resample:--channels) :; return ;;
+    resample:--pass) :; return ;;
     resample:--attenuation) :; return ;;
     fir:--rate) :; return ;;
     fir:--pass) :; return ;;
@@ -42,7 +43,7 @@ _sdfw() {
   esac
   case ${COMP_WORDS[1]}:$word in
     run:-*) mapfile -t COMPREPLY < <(compgen -W "--parallel --into --open-ended --why --no-why --json --help --blocking --workers --policy --placement --runner --patience" -- "$word") ;;
-    resample:-*) mapfile -t COMPREPLY < <(compgen -W "--channels --attenuation --why --no-why --help" -- "$word") ;;
+    resample:-*) mapfile -t COMPREPLY < <(compgen -W "--channels --fast --pass --attenuation --why --no-why --help" -- "$word") ;;
     fir:-*) mapfile -t COMPREPLY < <(compgen -W "--rate --pass --stop --low-stop --low-pass --attenuation --up --shift --why --no-why --help" -- "$word") ;;
     fir:*) mapfile -t COMPREPLY < <(compgen -W "lowpass highpass bandpass" -- "$word") ;;
     check:-*) mapfile -t COMPREPLY < <(compgen -W "--why --no-why --json --help" -- "$word") ;;

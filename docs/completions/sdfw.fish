@@ -28,6 +28,8 @@ complete -c sdfw -n '__fish_seen_subcommand_from run' -l runner -x -a 'one rows 
 complete -c sdfw -n '__fish_seen_subcommand_from run' -l patience -x -d 'How often an idle worker looks again before the round ends, at most 1000000'
 complete -c sdfw -n '__fish_seen_subcommand_from run' -F
 complete -c sdfw -n '__fish_seen_subcommand_from resample' -l channels -x -d 'Channels, 1 to 8'
+complete -c sdfw -n '__fish_seen_subcommand_from resample' -l fast -d 'Makes filters of 16-bit taps, which take less time'
+complete -c sdfw -n '__fish_seen_subcommand_from resample' -l pass -x -d 'Thousandths of half the lower rate that pass, 500 to 950'
 complete -c sdfw -n '__fish_seen_subcommand_from resample' -l attenuation -x -d 'Stopband attenuation in dB, at most 200'
 complete -c sdfw -n '__fish_seen_subcommand_from resample' -l why -d 'Says more about a fault: names, values and limits'
 complete -c sdfw -n '__fish_seen_subcommand_from resample' -l no-why -d 'Prints only the short messages, as to a pipe or a log'

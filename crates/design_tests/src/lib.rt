@@ -41,3 +41,5 @@ mod tap_rows;
 mod taps;
 #[cfg(test)]
 mod texts;
+#[cfg(test)]
+mod wide_converters;

@@ -203,8 +203,14 @@ const COMMANDS: &[Row] = &[
     (
         "a conversion by its defaults",
         "resample 1 2 f",
-        "Resample { conversion: Conversion { from: 1, to: 2, folder: \"f\", channels: 1, attenuation: 96 }, \
-         why: AtTerminal }",
+        "Resample { conversion: Conversion { from: 1, to: 2, folder: \"f\", channels: 1, attenuation: None, \
+         pass: 907, fast: false }, why: AtTerminal }",
+    ),
+    (
+        "a conversion by taps of 16 bits, and its other words",
+        "resample 1 2 f --fast --channels 3 --attenuation 80 --pass 950",
+        "Resample { conversion: Conversion { from: 1, to: 2, folder: \"f\", channels: 3, attenuation: Some(80), \
+         pass: 950, fast: true }, why: AtTerminal }",
     ),
 ];
 

@@ -415,7 +415,7 @@ const COUNTED: &[(&str, &str, &str, &str)] = &[
     ),
     (
         "coefficient files",
-        "resample 44100 48000 made --attenuation 40",
+        "resample 44100 48000 made --attenuation 40 --fast",
         "# fir up ",
         "2",
     ),

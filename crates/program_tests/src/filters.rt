@@ -60,17 +60,17 @@ const CONVERTERS: &[Row] = &[
     ),
     (
         "a folder that has a coefficient file",
-        "resample 8000 16000 begun",
+        "resample 8000 16000 begun --fast",
         "2\n--\nerror: FOLDER already has a file stage1.toml\n…",
     ),
     (
         "a folder that has a second coefficient file",
-        "resample 44100 48000 ended --attenuation 40",
+        "resample 44100 48000 ended --attenuation 40 --fast",
         "2\n--\nerror: FOLDER already has a file stage2.toml\n…",
     ),
     (
         "a design whose period is too long",
-        "resample 250047 262144 made --attenuation 9",
+        "resample 250047 262144 made --attenuation 9 --fast",
         "3\n--\nsdfw: 9 PeriodTooLong\n--\n",
     ),
     (
@@ -83,8 +83,31 @@ const CONVERTERS: &[Row] = &[
     ),
     (
         "a stage with too many taps, and no edges of bands to move",
-        "resample 5900 6100 made --attenuation 200",
+        "resample 5900 6100 made --attenuation 200 --fast",
         "2\n--\nerror: a stage needs … taps, but 1024 is the limit: lower --attenuation\n…",
+    ),
+    (
+        "wide taps, unless fast ones are asked for: two files of a stage, and a line about both",
+        "resample 22050 44100 made --channels 2",
+        "0\n--\n281 taps: … dB\nlate by 140 frames, which are cut off the end\n\
+         made made/graph.toml, high1.toml, low1.toml\nrun it: sdfw run made/graph.toml IN.wav OUT.wav\n--\n\
+         format = 1\nvalues = […\n]\nformat = 1\nvalues = […\n]\n# from 22050\n# to 44100\n# channels 2\n…\
+         kind = \"delay\"\nlength = …",
+    ),
+    (
+        "more channels of wide taps than fit",
+        "resample 44100 48000 made --channels 5",
+        "2\n--\nerror: 5 channels need more than 64 actors, and 4 fit: use fewer channels, or --fast\n…",
+    ),
+    (
+        "wide taps that stop more than there are taps for",
+        "resample 5900 6100 made --attenuation 200",
+        "2\n--\nerror: a stage needs … taps, but 1024 is the limit: lower --attenuation or --pass, or use --fast\n…",
+    ),
+    (
+        "wide taps that pass less, which are fewer",
+        "resample 22050 44100 made --pass 800 --attenuation 80",
+        "0\n--\n103 taps: … dB\nlate by 51 frames…",
     ),
     (
         "a folder that can't be made",
@@ -98,7 +121,7 @@ const CONVERTERS: &[Row] = &[
     ),
     (
         "a greater attenuation than the usual one, which has other stages, and a line for each of them",
-        "resample 44100 8000 made --attenuation 120",
+        "resample 44100 8000 made --attenuation 120 --fast",
         "0\n--\n… taps: … dB\n… taps: … dB\nlate by 47 frames, which are cut off the end\n\
          made made/graph.toml, stage1.toml, stage2.toml\nrun it: sdfw run made/graph.toml IN.wav OUT.wav\n--\n\
          # fir up 16 shift 15, low-pass 3636..10764 Hz at 705600 Hz, 120 dB\n…\n]\n\
@@ -106,7 +129,7 @@ const CONVERTERS: &[Row] = &[
     ),
     (
         "a coefficient file, what it does on standard error, and the graph file",
-        "resample 8000 16000 made --attenuation 40",
+        "resample 8000 16000 made --attenuation 40 --fast",
         "0\n--\n… taps: … dB\nlate by 26 frames, which are cut off the end\nmade made/graph.toml, stage1.toml\n\
          run it: sdfw run made/graph.toml IN.wav OUT.wav\n--\n\
          # fir up 2 shift 15, low-pass 3636..4364 Hz at 16000 Hz, 40 dB\nformat = 1\nvalues = […\n]\n# from 8000\n\

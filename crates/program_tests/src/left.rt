@@ -125,7 +125,7 @@ impl Storage for Full<'_> {
 }
 
 /// A converter with one coefficient file and a graph file.
-const LINE: &str = "resample 8000 16000 @ --attenuation 40";
+const LINE: &str = "resample 8000 16000 @ --attenuation 40 --fast";
 
 /// Files that don't fit on the disk, and the room for each.
 const ROWS: &[(&str, Option<usize>)] = &[

@@ -133,7 +133,9 @@ fn resample_of<'a>(matches: &ArgMatches<'a>) -> Option<Words<'a>>
         to: any_number_of(matches, "TO")?,
         folder: matches.get_str("FOLDER")?,
         channels: any_number_of(matches, "channels")?,
-        attenuation: any_number_of(matches, "attenuation")?,
+        attenuation: any_number_of(matches, "attenuation"),
+        pass: any_number_of(matches, "pass")?,
+        fast: matches.get_flag("fast"),
     };
     Some(Words::Resample {
         conversion,

@@ -45,6 +45,8 @@ enum Syntax {
     /// By its name: the name of its value in the help, the type, and the default. Without a default it is required,
     /// unless it is a path.
     Choice(&'static str, Values, Option<&'static str>),
+    /// By its name: the name of its value in the help, and the type. It is not required, and has no default.
+    Free(&'static str, Values),
     Switch(Switch),
 }
 
@@ -123,6 +125,11 @@ fn arg_of<'a>(alloc: Global, argument: Argument) -> Result<Arg<'a>, AllocError> 
             let named = arg.long(argument.name);
             Ok(chosen(named, value_name, values, default))
         }
+        Syntax::Free(value_name, values) => Ok(
+            arg.long(argument.name)
+                .value_name(value_name)
+                .value_parser(parser_of(values)),
+        ),
         Syntax::Switch(switch) => switched(arg.long(argument.name), switch),
     }
 }

@@ -8,14 +8,18 @@ use sdf_options::Options;
 /// The highest number of a fault.
 pub const MAX_FAULT: u32 = 63;
 
-/// A conversion between two rates in Hz, whose design is written into `folder`. The stopband attenuation is in dB.
+/// A conversion between two rates in Hz, whose design is written into `folder`. The stopband attenuation is in dB; if
+/// it is absent, the usual one is meant. If `fast`, the taps have 16 bits. `pass` is the part of half the lower rate
+/// that passes, in thousandths, and has no effect on a fast conversion.
 #[derive(Clone, Copy, Debug, PartialEq, Eq)]
 pub struct Conversion<'a> {
     pub from: u32,
     pub to: u32,
     pub folder: &'a str,
     pub channels: u32,
-    pub attenuation: u32,
+    pub attenuation: Option<u32>,
+    pub pass: u32,
+    pub fast: bool,
 }
 
 /// The number of workers of a parallel run.

@@ -5,7 +5,8 @@ use sdf_cli::Conversion;
 use sdf_faults::Fault;
 use sdf_file::{CoefficientFile, Design, read_design};
 use sdf_filters::{
-    ConverterTexts, FilterFault, FilterSpec, StageFile, converter_texts, filter_texts,
+    ConverterTexts, FilterFault, FilterSpec, StageFile, USUAL_ATTENUATION, WideSpec,
+    converter_texts, filter_texts, wide_converter_texts,
 };
 use sdf_io::files::{Refused, Sources, make_at, note_left, refuse};
 use sdf_io::overwriting::{canonical_path, keep_file};
@@ -36,13 +37,16 @@ fn filter_fault(alloc: Global, fault: FilterFault) -> Fault {
 }
 
 /// Returns `fault` of a conversion as a usage error. A conversion has no edges of bands that its user could move.
-fn conversion_fault(alloc: Global, fault: FilterFault) -> Fault {
+fn conversion_fault(alloc: Global, fault: FilterFault, fast: bool) -> Fault {
+    let remedy = if fast {
+        "lower --attenuation"
+    } else {
+        "lower --attenuation or --pass, or use --fast"
+    };
     match fault {
         FilterFault::TooManyTaps { taps } => usage_fault(
             alloc,
-            format!(in alloc;
-                "a stage needs {taps} taps, but 1024 is the limit: lower --attenuation"
-            ),
+            format!(in alloc; "a stage needs {taps} taps, but 1024 is the limit: {remedy}"),
         ),
         _ => filter_fault(alloc, fault),
     }
@@ -236,6 +240,34 @@ fn write_design<S: Storage, T: AllocGlobal, E: Write>(
     written
 }
 
+/// The attenuation of a fast conversion in dB, unless another is asked for.
+const FAST_ATTENUATION: u32 = 96;
+
+/// Returns the texts of the design of `conversion`.
+fn texts_of(alloc: Global, conversion: Conversion<'_>) -> Result<ConverterTexts, FilterFault> {
+    let Conversion {
+        from,
+        to,
+        channels,
+        attenuation,
+        pass,
+        fast,
+        ..
+    } = conversion;
+    if fast {
+        let attenuation = attenuation.unwrap_or(FAST_ATTENUATION);
+        return converter_texts(alloc, from, to, channels, attenuation);
+    }
+    let wanted = WideSpec {
+        from,
+        to,
+        channels,
+        attenuation: attenuation.unwrap_or(USUAL_ATTENUATION),
+        pass,
+    };
+    wide_converter_texts(alloc, wanted)
+}
+
 /// Writes the design of `conversion`. Notes in `sources` how the system refused a file.
 pub fn resample<S: Storage, T: AllocGlobal, E: Write>(
     world: &World<S, T>,
@@ -244,15 +276,8 @@ pub fn resample<S: Storage, T: AllocGlobal, E: Write>(
     sources: &mut Sources,
 ) -> Result<(), Fault> {
     let alloc = world.threads.alloc();
-    let Conversion {
-        from,
-        to,
-        folder,
-        channels,
-        attenuation,
-    } = conversion;
-    match converter_texts(alloc, from, to, channels, attenuation) {
-        Ok(texts) => write_design(world, err, folder, &texts, &mut sources.refused),
-        Err(fault) => Err(conversion_fault(alloc, fault)),
+    match texts_of(alloc, conversion) {
+        Ok(texts) => write_design(world, err, conversion.folder, &texts, &mut sources.refused),
+        Err(fault) => Err(conversion_fault(alloc, fault, conversion.fast)),
     }
 }

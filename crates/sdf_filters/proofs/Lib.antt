@@ -6,4 +6,7 @@ mod Counts
 mod Differing
 mod Files
 mod DelaySums
+mod WholeSums
+pub mod WideStages
+pub mod PartTaps
 pub mod TapCounts

@@ -13,6 +13,7 @@ use Rattle.sdf_filters.specs.declared.fault.FilterFault.{FilterFault}
 use Rattle.sdf_filters.specs.declared.fault.FilterFault.TheVariants.{OutOfMemory, Up, Shift, Attenuation}
 use Rattle.sdf_filters.specs.declared.fault.FilterFault.TheVariants.{PassNotBelowStop, StopOverHalf, TooManyTaps}
 use Rattle.sdf_filters.specs.declared.fault.FilterFault.TheVariants.{TapTooLarge, NoRate, FactorTooLarge, Channels}
+use Rattle.sdf_filters.specs.declared.fault.FilterFault.TheVariants.{TooManyActors, TooLate}
 use Rattle.sdf_filters.specs.declared.fault.FilterFault.TheVariants.{StopNotBelowPass, PassOverHalf, NothingPasses}
 use Rattle.sdf_filters.specs.declared.fault.FilterFault.TheVariants.{UpOfHighpass, RateTooLarge, LowStopNotBelowLowPass}
 
@@ -182,6 +183,8 @@ fault_of_all up down up_left down_left stages split (NothingPasses m n) h = absu
 fault_of_all up down up_left down_left stages split (UpOfHighpass n) h = absurd h
 fault_of_all up down up_left down_left stages split (RateTooLarge n) h = absurd h
 fault_of_all up down up_left down_left stages split (Channels n) h = absurd h
+fault_of_all up down up_left down_left stages split (TooManyActors m n) h = absurd h
+fault_of_all up down up_left down_left stages split TooLate h = absurd h
 
 -- and one of the rates
 pub fault_of_rates : (from to up down : ℕ) → 0 < from → 0 < to → IsLowest from to up down → (e : FilterFault) →
@@ -204,3 +207,5 @@ fault_of_rates from to up down from_some to_some lowest (NothingPasses m n) h = 
 fault_of_rates from to up down from_some to_some lowest (UpOfHighpass n) h = absurd h
 fault_of_rates from to up down from_some to_some lowest (RateTooLarge n) h = absurd h
 fault_of_rates from to up down from_some to_some lowest (Channels n) h = absurd h
+fault_of_rates from to up down from_some to_some lowest (TooManyActors m n) h = absurd h
+fault_of_rates from to up down from_some to_some lowest TooLate h = absurd h

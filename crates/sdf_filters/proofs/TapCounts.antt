@@ -1,5 +1,5 @@
 -- The number of a filter's taps.
-use Rattle.std.proofs.Common.{ℕ, ◌≤◌, ℤ, List, length, arith}
+use Rattle.std.proofs.Common.{◌≤◌, ℤ, List, length, arith}
 use Rattle.sdf_limits.specs.declared.TheConstants.{MAX_TAPS}
 use Rattle.sdf_filters.specs.declared.filter_spec.FilterSpec.{FilterSpec}
 use Rattle.sdf_filters.specs.declared.filter_spec.Band.{Band}

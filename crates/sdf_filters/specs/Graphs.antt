@@ -2,9 +2,11 @@
 use Rattle.std.specs.Prelude.{ℕ, zero, suc, ◌+◌, ◌==◌, List, [], ◌++◌, if◌then◌else◌, length, codes, decimal}
 use Rattle.std.specs.Prelude.{slice_get, Option, Some, None}
 use Rattle.sdf_filters.specs.declared.graph.TheConstants.{STAGE_SHIFT}
-use Rattle.sdf_filters.specs.declared.graph.End.{End}
-use Rattle.sdf_filters.specs.declared.graph.End.TheVariants.{Input, Fork, Branch, Silence, Sum, SumSecond, Filter}
-use Rattle.sdf_filters.specs.declared.graph.End.TheVariants.{Output}
+use Rattle.sdf_filters.specs.declared.ends.End.{End}
+use Rattle.sdf_filters.specs.declared.ends.End.TheVariants.{Input, Fork, Branch, Silence, Sum, SumSecond, Filter}
+use Rattle.sdf_filters.specs.declared.ends.End.TheVariants.{Part, PartSecond, Round, Output}
+use Rattle.sdf_filters.specs.declared.ends.Part.{Part as StagePart}
+use Rattle.sdf_filters.specs.declared.ends.Part.TheVariants.{Fork as ForkPart, Wait, High, Less, Low, Both}
 use Rattle.sdf_filters.specs.declared.stage.Stage.{Stage}
 use Rattle.sdf_filters.specs.Filters.{end}
 
@@ -21,6 +23,19 @@ mark channels channel = if channels == 1 then [] else codes "-" ++ decimal chann
 abbrev pub stage_name : ℕ → List ℕ
 stage_name number = codes "stage" ++ decimal number
 
+-- the word of a part of a stage of wide taps
+abbrev pub part_word : StagePart → List ℕ
+part_word ForkPart = codes "fork"
+part_word Wait = codes "wait"
+part_word High = codes "high"
+part_word Less = codes "less"
+part_word Low = codes "low"
+part_word Both = codes "both"
+
+-- a part's name: its word, and the number of its stage
+abbrev pub part_name : StagePart → ℕ → List ℕ
+part_name part number = part_word part ++ decimal number
+
 -- an actor's name, or a port of it
 abbrev pub end_text : ℕ → End → List ℕ
 end_text channels (Input channel) = codes "in" ++ mark channels channel
@@ -30,6 +45,9 @@ end_text channels (Silence channel) = codes "silence" ++ mark channels channel
 end_text channels (Sum channel) = codes "add" ++ mark channels channel
 end_text channels (SumSecond channel) = codes "add" ++ mark channels channel ++ codes ":1"
 end_text channels (Filter number channel) = stage_name number ++ mark channels channel
+end_text channels (Part part number channel) = part_name part number ++ mark channels channel
+end_text channels (PartSecond part number channel) = part_name part number ++ mark channels channel ++ codes ":1"
+end_text channels (Round channel) = codes "round" ++ mark channels channel
 end_text channels (Output channel) = codes "out" ++ mark channels channel
 
 -- a key and an actor, or a port of one

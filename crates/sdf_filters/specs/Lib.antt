@@ -9,3 +9,6 @@ pub mod Filters
 pub mod Graphs
 pub mod Converters
 pub mod Delays
+pub mod Wide
+pub mod WideGraphs
+pub mod WideConverters

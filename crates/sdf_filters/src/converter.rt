@@ -9,9 +9,10 @@ ghost use Rattle.sdf_filters.specs.Converters.{IsConverterFault};
 ghost use Rattle.sdf_filters.specs.FilterSpecs.{IsFault};
 
 use crate::delay::delay;
+use crate::ends::push_stage_name;
 use crate::fault::{FilterFault, test};
 use crate::filter_spec::{Band, FilterSpec};
-use crate::graph::{STAGE_SHIFT, graph_text, push_stage_name};
+use crate::graph::{STAGE_SHIFT, graph_text};
 use crate::split::stages;
 use crate::stage::{Stage, StageFile};
 use crate::texts::filter_texts;
@@ -28,7 +29,7 @@ pub struct ConverterTexts {
 }
 
 /// Tests the number of channels.
-fn check_channels(channels: u32) -> Result<(), FilterFault>
+pub(crate) fn check_channels(channels: u32) -> Result<(), FilterFault>
     ensures { result ≡ channels_test channels }
 {
     test(

@@ -60,6 +60,12 @@ pub enum FilterFault {
     /// The ratio of the rates, in lowest terms, has this factor over 64, which no number from 2 to 64 divides.
     #[error("the ratio of the rates has the factor {factor}, which no number from 2 to 64 divides: use another rate")]
     FactorTooLarge { factor: u32 },
+    /// Only `fit` channels of a design with wide taps fit in a graph.
+    #[error("{channels} channels need more than 64 actors, and {fit} fit: use fewer channels, or --fast")]
+    TooManyActors { channels: u32, fit: u32 },
+    /// The filters of a conversion delay the sound by over 2^40 frames.
+    #[error("the filters of this conversion delay a sound too long: use other rates, or --fast")]
+    TooLate,
 }
 
 impl From<AllocError> for FilterFault {

@@ -1,132 +1,20 @@
 //! The text of a converter's graph file.
 
 ghost use Rattle.std.specs.Prelude.{◌≡◌, ◌++◌, ◌<◌, IfOk, OnOk, length, slice_get, string_bytes, codes};
-ghost use Rattle.sdf_filters.specs.declared.graph.End.TheVariants.{SumSecond};
-ghost use Rattle.sdf_filters.specs.Graphs.{texts_to, mark, stage_name, end_text, key_text, link_text, actor_text};
+ghost use Rattle.sdf_filters.specs.Graphs.{texts_to, link_text, actor_text};
 ghost use Rattle.sdf_filters.specs.Graphs.{channel_text, keys_text, stage_text, stages_text, silence_text, sum_text};
 ghost use Rattle.sdf_filters.specs.Graphs.{join_text, channel_actors, source, joining_text, end_after, step_text};
 ghost use Rattle.sdf_filters.specs.Graphs.{channel_links, fork_text, note, rates_text, rate_text, title, graph_text};
 
+use crate::ends::{End, push_actor, push_link, push_stage_name};
 use crate::stage::Stage;
 use std::alloc::{AllocError, Global};
 
 /// The key `shift` of each stage.
 pub(crate) const STAGE_SHIFT: u32 = 15;
 
-/// An end of a link in a converter's graph: an actor, or a port of one.
-#[derive(Clone, Copy)]
-pub(crate) enum End {
-    Input { channel: u32 },
-    Fork,
-    /// A port of the fork.
-    Branch { channel: u32 },
-    Silence { channel: u32 },
-    Sum { channel: u32 },
-    /// The second port of a sum.
-    SumSecond { channel: u32 },
-    /// A stage, counted from 1.
-    Filter { number: usize, channel: u32 },
-    Output { channel: u32 },
-}
-
-/// Adds the mark after the names of a channel's actors. A single channel has no mark.
-fn push_mark(text: &mut String, channels: u32, channel: u32) -> Result<(), AllocError>
-    ensures { OnOk result (string_bytes text.new ≡ string_bytes text.old ++ mark channels channel) }
-{
-    if channels == 1 {
-        return Ok(());
-    }
-    write!(text, "-{channel}")
-}
-
-/// Adds the name of a stage.
-pub(crate) fn push_stage_name(text: &mut String, number: usize) -> Result<(), AllocError>
-    ensures { OnOk result (string_bytes text.new ≡ string_bytes text.old ++ stage_name number) }
-{
-    write!(text, "stage{number}")
-}
-
-/// Adds `word` and the mark of a channel.
-fn push_marked(text: &mut String, word: &str, channels: u32, channel: u32) -> Result<(), AllocError>
-    ensures { OnOk result (string_bytes text.new ≡ string_bytes text.old ++ (word.now ++ mark channels channel)) }
-{
-    text.push_str(word)?;
-    push_mark(text, channels, channel)
-}
-
-/// Adds the second port of a channel's sum.
-fn push_second(text: &mut String, channels: u32, channel: u32) -> Result<(), AllocError>
-    ensures { OnOk result (string_bytes text.new ≡ string_bytes text.old ++ end_text channels (SumSecond channel)) }
-{
-    push_marked(text, "add", channels, channel)?;
-    text.push_str(":1")
-}
-
-/// Adds the name of a channel's stage.
-fn push_filter(
-    text: &mut String,
-    channels: u32,
-    channel: u32,
-    number: usize,
-) -> Result<(), AllocError>
-    ensures { OnOk result (string_bytes text.new ≡
-        string_bytes text.old ++ (stage_name number ++ mark channels channel)) }
-{
-    push_stage_name(text, number)?;
-    push_mark(text, channels, channel)
-}
-
-/// Adds an end.
-fn push_end(text: &mut String, channels: u32, end: End) -> Result<(), AllocError>
-    ensures { OnOk result (string_bytes text.new ≡ string_bytes text.old ++ end_text channels end) }
-{
-    match end {
-        End::Input { channel } => push_marked(text, "in", channels, channel),
-        End::Fork => text.push_str("fork"),
-        End::Branch { channel } => write!(text, "fork:{channel}"),
-        End::Silence { channel } => push_marked(text, "silence", channels, channel),
-        End::Sum { channel } => push_marked(text, "add", channels, channel),
-        End::SumSecond { channel } => push_second(text, channels, channel),
-        End::Filter { number, channel } => push_filter(text, channels, channel, number),
-        End::Output { channel } => push_marked(text, "out", channels, channel),
-    }
-}
-
-/// Adds a key and an end.
-#[tactic(auto, unfolding(crate::specs::Graphs::key_text))]
-fn push_key(text: &mut String, channels: u32, word: &str, end: End) -> Result<(), AllocError>
-    ensures { OnOk result (string_bytes text.new ≡ string_bytes text.old ++ key_text channels word.now end) }
-{
-    text.push_str(word)?;
-    text.push_str(" = \"")?;
-    push_end(text, channels, end)?;
-    text.push_str("\"\n")
-}
-
-/// Adds a link.
-#[tactic(auto, unfolding(crate::specs::Graphs::link_text))]
-fn push_link(text: &mut String, channels: u32, from: End, to: End) -> Result<(), AllocError>
-    ensures { OnOk result (string_bytes text.new ≡ string_bytes text.old ++ link_text channels from to) }
-{
-    text.push_str("\n[[link]]\n")?;
-    push_key(text, channels, "from", from)?;
-    push_key(text, channels, "to", to)
-}
-
-/// Adds an actor's name and kind.
-#[tactic(auto, unfolding(crate::specs::Graphs::actor_text))]
-fn push_actor(text: &mut String, channels: u32, end: End, kind: &str) -> Result<(), AllocError>
-    ensures { OnOk result (string_bytes text.new ≡ string_bytes text.old ++ actor_text channels end kind.now) }
-{
-    text.push_str("\n[[actor]]\n")?;
-    push_key(text, channels, "name", end)?;
-    text.push_str("kind = \"")?;
-    text.push_str(kind)?;
-    text.push_str("\"\n")
-}
-
 /// Adds the key `channel`.
-fn push_channel_key(text: &mut String, channel: u32) -> Result<(), AllocError>
+pub(crate) fn push_channel_key(text: &mut String, channel: u32) -> Result<(), AllocError>
     ensures { OnOk result (string_bytes text.new ≡ string_bytes text.old ++ channel_text channel) }
 {
     writeln!(text, "channel = {channel}")?;
@@ -200,7 +88,7 @@ fn push_sum(text: &mut String, channels: u32, channel: u32) -> Result<(), AllocE
 }
 
 /// Adds the actors that join a channel to the first one.
-fn push_join(text: &mut String, channels: u32, channel: u32) -> Result<(), AllocError>
+pub(crate) fn push_join(text: &mut String, channels: u32, channel: u32) -> Result<(), AllocError>
     ensures { OnOk result (string_bytes text.new ≡ string_bytes text.old ++ join_text channels channel) }
 {
     if channel == 0 {
@@ -230,7 +118,7 @@ fn push_channel(
 }
 
 /// Returns the end from which the stages of a channel take their samples.
-fn source(channels: u32, channel: u32) -> End
+pub(crate) fn source(channels: u32, channel: u32) -> End
     ensures { result ≡ source channels channel }
 {
     if channels == 1 {
@@ -244,7 +132,7 @@ fn source(channels: u32, channel: u32) -> End
 
 /// Adds the links before a channel's stages.
 #[tactic(auto, unfolding(crate::specs::Graphs::joining_text))]
-fn push_joining(text: &mut String, channels: u32, channel: u32) -> Result<(), AllocError>
+pub(crate) fn push_joining(text: &mut String, channels: u32, channel: u32) -> Result<(), AllocError>
     ensures { OnOk result (string_bytes text.new ≡ string_bytes text.old ++ joining_text channels channel) }
 {
     if channels == 1 {
@@ -317,7 +205,7 @@ fn push_links(
 
 /// Adds the fork of several channels.
 #[tactic(auto, unfolding(crate::specs::Graphs::fork_text))]
-fn push_fork(text: &mut String, channels: u32) -> Result<(), AllocError>
+pub(crate) fn push_fork(text: &mut String, channels: u32) -> Result<(), AllocError>
     ensures { OnOk result (string_bytes text.new ≡ string_bytes text.old ++ fork_text channels) }
 {
     if channels == 1 {
@@ -379,7 +267,12 @@ fn push_rate(text: &mut String, rate: u32) -> Result<(), AllocError>
 
 /// Adds the first lines of the file. The design is made for a sound of `from` Hz.
 #[tactic(auto, unfolding(crate::specs::Graphs::title))]
-fn push_title(text: &mut String, from: u32, to: u32, channels: u32) -> Result<(), AllocError>
+pub(crate) fn push_title(
+    text: &mut String,
+    from: u32,
+    to: u32,
+    channels: u32,
+) -> Result<(), AllocError>
     ensures { OnOk result (string_bytes text.new ≡ string_bytes text.old ++ title from to channels) }
 {
     push_rates(text, from, to)?;

@@ -5,9 +5,13 @@
 //! taps) and `texts` (what `sdfw fir` prints). These use `lowpass`, `differences` (high-passes and band-passes),
 //! `coefficients` (the text of taps) and `settling`. `settling` makes the sum of each phase exact by the steps of
 //! `phases`, in the `order` of taps. `split` splits a conversion into stages. `converter` makes their design for `sdfw
-//! resample`, with the graph file from `graph` and the delay from `delay`. `sinc`, `cost` and `measure` compute with
-//! floats, and no clause says anything of their values. The definitions are in `specs/FilterSpecs.antt`,
-//! `specs/Phases.antt` (the sums of phases), `specs/Stages.antt` and `specs/Converters.antt`.
+//! resample --fast`, with the graph file from `graph` and `ends`, and the delay from `delay`.
+//!
+//! `wide_converter` makes the design for `sdfw resample`. Its filters are `fitted`. Their taps are made `whole`, with
+//! `zeros` in front, and split into two `parts`. `wide_graph` and `wide_links` have its graph file. `sinc`, `fitted`,
+//! `cost`, `wide_cost` and `measure` compute with floats, and no clause says anything of their values. The definitions
+//! are in `specs/FilterSpecs.antt`, `specs/Phases.antt` (the sums of phases), `specs/Stages.antt`,
+//! `specs/Converters.antt`, `specs/Wide.antt` and `specs/WideConverters.antt`.
 #![tactic(auto)]
 
 mod coefficients;
@@ -15,13 +19,16 @@ mod converter;
 mod cost;
 mod delay;
 mod differences;
+mod ends;
 mod fault;
 mod filter;
 mod filter_spec;
+mod fitted;
 mod graph;
 mod lowpass;
 mod measure;
 mod order;
+mod parts;
 mod phases;
 mod ratio;
 mod settling;
@@ -29,6 +36,12 @@ mod sinc;
 mod split;
 mod stage;
 mod texts;
+mod whole;
+mod wide_converter;
+mod wide_cost;
+mod wide_graph;
+mod wide_links;
+mod zeros;
 
 pub use coefficients::coefficient_text;
 pub use converter::{ConverterTexts, converter_texts};
@@ -41,3 +54,4 @@ pub use settling::settle;
 pub use split::stages;
 pub use stage::{Stage, StageFile};
 pub use texts::{FilterTexts, filter_texts};
+pub use wide_converter::{USUAL_ATTENUATION, USUAL_PASS, WideSpec, wide_converter_texts};

@@ -1,6 +1,6 @@
 //! The taps of phases, their sums, and steps that move a tap and its mirror image.
 
-ghost use Rattle.std.specs.Prelude.{◌≡◌, ◌<◌, ◌≤◌, ◌+◌, ◌-◌, ◌*◌, ◌/◌, ◌%◌, ◌⊎◌, ◌+ℤ◌, ℕ, length, slice_set};
+ghost use Rattle.std.specs.Prelude.{◌≡◌, ◌<◌, ◌≤◌, ◌+◌, ◌-◌, ◌*◌, ◌/◌, ◌%◌, ◌^◌, ◌⊎◌, ◌+ℤ◌, ℕ, length, slice_set};
 ghost use Rattle.std.specs.Prelude.{unsigned_abs, OnOk, IfErr, MatchResult};
 ghost use Rattle.sdf_filters.specs.Phases.{tap, in_phase, phase_sum, steps, has_16_bits, Have16Bits, AreMoved};
 ghost use Rattle.sdf_filters.specs.Phases.{AreTurns, AreMovedBy, weight};
@@ -30,7 +30,8 @@ fn in_phase(up: usize, phase: usize, place: usize, tap: i32) -> i32
 pub(crate) fn phase_sum(taps: &[i32], up: usize, phase: usize) -> i64
     requires up { 0 < up }
     requires few { length taps.now ≤ MAX_TAPS }
-    ensures { result ≡ phase_sum taps.now up phase }
+    ensures sum { result ≡ phase_sum taps.now up phase }
+    ensures small { unsigned_abs result ≤ 2 ^ 41 }
 {
     let mut sum = 0;
     for (place, tap) in taps.iter().enumerate() {

@@ -8,6 +8,7 @@ use crate::cost::Weights;
 use crate::fault::FilterFault;
 use crate::ratio::{Ratio, lowest};
 use crate::stage::Stage;
+use crate::wide_cost::WideRule;
 use sdf_limits::MAX_FACTOR;
 use std::alloc::Global;
 
@@ -25,10 +26,35 @@ pub fn stages(
 ) -> Result<Vec<Stage>, FilterFault>
     ensures { MatchResult result (λ stages. IsSplit from to stages.items) (IsSplitFault from to) }
 {
+    let weights = Weights::narrow(f64::from(from), f64::from(to), f64::from(attenuation));
+    stages_by(alloc, from, to, weights)
+}
+
+/// Returns the stages of a conversion between two rates by wide taps, in order. They are the cheapest split by `rule`,
+/// or are made from the least factors, as those of `stages` are, with its errors.
+pub(crate) fn wide_stages(
+    alloc: Global,
+    from: u32,
+    to: u32,
+    rule: WideRule,
+) -> Result<Vec<Stage>, FilterFault>
+    ensures { MatchResult result (λ stages. IsSplit from to stages.items) (IsSplitFault from to) }
+{
+    stages_by(
+        alloc,
+        from,
+        to,
+        Weights::wide(f64::from(from), f64::from(to), rule),
+    )
+}
+
+/// Returns the stages of a conversion between two rates, the cheapest split by `weights`.
+fn stages_by(alloc: Global, from: u32, to: u32, weights: Weights) -> Result<Vec<Stage>, FilterFault>
+    ensures { MatchResult result (λ stages. IsSplit from to stages.items) (IsSplitFault from to) }
+{
     if from == 0 || to == 0 {
         return Err(FilterFault::NoRate);
     }
-    let weights = Weights::new(f64::from(from), f64::from(to), f64::from(attenuation));
     split(alloc, lowest(from, to), weights, f64::from(from))
 }
 
@@ -49,7 +75,7 @@ fn split(
     let mut left = ratio;
     let mut rate = from;
     'parts: while left.sum() > 2 {
-        let stage = next_stage(left, weights, rate)?;
+        let stage = next_stage(left, weights, rate, stages.len())?;
         stages.push(stage)?;
         left = left.after(stage);
         rate = rate * f64::from(stage.up) / f64::from(stage.down);
@@ -58,13 +84,13 @@ fn split(
 }
 
 /// Returns the next stage of the ratio `left`.
-fn next_stage(left: Ratio, weights: Weights, rate: f64) -> Result<Stage, FilterFault>
+fn next_stage(left: Ratio, weights: Weights, rate: f64, before: usize) -> Result<Stage, FilterFault>
     requires up { 0 < left.up }
     requires down { 0 < left.down }
     requires some { 2 < left.up + left.down }
     ensures { MatchResult result (IsPart left.up left.down) (IsPartFault left.up left.down) }
 {
-    match weights.first(rate, left) {
+    match weights.next(rate, left, before) {
         Some(stage) => Ok(stage),
         None => least_part(left),
     }

@@ -14,6 +14,20 @@ pub struct Stage {
     pub ghost down_few: { down ≤ MAX_FACTOR },
 }
 
+/// A stage of wide taps, as the graph file has it.
+#[derive(Clone, Copy)]
+pub(crate) struct WideStage {
+    pub(crate) stage: Stage,
+    /// The samples by which the input of the filter of the large taps is late.
+    pub(crate) wait: usize,
+    /// The bits of the large taps that stand in the other filter: 6, or 7 if a tap is over 1.
+    pub(crate) bits: u32,
+    /// The number of taps, and of zeros in front of them.
+    pub(crate) taps: usize,
+    pub(crate) zeros: usize,
+    pub ghost bits_few: { bits ≤ 7 },
+}
+
 /// The coefficient file of a stage: its name, its text, and the line with the measures of its taps.
 #[derive(Drop)]
 pub struct StageFile {

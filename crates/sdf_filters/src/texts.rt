@@ -83,7 +83,11 @@ fn push_count(text: &mut String, count: usize) -> Result<(), AllocError>
 
 /// Adds the line with the measures of `count` taps.
 #[tactic(auto, unfolding(crate::specs::Filters::summary_text))]
-fn push_summary(text: &mut String, count: usize, measures: Measured) -> Result<(), AllocError>
+pub(crate) fn push_summary(
+    text: &mut String,
+    count: usize,
+    measures: Measured,
+) -> Result<(), AllocError>
     ensures { OnOk result (string_bytes text.new ≡ string_bytes text.old ++ summary_text count measures) }
 {
     push_count(text, count)?;

@@ -1,7 +1,7 @@
 //! The commands that make filters and converters: their arguments and help texts.
 
 use super::designs::{NO_WHY, WHY};
-use super::{Argument, CommandRow, Syntax, Values};
+use super::{Argument, CommandRow, PLAIN, Syntax, Values};
 use sdf_filters::MAX_ATTENUATION;
 use sdf_limits::{MAX_CHANNEL, MAX_FACTOR, MAX_SHIFT};
 
@@ -107,6 +107,30 @@ const CHANNELS: Argument = Argument {
     syntax: Syntax::Choice("N", Values::Unsigned(1, MAX_CHANNEL as u64 + 1), Some("1")),
 };
 
+const FAST: Argument = Argument {
+    name: "fast",
+    help: "Makes filters of 16-bit taps, which take less time",
+    more: "Makes one filter of 16-bit taps for each stage, which takes less time. Noise is at -84 to -89 dBFS, and
+frequencies near half the lower rate are folded",
+    syntax: PLAIN,
+};
+
+const KEPT: Argument = Argument {
+    name: "pass",
+    help: "Thousandths of half the lower rate that pass, 500 to 950",
+    more: "Thousandths of half the lower rate that pass, 500 to 950. Fewer need fewer taps. It has no effect with
+`--fast`",
+    syntax: Syntax::Choice("PART", Values::Unsigned(500, 950), Some("907")),
+};
+
+const REJECTION: Argument = Argument {
+    name: "attenuation",
+    help: "Stopband attenuation in dB, at most 200",
+    more: "Stopband attenuation in dB, at most 200: 110 unless it is given, and 96 with `--fast`, where taps of 16 bits
+limit it. A line on standard error says what each stage reaches",
+    syntax: Syntax::Free("DB", Values::Unsigned(0, MAX_ATTENUATION as u64)),
+};
+
 pub(super) const FIR: CommandRow = CommandRow {
     name: "fir",
     help: "Prints a coefficient file for an actor of kind fir",
@@ -135,18 +159,21 @@ stopband. No frequency may be over half the rate.",
 pub(super) const RESAMPLE: CommandRow = CommandRow {
     name: "resample",
     help: "Writes a design that converts between two rates",
-    more: "Writes a design that converts between two rates: its graph file and a coefficient file for each stage.
-It has the cheapest stages by products a second: at most three, unless the ratio needs more. A ratio with a
-prime factor over 64 is refused. Frequencies up to ten elevenths of half the lower rate pass, and what would be
-folded onto them is stopped.
-The output is late by the delay of the filters, 0.9 to 1.8 ms between common rates, and the sound's end is cut
-off by the same time. If the end matters, append a little silence to IN first. Lines on standard error have the
-ripple and the attenuation of each stage, the delay, the files that were made, and the command that runs the
-design.",
-    arguments: &[FROM, TO, FOLDER, CHANNELS, ATTENUATION, WHY, NO_WHY],
+    more: "Writes a design that converts between two rates: its graph file and the coefficient files of its stages.
+Each stage has two filters of 16-bit taps, which together have taps of 22 bits. What is left beside a sound is
+the rounding to 16 bits, and nothing is folded or left as an image above -90 dBFS. Four channels fit where a
+conversion has two stages, and two where it has three. With `--fast` each stage has one filter.
+The stages are the cheapest by products a second: at most three, unless the ratio needs more. A ratio with a
+prime factor over 64 is refused.
+The output is late by the delay of the filters, a whole number of frames, and the sound's end is cut off by the
+same time. If the end matters, append a little silence to IN first. Lines on standard error have the ripple and
+the attenuation of each stage, the delay, the files that were made, and the command that runs the design.",
+    arguments: &[
+        FROM, TO, FOLDER, CHANNELS, FAST, KEPT, REJECTION, WHY, NO_WHY,
+    ],
     scheduling: &[],
     examples: "Examples:
   sdfw resample 44100 48000 converter --channels 2
   sdfw run converter/graph.toml in.wav out.wav
-  sdfw resample 44100 96000 to-96000 --attenuation 80",
+  sdfw resample 44100 96000 to-96000 --fast",
 };

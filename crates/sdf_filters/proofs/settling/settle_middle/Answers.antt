@@ -16,6 +16,6 @@ returns-else-many-eq1-clause-symmetric c =
     (length c.args.taps.now / c.args.up) c.args.total (to_z w64 (of_z w64 c.phase_sum-sum.result))
     (to_z w64 (of_z w64 c.args.total)) c.abs_diff-times.result
     (in_phases c.args.up (length c.args.taps.now) c.requires.whole) (omega (arith, c.requires.up)) (omega arith)
-    symmetric (to_z-of_z w64 c.phase_sum-sum.result fits ∙ c.phase_sum-sum.ensures)
+    symmetric (to_z-of_z w64 c.phase_sum-sum.result fits ∙ c.phase_sum-sum.ensures.sum)
     (to_z-of_z w64 c.args.total c.ranges.total) c.abs_diff-times.ensures even) symmetric)
     c.move_even.ensures.symmetric

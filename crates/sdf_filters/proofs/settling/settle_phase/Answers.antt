@@ -17,6 +17,6 @@ returns-clause-exact c =
     reached (phase_sum c.args.taps.now c.args.up c.args.phase) (phase_sum c.move_rounds.new.taps c.args.up c.args.phase)
     sum total (to_z w64 (of_z w64 sum)) (to_z w64 (of_z w64 total)) c.abs_diff-times.result
     (to_z-of_z w64 c.phase_sum-sum.result fits) (to_z-of_z w64 c.args.total c.ranges.total)
-    c.phase_sum-sum.ensures c.abs_diff-times.ensures
+    c.phase_sum-sum.ensures.sum c.abs_diff-times.ensures
     (c.in_ok-move_rounds.ensures.moves.sum ∙ ap (λ n. phase_sum c.args.taps.now c.args.up c.args.phase
     +ℤ steps (int_lt (to_z w64 (of_z w64 sum)) (to_z w64 (of_z w64 total))) n) one)

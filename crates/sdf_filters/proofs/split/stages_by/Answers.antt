@@ -1,7 +1,7 @@
 use Rattle.std.proofs.Common.{arith}
 use Rattle.std.proofs.lemmas.Result.{MatchResult-weaker}
 use Rattle.sdf_filters.proofs.Splits.{split_is, fault_of_rates}
-use Rattle.sdf_filters.proofs.split.stages.Goals as goal
+use Rattle.sdf_filters.proofs.split.stages_by.Goals as goal
 
 pub returns : goal.returns
 returns c = MatchResult-weaker c.split.result c.split.ensures
