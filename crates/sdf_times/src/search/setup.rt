@@ -162,7 +162,7 @@ pub(crate) fn new_sweep(
     requires run { (width : ℕ) × (costs : List ℕ) × IsBlockRun graph.now reps.now blocking width table.now costs }
     ensures firings { IfOk result (λ s. s.events.firings ≡ block blocking reps.now) }
     ensures columns { IfOk result (λ s. (i : ℕ) → i < length table.now.rows →
-          length (row table.now.rows i) ≡ s.columns) }
+        length (row table.now.rows i) ≡ s.columns) }
     ensures channels { IfOk result (λ s. s.channels ≡ length graph.now.channels) }
 {
     let actors = graph.actors();

@@ -21,7 +21,7 @@ new-requires-clause-fires c =
     let r = c.requires.run in
     subst (λ (n : List ℕ). (a : ℕ) → a < length n → 0 < get_or n a 0) (sym c.in_ok-firings_of.ensures)
     (all_fire c.args.graph.now c.args.reps.now c.args.blocking r.0 c.args.table.now r.1 r.2
-          c.actors-actors.ensures.shape)
+    c.actors-actors.ensures.shape)
 
 pub invariant_of-sweep : goal.invariant_of-sweep
 invariant_of-sweep c =
