@@ -243,7 +243,12 @@ fn write_design<S: Storage, T: AllocGlobal, E: Write>(
 /// The attenuation of a fast conversion in dB, unless another is asked for.
 const FAST_ATTENUATION: u32 = 96;
 
-/// Returns the texts of the design of `conversion`.
+/// The least attenuation in dB that a conversion is made with, unless it is fast. With less, what passes would lose more
+/// than 0.01 dB.
+const LEAST_ATTENUATION: u32 = 80;
+
+/// Returns the texts of the design of `conversion`. If its filters need too many taps, and more attenuation is usual,
+/// tries the usual attenuation.
 fn texts_of(alloc: Global, conversion: Conversion<'_>) -> Result<ConverterTexts, FilterFault> {
     let Conversion {
         from,
@@ -258,14 +263,29 @@ fn texts_of(alloc: Global, conversion: Conversion<'_>) -> Result<ConverterTexts,
         let attenuation = attenuation.unwrap_or(FAST_ATTENUATION);
         return converter_texts(alloc, from, to, channels, attenuation);
     }
+    let attenuation = attenuation
+        .unwrap_or(USUAL_ATTENUATION)
+        .max(LEAST_ATTENUATION);
     let wanted = WideSpec {
         from,
         to,
         channels,
-        attenuation: attenuation.unwrap_or(USUAL_ATTENUATION),
+        attenuation,
         pass,
     };
-    wide_converter_texts(alloc, wanted)
+    match wide_converter_texts(alloc, wanted) {
+        Err(FilterFault::TooManyTaps { .. }) if attenuation < USUAL_ATTENUATION => {
+            let attenuation = USUAL_ATTENUATION;
+            wide_converter_texts(
+                alloc,
+                WideSpec {
+                    attenuation,
+                    ..wanted
+                },
+            )
+        }
+        made => made,
+    }
 }
 
 /// Writes the design of `conversion`. Notes in `sources` how the system refused a file.
