@@ -90,7 +90,7 @@ abbrev pub with_caps : Plan → (ℕ → ℕ) → Plan
 with_caps p caps =
     record { rates = p.rates; firings = p.firings; rows = p.rows; caps = caps; cost = p.cost }
 
--- with more room the period is no longer
+-- more room never makes the period longer
 abbrev pub MoreRoomIsNoLonger : Type 0
 MoreRoomIsNoLonger =
     (p : Plan) (caps end more : ℕ → ℕ) (t q u v : ℕ) → IsPlan p →

@@ -75,7 +75,7 @@ pub fn first_blocks_bound()
     ensures rows { FirstIsWithinRows }
 {}
 
-/// States that with more room the period is no longer.
+/// States that more room never makes the period longer.
 pub fn more_room_is_no_longer()
     ensures { MoreRoomIsNoLonger }
 {}
